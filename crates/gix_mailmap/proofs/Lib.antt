@@ -1,0 +1,15 @@
+pub mod Alike
+pub mod Ascending
+pub mod Cut
+pub mod Exists
+pub mod Folded
+pub mod Good
+pub mod Keys
+pub mod Normal
+pub mod Parts
+pub mod Pieces
+pub mod Readings
+pub mod Reorder
+pub mod Rising
+pub mod SplitOnce
+pub mod Trimmed

@@ -1,0 +1,31 @@
+-- What one entry of a mailmap says.
+use Rattle.std.specs.Prelude.{Option}
+use Rattle.std.specs.Ordering.{ordering_then}
+use Rattle.std.specs.Option.{option_cmp, option_copied}
+use Rattle.std.specs.declared.cmp.Ordering.{Ordering}
+use Rattle.gix_mailmap.specs.Folding.{Text, text_cmp}
+use Rattle.gix_mailmap.specs.declared.entry.Entry.{Entry}
+
+-- the four fields of an entry as texts, wherever they lie in memory
+pub record Mapping : Type 0 where
+  pub new_name : Option Text
+  pub new_email : Option Text
+  pub old_name : Option Text
+  pub old_email : Text
+
+-- what an entry says
+abbrev pub mapping_of : Entry → Mapping
+mapping_of e = record {
+  new_name = option_copied e.new_name;
+  new_email = option_copied e.new_email;
+  old_name = option_copied e.old_name;
+  old_email = e.old_email.now;
+}
+
+-- by new name, new email, old name and old email, each bytewise and with an absent one first
+abbrev pub mapping_cmp : Mapping → Mapping → Ordering
+mapping_cmp a b =
+    ordering_then (option_cmp text_cmp a.new_name b.new_name)
+    (ordering_then (option_cmp text_cmp a.new_email b.new_email)
+    (ordering_then (option_cmp text_cmp a.old_name b.old_name)
+    (text_cmp a.old_email b.old_email)))

@@ -1,0 +1,5 @@
+pub mod Folding
+pub mod Trimming
+pub mod Entries
+pub mod Lines
+pub mod Histories

@@ -1,0 +1,166 @@
+-- What the lines of a mailmap say.
+use Rattle.std.specs.List.{AllByRecursion}
+use Rattle.std.specs.Prelude.{◌≡◌, ◌≢◌, ◌+◌, ◌==◌, ℕ, if◌then◌else◌, Bool, false, Option, Some, None, option_map, option_to_list, Result, Ok, Err, List, [], ◌∷◌, ◌++◌}
+use Rattle.gix_mailmap.specs.declared.entry.Entry.{Entry}
+use Rattle.gix_mailmap.specs.declared.lines.Error.{Error}
+use Rattle.gix_mailmap.specs.declared.lines.Error.TheVariants.{NoEmail, MissingClosingBracket, EmptyEmail, NothingToMap}
+use Rattle.gix_mailmap.specs.declared.lines.Half as the_half
+use Rattle.gix_mailmap.specs.declared.lines.Half.TheVariants as variant
+use Rattle.gix_mailmap.specs.Entries.{Mapping, mapping_of}
+use Rattle.gix_mailmap.specs.Trimming.{trim}
+
+-- the four faults
+pub data Kind : Type 0 where
+  no_email : Kind
+  missing_closing_bracket : Kind
+  empty_email : Kind
+  nothing_to_map : Kind
+
+-- a fault, the line that it stands on and what that line is
+pub record Fault : Type 0 where
+  pub kind : Kind
+  pub line : ℕ
+  pub input : List ℕ
+
+abbrev pub fault_of : Error → Fault
+fault_of (NoEmail line input) = record { kind = no_email; line = line; input = input.now }
+fault_of (MissingClosingBracket line input) = record { kind = missing_closing_bracket; line = line; input = input.now }
+fault_of (EmptyEmail line input) = record { kind = empty_email; line = line; input = input.now }
+fault_of (NothingToMap line input) = record { kind = nothing_to_map; line = line; input = input.now }
+
+-- a mapping or a fault
+abbrev pub Reading : Type 0
+Reading = Result Mapping Fault
+
+abbrev pub reading_of : Result Entry Error → Reading
+reading_of (Ok e) = Ok (mapping_of e)
+reading_of (Err e) = Err (fault_of e)
+
+-- what stands before the first byte b and what after it, or None
+unfoldable pub split_once : ℕ → List ℕ → Option (List ℕ × List ℕ)
+split_once b [] = None
+split_once b (c ∷ s) = if c == b then Some ([], s) else option_map (λ p. (c ∷ p.0, p.1)) (split_once b s)
+
+-- a text by its first `<` and the first `>` behind it
+pub data Half : Type 0 where
+  Absent : Half
+  Unclosed : Half
+  Closed : List ℕ → List ℕ → List ℕ → Half
+
+abbrev pub closed : List ℕ → Option (List ℕ × List ℕ) → Half
+closed a None = Unclosed
+closed a (Some p) = Closed a p.0 p.1
+
+abbrev pub opened : Option (List ℕ × List ℕ) → Half
+opened None = Absent
+opened (Some p) = closed p.0 (split_once 62 p.1)
+
+abbrev pub cut : List ℕ → Half
+cut s = opened (split_once 60 s)
+
+-- a text, or None where it is empty
+abbrev pub non_empty : List ℕ → Option (List ℕ)
+non_empty [] = None
+non_empty (b ∷ s) = Some (b ∷ s)
+
+-- the half with its name and its email trimmed
+abbrev pub trimmed_half : Half → Half
+trimmed_half Absent = Absent
+trimmed_half Unclosed = Unclosed
+trimmed_half (Closed a b c) = Closed (trim a) (trim b) c
+
+-- the code's half
+abbrev pub half_of : the_half.Half → Half
+half_of variant.Absent = Absent
+half_of variant.Unclosed = Unclosed
+half_of (variant.Closed name email rest) = Closed name.now email.now rest.now
+
+abbrev pub fault : Kind → ℕ → List ℕ → Reading
+fault kind line input = Err (record { kind = kind; line = line; input = input })
+
+-- a line whose first half is a name and an email, and what its second half is
+abbrev pub two_halves : ℕ → List ℕ → List ℕ → List ℕ → Half → Reading
+two_halves n t [] email Absent = fault nothing_to_map n t
+two_halves n t [] email Unclosed = fault nothing_to_map n t
+two_halves n t (b ∷ name) email Absent = Ok (record { new_name = Some (b ∷ name); new_email = None; old_name = None; old_email = email })
+two_halves n t (b ∷ name) email Unclosed = Ok (record { new_name = Some (b ∷ name); new_email = None; old_name = None; old_email = email })
+two_halves n t name email (Closed old_name old_email rest) =
+    Ok (record { new_name = non_empty name; new_email = Some email; old_name = non_empty old_name; old_email = old_email })
+
+-- what a line says, by its first half
+abbrev pub first_half : ℕ → List ℕ → Half → Reading
+first_half n t Absent = fault no_email n t
+first_half n t Unclosed = fault missing_closing_bracket n t
+first_half n t (Closed name [] rest) = fault empty_email n t
+first_half n t (Closed name (b ∷ email) rest) = two_halves n t name (b ∷ email) (trimmed_half (cut rest))
+
+-- what the trimmed line t says, as line n
+abbrev pub line_reading : ℕ → List ℕ → Reading
+line_reading n t = first_half n t (trimmed_half (cut t))
+
+-- a comment begins with `#`
+abbrev pub is_comment : List ℕ → Bool
+is_comment [] = false
+is_comment (b ∷ s) = b == 35
+
+abbrev pub unless_blank : ℕ → List ℕ → Option Reading
+unless_blank n [] = None
+unless_blank n (b ∷ t) = Some (line_reading n (b ∷ t))
+
+-- what a line says, as line n, or None for a comment and for a blank line
+abbrev pub reading : ℕ → List ℕ → Option Reading
+reading n line = if is_comment line then None else unless_blank n (trim line)
+
+-- what the lines say, the first of them being line n
+unfoldable pub readings_from : ℕ → List (List ℕ) → List Reading
+readings_from n [] = []
+readings_from n (l ∷ ls) = option_to_list (reading n l) ++ readings_from (n + 1) ls
+
+abbrev pub with_first : ℕ → List (List ℕ) → List (List ℕ)
+with_first b [] = (b ∷ []) ∷ []
+with_first b (p ∷ ps) = (b ∷ p) ∷ ps
+
+-- the texts between the line feeds, without a last one that is empty
+unfoldable pub pieces : List ℕ → List (List ℕ)
+pieces [] = []
+pieces (b ∷ s) = if b == 10 then [] ∷ pieces s else with_first b (pieces s)
+
+-- what a buffer says
+abbrev pub readings : List ℕ → List Reading
+readings buf = readings_from 1 (pieces buf)
+
+abbrev pub is_good : Reading → Option Mapping
+is_good (Ok m) = Some m
+is_good (Err f) = None
+
+-- the mappings alone
+unfoldable pub good_of : List Reading → List Mapping
+good_of [] = []
+good_of (r ∷ rs) = option_to_list (is_good r) ++ good_of rs
+
+abbrev pub good : List ℕ → List Mapping
+good buf = good_of (readings buf)
+
+-- no number of the text is b
+abbrev pub HoldsNo : ℕ → List ℕ → Type 0
+HoldsNo b = AllByRecursion (λ x. x ≢ b)
+
+-- s is a, `<`, b, `>` and c, where the `<` is the first one, and the `>` the first one behind it
+pub record IsCut (s a b c : List ℕ) : Type 0 where
+  pub whole : s ≡ a ++ 60 ∷ (b ++ 62 ∷ c)
+  pub no_opening : HoldsNo 60 a
+  pub no_closing : HoldsNo 62 b
+
+-- s has a first `<` and no `>` behind it
+pub record IsUnclosed (s : List ℕ) : Type 0 where
+  pub before : List ℕ
+  pub behind : List ℕ
+  pub whole : s ≡ before ++ 60 ∷ behind
+  pub no_opening : HoldsNo 60 before
+  pub no_closing : HoldsNo 62 behind
+
+-- the lines that faults stand on
+unfoldable pub fault_lines : List Reading → List ℕ
+fault_lines [] = []
+fault_lines (Ok m ∷ rs) = fault_lines rs
+fault_lines (Err f ∷ rs) = f.line ∷ fault_lines rs
