@@ -13,3 +13,4 @@ pub mod Reorder
 pub mod Rising
 pub mod SplitOnce
 pub mod Trimmed
+pub mod Pooled

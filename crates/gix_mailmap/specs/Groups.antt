@@ -50,3 +50,9 @@ pub record IsGroup (g : EmailGroup) : Type 0 where
 pub record AreGroups (gs : List EmailGroup) : Type 0 where
   pub ascending : IsStrictlySortedBy text_cmp (map email_key gs)
   pub each : AllByRecursion IsGroup gs
+
+-- what tables hold: the bytes of their texts, the emails, and names that no email has taken yet
+pub record Contents : Type 0 where
+  pub pool : Text
+  pub groups : List EmailGroup
+  pub loose : List NameGroup

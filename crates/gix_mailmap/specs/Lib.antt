@@ -4,3 +4,4 @@ pub mod Entries
 pub mod Lines
 pub mod Histories
 pub mod Groups
+pub mod Pool

@@ -7,6 +7,7 @@ mod entry;
 pub mod fold;
 pub mod laws;
 pub mod lines;
+pub mod snapshot;
 
 pub use entry::Entry;
 pub use lines::{parse, parse_ignore_errors};

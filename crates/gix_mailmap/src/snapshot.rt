@@ -1,0 +1,3 @@
+//! The snapshot.
+
+mod tables;

@@ -1,0 +1,155 @@
+//! The tables of a snapshot: one pool of bytes that holds each text, a flat table of emails and a flat table of names,
+//! whose rows say where their texts stand in the pool.
+ghost use Rattle.std.specs.Prelude.{◌≡◌, ◌≤◌, ◌<◌, ◌++◌, [], ◌∷◌, length, OnOk, IfOk, map};
+ghost use Rattle.std.specs.Option.{option_map, option_copied, ForSome};
+ghost use Rattle.std.specs.List.{AllByRecursion, HoldsAt};
+ghost use Rattle.gix_mailmap.specs.Pool.{end_of};
+
+use std::alloc::{AllocError, Global};
+use std::marker::Model;
+
+/// Where a text stands in the pool.
+#[derive(Clone, Copy)]
+pub(crate) struct Span {
+    pub(crate) start: usize,
+    pub(crate) len: usize,
+}
+
+/// An old name of an email, and the fields that stand for it.
+#[derive(Clone, Copy)]
+pub(crate) struct NameRow {
+    pub(crate) old_name: Span,
+    pub(crate) new_name: Option<Span>,
+    pub(crate) new_email: Span,
+}
+
+/// An old email, the fields that were given for it without an old name, and the range of its names in the table of
+/// names.
+#[derive(Clone, Copy)]
+pub(crate) struct EmailRow {
+    pub(crate) old_email: Span,
+    pub(crate) new_name: Option<Span>,
+    pub(crate) new_email: Option<Span>,
+    pub(crate) names_start: usize,
+    pub(crate) names_end: usize,
+}
+
+/// The pool and the two tables. While tables are built, names come before the email that takes them.
+#[derive(Drop)]
+pub(crate) struct Tables {
+    pool: Vec<u8>,
+    emails: Vec<EmailRow>,
+    names: Vec<NameRow>,
+}
+
+impl Model for Tables {
+    ghost use Rattle.gix_mailmap.specs.Groups.{Contents};
+
+    ghost Value = { Contents };
+
+    ghost use Rattle.gix_mailmap.specs.Pool.{AreTables, contents};
+
+    ghost view = { λ t. contents t.pool.items t.names.items t.emails.items };
+
+    ghost invariant = { λ t. AreTables t.pool.items t.names.items t.emails.items };
+}
+
+impl Tables {
+    ghost use Rattle.gix_mailmap.specs.Groups.{Contents, EmailGroup, NameGroup};
+    ghost use Rattle.gix_mailmap.specs.Pool.{spelled, LiesIn, NameLies, name_group};
+
+    /// No email and no name, and no memory taken.
+    pub(crate) fn new(alloc: Global) -> Tables
+        ensures { result ≡ record { pool = []; groups = []; loose = [] } }
+    {
+        Tables {
+            pool: Vec::new(alloc),
+            emails: Vec::new(alloc),
+            names: Vec::new(alloc),
+        }
+    }
+
+    /// The pool of `standing` with its texts where they are, and no email and no name.
+    pub(crate) fn over_pool(alloc: Global, standing: &Tables) -> Result<Tables, AllocError>
+        ensures { IfOk result (λ made. made ≡ record { pool = standing.now.pool; groups = []; loose = [] }) }
+    {
+        Ok(Tables {
+            pool: Vec::from_slice(alloc, &standing.pool)?,
+            emails: Vec::new(alloc),
+            names: Vec::new(alloc),
+        })
+    }
+
+    /// Puts a text at the end of the pool.
+    pub(crate) fn push_text(&mut self, text: &[u8]) -> Result<Span, AllocError>
+        ensures grown { OnOk result (self.new ≡ record self.old { pool = self.old.pool ++ text.now }) }
+        ensures lies { IfOk result (LiesIn (length self.new.pool)) }
+        ensures spells { IfOk result (λ span. spelled self.new.pool span ≡ text.now) }
+    {
+        let start = self.pool.len();
+        self.pool.extend_from_slice(text)?;
+        Ok(Span {
+            start,
+            len: text.len(),
+        })
+    }
+
+    /// Puts a name behind those that no email has taken.
+    pub(crate) fn push_name(&mut self, row: NameRow) -> Result<(), AllocError>
+        requires { NameLies (length self.old.pool) row }
+        ensures { OnOk result (self.new ≡ record self.old { loose = self.old.loose ++ name_group self.old.pool row ∷ [] }) }
+    {
+        self.names.push(row)?;
+        Ok(())
+    }
+
+    /// Puts names behind those that no email has taken.
+    pub(crate) fn push_names(&mut self, rows: &[NameRow]) -> Result<(), AllocError>
+        requires { AllByRecursion (NameLies (length self.old.pool)) rows.now }
+        ensures { OnOk result (self.new ≡ record self.old { loose = self.old.loose ++ map (name_group self.old.pool) rows.now }) }
+    {
+        self.names.extend_from_slice(rows)?;
+        Ok(())
+    }
+
+    /// Puts an email behind the others, which takes the names that no email has taken yet.
+    pub(crate) fn push_email(
+        &mut self,
+        old_email: Span,
+        new_name: Option<Span>,
+        new_email: Option<Span>,
+    ) -> Result<(), AllocError>
+        requires old_email_lies { LiesIn (length self.old.pool) old_email }
+        requires new_name_lies { ForSome new_name (LiesIn (length self.old.pool)) }
+        requires new_email_lies { ForSome new_email (LiesIn (length self.old.pool)) }
+        ensures { OnOk result (self.new ≡ record {
+          pool = self.old.pool;
+          groups = self.old.groups ++ record {
+            old_email = spelled self.old.pool old_email;
+            own = record { name = option_map (spelled self.old.pool) new_name; email = option_map (spelled self.old.pool) new_email };
+            names = self.old.loose;
+          } ∷ [];
+          loose = [];
+        }) }
+    {
+        let names_start = last_end(&self.emails);
+        self.emails.push(EmailRow {
+            old_email,
+            new_name,
+            new_email,
+            names_start,
+            names_end: self.names.len(),
+        })?;
+        Ok(())
+    }
+}
+
+// Where the range of the last email's names ends.
+fn last_end(emails: &[EmailRow]) -> usize
+    ensures { result ≡ end_of 0 emails.now }
+{
+    match emails.last() {
+        Some(row) => row.names_end,
+        None => 0,
+    }
+}
