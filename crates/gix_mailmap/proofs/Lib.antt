@@ -1,10 +1,14 @@
 pub mod Alike
 pub mod Ascending
+pub mod Batch
 pub mod Cut
 pub mod Exists
 pub mod Folded
 pub mod Good
+pub mod Grouped
+pub mod Joined
 pub mod Keys
+pub mod Merging
 pub mod Normal
 pub mod Parts
 pub mod Pieces
