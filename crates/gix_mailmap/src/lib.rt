@@ -9,4 +9,4 @@ pub mod laws;
 pub mod lines;
 
 pub use entry::Entry;
-pub use lines::{parse, parse_ignore_errors};
+pub use lines::{parse, parse_ignore_errors, parse_strict};
