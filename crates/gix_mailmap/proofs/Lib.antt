@@ -4,6 +4,7 @@ pub mod Cut
 pub mod Exists
 pub mod Folded
 pub mod Good
+pub mod Grammar
 pub mod Keys
 pub mod Normal
 pub mod Parts

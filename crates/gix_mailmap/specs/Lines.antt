@@ -1,6 +1,6 @@
 -- What the lines of a mailmap say.
 use Rattle.std.specs.List.{AllByRecursion}
-use Rattle.std.specs.Prelude.{◌≡◌, ◌≢◌, ◌+◌, ◌==◌, ℕ, if◌then◌else◌, Bool, false, Option, Some, None, option_map, option_to_list, Result, Ok, Err, List, [], ◌∷◌, ◌++◌}
+use Rattle.std.specs.Prelude.{◌≡◌, ◌≢◌, ◌⊎◌, ◌+◌, ◌==◌, ℕ, if◌then◌else◌, Bool, false, Option, Some, None, option_map, option_to_list, Result, Ok, Err, List, [], ◌∷◌, ◌++◌}
 use Rattle.gix_mailmap.specs.declared.entry.Entry.{Entry}
 use Rattle.gix_mailmap.specs.declared.lines.Error.{Error}
 use Rattle.gix_mailmap.specs.declared.lines.Error.TheVariants.{NoEmail, MissingClosingBracket, EmptyEmail, NothingToMap, UnclosedSecond}
@@ -10,7 +10,7 @@ use Rattle.gix_mailmap.specs.declared.lines.Strictness.{Strictness}
 use Rattle.gix_mailmap.specs.declared.lines.Strictness.TheVariants.{Lenient, Strict}
 use Rattle.gix_mailmap.specs.Folding.{Text}
 use Rattle.gix_mailmap.specs.Entries.{Mapping, mapping_of}
-use Rattle.gix_mailmap.specs.Trimming.{trim}
+use Rattle.gix_mailmap.specs.Trimming.{trim, IsTrimmed}
 
 -- the five faults; the last one comes of strict reading alone
 pub data Kind : Type 0 where
@@ -83,14 +83,21 @@ half_of (variant.Closed name email rest) = Closed name.now email.now rest.now
 abbrev pub fault : Kind → ℕ → Text → Reading
 fault kind line input = Err (record { kind = kind; line = line; input = input })
 
+-- what a line with two halves maps: their names and emails, where an empty name is none
+abbrev pub by_both : Text → Text → Text → Text → Mapping
+by_both name email old_name old_email = record { new_name = non_empty name; new_email = Some email; old_name = non_empty old_name; old_email = old_email }
+
+-- what a name and an email alone map: the name stands in for that of the email
+abbrev pub by_name : Text → Text → Mapping
+by_name name email = record { new_name = Some name; new_email = None; old_name = None; old_email = email }
+
 -- a line whose first half is a name and an email, and what its second half is
 abbrev pub two_halves : ℕ → Text → Text → Text → Half → Reading
 two_halves n t [] email Absent = fault nothing_to_map n t
 two_halves n t [] email Unclosed = fault nothing_to_map n t
-two_halves n t (b ∷ name) email Absent = Ok (record { new_name = Some (b ∷ name); new_email = None; old_name = None; old_email = email })
-two_halves n t (b ∷ name) email Unclosed = Ok (record { new_name = Some (b ∷ name); new_email = None; old_name = None; old_email = email })
-two_halves n t name email (Closed old_name old_email rest) =
-    Ok (record { new_name = non_empty name; new_email = Some email; old_name = non_empty old_name; old_email = old_email })
+two_halves n t (b ∷ name) email Absent = Ok (by_name (b ∷ name) email)
+two_halves n t (b ∷ name) email Unclosed = Ok (by_name (b ∷ name) email)
+two_halves n t name email (Closed old_name old_email rest) = Ok (by_both name email old_name old_email)
 
 -- the same, but a second half that has its `<` and not its `>` is a fault, and the rest is shown
 abbrev pub strict_halves : ℕ → Text → Text → Text → Text → Half → Reading
@@ -190,6 +197,54 @@ pub record IsUnclosed (s : Text) : Type 0 where
   pub whole : s ≡ before ++ 60 ∷ behind
   pub no_opening : HoldsNo 60 before
   pub no_closing : HoldsNo 62 behind
+
+-- s begins with a name and an email in brackets, trimmed here, and rest stands behind the `>`
+pub record IsHalf (s name email rest : Text) : Type 0 where
+  pub before : Text
+  pub between : Text
+  pub is_cut : IsCut s before between rest
+  pub is_name : IsTrimmed before name
+  pub is_email : IsTrimmed between email
+
+-- s has no such half: no `<`, or one with no `>` behind it
+abbrev pub NoHalf : Text → Type 0
+NoHalf s = HoldsNo 60 s ⊎ IsUnclosed s
+
+-- what line n, trimmed t, says whose first half is this name and this email: a second half, a name alone, or nothing
+pub data IsSecondRead (n : ℕ) (t name email rest : Text) (r : Reading) : Type 0 where
+  second : (old_name old_email tail : Text) → IsHalf rest old_name old_email tail → r ≡ Ok (by_both name email old_name old_email) → IsSecondRead n t name email rest r
+  name_alone : NoHalf rest → name ≢ [] → r ≡ Ok (by_name name email) → IsSecondRead n t name email rest r
+  neither : NoHalf rest → name ≡ [] → r ≡ fault nothing_to_map n t → IsSecondRead n t name email rest r
+
+-- the same, read strictly: a second half that isn't closed is a fault, whose input is the rest
+pub data IsSecondReadStrictly (n : ℕ) (t name email rest : Text) (r : Reading) : Type 0 where
+  open_second : IsUnclosed rest → r ≡ fault unclosed_second n rest → IsSecondReadStrictly n t name email rest r
+  as_ever : (IsUnclosed rest → ⊥) → IsSecondRead n t name email rest r → IsSecondReadStrictly n t name email rest r
+
+-- what line n, trimmed t, says, where Second tells how it goes on behind a first half with an email
+pub data IsFirstRead (Second : Text → Text → Text → Reading → Type 0) (n : ℕ) (t : Text) (r : Reading) : Type 0 where
+  no_bracket : HoldsNo 60 t → r ≡ fault no_email n t → IsFirstRead Second n t r
+  open_first : IsUnclosed t → r ≡ fault missing_closing_bracket n t → IsFirstRead Second n t r
+  blank_email : (name rest : Text) → IsHalf t name [] rest → r ≡ fault empty_email n t → IsFirstRead Second n t r
+  first : (name email rest : Text) → IsHalf t name email rest → email ≢ [] → Second name email rest r → IsFirstRead Second n t r
+
+-- the line begins with `#`
+abbrev pub IsComment : Text → Type 0
+IsComment line = (behind : Text) × (line ≡ 35 ∷ behind)
+
+-- what a line says, or None, where Says tells what its trimmed text says
+pub data IsReadBy (Says : Text → Reading → Type 0) (line : Text) (o : Option Reading) : Type 0 where
+  comment : IsComment line → o ≡ None → IsReadBy Says line o
+  blank : (IsComment line → ⊥) → IsTrimmed line [] → o ≡ None → IsReadBy Says line o
+  said : (t : Text) (r : Reading) → (IsComment line → ⊥) → IsTrimmed line t → t ≢ [] → Says t r → o ≡ Some r → IsReadBy Says line o
+
+-- what the line says as line n, by cases of which each line meets one
+abbrev pub IsRead : ℕ → Text → Option Reading → Type 0
+IsRead n = IsReadBy (λ t. IsFirstRead (IsSecondRead n t) n t)
+
+-- the same, read strictly
+abbrev pub IsReadStrictly : ℕ → Text → Option Reading → Type 0
+IsReadStrictly n = IsReadBy (λ t. IsFirstRead (IsSecondReadStrictly n t) n t)
 
 -- the lines that faults stand on
 unfoldable pub fault_lines : List Reading → List ℕ

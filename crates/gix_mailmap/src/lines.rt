@@ -7,7 +7,7 @@ ghost use Rattle.std.specs.List.Sorted.{IsStrictlySortedBy};
 ghost use Rattle.std.specs.Ordering.{nat_cmp};
 ghost use Rattle.gix_mailmap.specs.Entries.{mapping_of};
 ghost use Rattle.gix_mailmap.specs.Trimming.{trim as spec_trim};
-ghost use Rattle.gix_mailmap.specs.Lines.{half_of, trimmed_half, reading_of, reading_by, line_reader, cut, non_empty as spec_non_empty, readings, readings_from, strict_readings, pieces, fault_lines, good};
+ghost use Rattle.gix_mailmap.specs.Lines.{half_of, trimmed_half, reading_of, reading_by, line_reader, cut, non_empty as spec_non_empty, by_both, readings, readings_from, strict_readings, pieces, fault_lines, good};
 
 use crate::entry::Entry;
 use bstr::ByteSlice;
@@ -146,7 +146,7 @@ fn entry_of<'a>(
     old_name: &'a [u8],
     old_email: &'a [u8],
 ) -> Entry<'a>
-    ensures { mapping_of result ≡ record { new_name = spec_non_empty name.now; new_email = Some email.now; old_name = spec_non_empty old_name.now; old_email = old_email.now } }
+    ensures { mapping_of result ≡ by_both name.now email.now old_name.now old_email.now }
 {
     match (non_empty(name), non_empty(old_name)) {
         (None, None) => Entry::change_email_by_email(email, old_email),
