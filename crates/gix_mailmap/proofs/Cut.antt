@@ -26,7 +26,7 @@ module _ (x : ℕ) where
       (cases_eq y x)
 
 -- each text is of one of the three kinds
-data Kind (s : List ℕ) : Type 0 where
+pub data Kind (s : List ℕ) : Type 0 where
   absent_kind : HoldsNo 60 s → cut s ≡ Absent → Kind s
   unclosed_kind : IsUnclosed s → cut s ≡ Unclosed → Kind s
   closed_kind : (a b c : List ℕ) → IsCut s a b c → cut s ≡ Closed a b c → Kind s
@@ -40,7 +40,7 @@ cut-unclosed s h = ap cut h.whole ∙ ap opened (once-some 60 h.before h.behind 
 pub cut-closed : (s a b c : List ℕ) → IsCut s a b c → cut s ≡ Closed a b c
 cut-closed s a b c h = ap cut h.whole ∙ ap opened (once-some 60 a (b ++ 62 ∷ c) h.no_opening) ∙ ap (closed a) (once-some 62 b c h.no_closing)
 
-kind : (s : List ℕ) → Kind s
+pub kind : (s : List ℕ) → Kind s
 kind s = ⊎_elim
     (λ h. absent_kind h (cut-absent s h))
     (λ h. ⊎_elim

@@ -7,6 +7,7 @@ pub mod Folded
 pub mod Good
 pub mod Grouped
 pub mod Joined
+pub mod Grammar
 pub mod Keys
 pub mod Merging
 pub mod Normal

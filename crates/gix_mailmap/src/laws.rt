@@ -1,9 +1,9 @@
 //! Laws of the definitions. Each function runs nothing: its contract is the law.
-ghost use Rattle.std.specs.Prelude.{◌≡◌, ◌≤◌, ◌↔◌, ◌++◌, List, length};
+ghost use Rattle.std.specs.Prelude.{◌≡◌, ◌≤◌, ◌↔◌, ◌++◌, List, length, ℕ, Option};
 ghost use Rattle.gix_mailmap.specs.Folding.{Text};
 ghost use Rattle.gix_mailmap.specs.Entries.{Mapping};
 ghost use Rattle.gix_mailmap.specs.Histories.{IsNormal, of_email, scan};
-ghost use Rattle.gix_mailmap.specs.Lines.{cut, Closed, Unclosed, Absent, IsCut, IsUnclosed, HoldsNo};
+ghost use Rattle.gix_mailmap.specs.Lines.{cut, Closed, Unclosed, Absent, IsCut, IsUnclosed, HoldsNo, Reading, reading, strict_reading, IsRead, IsReadStrictly};
 ghost use Rattle.gix_mailmap.specs.Trimming.{IsTrimmed, trim};
 
 /// Trimming takes the longest front and then the longest end of white space away, and that is one text.
@@ -16,6 +16,17 @@ pub fn law_cut()
     ensures closed { (s a b c : Text) → (cut s ≡ Closed a b c) ↔ IsCut s a b c }
     ensures unclosed { (s : Text) → (cut s ≡ Unclosed) ↔ IsUnclosed s }
     ensures absent { (s : Text) → (cut s ≡ Absent) ↔ HoldsNo 60 s }
+{}
+
+/// What a line says is told by cases of which each line meets one: a comment, a blank line, no `<`, a `<` without its
+/// `>`, a blank email, a second half, a name alone, or nothing to map.
+pub fn law_reading()
+    ensures { (n : ℕ) (line : Text) (o : Option Reading) → (reading n line ≡ o) ↔ IsRead n line o }
+{}
+
+/// Strict reading has one case more: a second half whose `<` has no `>`.
+pub fn law_strict_reading()
+    ensures { (n : ℕ) (line : Text) (o : Option Reading) → (strict_reading n line ≡ o) ↔ IsReadStrictly n line o }
 {}
 
 /// A history has one normal list at most.

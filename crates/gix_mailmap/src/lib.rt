@@ -10,4 +10,4 @@ pub mod lines;
 pub mod snapshot;
 
 pub use entry::Entry;
-pub use lines::{parse, parse_ignore_errors};
+pub use lines::{parse, parse_ignore_errors, parse_strict};

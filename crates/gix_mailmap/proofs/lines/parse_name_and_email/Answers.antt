@@ -1,6 +1,6 @@
 use Rattle.std.proofs.Common.{refl}
 use Rattle.gix_mailmap.proofs.SplitOnce.{split_once-none, split_once-some}
-use Rattle.gix_mailmap.proofs.lines.cut.Goals as goal
+use Rattle.gix_mailmap.proofs.lines.parse_name_and_email.Goals as goal
 
 pub returns-in_default : goal.returns-in_default
 returns-in_default c = rw (split_once-none 60 c.args.text.now c.in_default.ensures) refl
