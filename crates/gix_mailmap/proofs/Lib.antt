@@ -3,7 +3,6 @@ pub mod Ascending
 pub mod Batch
 pub mod Cut
 pub mod Exists
-pub mod Folded
 pub mod Good
 pub mod Grouped
 pub mod Joined
@@ -19,3 +18,7 @@ pub mod Rising
 pub mod SplitOnce
 pub mod Trimmed
 pub mod Pooled
+pub mod Folding
+pub mod Lookups
+pub mod Search
+pub mod Complete

@@ -1,5 +1,5 @@
 -- What tables denote when the pool, the names or the emails grow.
-use Rattle.std.proofs.Common.{◌≡◌, ◌+◌, ◌-◌, ◌≤◌, ℕ, zero, suc, List, [], ◌∷◌, ◌++◌, map, take, drop, length, Option, Some, None, option_map, length-append, length-drop, refl, sym, ap, ap₂, ◌∙◌, arith, subst, append_assoc}
+use Rattle.std.proofs.Common.{◌≡◌, ◌+◌, ◌-◌, ◌≤◌, ◌<◌, get_or, ℕ, zero, suc, List, [], ◌∷◌, ◌++◌, map, take, drop, length, Option, Some, None, option_map, length-append, length-drop, refl, sym, ap, ap₂, ◌∙◌, arith, subst, append_assoc}
 use Rattle.std.specs.Option.{ForSome, option_map_or}
 use Rattle.std.specs.List.{slice_get}
 use Rattle.std.specs.List.{AllByRecursion}
@@ -7,7 +7,7 @@ use Rattle.std.proofs.lemmas.List.{take-append-le, drop-append-le, drop_all, tak
 use Rattle.std.proofs.Math.Seq.{take-append_seam, drop-append_seam}
 use Rattle.gix_mailmap.specs.Folding.{Text}
 use Rattle.gix_mailmap.specs.Groups.{NameGroup, EmailGroup, Contents}
-use Rattle.gix_mailmap.specs.Pool.{spelled, LiesIn, name_group, email_group, NameLies, EmailLies, Follow, end_of, AreTables, contents}
+use Rattle.gix_mailmap.specs.Pool.{Stands, spelled, LiesIn, name_group, email_group, NameLies, EmailLies, Follow, end_of, AreTables, contents}
 use Rattle.gix_mailmap.specs.declared.snapshot.tables.Span.{Span}
 use Rattle.gix_mailmap.specs.declared.snapshot.tables.NameRow.{NameRow}
 use Rattle.gix_mailmap.specs.declared.snapshot.tables.EmailRow.{EmailRow}
@@ -155,22 +155,22 @@ module _ (pool : Text) (names : List NameRow) (emails : List EmailRow) (h : AreT
         take_all (r.names_end - r.names_start) (drop r.names_start names) (omega (arith, to)) ∙ ap (λ k. drop k names) from
 
     pub contents-email : contents pool names (emails ++ r ∷ []) ≡ record {
-          pool = pool;
-          groups = (contents pool names emails).groups ++ record {
-            old_email = spelled pool r.old_email;
-            own = record { name = option_map (spelled pool) r.new_name; email = option_map (spelled pool) r.new_email };
-            names = (contents pool names emails).loose;
-          } ∷ [];
-          loose = [];
-        }
+      pool = pool;
+      groups = (contents pool names emails).groups ++ record {
+        old_email = spelled pool r.old_email;
+        own = record { name = option_map (spelled pool) r.new_name; email = option_map (spelled pool) r.new_email };
+        names = (contents pool names emails).loose;
+      } ∷ [];
+      loose = [];
+    }
     contents-email i =
         record {
           pool = pool;
           groups = (map-append (email_group pool names) emails (r ∷ []) ∙ ap (λ ns. map (email_group pool names) emails ++ record {
-              old_email = spelled pool r.old_email;
-              own = record { name = option_map (spelled pool) r.new_name; email = option_map (spelled pool) r.new_email };
-              names = map (name_group pool) ns;
-            } ∷ []) taken) i;
+            old_email = spelled pool r.old_email;
+            own = record { name = option_map (spelled pool) r.new_name; email = option_map (spelled pool) r.new_email };
+            names = map (name_group pool) ns;
+          } ∷ []) taken) i;
           loose = (ap (λ k. map (name_group pool) (drop k names)) (end_of-push 0 emails r) ∙ ap (map (name_group pool)) (drop_all r.names_end names (omega (arith, to)))) i;
         }
 
@@ -181,3 +181,34 @@ end_of-last k (x ∷ []) r e = ap (λ o. option_map_or (λ y. y.names_end) o k) 
 end_of-last k (x ∷ y ∷ es) r e =
     let place : length (x ∷ y ∷ es) - 1 ≡ suc (length (y ∷ es) - 1) = omega arith in
     end_of-last x.names_end (y ∷ es) r (ap (slice_get (x ∷ y ∷ es)) (sym place) ∙ e)
+
+-- ---- a place in the table of emails
+
+-- the range of an email's names lies in the table of names
+pub range_at : (k n : ℕ) (es : List EmailRow) (i : ℕ) (d : EmailRow) → Follow k n es → i < length es → ((get_or es i d).names_start ≤ (get_or es i d).names_end) × ((get_or es i d).names_end ≤ n)
+range_at k n [] i d h lt = absurd (omega arith)
+range_at k n (r ∷ es) zero d h lt = (omega (arith, h.0, h.1), omega (arith, end_within r.names_end n es h.2, end_above r.names_end n es h.2))
+range_at k n (r ∷ es) (suc i) d h lt = range_at r.names_end n es i d h.2 (omega arith)
+
+pub all_at : {X : Type 0} (P : X → Type 0) (xs : List X) (i : ℕ) (d : X) → AllByRecursion P xs → i < length xs → P (get_or xs i d)
+all_at P [] i d all lt = absurd (omega arith)
+all_at P (x ∷ xs) zero d all lt = all.0
+all_at P (x ∷ xs) (suc i) d all lt = all_at P xs i d all.1 (omega arith)
+
+pub slice_get-map_at : {X Y : Type 0} (f : X → Y) (xs : List X) (i : ℕ) (d : X) → i < length xs → slice_get (map f xs) i ≡ Some (f (get_or xs i d))
+slice_get-map_at f [] i d lt = absurd (omega arith)
+slice_get-map_at f (x ∷ xs) zero d lt = refl
+slice_get-map_at f (x ∷ xs) (suc i) d lt = slice_get-map_at f xs i d (omega arith)
+
+-- what a row and its names spell is the group at their place
+pub stands_at : (pool : Text) (names : List NameRow) (emails : List EmailRow) → AreTables pool names emails → (i : ℕ) (r : EmailRow) → i < length emails → r ≡ get_or emails i r
+    → Stands pool (email_group pool names r) r (take (r.names_end - r.names_start) (drop r.names_start names))
+stands_at pool names emails h i r lt read =
+    record {
+      old_email = refl;
+      new_name = refl;
+      new_email = refl;
+      names = refl;
+      row_lies = subst (EmailLies (length pool)) (sym read) (all_at (EmailLies (length pool)) emails i r h.emails_lie lt);
+      names_lie = all_take _ (r.names_end - r.names_start) _ (all_drop _ r.names_start names h.names_lie);
+    }

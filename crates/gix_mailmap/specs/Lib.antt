@@ -5,3 +5,4 @@ pub mod Lines
 pub mod Histories
 pub mod Groups
 pub mod Pool
+pub mod Search

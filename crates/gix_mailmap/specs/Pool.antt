@@ -61,3 +61,12 @@ contents pool names emails =
       groups = map (email_group pool names) emails;
       loose = map (name_group pool) (drop (end_of 0 emails) names);
     }
+
+-- the row of an email and those of its names spell this group, and lie in the pool
+pub record Stands (pool : Text) (g : EmailGroup) (r : EmailRow) (ns : List NameRow) : Type 0 where
+  pub old_email : spelled pool r.old_email ≡ g.old_email
+  pub new_name : option_map (spelled pool) r.new_name ≡ g.own.name
+  pub new_email : option_map (spelled pool) r.new_email ≡ g.own.email
+  pub names : map (name_group pool) ns ≡ g.names
+  pub row_lies : EmailLies (length pool) r
+  pub names_lie : AllByRecursion (NameLies (length pool)) ns

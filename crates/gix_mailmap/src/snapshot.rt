@@ -1,3 +1,42 @@
-//! The snapshot.
+//! What a history of entries maps, ready to be looked up, and the names and emails that it gives to signatures.
+ghost use Rattle.std.specs.Prelude.{◌≡◌, []};
 
 mod tables;
+
+use std::alloc::Global;
+use std::marker::Model;
+use tables::Tables;
+
+/// What a history of entries maps: for each old email, and for each old name of it, the name and the email that stand
+/// in their place. Case is ignored where it is that of ASCII letters.
+///
+/// Contracts see a snapshot as the list of its entries in ascending order of their keys, as [`Snapshot::iter`] gives it.
+/// It keeps the allocator that it was made with.
+#[derive(Drop)]
+pub struct Snapshot {
+    tables: Tables,
+}
+
+impl Model for Snapshot {
+    ghost use Rattle.std.specs.Prelude.{List};
+    ghost use Rattle.gix_mailmap.specs.Entries.{Mapping};
+
+    ghost Value = { List Mapping };
+
+    ghost use Rattle.gix_mailmap.specs.Groups.{listing, IsComplete};
+
+    ghost view = { λ s. listing s.tables.groups };
+
+    ghost invariant = { λ s. IsComplete s.tables };
+}
+
+impl Snapshot {
+    /// A snapshot without an entry. It takes no memory.
+    pub fn empty(alloc: Global) -> Snapshot
+        ensures { result ≡ [] }
+    {
+        Snapshot {
+            tables: Tables::new(alloc),
+        }
+    }
+}

@@ -1,6 +1,6 @@
 //! The tables of a snapshot: one pool of bytes that holds each text, a flat table of emails and a flat table of names,
 //! whose rows say where their texts stand in the pool.
-ghost use Rattle.std.specs.Prelude.{◌≡◌, ◌≤◌, ◌<◌, ◌++◌, [], ◌∷◌, length, OnOk, IfOk, map};
+ghost use Rattle.std.specs.Prelude.{◌≡◌, ◌≤◌, ◌<◌, ◌++◌, [], ◌∷◌, length, OnOk, IfOk, map, Some, slice_get, take, drop, ◌-◌};
 ghost use Rattle.std.specs.Option.{option_map, option_copied, ForSome};
 ghost use Rattle.std.specs.List.{AllByRecursion, HoldsAt};
 ghost use Rattle.gix_mailmap.specs.Pool.{end_of};
@@ -56,7 +56,7 @@ impl Model for Tables {
 
 impl Tables {
     ghost use Rattle.gix_mailmap.specs.Groups.{Contents, EmailGroup, NameGroup};
-    ghost use Rattle.gix_mailmap.specs.Pool.{spelled, LiesIn, NameLies, name_group};
+    ghost use Rattle.gix_mailmap.specs.Pool.{spelled, LiesIn, NameLies, name_group, Stands};
 
     /// No email and no name, and no memory taken.
     pub(crate) fn new(alloc: Global) -> Tables
@@ -144,6 +144,35 @@ impl Tables {
     }
 }
 
+impl Tables {
+    ghost use Rattle.gix_mailmap.specs.Groups.{Contents, EmailGroup, NameGroup};
+    ghost use Rattle.gix_mailmap.specs.Pool.{spelled, LiesIn, Stands};
+
+    /// The number of emails.
+    pub(crate) fn len(&self) -> usize
+        ensures { result ≡ length self.now.groups }
+    {
+        self.emails.len()
+    }
+
+    /// The text that a span names.
+    pub(crate) fn text(&self, span: Span) -> &[u8]
+        requires { LiesIn (length self.now.pool) span }
+        ensures { result.now ≡ spelled self.now.pool span }
+    {
+        &self.pool[span.start..span.start + span.len]
+    }
+
+    /// The email at a place, with its names.
+    pub(crate) fn email(&self, place: usize) -> (EmailRow, &[NameRow])
+        requires { place < length self.now.groups }
+        ensures { (g : EmailGroup) × (slice_get self.now.groups place ≡ Some g) × Stands self.now.pool g result.0 result.1.now }
+    {
+        let row = self.emails[place];
+        (row, part(&self.names, row.names_start, row.names_end))
+    }
+}
+
 // Where the range of the last email's names ends.
 fn last_end(emails: &[EmailRow]) -> usize
     ensures { result ≡ end_of 0 emails.now }
@@ -152,4 +181,13 @@ fn last_end(emails: &[EmailRow]) -> usize
         Some(row) => row.names_end,
         None => 0,
     }
+}
+
+// The rows from one place up to another.
+fn part(names: &[NameRow], from: usize, to: usize) -> &[NameRow]
+    requires up { from ≤ to }
+    requires within { to ≤ length names.now }
+    ensures { result.now ≡ take (to - from) (drop from names.now) }
+{
+    &names[from..to]
 }

@@ -6,7 +6,7 @@ use Rattle.std.proofs.lemmas.Iterator.{YieldsList-from_slice, YieldsList-from_ma
 use Rattle.std.proofs.lemmas.Iterator.Search.{cmp_from_yields_List}
 use Rattle.std.specs.Iterator.Adapters.{map_callee}
 use Rattle.gix_mailmap.specs.Folding.{folded}
-use Rattle.gix_mailmap.proofs.Folded.{less-smaller, smaller-less, equal-same, same-equal}
+use Rattle.gix_mailmap.proofs.Folding.{less-smaller, smaller-less, equal-same, same-equal}
 use Rattle.gix_mailmap.proofs.fold.cmp_ignore_ascii_case.Goals as goal
 
 pub returns-clause-value : goal.returns-clause-value

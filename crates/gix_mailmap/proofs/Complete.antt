@@ -1,0 +1,13 @@
+-- Tables that are a snapshot's.
+use Rattle.std.proofs.Common.{◌≡◌, List, [], refl}
+use Rattle.std.specs.List.{AllByRecursion}
+use Rattle.std.specs.List.Sorted.{IsStrictlySortedBy}
+use Rattle.gix_mailmap.specs.Folding.{text_cmp}
+use Rattle.gix_mailmap.specs.Groups.{AreGroups, Contents, IsComplete}
+
+pub no_groups : AreGroups []
+unfolding IsStrictlySortedBy
+no_groups = record { ascending = tt; each = tt }
+
+pub complete_empty : IsComplete (record { pool = []; groups = []; loose = [] })
+complete_empty = record { groups = no_groups; no_loose = refl }

@@ -1,0 +1,66 @@
+//! Worked rows of the order, of the search and of the count.
+ghost use Rattle.std.specs.Prelude.{◌≡◌, ◌≤◌, length};
+ghost use Rattle.gix_mailmap.specs.Search.{IsParted};
+
+use super::*;
+use std::process::Abort;
+
+// Answers that are written out, and how often they were asked for.
+#[derive(Drop)]
+struct Written<'a> {
+    answers: &'a [Ordering],
+    asked: usize,
+}
+
+impl Probe for Written<'_> {
+    ghost answers = { λ s. s.answers.now };
+
+    ghost asked = { λ s. s.asked };
+
+    fn ask(&mut self, place: usize) -> Ordering {
+        self.asked += 1;
+        self.answers[place]
+    }
+}
+
+// What is found in some answers, with at most so many asks.
+fn finds<R: Abort>(rt: &R, answers: &[Ordering], want: Result<usize, usize>, at_most: usize)
+    requires { IsParted answers.now }
+{
+    let mut probe = Written { answers, asked: 0 };
+    let found = search(answers.len(), &mut probe);
+    assert_eq!(rt; found, want, "in {answers:?}");
+    assert!(rt;
+        probe.asked <= at_most,
+        "{} asks in {answers:?}",
+        probe.asked
+    );
+}
+
+#[test]
+#[tactic(auto, unfolding(crate::specs::Search::IsParted))]
+fn search_finds_or_places_within_the_digits_of_the_length(rt: HostRuntime) {
+    use std::cmp::Ordering::{Equal, Greater, Less};
+    finds(&rt, &[], Err(0), 0);
+    finds(&rt, &[Equal], Ok(0), 1);
+    finds(&rt, &[Less], Err(1), 1);
+    finds(&rt, &[Less, Less, Equal], Ok(2), 2);
+    finds(&rt, &[Less, Less, Greater, Greater], Err(2), 3);
+}
+
+#[test]
+fn order_folds_the_letters_of_ascii_alone(rt: HostRuntime) {
+    let rows: [(&[u8], &[u8], Ordering); 5] = [
+        (b"FooBar", b"foobar", Ordering::Equal),
+        (b"Masse", b"Ma\xc3\x9fe", Ordering::Less),
+        (b"FOO\xff", b"foo\xff", Ordering::Equal),
+        (b"A", b"B\xff", Ordering::Less),
+        (b"a", b"B\xff", Ordering::Less),
+    ];
+    for (a, b, want) in rows {
+        assert_eq!(rt; cmp_ignore_ascii_case(a, b), want, "{a:?} and {b:?}");
+        let mut steps = Steps::new();
+        assert_eq!(rt; steps.compare(a, b), want, "{a:?} and {b:?}, counted");
+        assert_eq!(rt; steps.count(), 1);
+    }
+}
