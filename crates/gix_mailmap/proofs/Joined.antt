@@ -135,7 +135,8 @@ alike_swapped (x ∷ xs) ys apart =
 
 -- ---- what may stand as one entry
 
-filter_none : {X : Type 0} (p : X → Bool) (xs : List X) → AllByRecursion (λ x. p x ≡ false) xs → filter p xs ≡ []
+-- where none passes
+pub filter_none : {X : Type 0} (p : X → Bool) (xs : List X) → AllByRecursion (λ x. p x ≡ false) xs → filter p xs ≡ []
 filter_none p [] a = refl
 filter_none p (x ∷ xs) a = λ i. cond (a.0 i) (x ∷ filter p xs) (filter_none p xs a.1 i)
 
@@ -174,7 +175,8 @@ module _ (x y c : Mapping) (good_x : is_accepted x ≡ true) (good_y : is_accept
       of_keys : (k : Key) {Y : Type 0} (ask : List Mapping → Y) → (eq_by_cmp key_cmp k (key c) ≡ true → ask (x ∷ y ∷ []) ≡ ask (c ∷ [])) → ask (of_key (x ∷ y ∷ []) k) ≡ ask (of_key (c ∷ []) k)
       of_keys k ask same = asked_both ask (λ e. eq_by_cmp key_cmp k (key e)) (ap (eq_by_cmp key_cmp k) key_x) (ap (eq_by_cmp key_cmp k) key_y) same
 
-never : (o r : Ordering) → is_eq r ≡ false → is_eq (ordering_then o r) ≡ false
+-- what the second of two orders tells apart
+pub never : (o r : Ordering) → is_eq r ≡ false → is_eq (ordering_then o r) ≡ false
 never Less r e = refl
 never Equal r e = e
 never Greater r e = refl
@@ -188,6 +190,13 @@ last_of_two f x y = two (f x) (f y)
     two (Some z) None = refl
     two (Some z) (Some w) = refl
 
+-- a field stays given where another is put before it
+pub either_given : (a b c d : Option Text) → (is_some a || is_some b) ≡ true → (is_some (option_or a c) || is_some (option_or b d)) ≡ true
+either_given (Some z) b c d e = refl
+either_given None (Some z) None d e = refl
+either_given None (Some z) (Some w) d e = refl
+either_given None None c d e = absurd (true≢false (sym e))
+
 abbrev combined_at : Option Text → Mapping → Mapping → Mapping
 combined_at None x y = made (record { name = option_or y.new_name x.new_name; email = option_or y.new_email x.new_email }) None x.old_email
 combined_at (Some n) x y = made (new_fields y) (Some n) x.old_email
@@ -199,17 +208,11 @@ combined x y = combined_at x.old_name x y
 pub alike_combined : (x y : Mapping) → key x ≡ key y → x.old_email ≡ y.old_email → is_accepted x ≡ true → is_accepted y ≡ true → Alike (x ∷ y ∷ []) (combined x y ∷ [])
 alike_combined x y same_key same_email good_x good_y = by x.old_name refl
   where
-    either : (a b c d : Option Text) → (is_some a || is_some b) ≡ true → (is_some (option_or a c) || is_some (option_or b d)) ≡ true
-    either (Some z) b c d e = refl
-    either None (Some z) None d e = refl
-    either None (Some z) (Some w) d e = refl
-    either None None c d e = absurd (true≢false (sym e))
-
     by : (o : Option Text) → x.old_name ≡ o → Alike (x ∷ y ∷ []) (combined_at o x y ∷ [])
     by None e =
         let c : Mapping = combined_at None x y in
         let key_x : key x ≡ key c = λ i. (folded x.old_email, option_map folded (e i)) in
-        stands_for_both x y c good_x good_y (either y.new_name y.new_email x.new_name x.new_email good_y) key_x (sym same_key ∙ key_x) refl e
+        stands_for_both x y c good_x good_y (either_given y.new_name y.new_email x.new_name x.new_email good_y) key_x (sym same_key ∙ key_x) refl e
         (λ email p. (last_of_two (λ e. e.new_name) x y ∙ sym (last_of_one (λ e. e.new_name) c), last_of_two (λ e. e.new_email) x y ∙ sym (last_of_one (λ e. e.new_email) c)))
         (λ email name p. absurd (true≢false (sym p ∙ never (text_cmp email (folded x.old_email)) Greater refl)))
     by (Some n) e =
