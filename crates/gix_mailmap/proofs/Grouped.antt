@@ -1,22 +1,59 @@
 -- The entries of groups: a normal list, and what a signature finds in it.
-use Rattle.std.proofs.Common.{◌≡◌, ℕ, suc, ◌<◌, true, List, [], ◌∷◌, ◌++◌, map, take, drop, get_or, length, Option, Some, None, Less, Greater}
+use Rattle.std.proofs.Common.{◌≡◌, ℕ, suc, ◌<◌, Bool, true, false, ◌||◌, if◌then◌else◌, is_some, refl, List, [], ◌∷◌, ◌++◌, map, take, drop, get_or, length, Option, Some, None, Less, Greater}
 use Rattle.std.specs.List.{AllByRecursion, AllWithin}
 use Rattle.std.specs.List.Sorted.{IsStrictlySortedBy}
+use Rattle.std.proofs.lemmas.Bool.{or_right}
+use Rattle.std.proofs.lemmas.Grind.{flat_map-append}
 use Rattle.gix_mailmap.specs.Entries.{Mapping}
 use Rattle.gix_mailmap.specs.Folding.{Text, folded, text_cmp}
-use Rattle.gix_mailmap.specs.Groups.{NameGroup, EmailGroup, AreGroups, email_key, name_key, name_fields, listing}
-use Rattle.gix_mailmap.specs.Histories.{key, key_cmp, is_accepted, spelling, answered, scan, IsNormal}
+use Rattle.gix_mailmap.specs.Groups.{NameGroup, EmailGroup, AreGroups, email_key, name_key, name_fields, name_row, own_rows, rows, listing}
+use Rattle.gix_mailmap.specs.Histories.{key, key_cmp, is_accepted, made, spelling, answered, scan, IsNormal}
 use Rattle.gix_mailmap.proofs.Alike.{Alike}
+use Rattle.gix_mailmap.proofs.Parts.{all_append}
+
+-- ---- what holds of each row
+
+pub all_weaker : {X : Type 0} {P Q : X → Type 0} (xs : List X) → ((x : X) → P x → Q x) → AllByRecursion P xs → AllByRecursion Q xs
+all_weaker [] f a = tt
+all_weaker (x ∷ xs) f a = (f x a.0, all_weaker xs f a.1)
+
+-- what holds of the rows of names
+pub all_rows : (P : Mapping → Type 0) (email : Text) (ns : List NameGroup) → ((n : NameGroup) → P (name_row email n)) → AllByRecursion P (map (name_row email) ns)
+all_rows P email [] f = tt
+all_rows P email (n ∷ ns) f = (f n, all_rows P email ns f)
+
+-- what holds of the row that an email may have of its own
+own_all : (P : Mapping → Type 0) (g : EmailGroup) → ((is_some g.own.name || is_some g.own.email) ≡ true → P (made g.own None g.old_email)) → AllByRecursion P (own_rows g)
+own_all P g f = by (is_some g.own.name || is_some g.own.email) f
+  where
+    by : (b : Bool) → (b ≡ true → P (made g.own None g.old_email)) → AllByRecursion P (if b then made g.own None g.old_email ∷ [] else [])
+    by true h = (h refl, tt)
+    by false h = tt
+
+-- each row of an email has its spelling
+pub rows_spelled : (g : EmailGroup) → AllByRecursion (λ r. r.old_email ≡ g.old_email) (rows g)
+rows_spelled g = all_append _ (own_rows g) (map (name_row g.old_email) g.names) (own_all _ g (λ _. refl)) (all_rows _ g.old_email g.names (λ n. refl))
+
+-- what holds of the rows of each holds of all entries
+pub listing_all : (P : Mapping → Type 0) (gs : List EmailGroup) → AllByRecursion (λ g. AllByRecursion P (rows g)) gs → AllByRecursion P (listing gs)
+listing_all P [] a = tt
+listing_all P (g ∷ gs) a = all_append P (rows g) (listing gs) a.0 (listing_all P gs a.1)
+
+pub listing-append : (xs ys : List EmailGroup) → listing (xs ++ ys) ≡ listing xs ++ listing ys
+listing-append xs ys = flat_map-append rows xs ys
+
+-- ---- a normal list
 
 -- a strictly ascending list of accepted entries, each email spelled in one way, is normal for itself
 pub self_normal : (n : List Mapping) → IsStrictlySortedBy key_cmp (map key n) → AllByRecursion (λ e. is_accepted e ≡ true) n → AllByRecursion (λ e. spelling n (folded e.old_email) ≡ Some e.old_email) n → IsNormal n n
 self_normal n ascending good spelled = ?
 
-pub listing-append : (xs ys : List EmailGroup) → listing (xs ++ ys) ≡ listing xs ++ listing ys
-listing-append xs ys = ?
-
 pub groups_accepted : (gs : List EmailGroup) → AllByRecursion (λ e. is_accepted e ≡ true) (listing gs)
-groups_accepted gs = ?
+groups_accepted gs = listing_all _ gs (each gs)
+  where
+    each : (xs : List EmailGroup) → AllByRecursion (λ g. AllByRecursion (λ e. is_accepted e ≡ true) (rows g)) xs
+    each [] = tt
+    each (g ∷ xs) = (all_append _ (own_rows g) (map (name_row g.old_email) g.names) (own_all _ g (λ given. given)) (all_rows _ g.old_email g.names (λ n. or_right (is_some n.new_name) true refl)), each xs)
 
 pub groups_normal : (gs : List EmailGroup) → AreGroups gs → IsNormal (listing gs) (listing gs)
 groups_normal gs are = ?
