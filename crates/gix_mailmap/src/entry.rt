@@ -1,6 +1,8 @@
 //! What a mailmap line maps.
 ghost use Rattle.std.specs.Prelude.{◌≡◌, IsSome};
 
+mod derived;
+
 /// A mapping.
 #[derive(Clone, Copy, Debug, PartialEq, Eq, PartialOrd, Ord, Hash)]
 pub struct Entry<'a> {
@@ -12,10 +14,10 @@ pub struct Entry<'a> {
 }
 
 impl<'a> Default for Entry<'a> {
-    ghost use Rattle.std.specs.Prelude.{◌≡◌, None, []};
-    ghost use Rattle.gix_mailmap.specs.Entries.{mapping_of};
+    ghost use Rattle.std.specs.Prelude.{◌≡◌};
+    ghost use Rattle.gix_mailmap.specs.Entries.{mapping_of, nothing};
 
-    ghost is_default = { λ e. mapping_of e ≡ record { new_name = None; new_email = None; old_name = None; old_email = [] } };
+    ghost is_default = { λ e. mapping_of e ≡ nothing };
 
     fn default() -> Self {
         Entry {
