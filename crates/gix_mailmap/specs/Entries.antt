@@ -1,5 +1,5 @@
 -- What one entry of a mailmap says.
-use Rattle.std.specs.Prelude.{Option}
+use Rattle.std.specs.Prelude.{Option, None, []}
 use Rattle.std.specs.Ordering.{ordering_then}
 use Rattle.std.specs.Option.{option_cmp, option_copied}
 use Rattle.std.specs.declared.cmp.Ordering.{Ordering}
@@ -21,6 +21,10 @@ mapping_of e = record {
   old_name = option_copied e.old_name;
   old_email = e.old_email.now;
 }
+
+-- what the default maps: nothing, by the empty email
+abbrev pub nothing : Mapping
+nothing = record { new_name = None; new_email = None; old_name = None; old_email = [] }
 
 -- by new name, new email, old name and old email, each bytewise and with an absent one first
 abbrev pub mapping_cmp : Mapping → Mapping → Ordering

@@ -1,0 +1,39 @@
+//! What the derives of [`Entry`] mean, said in the words of the definitions.
+//!
+//! A derived method has no place for a clause, and what it promises is built from the fields. Each function here does
+//! nothing but call one of them, and its contract is what callers may take the derive for: the order, the equality, the
+//! hash and the default of an entry depend on its four texts alone, wherever they lie in memory.
+ghost use Rattle.std.specs.Prelude.{◌≡◌, ◌↔◌, IsTrue};
+ghost use Rattle.gix_mailmap.specs.Entries.{mapping_of, mapping_cmp, nothing};
+
+use crate::entry::Entry;
+use std::cmp::Ordering;
+use std::hash::BuildHasher;
+
+/// The order: new name, new email, old name and old email, each bytewise, and a missing one first.
+pub(crate) fn compare(a: &Entry<'_>, b: &Entry<'_>) -> Ordering
+    ensures { result ≡ mapping_cmp (mapping_of a.now) (mapping_of b.now) }
+{
+    a.cmp(b)
+}
+
+/// Equality: the same four texts.
+pub(crate) fn is_same(a: &Entry<'_>, b: &Entry<'_>) -> bool
+    ensures { IsTrue result ↔ (mapping_of a.now ≡ mapping_of b.now) }
+{
+    a == b
+}
+
+/// The hashes of two entries: equal ones hash alike. The numbers themselves are not promised.
+pub(crate) fn hashes<B: BuildHasher>(builder: &B, a: &Entry<'_>, b: &Entry<'_>) -> (u64, u64)
+    ensures { mapping_of a.now ≡ mapping_of b.now → result.0 ≡ result.1 }
+{
+    (builder.hash_one(*a), builder.hash_one(*b))
+}
+
+/// The default: nothing to map to, no name and the empty email.
+pub(crate) fn empty() -> Entry<'static>
+    ensures { mapping_of result ≡ nothing }
+{
+    Entry::default()
+}
