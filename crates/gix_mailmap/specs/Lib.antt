@@ -6,3 +6,5 @@ pub mod Histories
 pub mod Groups
 pub mod Pool
 pub mod Search
+pub mod Alike
+pub mod Merging
