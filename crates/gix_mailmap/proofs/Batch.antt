@@ -1,5 +1,5 @@
 -- A batch that is sorted by key, its emails as they are spelled first.
-use Rattle.std.proofs.Common.{◌≡◌, ◌≤◌, ◌<◌, ◌+◌, ℕ, zero, suc, Bool, true, false, true≢false, cond, ◌&&◌, not, List, [], ◌∷◌, ◌++◌, map, filter, length, get_or, All, Contains, Option, Some, None, option_map, is_some, unwrap_or, Ordering, Less, Equal, Greater, is_eq, refl, sym, ap, subst, ◌∙◌, arith}
+use Rattle.std.proofs.Common.{◌≡◌, ◌≤◌, ◌<◌, ◌+◌, ℕ, zero, suc, Bool, true, false, cond, ◌&&◌, not, List, [], ◌∷◌, ◌++◌, map, filter, length, get_or, All, Contains, Option, Some, None, option_map, is_some, unwrap_or, Ordering, Less, Equal, Greater, is_eq, refl, sym, ap, subst, ◌∙◌, arith}
 use Rattle.std.specs.Cmp.{Equal-is, tied_itself}
 use Rattle.std.specs.Cmp.Lexicographic.{nat_list_cmp_total}
 use Rattle.std.specs.List.{AllByRecursion, enumerate_from, list_any}
@@ -55,8 +55,8 @@ module _ (a xs us : List Mapping) (keyed : (k : Key) → of_key xs k ≡ of_key 
   abbrev h : List Mapping
   h = a ++ xs
 
-  abbrev r : Mapping → Mapping
-  r = respelled h
+  abbrev respell : Mapping → Mapping
+  respell = respelled h
 
   has_same : (k : Key) → has_key (accepted us) k ≡ has_key (accepted xs) k
   has_same k = known us k ∙ ap (λ l. is_some (first l)) (sym (keyed k)) ∙ sym (known xs k)
@@ -67,55 +67,56 @@ module _ (a xs us : List Mapping) (keyed : (k : Key) → of_key xs k ≡ of_key 
       let w = speller h k (key_parts k a xs ∙ or_right (has_key (accepted a) k) (has_key (accepted xs) k) (sym (has_same k) ∙ has)) in
       ap (λ o. folded (unwrap_or o [])) w.1 ∙ w.2
 
-  kept : AllByRecursion (λ e. folded (r e).old_email ≡ folded e.old_email) (accepted us)
+  kept : AllByRecursion (λ e. folded (respell e).old_email ≡ folded e.old_email) (accepted us)
   kept = each_key keys_total keys_exact key (value h) (λ k. folded (unwrap_or (spelling h k.0) []) ≡ k.0) (accepted us) folded_kept
 
-  key_kept : (e : Mapping) → folded (r e).old_email ≡ folded e.old_email → key (r e) ≡ key e
+  key_kept : (e : Mapping) → folded (respell e).old_email ≡ folded e.old_email → key (respell e) ≡ key e
   key_kept e same = λ i. (same i, option_map folded e.old_name)
 
-  accepted_kept : accepted (map r us) ≡ map r (accepted us)
-  accepted_kept = filter-map is_accepted r us
+  accepted_kept : accepted (map respell us) ≡ map respell (accepted us)
+  accepted_kept = filter-map is_accepted respell us
 
-  of_key_kept : (k : Key) → of_key (map r us) k ≡ map r (of_key us k)
+  of_key_kept : (k : Key) → of_key (map respell us) k ≡ map respell (of_key us k)
   of_key_kept k =
       let t : Mapping → Bool = λ e. eq_by_cmp key_cmp k (key e) in
-      ap (filter t) accepted_kept ∙ filter-map t r (accepted us) ∙ ap (map r) (filter_alike (λ e. t (r e)) t (accepted us) (all_weaker (accepted us) (λ e same. ap (eq_by_cmp key_cmp k) (key_kept e same)) kept))
+      ap (filter t) accepted_kept ∙ filter-map t respell (accepted us) ∙ ap (map respell) (filter_alike (λ e. t (respell e)) t (accepted us) (all_weaker (accepted us) (λ e same. ap (eq_by_cmp key_cmp k) (key_kept e same)) kept))
 
-  keyed_alike : (k : Key) → map stripped (of_key h k) ≡ map stripped (of_key (a ++ map r us) k)
+  keyed_alike : (k : Key) → map stripped (of_key h k) ≡ map stripped (of_key (a ++ map respell us) k)
   keyed_alike k =
       let t : Mapping → Bool = λ e. eq_by_cmp key_cmp k (key e) in
       let parts : (l : List Mapping) → map stripped (of_key (a ++ l) k) ≡ map stripped (of_key a k) ++ map stripped (of_key l k) = λ l. ap (map stripped) (picked-append t a l) ∙ map-append stripped (of_key a k) (of_key l k) in
       parts xs
-      ∙ ap (λ l. map stripped (of_key a k) ++ l) (ap (map stripped) (keyed k) ∙ sym (ap (map stripped) (of_key_kept k) ∙ map-map stripped r (of_key us k)))
-      ∙ sym (parts (map r us))
+      ∙ ap (λ l. map stripped (of_key a k) ++ l) (ap (map stripped) (keyed k) ∙ sym (ap (map stripped) (of_key_kept k) ∙ map-map stripped respell (of_key us k)))
+      ∙ sym (parts (map respell us))
 
   -- the batch spells an email as the whole does
-  spelling_kept : (email : Text) → spelling (map r us) email ≡ cond (is_some (spelling xs email)) (Some (unwrap_or (spelling h email) [])) None
+  spelling_kept : (email : Text) → spelling (map respell us) email ≡ cond (is_some (spelling xs email)) (Some (unwrap_or (spelling h email) [])) None
   spelling_kept email =
       let p : Key → Bool = λ k. eq_by_cmp text_cmp email k.0 in
       let s : Text = unwrap_or (spelling h email) [] in
-      let all_s : AllByRecursion (λ e. p (key e) ≡ true → e.old_email ≡ s) (map r (accepted us)) =
-      all_mapped r (λ e. p (key e) ≡ true → e.old_email ≡ s) (accepted us)
-      (all_weaker (accepted us) (λ e same is. ap (λ t. unwrap_or (spelling h t) []) (sym (exact_bytes email (folded (r e).old_email) ((Equal-is (text_cmp email (folded (r e).old_email))).0 is) ∙ same))) kept) in
-      let keys : map key (map r (accepted us)) ≡ map key (accepted us) = map-map key r (accepted us) ∙ map_alike (λ e. key (r e)) key (accepted us) (all_weaker (accepted us) key_kept kept) in
-      let any : list_any (λ e. p (key e)) (map r (accepted us)) ≡ is_some (spelling xs email) =
-      sym (list_any-map p key (map r (accepted us))) ∙ ap (list_any p) keys ∙ same_any keys_total keys_exact p (map key (accepted us)) (map key (accepted xs)) has_same
+      let all_s : AllByRecursion (λ e. p (key e) ≡ true → e.old_email ≡ s) (map respell (accepted us)) =
+      all_mapped respell (λ e. p (key e) ≡ true → e.old_email ≡ s) (accepted us)
+      (all_weaker (accepted us) (λ e same is. ap (λ t. unwrap_or (spelling h t) []) (sym (exact_bytes email (folded (respell e).old_email) ((Equal-is (text_cmp email (folded (respell e).old_email))).0 is) ∙ same))) kept) in
+      let keys : map key (map respell (accepted us)) ≡ map key (accepted us) = map-map key respell (accepted us) ∙ map_alike (λ e. key (respell e)) key (accepted us) (all_weaker (accepted us) key_kept kept) in
+      let any : list_any (λ e. p (key e)) (map respell (accepted us)) ≡ is_some (spelling xs email) =
+      sym (list_any-map p key (map respell (accepted us))) ∙ ap (list_any p) keys ∙ same_any keys_total keys_exact p (map key (accepted us)) (map key (accepted xs)) has_same
       ∙ list_any-map p key (accepted xs) ∙ first_found (λ e. p (key e)) (accepted xs) ∙ is_some-option_map (λ e. e.old_email) (first (filter (λ e. p (key e)) (accepted xs))) in
       ap (λ l. option_map (λ e. e.old_email) (first (filter (λ e. p (key e)) l))) accepted_kept
-      ∙ first_alike (λ e. e.old_email) (λ e. p (key e)) s (map r (accepted us)) all_s
+      ∙ first_alike (λ e. e.old_email) (λ e. p (key e)) s (map respell (accepted us)) all_s
       ∙ ap (λ b. cond b (Some s) None) any
 
-  spelled_alike : (email : Text) → spelling h email ≡ spelling (a ++ map r us) email
+  spelled_alike : (email : Text) → spelling h email ≡ spelling (a ++ map respell us) email
   spelled_alike email =
       let parts : (l : List Mapping) → spelling (a ++ l) email ≡ option_or (spelling a email) (spelling l email) = λ l. first_parts (λ e. e.old_email) (λ e. eq_by_cmp text_cmp email (folded e.old_email)) a l in
-      by (spelling a email) (spelling xs email) (spelling h email) (parts xs) ∙ ap (option_or (spelling a email)) (sym (spelling_kept email)) ∙ sym (parts (map r us))
+      by (spelling a email) (spelling xs email) (spelling h email) (parts xs) ∙ ap (option_or (spelling a email)) (sym (spelling_kept email)) ∙ sym (parts (map respell us))
     where
       by : (o p s : Option Text) → s ≡ option_or o p → s ≡ option_or o (cond (is_some p) (Some (unwrap_or s [])) None)
       by None p s e = e ∙ sym (some_again p []) ∙ ap (λ z. cond (is_some p) (Some (unwrap_or z [])) None) (sym e)
       by (Some z) p s e = e
 
+  -- a batch may stand in another order of its keys, each email as the whole spells it
   pub alike_respelled : Alike (a ++ xs) (a ++ map (respelled (a ++ xs)) us)
-  alike_respelled = alike_by_keys h (a ++ map r us) keyed_alike spelled_alike
+  alike_respelled = alike_by_keys h (a ++ map respell us) keyed_alike spelled_alike
 
 -- ---- who spells an email
 
@@ -223,5 +224,6 @@ map-enumerate_from f n (x ∷ xs) = ap (λ l. f x ∷ l) (map-enumerate_from f (
 pub keyed_from_sort_by : {X : Type 0} (f : X → Mapping) (xs : List X) (ps : List (ℕ × X)) → IsStableBy (λ p q. is_lt (key_cmp (key (f p.1)) (key (f q.1)))) (enumerate_from 0 xs) ps → (k : Key) → of_key (map f xs) k ≡ of_key (map (λ p. f p.1) ps) k
 keyed_from_sort_by f xs ps stable k = ap (λ l. of_key l k) (sym (map-enumerate_from f 0 xs)) ∙ keyed_from_stable (λ p. f p.1) (enumerate_from 0 xs) ps stable k
 
+-- the same of entries with their places
 pub keyed_from_sort : (xs : List Mapping) (ps : List (ℕ × Mapping)) → IsStableBy (λ p q. is_lt (key_cmp (key p.1) (key q.1))) (enumerate_from 0 xs) ps → (k : Key) → of_key xs k ≡ of_key (map (λ p. p.1) ps) k
 keyed_from_sort xs ps stable k = ap (λ l. of_key l k) (sym (map-itself xs)) ∙ keyed_from_sort_by (λ e. e) xs ps stable k
