@@ -5,6 +5,7 @@ pub mod Exists
 pub mod Folded
 pub mod Good
 pub mod Keys
+pub mod LineFeeds
 pub mod Normal
 pub mod Parts
 pub mod Pieces
@@ -13,3 +14,9 @@ pub mod Reorder
 pub mod Rising
 pub mod SplitOnce
 pub mod Trimmed
+pub mod WhiteEnds
+pub mod WritableLines
+pub mod WritableValues
+pub mod WrittenExamples
+pub mod WrittenLine
+pub mod WrittenText

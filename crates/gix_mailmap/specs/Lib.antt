@@ -3,3 +3,4 @@ pub mod Trimming
 pub mod Entries
 pub mod Lines
 pub mod Histories
+pub mod CanonicalText
