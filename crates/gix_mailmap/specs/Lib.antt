@@ -8,3 +8,4 @@ pub mod Pool
 pub mod Search
 pub mod Alike
 pub mod Merging
+pub mod CanonicalText

@@ -6,6 +6,10 @@ ghost use Rattle.gix_mailmap.specs.Histories.{IsNormal, of_email, scan};
 ghost use Rattle.gix_mailmap.specs.Lines.{cut, Closed, Unclosed, Absent, IsCut, IsUnclosed, HoldsNo, Reading, reading, strict_reading, IsRead, IsReadStrictly};
 ghost use Rattle.gix_mailmap.specs.Trimming.{IsTrimmed, trim};
 
+mod text;
+
+pub use text::{law_strict, law_text};
+
 /// Trimming takes the longest front and then the longest end of white space away, and that is one text.
 pub fn law_trim()
     ensures { (s t : Text) → IsTrimmed s t ↔ (t ≡ trim s) }
