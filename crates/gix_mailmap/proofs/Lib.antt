@@ -30,3 +30,4 @@ pub mod WritableValues
 pub mod WrittenExamples
 pub mod WrittenLine
 pub mod WrittenText
+pub mod Times

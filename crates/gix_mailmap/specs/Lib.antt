@@ -9,3 +9,4 @@ pub mod Search
 pub mod Alike
 pub mod Merging
 pub mod CanonicalText
+pub mod Times
