@@ -22,3 +22,4 @@ pub mod Folding
 pub mod Lookups
 pub mod Search
 pub mod Complete
+pub mod Places

@@ -6,3 +6,6 @@ pub mod Histories
 pub mod Groups
 pub mod Pool
 pub mod Search
+pub mod Places
+pub mod Signatures
+pub mod Listings

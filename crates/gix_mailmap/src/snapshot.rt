@@ -1,6 +1,7 @@
 //! What a history of entries maps, ready to be looked up, and the names and emails that it gives to signatures.
 ghost use Rattle.std.specs.Prelude.{◌≡◌, []};
 
+mod lookup;
 mod tables;
 
 use std::alloc::Global;
