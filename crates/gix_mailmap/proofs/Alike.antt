@@ -1,4 +1,4 @@
--- Histories that agree in all that a normal list and a scan ask of them.
+-- Histories that are alike: they have one normal list and one scan, and alike parts make alike wholes.
 use Rattle.std.proofs.Common.{false, cond, append-nil, ◌∷◌, ◌≡◌, Bool, ◌||◌, List, [], ◌++◌, map, filter, Option, Some, None, unwrap_or, option_map, refl, sym, ap, ap₂, ◌∙◌}
 use Rattle.std.specs.Option.{option_or, option_flatten}
 use Rattle.std.proofs.lemmas.List.{map-append}
@@ -9,17 +9,7 @@ use Rattle.gix_mailmap.specs.Entries.{Mapping}
 use Rattle.gix_mailmap.specs.Folding.{text_cmp, Text, folded}
 use Rattle.gix_mailmap.specs.Histories.{key_cmp, of_email, Key, key, first, last, accepted, of_key, has_key, given_fields, last_fields, last_given, spelling, made, no_fields, value, scan, answered, IsNormal, is_accepted, new_fields}
 use Rattle.gix_mailmap.proofs.Parts.{first-append, last-append, option_map-or, list_any-append, and_then-flatten}
-
--- as the first entry of a key has it
-abbrev pub first_name : List Mapping → Key → Option (Option Text)
-first_name h k = option_map (λ e. e.old_name) (first (of_key h k))
-
-pub record Alike (h g : List Mapping) : Type 0 where
-  pub keys : (k : Key) → has_key (accepted h) k ≡ has_key (accepted g) k
-  pub spellings : (email : Text) → spelling h email ≡ spelling g email
-  pub given : (email : Text) → given_fields h email ≡ given_fields g email
-  pub lasts : (email name : Text) → last_fields h (email, Some name) ≡ last_fields g (email, Some name)
-  pub names : (email name : Text) → first_name h (email, Some name) ≡ first_name g (email, Some name)
+pub use Rattle.gix_mailmap.specs.Alike.{Alike, first_name}
 
 -- ---- alike histories have one normal list and one scan
 

@@ -25,10 +25,12 @@ use Rattle.gix_mailmap.proofs.Parts.{all_append, all_back, all_map, all_apply, f
 
 -- ---- what holds of each row
 
+-- what follows of each of a list
 pub all_weaker : {X : Type 0} {P Q : X → Type 0} (xs : List X) → ((x : X) → P x → Q x) → AllByRecursion P xs → AllByRecursion Q xs
 all_weaker [] f a = tt
 all_weaker (x ∷ xs) f a = (f x a.0, all_weaker xs f a.1)
 
+-- what holds of each image
 pub all_mapped : {X Y : Type 0} (f : X → Y) (P : Y → Type 0) (xs : List X) → AllByRecursion (λ x. P (f x)) xs → AllByRecursion P (map f xs)
 all_mapped f P [] a = tt
 all_mapped f P (x ∷ xs) a = (a.0, all_mapped f P xs a.1)
@@ -50,6 +52,7 @@ own_all P g f = by (is_some g.own.name || is_some g.own.email) f
 pub rows_spelled : (g : EmailGroup) → AllByRecursion (λ r. r.old_email ≡ g.old_email) (rows g)
 rows_spelled g = all_append _ (own_rows g) (map (name_row g.old_email) g.names) (own_all _ g (λ _. refl)) (all_rows _ g.old_email g.names (λ n. refl))
 
+-- each row of an email is accepted
 pub rows_accepted : (g : EmailGroup) → AllByRecursion (λ e. is_accepted e ≡ true) (rows g)
 rows_accepted g = all_append _ (own_rows g) (map (name_row g.old_email) g.names) (own_all _ g (λ given. given)) (all_rows _ g.old_email g.names (λ n. or_right (is_some n.new_name) true refl))
 
@@ -58,6 +61,7 @@ pub listing_all : (P : Mapping → Type 0) (gs : List EmailGroup) → AllByRecur
 listing_all P [] a = tt
 listing_all P (g ∷ gs) a = all_append P (rows g) (listing gs) a.0 (listing_all P gs a.1)
 
+-- each entry of groups is accepted
 pub groups_accepted : (gs : List EmailGroup) → AllByRecursion (λ e. is_accepted e ≡ true) (listing gs)
 groups_accepted gs = listing_all _ gs (each gs)
   where
@@ -247,14 +251,17 @@ listing_spelled gs are = go [] gs refl
         (all_weaker (rows g) (λ r same. ap (λ t. spelling (listing gs) (folded t)) same ∙ spelled_at gs are front g back p ∙ ap (λ t. Some t) (sym same)) (rows_spelled g))
         (go (front ++ g ∷ []) back (p ∙ sym (append_assoc front (g ∷ []) back)))
 
+-- the entries of groups are normal for themselves
 pub groups_normal : (gs : List EmailGroup) → AreGroups gs → IsNormal (listing gs) (listing gs)
 groups_normal gs are = self_normal (listing gs) (listing_sorted gs are.ascending are.each) (groups_accepted gs) (listing_spelled gs are)
 
+-- groups whose entries are alike a history are its normal list
 pub normal_of_groups : (h : List Mapping) (gs : List EmailGroup) → AreGroups gs → Alike h (listing gs) → IsNormal h (listing gs)
 normal_of_groups h gs are alike = same_normal (listing gs) h (listing gs) (alike_back h (listing gs) alike) (groups_normal gs are)
 
 -- ---- what a signature finds
 
+-- an email and a name that stand
 pub scan_found_name : (gs : List EmailGroup) → AreGroups gs → (name email : Text) (front : List EmailGroup) (g : EmailGroup) (back : List EmailGroup) → gs ≡ front ++ g ∷ back → folded g.old_email ≡ folded email
     → (before : List NameGroup) (n : NameGroup) (behind : List NameGroup) → g.names ≡ before ++ n ∷ behind → folded n.old_name ≡ folded name
     → scan (listing gs) name email ≡ answered email (name_fields n) (Some g.old_email)
@@ -263,6 +270,7 @@ scan_found_name gs are name email front g back parted same before n behind names
     let named : last_fields h (folded email, Some (folded name)) ≡ Some (name_fields n) = (λ i. last_fields h (sym same i, Some (sym same_name i))) ∙ ap (λ l. option_map new_fields (last l)) (named_at gs are front g back parted before n behind names_parted) in
     ap₂ (λ o s. answered email (unwrap_or o (given_fields h (folded email))) s) named (ap (spelling h) (sym same) ∙ spelled_at gs are front g back parted)
 
+-- an email that stands without the name
 pub scan_found_own : (gs : List EmailGroup) → AreGroups gs → (name email : Text) (front : List EmailGroup) (g : EmailGroup) (back : List EmailGroup) → gs ≡ front ++ g ∷ back → folded g.old_email ≡ folded email
     → AllByRecursion (λ n. name_key n ≡ folded name → ⊥) g.names → scan (listing gs) name email ≡ answered email g.own (Some g.old_email)
 scan_found_own gs are name email front g back parted same other =
@@ -272,6 +280,7 @@ scan_found_own gs are name email front g back parted same other =
     let spelled : spelling h (folded email) ≡ Some g.old_email = ap (spelling h) (sym same) ∙ spelled_at gs are front g back parted in
     λ i. answered email (unwrap_or (unnamed i) (given i)) (spelled i)
 
+-- an email that does not stand
 pub scan_missing : (gs : List EmailGroup) (name email : Text) → AllByRecursion (λ g. email_key g ≡ folded email → ⊥) gs → scan (listing gs) name email ≡ None
 scan_missing gs name email other =
     let f : Fields = unwrap_or (last_fields (listing gs) (folded email, Some (folded name))) (given_fields (listing gs) (folded email)) in

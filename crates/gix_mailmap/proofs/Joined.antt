@@ -1,6 +1,6 @@
 -- Histories put together: what may change places, and what may stand as one entry.
 use Rattle.std.proofs.Common.{◌≡◌, Bool, true, false, true≢false, cond, ◌&&◌, ◌||◌, List, [], ◌∷◌, ◌++◌, map, filter, filter_map, append-nil, append_assoc, Option, Some, None, Ordering, Less, Equal, Greater, is_eq, is_some, option_map, unwrap_or, refl, sym, ap, subst, ◌∙◌}
-use Rattle.std.specs.Cmp.{Equal-is, eq_by_cmp_equiv, tied_itself}
+use Rattle.std.specs.Cmp.{eq_by_cmp_equiv}
 use Rattle.std.specs.Cmp.Lexicographic.{nat_list_cmp_total}
 use Rattle.std.specs.Option.{option_or}
 use Rattle.std.specs.List.{AllByRecursion, cons_option}
@@ -10,10 +10,11 @@ use Rattle.gix_mailmap.specs.Entries.{Mapping}
 use Rattle.gix_mailmap.specs.Folding.{Text, folded, text_cmp}
 use Rattle.gix_mailmap.specs.Histories.{Fields, Key, key, key_cmp, first, last, last_given, is_accepted, accepted, made, new_fields, of_key, spelling}
 use Rattle.gix_mailmap.proofs.Alike.{Alike, alike_itself, alike_joined}
-use Rattle.gix_mailmap.proofs.Keys.{keys_total, keys_exact}
+use Rattle.gix_mailmap.proofs.Keys.{keys_total}
 use Rattle.gix_mailmap.proofs.Normal.{known}
 use Rattle.gix_mailmap.proofs.Parts.{filter-filter, filter_all, is_some-option_map, last_of_one}
 
+-- what is alike to what is alike
 pub alike_trans : (a b c : List Mapping) → Alike a b → Alike b c → Alike a c
 alike_trans a b c p q =
     record {
@@ -47,6 +48,7 @@ option_map-map f g (Some x) = refl
 abbrev Stripped : Type 0
 Stripped = Fields × Option Text
 
+-- an entry without its email
 abbrev pub stripped : Mapping → Fields × Option Text
 stripped e = (new_fields e, e.old_name)
 
@@ -126,6 +128,7 @@ moved_behind x (y ∷ ys) apart =
     (alike_joined (x ∷ y ∷ []) ys (y ∷ x ∷ []) ys (pair_swapped x y apart.0) (alike_itself ys))
     (alike_joined (y ∷ []) (x ∷ ys) (y ∷ []) (ys ++ x ∷ []) (alike_itself (y ∷ [])) (moved_behind x ys apart.1))
 
+-- entries that are all apart change places
 pub alike_swapped : (xs ys : List Mapping) → AllByRecursion (λ x. AllByRecursion (λ y. IsApart x y) ys) xs → Alike (xs ++ ys) (ys ++ xs)
 alike_swapped [] ys apart = subst (Alike ys) (sym (append-nil ys)) (alike_itself ys)
 alike_swapped (x ∷ xs) ys apart =
@@ -205,6 +208,7 @@ combined_at (Some n) x y = made (new_fields y) (Some n) x.old_email
 abbrev pub combined : Mapping → Mapping → Mapping
 combined x y = combined_at x.old_name x y
 
+-- two accepted entries of one key and one spelling are alike the one that stands for them
 pub alike_combined : (x y : Mapping) → key x ≡ key y → x.old_email ≡ y.old_email → is_accepted x ≡ true → is_accepted y ≡ true → Alike (x ∷ y ∷ []) (combined x y ∷ [])
 alike_combined x y same_key same_email good_x good_y = by x.old_name refl
   where

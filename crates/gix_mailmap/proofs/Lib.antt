@@ -9,6 +9,7 @@ pub mod Joined
 pub mod Grammar
 pub mod Keys
 pub mod Merging
+pub mod LineFeeds
 pub mod Normal
 pub mod Parts
 pub mod Pieces
@@ -23,3 +24,12 @@ pub mod Lookups
 pub mod Search
 pub mod Complete
 pub mod Places
+pub mod Runs
+pub mod WhiteEnds
+pub mod WritableLines
+pub mod WritableValues
+pub mod WrittenExamples
+pub mod WrittenLine
+pub mod WrittenText
+pub mod Times
+pub mod Collected

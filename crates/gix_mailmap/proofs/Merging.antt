@@ -55,18 +55,21 @@ apart_below x y less =
 rows_apart : (g : EmailGroup) (js : List Mapping) → AreBelow js g → AllByRecursion (λ x. AllByRecursion (λ y. IsApart x y) js) (rows g)
 rows_apart g js below = all_weaker (rows g) (λ x same. all_weaker js (λ y less. apart_below x y (ap (λ t. text_cmp (folded y.old_email) (folded t)) same ∙ less)) below) (rows_spelled g)
 
+-- standing groups above the batch so far go over as they are
 pub step_copied : (ds run os : List EmailGroup) (js : List Mapping) → Alike (listing ds ++ js) (listing os) → AllByRecursion (AreBelow js) run → Alike (listing (ds ++ run) ++ js) (listing (os ++ run))
 step_copied ds run os js done below =
     subst (λ l. Alike (l ++ js) (listing (os ++ run))) (sym (listing-append ds run))
     (subst (Alike ((listing ds ++ listing run) ++ js)) (sym (listing-append os run))
     (put_alone (listing ds) (listing run) js (listing_all _ run (all_weaker run (λ g low. rows_apart g js low) below)) (listing os) done))
 
+-- a standing group with the entries of its email in the batch
 pub step_joined : (ds os : List EmailGroup) (g c : EmailGroup) (js more : List Mapping) → Alike (listing ds ++ js) (listing os) → AreBelow js g → Alike (rows g ++ more) (rows c)
     → Alike (listing (ds ++ g ∷ []) ++ (js ++ more)) (listing (os ++ c ∷ []))
 step_joined ds os g c js more done below joined =
     subst (λ l. Alike (l ++ (js ++ more)) (listing (os ++ c ∷ []))) (sym (listing-push ds g))
     (subst (Alike ((listing ds ++ rows g) ++ (js ++ more))) (sym (listing-push os c)) (put_joined (listing ds) (rows g) js (rows_apart g js below) more (listing os) (rows c) done joined))
 
+-- the entries of an email that does not stand
 pub step_made : (ds os : List EmailGroup) (c : EmailGroup) (js more : List Mapping) → Alike (listing ds ++ js) (listing os) → Alike more (rows c) → Alike (listing ds ++ (js ++ more)) (listing (os ++ c ∷ []))
 step_made ds os c js more done new = subst (Alike (listing ds ++ (js ++ more))) (sym (listing-push os c)) (put_more (listing ds) js more (listing os) (rows c) done new)
 
@@ -103,6 +106,7 @@ name_combined e n m y same_email same_name given =
     subst (λ o. Alike (name_row e n ∷ m ∷ []) (made (record { name = m.new_name; email = o }) (Some n.old_name) e ∷ [])) given
     (alike_combined (name_row e n) m (λ i. (folded (sym same_email i), sym same_name i)) (sym same_email) (or_right (is_some n.new_name) true refl) (or_right (is_some m.new_name) (is_some m.new_email) (ap is_some given)))
 
+-- standing names above those so far go over as they are
 pub names_copied : (e : Text) (ds run os : List NameGroup) (js : List Mapping) → AllByRecursion (λ y. y.old_email ≡ e) js → Alike (name_rows e ds ++ js) (name_rows e os)
     → AllByRecursion (AreNamedBelow js) run → Alike (name_rows e (ds ++ run) ++ js) (name_rows e (os ++ run))
 names_copied e ds run os js mailed done below =
@@ -114,6 +118,7 @@ names_copied e ds run os js mailed done below =
     each [] a = tt
     each (n ∷ ns) a = (names_apart e n js mailed a.0, each ns a.1)
 
+-- an entry with a standing name
 pub names_found : (e : Text) (ds os : List NameGroup) (n : NameGroup) (js : List Mapping) (m : Mapping) (y : Text) → AllByRecursion (λ y. y.old_email ≡ e) js → Alike (name_rows e ds ++ js) (name_rows e os)
     → AreNamedBelow js n → m.old_email ≡ e → (key m).1 ≡ Some (name_key n) → m.new_email ≡ Some y
     → Alike (name_rows e (ds ++ n ∷ []) ++ (js ++ m ∷ [])) (name_rows e (os ++ renewed n.old_name m y ∷ []))
@@ -122,6 +127,7 @@ names_found e ds os n js m y mailed done below same_email same_name given =
     (subst (Alike ((name_rows e ds ++ name_row e n ∷ []) ++ (js ++ m ∷ []))) (sym (name_rows-push e os (renewed n.old_name m y)))
     (put_joined (name_rows e ds) (name_row e n ∷ []) js (names_apart e n js mailed below, tt) (m ∷ []) (name_rows e os) (name_row e (renewed n.old_name m y) ∷ []) done (name_combined e n m y same_email same_name given)))
 
+-- an entry with the name that came out last
 pub names_replaced : (e : Text) (ds os : List NameGroup) (l : NameGroup) (js : List Mapping) (m : Mapping) (y : Text) → Alike (name_rows e ds ++ js) (name_rows e (os ++ l ∷ []))
     → m.old_email ≡ e → (key m).1 ≡ Some (name_key l) → m.new_email ≡ Some y
     → Alike (name_rows e ds ++ (js ++ m ∷ [])) (name_rows e (os ++ renewed l.old_name m y ∷ []))
@@ -133,6 +139,7 @@ names_replaced e ds os l js m y done same_email same_name given =
     (subst (λ l. Alike l (name_rows e os ++ name_row e new ∷ [])) (sym (append_assoc (name_rows e os) (name_row e l ∷ []) (m ∷ [])))
     (alike_joined (name_rows e os) (name_row e l ∷ m ∷ []) (name_rows e os) (name_row e new ∷ []) (alike_itself (name_rows e os)) (name_combined e l m y same_email same_name given))))
 
+-- an entry with a name that does not stand
 pub names_pushed : (e : Text) (ds os : List NameGroup) (js : List Mapping) (m : Mapping) (x y : Text) → Alike (name_rows e ds ++ js) (name_rows e os)
     → m.old_email ≡ e → m.old_name ≡ Some x → m.new_email ≡ Some y
     → Alike (name_rows e ds ++ (js ++ m ∷ [])) (name_rows e (os ++ renewed x m y ∷ []))
@@ -165,6 +172,7 @@ own_once e f u own = subst (Alike (own_of e f ++ u ∷ [])) (ap (λ b. if b then
     by None (Some b) = joined None (Some b) refl
     by (Some a) b = joined (Some a) b refl
 
+-- the fields after entries without an old name: each as it was last given
 pub own_joined : (e : Text) (f : Fields) (us : List Mapping) → AllByRecursion (IsOwn e) us → Alike (own_of e f ++ us) (own_of e (fold give f us))
 own_joined e f [] own = subst (λ l. Alike l (own_of e f)) (sym (append-nil (own_of e f))) (alike_itself (own_of e f))
 own_joined e f (u ∷ us) own =
@@ -174,6 +182,7 @@ own_joined e f (u ∷ us) own =
 
 -- ---- an email whole
 
+-- a standing email with its entries without an old name and those with one
 pub group_joined : (g c : EmailGroup) (us js : List Mapping) → AllByRecursion (IsOwn g.old_email) us → Alike (own_rows g ++ us) (own_rows c)
     → Alike (name_rows g.old_email g.names ++ js) (name_rows c.old_email c.names) → Alike (rows g ++ (us ++ js)) (rows c)
 group_joined g c us js own own_part names_part =

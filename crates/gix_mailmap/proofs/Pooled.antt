@@ -7,7 +7,7 @@ use Rattle.std.proofs.lemmas.List.{take-append-le, drop-append-le, drop_all, tak
 use Rattle.std.proofs.Math.Seq.{take-append_seam, drop-append_seam}
 use Rattle.gix_mailmap.specs.Folding.{Text}
 use Rattle.gix_mailmap.specs.Groups.{NameGroup, EmailGroup, Contents}
-use Rattle.gix_mailmap.specs.Pool.{Stands, spelled, LiesIn, name_group, email_group, NameLies, EmailLies, Follow, end_of, AreTables, contents}
+use Rattle.gix_mailmap.specs.Pool.{RowsLie, names_of, group_of, spelled, LiesIn, name_group, email_group, NameLies, EmailLies, Follow, end_of, AreTables, contents}
 use Rattle.gix_mailmap.specs.declared.snapshot.tables.Span.{Span}
 use Rattle.gix_mailmap.specs.declared.snapshot.tables.NameRow.{NameRow}
 use Rattle.gix_mailmap.specs.declared.snapshot.tables.EmailRow.{EmailRow}
@@ -200,15 +200,9 @@ slice_get-map_at f [] i d lt = absurd (omega arith)
 slice_get-map_at f (x ∷ xs) zero d lt = refl
 slice_get-map_at f (x ∷ xs) (suc i) d lt = slice_get-map_at f xs i d (omega arith)
 
--- what a row and its names spell is the group at their place
-pub stands_at : (pool : Text) (names : List NameRow) (emails : List EmailRow) → AreTables pool names emails → (i : ℕ) (r : EmailRow) → i < length emails → r ≡ get_or emails i r
-    → Stands pool (email_group pool names r) r (take (r.names_end - r.names_start) (drop r.names_start names))
-stands_at pool names emails h i r lt read =
+pub rows_lie_at : (pool : Text) (names : List NameRow) (emails : List EmailRow) → AreTables pool names emails → (i : ℕ) (r : EmailRow) → i < length emails → r ≡ get_or emails i r → RowsLie pool r (names_of names r)
+rows_lie_at pool names emails h i r lt read =
     record {
-      old_email = refl;
-      new_name = refl;
-      new_email = refl;
-      names = refl;
-      row_lies = subst (EmailLies (length pool)) (sym read) (all_at (EmailLies (length pool)) emails i r h.emails_lie lt);
+      email_lies = subst (EmailLies (length pool)) (sym read) (all_at (EmailLies (length pool)) emails i r h.emails_lie lt);
       names_lie = all_take _ (r.names_end - r.names_start) _ (all_drop _ r.names_start names h.names_lie);
     }

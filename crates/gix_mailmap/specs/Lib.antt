@@ -9,3 +9,7 @@ pub mod Search
 pub mod Places
 pub mod Signatures
 pub mod Listings
+pub mod Alike
+pub mod Merging
+pub mod CanonicalText
+pub mod Times

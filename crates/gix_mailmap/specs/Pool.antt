@@ -19,14 +19,21 @@ LiesIn n s = s.start + s.len ≤ n
 abbrev pub name_group : Text → NameRow → NameGroup
 name_group pool r = record { old_name = spelled pool r.old_name; new_name = option_map (spelled pool) r.new_name; new_email = spelled pool r.new_email }
 
--- an email's names are a range of the one table of names
-abbrev pub email_group : Text → List NameRow → EmailRow → EmailGroup
-email_group pool names r =
+-- what a row and the rows of its names spell
+abbrev pub group_of : Text → EmailRow → List NameRow → EmailGroup
+group_of pool r names =
     record {
       old_email = spelled pool r.old_email;
       own = record { name = option_map (spelled pool) r.new_name; email = option_map (spelled pool) r.new_email };
-      names = map (name_group pool) (take (r.names_end - r.names_start) (drop r.names_start names));
+      names = map (name_group pool) names;
     }
+
+-- an email's names are a range of the one table of names
+abbrev pub names_of : List NameRow → EmailRow → List NameRow
+names_of names r = take (r.names_end - r.names_start) (drop r.names_start names)
+
+abbrev pub email_group : Text → List NameRow → EmailRow → EmailGroup
+email_group pool names r = group_of pool r (names_of names r)
 
 -- the texts of a row lie in a pool of n bytes
 pub record NameLies (n : ℕ) (r : NameRow) : Type 0 where
@@ -62,11 +69,7 @@ contents pool names emails =
       loose = map (name_group pool) (drop (end_of 0 emails) names);
     }
 
--- the row of an email and those of its names spell this group, and lie in the pool
-pub record Stands (pool : Text) (g : EmailGroup) (r : EmailRow) (ns : List NameRow) : Type 0 where
-  pub old_email : spelled pool r.old_email ≡ g.old_email
-  pub new_name : option_map (spelled pool) r.new_name ≡ g.own.name
-  pub new_email : option_map (spelled pool) r.new_email ≡ g.own.email
-  pub names : map (name_group pool) ns ≡ g.names
-  pub row_lies : EmailLies (length pool) r
+-- the texts of an email's row and of its names lie in the pool
+pub record RowsLie (pool : Text) (r : EmailRow) (ns : List NameRow) : Type 0 where
+  pub email_lies : EmailLies (length pool) r
   pub names_lie : AllByRecursion (NameLies (length pool)) ns

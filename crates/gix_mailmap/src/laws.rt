@@ -4,7 +4,13 @@ ghost use Rattle.gix_mailmap.specs.Folding.{Text};
 ghost use Rattle.gix_mailmap.specs.Entries.{Mapping};
 ghost use Rattle.gix_mailmap.specs.Histories.{IsNormal, of_email, scan};
 ghost use Rattle.gix_mailmap.specs.Lines.{cut, Closed, Unclosed, Absent, IsCut, IsUnclosed, HoldsNo, Reading, reading, strict_reading, IsRead, IsReadStrictly};
+ghost use Rattle.gix_mailmap.specs.Times.{Spells, IsTimeOf};
 ghost use Rattle.gix_mailmap.specs.Trimming.{IsTrimmed, trim};
+ghost use Rattle.gix_mailmap.specs.declared.date.Time.{Time};
+
+mod text;
+
+pub use text::{law_strict, law_text};
 
 /// Trimming takes the longest front and then the longest end of white space away, and that is one text.
 pub fn law_trim()
@@ -62,4 +68,10 @@ pub fn law_exists()
 /// No list is shorter than the normal list that it has.
 pub fn law_shortest()
     ensures { (l n : List Mapping) → IsNormal l n → length n ≤ length l }
+{}
+
+/// A text spells one time at most, so the time of a signature follows from its text.
+pub fn law_time()
+    ensures spelled { (text : Text) (a b : Time) → Spells text a → Spells text b → a ≡ b }
+    ensures time_of { (text : Text) (a b : Time) → IsTimeOf text a → IsTimeOf text b → a ≡ b }
 {}

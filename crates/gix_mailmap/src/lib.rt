@@ -3,6 +3,7 @@
 #![tactic(auto)]
 
 pub mod actor;
+pub mod date;
 mod entry;
 pub mod fold;
 pub mod laws;

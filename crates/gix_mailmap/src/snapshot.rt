@@ -1,7 +1,9 @@
 //! What a history of entries maps, ready to be looked up, and the names and emails that it gives to signatures.
 ghost use Rattle.std.specs.Prelude.{◌≡◌, []};
 
+mod batch;
 mod lookup;
+mod resolved;
 mod tables;
 
 use std::alloc::Global;

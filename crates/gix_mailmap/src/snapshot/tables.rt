@@ -56,7 +56,7 @@ impl Model for Tables {
 
 impl Tables {
     ghost use Rattle.gix_mailmap.specs.Groups.{Contents, EmailGroup, NameGroup};
-    ghost use Rattle.gix_mailmap.specs.Pool.{spelled, LiesIn, NameLies, name_group, Stands};
+    ghost use Rattle.gix_mailmap.specs.Pool.{spelled, LiesIn, NameLies, name_group};
 
     /// No email and no name, and no memory taken.
     pub(crate) fn new(alloc: Global) -> Tables
@@ -146,7 +146,7 @@ impl Tables {
 
 impl Tables {
     ghost use Rattle.gix_mailmap.specs.Groups.{Contents, EmailGroup, NameGroup};
-    ghost use Rattle.gix_mailmap.specs.Pool.{spelled, LiesIn, Stands};
+    ghost use Rattle.gix_mailmap.specs.Pool.{spelled, LiesIn, group_of, RowsLie};
 
     /// The number of emails.
     pub(crate) fn len(&self) -> usize
@@ -166,7 +166,8 @@ impl Tables {
     /// The email at a place, with its names.
     pub(crate) fn email(&self, place: usize) -> (EmailRow, &[NameRow])
         requires { place < length self.now.groups }
-        ensures { (g : EmailGroup) × (slice_get self.now.groups place ≡ Some g) × Stands self.now.pool g result.0 result.1.now }
+        ensures group { slice_get self.now.groups place ≡ Some (group_of self.now.pool result.0 result.1.now) }
+        ensures lie { RowsLie self.now.pool result.0 result.1.now }
     {
         let row = self.emails[place];
         (row, part(&self.names, row.names_start, row.names_end))

@@ -2,10 +2,10 @@ use Rattle.std.proofs.Common.{◌≡◌, ◌≤◌, ◌<◌, ◌-◌, List, subs
 use Rattle.std.proofs.lemmas.List.{length-map}
 use Rattle.std.specs.List.{slice_get}
 use Rattle.gix_mailmap.specs.Groups.{Contents, EmailGroup}
-use Rattle.gix_mailmap.specs.Pool.{Stands, email_group}
+use Rattle.gix_mailmap.specs.Pool.{RowsLie, names_of, group_of, email_group}
 use Rattle.gix_mailmap.specs.declared.snapshot.tables.NameRow.{NameRow}
 use Rattle.gix_mailmap.specs.declared.snapshot.tables.EmailRow.{EmailRow}
-use Rattle.gix_mailmap.proofs.Pooled.{range_at, stands_at, slice_get-map_at}
+use Rattle.gix_mailmap.proofs.Pooled.{range_at, rows_lie_at, slice_get-map_at}
 use Rattle.gix_mailmap.proofs.snapshot.tables.Tables.email.Goals as goal
 
 pub part-requires-clause-up : goal.part-requires-clause-up
@@ -27,15 +27,24 @@ part-requires-clause-within c =
     let high : row.names_end ≤ length names = subst (λ (r : EmailRow). r.names_end ≤ length names) (sym c.index-row.ensures) range.1 in
     omega (arith, high, ap length c.deref.ensures.value)
 
-pub returns : goal.returns
-returns c =
+pub returns-clause-group : goal.returns-clause-group
+returns-clause-group c =
     let pool = c.self.inside.pool.items in
     let emails = c.self.inside.emails.items in
     let names = c.self.inside.names.items in
     let row = c.index-row.result.now in
     let lt : c.args.place < length emails = omega (arith, c.requires, ap (λ (v : Contents). length v.groups) c.self.view_is, length-map emails (email_group pool names)) in
-    let read : slice_get c.args.self.now.groups c.args.place ≡ Some (email_group pool names row) =
-    ap (λ (v : Contents). slice_get v.groups c.args.place) (sym c.self.view_is) ∙ slice_get-map_at (email_group pool names) emails c.args.place row lt ∙ ap (λ r. Some (email_group pool names r)) (sym c.index-row.ensures) in
-    let ns : c.part.result.now ≡ take (row.names_end - row.names_start) (drop row.names_start names) = c.part.ensures ∙ ap (λ l. take (row.names_end - row.names_start) (drop row.names_start l)) c.deref.ensures.value in
-    let stands = stands_at pool names emails c.self.invariant c.args.place row lt c.index-row.ensures in
-    (email_group pool names row, read, subst₂ (λ (v : Contents) (l : List NameRow). Stands v.pool (email_group pool names row) row l) c.self.view_is (sym ns) stands)
+    let ns : c.part.result.now ≡ names_of names row = c.part.ensures ∙ ap (λ l. take (row.names_end - row.names_start) (drop row.names_start l)) c.deref.ensures.value in
+    ap (λ (v : Contents). slice_get v.groups c.args.place) (sym c.self.view_is) ∙ slice_get-map_at (email_group pool names) emails c.args.place row lt
+    ∙ ap (λ r. Some (email_group pool names r)) (sym c.index-row.ensures) ∙ ap (λ l. Some (group_of pool row l)) (sym ns)
+    ∙ ap (λ (v : Contents). Some (group_of v.pool row c.part.result.now)) c.self.view_is
+
+pub returns-clause-lie : goal.returns-clause-lie
+returns-clause-lie c =
+    let pool = c.self.inside.pool.items in
+    let emails = c.self.inside.emails.items in
+    let names = c.self.inside.names.items in
+    let row = c.index-row.result.now in
+    let lt : c.args.place < length emails = omega (arith, c.requires, ap (λ (v : Contents). length v.groups) c.self.view_is, length-map emails (email_group pool names)) in
+    let ns : c.part.result.now ≡ names_of names row = c.part.ensures ∙ ap (λ l. take (row.names_end - row.names_start) (drop row.names_start l)) c.deref.ensures.value in
+    subst₂ (λ (v : Contents) (l : List NameRow). RowsLie v.pool row l) c.self.view_is (sym ns) (rows_lie_at pool names emails c.self.invariant c.args.place row lt c.index-row.ensures)

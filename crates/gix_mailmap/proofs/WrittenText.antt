@@ -1,0 +1,48 @@
+-- What a written text reads as.
+use Rattle.std.proofs.Common.{◌≡◌, ◌+◌, ℕ, true, List, [], ◌∷◌, ◌++◌, map, Option, Some, Ok, option_to_list, All, refl, ap, ◌∙◌}
+use Rattle.std.specs.List.{AllByRecursion}
+use Rattle.std.proofs.lemmas.List.Elements.{recursion_from_All}
+use Rattle.gix_mailmap.specs.CanonicalText.{IsWritable, text}
+use Rattle.gix_mailmap.specs.Entries.{Mapping}
+use Rattle.gix_mailmap.specs.Folding.{Text}
+use Rattle.gix_mailmap.specs.Histories.{IsNormal, is_accepted}
+use Rattle.gix_mailmap.specs.Lines.{Reading, reading, strict_reading, readings_from, pieces, readings, strict_readings, good, good_of}
+use Rattle.gix_mailmap.proofs.LineFeeds.{pieces-line}
+use Rattle.gix_mailmap.proofs.Normal.{all_good}
+use Rattle.gix_mailmap.proofs.WrittenLine.{body, line-then, one_line, reading-line, strict_reading-line}
+
+-- a reader that reads each written line as its entry reads a written text as its entries
+module _ (read : ℕ → Text → Option Reading) (each : (n : ℕ) (e : Mapping) → IsWritable e → is_accepted e ≡ true → read n (32 ∷ body e) ≡ Some (Ok e)) where
+  from_text : (n : ℕ) (es : List Mapping) → AllByRecursion IsWritable es → AllByRecursion (λ e. is_accepted e ≡ true) es → readings_from read n (pieces (text es)) ≡ map Ok es
+  unfolding readings_from pieces
+  from_text n [] w a = refl
+  from_text n (e ∷ es) w a =
+      ap (λ s. readings_from read n (pieces s)) (line-then e (text es))
+      ∙ ap (readings_from read n) (pieces-line (32 ∷ body e) (text es) (one_line e w.0))
+      ∙ ap (λ o. option_to_list o ++ readings_from read (n + 1) (pieces (text es))) (each n e w.0 a.0)
+      ∙ ap (λ rs. Ok e ∷ rs) (from_text (n + 1) es w.1 a.1)
+
+-- entries alone are all good
+good_of-map : (es : List Mapping) → good_of (map Ok es) ≡ es
+unfolding good_of
+good_of-map [] = refl
+good_of-map (e ∷ es) = ap (λ l. e ∷ l) (good_of-map es)
+
+module _ (v : List Mapping) (normal : IsNormal v v) (writable : All IsWritable v) where
+  all_writable : AllByRecursion IsWritable v
+  all_writable = recursion_from_All _ v writable
+
+  all_accepted : AllByRecursion (λ e. is_accepted e ≡ true) v
+  all_accepted = recursion_from_All _ v (all_good v v normal)
+
+  -- it says just the entries
+  pub readings-text : readings (text v) ≡ map Ok v
+  readings-text = from_text reading reading-line 1 v all_writable all_accepted
+
+  -- and read strictly, the same
+  pub strict_readings-text : strict_readings (text v) ≡ map Ok v
+  strict_readings-text = from_text strict_reading strict_reading-line 1 v all_writable all_accepted
+
+  -- so it reads back
+  pub good-text : good (text v) ≡ v
+  good-text = ap good_of readings-text ∙ good_of-map v
