@@ -24,6 +24,8 @@ pub mod Lookups
 pub mod Search
 pub mod Complete
 pub mod Places
+pub mod Counts
+pub mod Resolved
 pub mod Runs
 pub mod WhiteEnds
 pub mod WritableLines

@@ -6,6 +6,7 @@ mod lookup;
 mod resolved;
 mod tables;
 
+pub use resolved::ResolvedSignature;
 use std::alloc::Global;
 use std::marker::Model;
 use tables::Tables;

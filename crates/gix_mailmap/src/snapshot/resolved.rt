@@ -1,6 +1,8 @@
 //! What a lookup answers.
 ghost use Rattle.std.specs.Prelude.{◌≡◌, ◌||◌, is_some, IsTrue, IfSome, option_map};
 ghost use Rattle.std.specs.Option.{option_copied};
+ghost use Rattle.std.specs.Ordering.{eq_by_cmp};
+ghost use Rattle.gix_mailmap.specs.Folding.{text_cmp};
 ghost use Rattle.gix_mailmap.specs.Histories.{answered};
 ghost use Rattle.gix_mailmap.specs.Signatures.{shown};
 
@@ -30,7 +32,7 @@ impl<'a> ResolvedSignature<'a> {
     {
         let email = match new_email {
             Some(email) => Some(email),
-            None if matched_email == current_email => None,
+            None if is_same(matched_email, current_email) => None,
             None => Some(matched_email),
         };
         if new_name.is_none() && email.is_none() {
@@ -41,4 +43,11 @@ impl<'a> ResolvedSignature<'a> {
             email,
         })
     }
+}
+
+// Whether two texts are the same, byte for byte.
+fn is_same(a: &[u8], b: &[u8]) -> bool
+    ensures { result ≡ eq_by_cmp text_cmp a.now b.now }
+{
+    a == b
 }

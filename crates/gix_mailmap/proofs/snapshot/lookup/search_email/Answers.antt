@@ -1,4 +1,4 @@
-use Rattle.std.proofs.Common.{subst, refl, drop, map, None, [], arith}
+use Rattle.std.proofs.Common.{◌-◌, subst, refl, drop, map, None, [], arith}
 use Rattle.std.specs.List.Sorted.{IsStrictlySortedBy}
 use Rattle.std.specs.Cmp.Lexicographic.{nat_list_cmp_total}
 use Rattle.std.proofs.lemmas.List.{drop-map}
@@ -6,6 +6,7 @@ use Rattle.gix_mailmap.specs.Folding.{folded, text_cmp}
 use Rattle.gix_mailmap.specs.Groups.{email_key}
 use Rattle.gix_mailmap.proofs.Lookups.{IsParted-from_ascending}
 use Rattle.gix_mailmap.proofs.Places.{sorted_drop, found_from, missing_from}
+use Rattle.gix_mailmap.proofs.Search.{digits-le}
 use Rattle.gix_mailmap.proofs.snapshot.lookup.search_email.Goals as goal
 
 pub search-found-requires-clause-parted : goal.search-found-requires-clause-parted
@@ -23,3 +24,9 @@ pub returns-in-Err-clause-missing : goal.returns-in-Err-clause-missing
 returns-in-Err-clause-missing c =
     missing_from email_key (folded c.args.email.now) c.args.tables.now.groups c.args.start c.in-Err.i _ refl c.requires.start
     (omega (arith, c.in-Err.ensures.within, c.len-len.ensures)) c.in-Err.ensures.missing
+
+pub returns-in-Ok-clause-few : goal.returns-in-Ok-clause-few
+returns-in-Ok-clause-few c = let few = digits-le 64 (c.len-len.result - c.args.start) (omega (arith, c.len-len.type_inv)) in omega (arith, c.in-Ok.ensures.at_most)
+
+pub returns-in-Err-clause-few : goal.returns-in-Err-clause-few
+returns-in-Err-clause-few c = let few = digits-le 64 (c.len-len.result - c.args.start) (omega (arith, c.len-len.type_inv)) in omega (arith, c.in-Err.ensures.at_most)
