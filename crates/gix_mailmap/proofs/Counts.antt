@@ -24,11 +24,11 @@ none_passes p (x ∷ xs) a = ap₂ (λ b c. b || c) a.0 (none_passes p xs a.1)
 
 none_counted : {X : Type 0} (p : X → Bool) (xs : List X) → AllByRecursion (λ x. p x ≡ false) xs → count_by p xs ≡ 0
 none_counted p [] a = refl
-none_counted p (x ∷ xs) a = ap₂ (λ b n. cond b 1 0 + n) a.0 (none_counted p xs a.1)
+none_counted p (x ∷ xs) a = sum_by-append (λ y. cond (p y) 1 0) (x ∷ []) xs ∙ ap₂ (λ b n. 0 + cond b 1 0 + n) a.0 (none_counted p xs a.1)
 
 all_counted : {X : Type 0} (p : X → Bool) (xs : List X) → AllByRecursion (λ x. p x ≡ true) xs → count_by p xs ≡ length xs
 all_counted p [] a = refl
-all_counted p (x ∷ xs) a = ap₂ (λ b n. cond b 1 0 + n) a.0 (all_counted p xs a.1) ∙ omega arith
+all_counted p (x ∷ xs) a = sum_by-append (λ y. cond (p y) 1 0) (x ∷ []) xs ∙ ap₂ (λ b n. 0 + cond b 1 0 + n) a.0 (all_counted p xs a.1) ∙ omega arith
 
 pub all_slice : {X : Type 0} (P : X → Type 0) (xs : List X) (i : ℕ) (x : X) → AllByRecursion P xs → slice_get xs i ≡ Some x → P x
 all_slice P [] i x a read = absurd (cc)

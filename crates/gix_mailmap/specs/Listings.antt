@@ -1,8 +1,8 @@
--- The listing of a snapshot: what is left of it, how two compare, and how it is hashed.
-use Rattle.std.specs.Prelude.{Bool, ◌&&◌, nat_eq, ℕ, List, map, drop, ◌++◌}
-use Rattle.std.specs.Option.{option_eq}
-use Rattle.std.specs.List.{flat_map}
+-- The listing of a snapshot: what is left of it, how two compare, and what of it is hashed.
+use Rattle.std.specs.Prelude.{Bool, ◌&&◌, ℕ, List, map, drop, ◌++◌, nat_eq, Option}
 use Rattle.std.specs.Hash as fed
+use Rattle.std.specs.List.{flat_map}
+use Rattle.std.specs.Option.{option_eq}
 use Rattle.gix_mailmap.specs.Entries.{Mapping}
 use Rattle.gix_mailmap.specs.Folding.{Text}
 use Rattle.gix_mailmap.specs.Groups.{Contents, name_row, listing}

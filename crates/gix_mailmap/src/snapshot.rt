@@ -2,10 +2,12 @@
 ghost use Rattle.std.specs.Prelude.{◌≡◌, []};
 
 mod batch;
+mod listing;
 mod lookup;
 mod resolved;
 mod tables;
 
+pub use listing::Iter;
 pub use resolved::ResolvedSignature;
 use std::alloc::Global;
 use std::marker::Model;

@@ -97,7 +97,7 @@ fn search_email(
     ensures missing { IfErr result (IsMissing email_key (folded email.now) start tables.now.groups) }
     ensures at_most { steps.new ≤ steps.old + digits (length tables.now.groups - start) }
     ensures few { steps.new ≤ steps.old + 64 }
-    ensures at_least { start < length tables.now.groups → steps.old < steps.new }
+    ensures at_least { steps.old + min 1 (length tables.now.groups - start) ≤ steps.new }
 {
     let len = tables.len();
     let mut probe = EmailProbe {
@@ -127,7 +127,7 @@ fn search_name(
     ensures found { IfOk result (IsFound name_key (folded name.now) 0 (map (name_group tables.now.pool) names.now)) }
     ensures missing { IfErr result (IsMissing name_key (folded name.now) 0 (map (name_group tables.now.pool) names.now)) }
     ensures at_most { steps.new ≤ steps.old + digits (length names.now) }
-    ensures at_least { 0 < length names.now → steps.old < steps.new }
+    ensures at_least { steps.old + min 1 (length names.now) ≤ steps.new }
 {
     let mut probe = NameProbe {
         tables,

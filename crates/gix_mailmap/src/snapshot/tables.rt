@@ -217,4 +217,15 @@ impl Tables {
             None => None,
         }
     }
+
+    /// The same tables in memory of their own.
+    pub(crate) fn try_clone(&self, alloc: Global) -> Result<Tables, AllocError>
+        ensures { IfOk result (λ copy. copy ≡ self.now) }
+    {
+        Ok(Tables {
+            pool: Vec::from_slice(alloc, &self.pool)?,
+            emails: Vec::from_slice(alloc, &self.emails)?,
+            names: Vec::from_slice(alloc, &self.names)?,
+        })
+    }
 }
