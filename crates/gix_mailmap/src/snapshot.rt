@@ -2,9 +2,14 @@
 ghost use Rattle.std.specs.Prelude.{◌≡◌, []};
 
 mod batch;
+mod listing;
+mod lookup;
 mod merge;
+mod resolved;
 mod tables;
 
+pub use listing::Iter;
+pub use resolved::ResolvedSignature;
 use std::alloc::Global;
 use std::marker::Model;
 use tables::Tables;
