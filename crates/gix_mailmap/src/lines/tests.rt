@@ -1,11 +1,276 @@
 use super::*;
-use std::fmt::Write as _;
+use std::alloc::Global;
+use std::process::Abort;
 use std::test::Fail;
 
-/// An entry by its four fields.
-type Fields<'a> = (
-    Option<&'a [u8]>,
-    Option<&'a [u8]>,
-    Option<&'a [u8]>,
-    &'a [u8],
-);
+type Item<'a> = Result<Entry<'a>, Error<'a>>;
+
+/// A buffer and the items that it is to give.
+type Case<'a> = (&'a [u8], &'a [Item<'a>]);
+
+fn assert_parsed(rt: &impl Abort, alloc: Global, table: &[Case<'_>]) -> Result<(), Fail> {
+    for (buf, want) in table {
+        let items: Vec<Item<'_>> = parse(buf).collect(alloc)?;
+        assert_eq!(rt; items.as_slice(), *want, "{buf:?}");
+    }
+    Ok(())
+}
+
+fn assert_parsed_strictly(rt: &impl Abort, alloc: Global, table: &[Case<'_>]) -> Result<(), Fail> {
+    for (buf, want) in table {
+        let items: Vec<Item<'_>> = parse_strict(buf).collect(alloc)?;
+        assert_eq!(rt; items.as_slice(), *want, "{buf:?}");
+    }
+    Ok(())
+}
+
+fn no_email(line: usize, input: &[u8]) -> Item<'_> {
+    Err(Error::NoEmail { line, input })
+}
+
+fn missing_closing_bracket(line: usize, input: &[u8]) -> Item<'_> {
+    Err(Error::MissingClosingBracket { line, input })
+}
+
+fn empty_email(line: usize, input: &[u8]) -> Item<'_> {
+    Err(Error::EmptyEmail { line, input })
+}
+
+fn nothing_to_map(line: usize, input: &[u8]) -> Item<'_> {
+    Err(Error::NothingToMap { line, input })
+}
+
+fn unclosed_second(line: usize, input: &[u8]) -> Item<'_> {
+    Err(Error::UnclosedSecond { line, input })
+}
+
+fn name<'a>(proper_name: &'a [u8], commit_email: &'a [u8]) -> Item<'a> {
+    Ok(Entry::change_name_by_email(proper_name, commit_email))
+}
+
+#[test]
+fn comments_and_blank_lines_are_counted_and_give_nothing(rt: HostRuntime) -> Result<(), Fail> {
+    assert_parsed(
+        &rt,
+        rt.alloc(),
+        &[
+            (b"", &[]),
+            (b"# c\n\n  Jane <j@x>", &[name(b"Jane", b"j@x")]),
+            (b" # c", &[no_email(1, b"# c")]),
+            (b"# c\n\nplain", &[no_email(3, b"plain")]),
+        ],
+    )
+}
+
+#[test]
+fn a_fault_shows_its_line_and_the_next_line_is_read(rt: HostRuntime) -> Result<(), Fail> {
+    assert_parsed(
+        &rt,
+        rt.alloc(),
+        &[(
+            b"<a@x>\nJane <a@x\nJane < > <b@x>\nplain",
+            &[
+                nothing_to_map(1, b"<a@x>"),
+                missing_closing_bracket(2, b"Jane <a@x"),
+                empty_email(3, b"Jane < > <b@x>"),
+                no_email(4, b"plain"),
+            ],
+        )],
+    )
+}
+
+#[test]
+fn a_second_half_that_is_not_closed_is_swallowed(rt: HostRuntime) -> Result<(), Fail> {
+    assert_parsed(
+        &rt,
+        rt.alloc(),
+        &[
+            (b"Jane <a@x> <b", &[name(b"Jane", b"a@x")]),
+            (b"a>b <a@x> <b", &[name(b"a>b", b"a@x")]),
+            (b"<a@x> <b", &[nothing_to_map(1, b"<a@x> <b")]),
+            (b"Jane < > <b", &[empty_email(1, b"Jane < > <b")]),
+            (b"Jane <a@x> tail", &[name(b"Jane", b"a@x")]),
+        ],
+    )
+}
+
+#[test]
+fn a_second_half_that_is_not_closed_is_a_fault_of_strict_reading(
+    rt: HostRuntime,
+) -> Result<(), Fail> {
+    assert_parsed_strictly(
+        &rt,
+        rt.alloc(),
+        &[
+            (b"Jane <a@x> <b", &[unclosed_second(1, b" <b")]),
+            (b"a>b <a@x> <b", &[unclosed_second(1, b" <b")]),
+            (b"<a@x> <b", &[unclosed_second(1, b" <b")]),
+            (b"Jane < > <b", &[empty_email(1, b"Jane < > <b")]),
+            (b"Jane <a@x> tail", &[name(b"Jane", b"a@x")]),
+        ],
+    )
+}
+
+#[test]
+fn the_second_email_may_be_empty(rt: HostRuntime) -> Result<(), Fail> {
+    let both = Entry::change_name_and_email_by_email(b"Jane", b"a@x", b"");
+    assert_parsed(&rt, rt.alloc(), &[(b"Jane <a@x> <>", &[Ok(both)])])
+}
+
+#[test]
+fn a_name_may_hold_a_closing_bracket_and_an_email_an_opening_one(
+    rt: HostRuntime,
+) -> Result<(), Fail> {
+    let both = Entry::change_name_and_email_by_name_and_email(b"a>b", b"c<d", b"e>f", b"g");
+    assert_parsed(&rt, rt.alloc(), &[(b"a>b <c<d> e>f <g>h<i>", &[Ok(both)])])
+}
+
+#[test]
+fn white_space_is_that_of_unicode_and_other_bytes_stay(rt: HostRuntime) -> Result<(), Fail> {
+    assert_parsed(
+        &rt,
+        rt.alloc(),
+        &[
+            (
+                b"\xe3\x80\x80Jane\xc2\xa0 <a@x\xe2\x80\x8b>",
+                &[name(b"Jane", b"a@x\xe2\x80\x8b")],
+            ),
+            (b"\xffJ <a@x>", &[name(b"\xffJ", b"a@x")]),
+            (b"J\xa0 <a@x\xe2\xc2\xa0>", &[name(b"J\xa0", b"a@x\xe2")]),
+            (
+                b"Jane <a@x>\r\n\r\nBob <b@x>\r",
+                &[name(b"Jane", b"a@x"), name(b"Bob", b"b@x")],
+            ),
+        ],
+    )
+}
+
+#[test]
+fn one_byte_alone_is_blank_a_comment_or_a_fault(rt: HostRuntime) -> Result<(), Fail> {
+    for byte in 0..=255u8 {
+        let buf = [byte];
+        let items: Vec<Item<'_>> = parse(&buf).collect(rt.alloc())?;
+        let want: &[Item<'_>] = match byte {
+            b'\t' | b'\n' | 11 | 12 | b'\r' | b' ' | b'#' => &[],
+            b'<' => &[missing_closing_bracket(1, b"<")],
+            _ => &[no_email(1, &buf)],
+        };
+        assert_eq!(rt; items.as_slice(), want, "{byte}");
+    }
+    Ok(())
+}
+
+#[test]
+fn each_front_of_a_line_with_two_halves(rt: HostRuntime) -> Result<(), Fail> {
+    let line = b"Jane <a@x> Bob <b@x>";
+    for end in 0..=20 {
+        let front = &line[..end];
+        let lenient: &[Item<'_>] = match end {
+            0 => &[],
+            1..=4 => &[no_email(1, front)],
+            5 => &[no_email(1, b"Jane")],
+            6..=9 => &[missing_closing_bracket(1, front)],
+            10..=19 => &[name(b"Jane", b"a@x")],
+            _ => &[Ok(Entry::change_name_and_email_by_name_and_email(
+                b"Jane", b"a@x", b"Bob", b"b@x",
+            ))],
+        };
+        assert_parsed(&rt, rt.alloc(), &[(front, lenient)])?;
+        if end < 16 || end == 20 {
+            assert_parsed_strictly(&rt, rt.alloc(), &[(front, lenient)])?;
+        } else {
+            assert_parsed_strictly(
+                &rt,
+                rt.alloc(),
+                &[(front, &[unclosed_second(1, &line[10..end])])],
+            )?;
+        }
+    }
+    Ok(())
+}
+
+#[test]
+fn many_opening_brackets_are_one_fault(rt: HostRuntime) -> Result<(), Fail> {
+    let buf = vec![in rt.alloc(); b'<'; 100_000]?;
+    assert_parsed(
+        &rt,
+        rt.alloc(),
+        &[(
+            buf.as_slice(),
+            &[missing_closing_bracket(1, buf.as_slice())],
+        )],
+    )
+}
+
+#[test]
+fn each_fault_has_its_text(rt: HostRuntime) -> Result<(), Fail> {
+    let buf = b"<a@x>\nJane <a@x\nJane < > <b@x>\nplain\n<a@x> <b";
+    let want = [
+        "1: Emails without a name or email to map to are invalid",
+        "2: Missing closing bracket '>' in email",
+        "3: Email must not be empty",
+        "Line 4 does not contain an email",
+        "5: Missing closing bracket '>' in second email",
+    ];
+    let mut count = 0;
+    for (item, text) in parse_strict(buf).zip(want) {
+        let error = item.err().ok_or("a fault")?;
+        assert_eq!(rt; error.to_string(rt.alloc())?.as_str(), text);
+        count += 1;
+    }
+    assert_eq!(rt; count, 5);
+    Ok(())
+}
+
+#[test]
+fn a_fault_lends_its_line_number_and_its_input(rt: HostRuntime) {
+    let input = b"input".as_slice();
+    for error in [
+        Error::NoEmail { line: 1, input },
+        Error::MissingClosingBracket { line: 1, input },
+        Error::EmptyEmail { line: 1, input },
+        Error::NothingToMap { line: 1, input },
+        Error::UnclosedSecond { line: 1, input },
+    ] {
+        assert_eq!(rt; (error.line(), error.input()), (1, input), "{error}");
+    }
+}
+
+#[test]
+fn lines_with_faults_can_be_left_out(rt: HostRuntime) -> Result<(), Fail> {
+    let good: Vec<Entry<'_>> = parse_ignore_errors(b"<a@x>\nJane <j@x>\nplain\nBob <b@x>").collect(
+        rt.alloc(),
+    )?;
+    let want = [
+        Entry::change_name_by_email(b"Jane", b"j@x"),
+        Entry::change_name_by_email(b"Bob", b"b@x"),
+    ];
+    assert_eq!(rt; good.as_slice(), want.as_slice());
+    Ok(())
+}
+
+#[test]
+fn a_mailmap_without_a_fault_can_be_collected(rt: HostRuntime) -> Result<(), Fail> {
+    let input = b"
+Joe R. Developer <joe@example.com> <bugs@example.com>
+Jane Doe <jane@example.com> Jane <bugs@example.com>
+";
+    let parsed: Vec<Entry<'_>> = parse(input)
+        .map(|item| item.map_err(Fail::from))
+        .try_collect(rt.alloc())?;
+    let want = [
+        Entry::change_name_and_email_by_email(
+            b"Joe R. Developer",
+            b"joe@example.com",
+            b"bugs@example.com",
+        ),
+        Entry::change_name_and_email_by_name_and_email(
+            b"Jane Doe",
+            b"jane@example.com",
+            b"Jane",
+            b"bugs@example.com",
+        ),
+    ];
+    assert_eq!(rt; parsed.as_slice(), want.as_slice());
+    Ok(())
+}
