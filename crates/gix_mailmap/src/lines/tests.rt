@@ -5,23 +5,39 @@ use std::test::Fail;
 
 type Item<'a> = Result<Entry<'a>, Error<'a>>;
 
-/// A buffer and the items that it is to give.
-type Case<'a> = (&'a [u8], &'a [Item<'a>]);
-
-fn assert_parsed(rt: &impl Abort, alloc: Global, table: &[Case<'_>]) -> Result<(), Fail> {
-    for (buf, want) in table {
-        let items: Vec<Item<'_>> = parse(buf).collect(alloc)?;
-        assert_eq!(rt; items.as_slice(), *want, "{buf:?}");
-    }
+/// Wants these items of `parse`.
+fn assert_parsed(
+    rt: &impl Abort,
+    alloc: Global,
+    buf: &[u8],
+    want: &[Item<'_>],
+) -> Result<(), Fail> {
+    let items: Vec<Item<'_>> = parse(buf).collect(alloc)?;
+    assert_eq!(rt; items.as_slice(), want, "{buf:?}");
     Ok(())
 }
 
-fn assert_parsed_strictly(rt: &impl Abort, alloc: Global, table: &[Case<'_>]) -> Result<(), Fail> {
-    for (buf, want) in table {
-        let items: Vec<Item<'_>> = parse_strict(buf).collect(alloc)?;
-        assert_eq!(rt; items.as_slice(), *want, "{buf:?}");
-    }
+/// Wants these items of `parse_strict`.
+fn assert_parsed_strictly(
+    rt: &impl Abort,
+    alloc: Global,
+    buf: &[u8],
+    want: &[Item<'_>],
+) -> Result<(), Fail> {
+    let items: Vec<Item<'_>> = parse_strict(buf).collect(alloc)?;
+    assert_eq!(rt; items.as_slice(), want, "{buf:?}");
     Ok(())
+}
+
+/// Wants these items of both.
+fn assert_parsed_alike(
+    rt: &impl Abort,
+    alloc: Global,
+    buf: &[u8],
+    want: &[Item<'_>],
+) -> Result<(), Fail> {
+    assert_parsed(rt, alloc, buf, want)?;
+    assert_parsed_strictly(rt, alloc, buf, want)
 }
 
 fn no_email(line: usize, input: &[u8]) -> Item<'_> {
@@ -50,71 +66,61 @@ fn name<'a>(proper_name: &'a [u8], commit_email: &'a [u8]) -> Item<'a> {
 
 #[test]
 fn comments_and_blank_lines_are_counted_and_give_nothing(rt: HostRuntime) -> Result<(), Fail> {
-    assert_parsed(
-        &rt,
-        rt.alloc(),
-        &[
-            (b"", &[]),
-            (b"# c\n\n  Jane <j@x>", &[name(b"Jane", b"j@x")]),
-            (b" # c", &[no_email(1, b"# c")]),
-            (b"# c\n\nplain", &[no_email(3, b"plain")]),
-        ],
-    )
+    let alloc = rt.alloc();
+    assert_parsed_alike(&rt, alloc, b"", &[])?;
+    assert_parsed_alike(&rt, alloc, b"# c\n\n  Jane <j@x>", &[name(b"Jane", b"j@x")])?;
+    assert_parsed_alike(&rt, alloc, b" # c", &[no_email(1, b"# c")])?;
+    assert_parsed_alike(&rt, alloc, b"# c\n\nplain", &[no_email(3, b"plain")])
 }
 
 #[test]
 fn a_fault_shows_its_line_and_the_next_line_is_read(rt: HostRuntime) -> Result<(), Fail> {
-    assert_parsed(
-        &rt,
-        rt.alloc(),
-        &[(
-            b"<a@x>\nJane <a@x\nJane < > <b@x>\nplain",
-            &[
-                nothing_to_map(1, b"<a@x>"),
-                missing_closing_bracket(2, b"Jane <a@x"),
-                empty_email(3, b"Jane < > <b@x>"),
-                no_email(4, b"plain"),
-            ],
-        )],
-    )
+    let buf = b"<a@x>\nJane <a@x\nJane < > <b@x>\nplain";
+    let want = [
+        nothing_to_map(1, b"<a@x>"),
+        missing_closing_bracket(2, b"Jane <a@x"),
+        empty_email(3, b"Jane < > <b@x>"),
+        no_email(4, b"plain"),
+    ];
+    assert_parsed_alike(&rt, rt.alloc(), buf, &want)
 }
 
 #[test]
-fn a_second_half_that_is_not_closed_is_swallowed(rt: HostRuntime) -> Result<(), Fail> {
-    assert_parsed(
-        &rt,
-        rt.alloc(),
-        &[
-            (b"Jane <a@x> <b", &[name(b"Jane", b"a@x")]),
-            (b"a>b <a@x> <b", &[name(b"a>b", b"a@x")]),
-            (b"<a@x> <b", &[nothing_to_map(1, b"<a@x> <b")]),
-            (b"Jane < > <b", &[empty_email(1, b"Jane < > <b")]),
-            (b"Jane <a@x> tail", &[name(b"Jane", b"a@x")]),
-        ],
-    )
+fn a_second_half_that_is_not_closed_is_ignored(rt: HostRuntime) -> Result<(), Fail> {
+    let alloc = rt.alloc();
+    assert_parsed(&rt, alloc, b"Jane <a@x> <b", &[name(b"Jane", b"a@x")])?;
+    assert_parsed(&rt, alloc, b"a>b <a@x> <b", &[name(b"a>b", b"a@x")])?;
+    assert_parsed(&rt, alloc, b"<a@x> <b", &[nothing_to_map(1, b"<a@x> <b")])
 }
 
 #[test]
 fn a_second_half_that_is_not_closed_is_a_fault_of_strict_reading(
     rt: HostRuntime,
 ) -> Result<(), Fail> {
-    assert_parsed_strictly(
+    let alloc = rt.alloc();
+    assert_parsed_strictly(&rt, alloc, b"Jane <a@x> <b", &[unclosed_second(1, b" <b")])?;
+    assert_parsed_strictly(&rt, alloc, b"a>b <a@x> <b", &[unclosed_second(1, b" <b")])?;
+    assert_parsed_strictly(&rt, alloc, b"<a@x> <b", &[unclosed_second(1, b" <b")])
+}
+
+#[test]
+fn text_behind_a_closed_email_is_no_fault_and_an_empty_email_is_one(
+    rt: HostRuntime,
+) -> Result<(), Fail> {
+    let alloc = rt.alloc();
+    assert_parsed_alike(&rt, alloc, b"Jane <a@x> tail", &[name(b"Jane", b"a@x")])?;
+    assert_parsed_alike(
         &rt,
-        rt.alloc(),
-        &[
-            (b"Jane <a@x> <b", &[unclosed_second(1, b" <b")]),
-            (b"a>b <a@x> <b", &[unclosed_second(1, b" <b")]),
-            (b"<a@x> <b", &[unclosed_second(1, b" <b")]),
-            (b"Jane < > <b", &[empty_email(1, b"Jane < > <b")]),
-            (b"Jane <a@x> tail", &[name(b"Jane", b"a@x")]),
-        ],
+        alloc,
+        b"Jane < > <b",
+        &[empty_email(1, b"Jane < > <b")],
     )
 }
 
 #[test]
 fn the_second_email_may_be_empty(rt: HostRuntime) -> Result<(), Fail> {
     let both = Entry::change_name_and_email_by_email(b"Jane", b"a@x", b"");
-    assert_parsed(&rt, rt.alloc(), &[(b"Jane <a@x> <>", &[Ok(both)])])
+    assert_parsed_alike(&rt, rt.alloc(), b"Jane <a@x> <>", &[Ok(both)])
 }
 
 #[test]
@@ -122,103 +128,87 @@ fn a_name_may_hold_a_closing_bracket_and_an_email_an_opening_one(
     rt: HostRuntime,
 ) -> Result<(), Fail> {
     let both = Entry::change_name_and_email_by_name_and_email(b"a>b", b"c<d", b"e>f", b"g");
-    assert_parsed(&rt, rt.alloc(), &[(b"a>b <c<d> e>f <g>h<i>", &[Ok(both)])])
+    assert_parsed_alike(&rt, rt.alloc(), b"a>b <c<d> e>f <g>h<i>", &[Ok(both)])
 }
 
 #[test]
 fn white_space_is_that_of_unicode_and_other_bytes_stay(rt: HostRuntime) -> Result<(), Fail> {
-    assert_parsed(
-        &rt,
-        rt.alloc(),
-        &[
-            (
-                b"\xe3\x80\x80Jane\xc2\xa0 <a@x\xe2\x80\x8b>",
-                &[name(b"Jane", b"a@x\xe2\x80\x8b")],
-            ),
-            (b"\xffJ <a@x>", &[name(b"\xffJ", b"a@x")]),
-            (b"J\xa0 <a@x\xe2\xc2\xa0>", &[name(b"J\xa0", b"a@x\xe2")]),
-            (
-                b"Jane <a@x>\r\n\r\nBob <b@x>\r",
-                &[name(b"Jane", b"a@x"), name(b"Bob", b"b@x")],
-            ),
-        ],
-    )
+    let alloc = rt.alloc();
+    let wide = b"\xe3\x80\x80Jane\xc2\xa0 <a@x\xe2\x80\x8b>";
+    assert_parsed_alike(&rt, alloc, wide, &[name(b"Jane", b"a@x\xe2\x80\x8b")])?;
+    assert_parsed_alike(&rt, alloc, b"\xffJ <a@x>", &[name(b"\xffJ", b"a@x")])?;
+    let half = b"J\xa0 <a@x\xe2\xc2\xa0>";
+    assert_parsed_alike(&rt, alloc, half, &[name(b"J\xa0", b"a@x\xe2")])?;
+    let returns = b"Jane <a@x>\r\n\r\nBob <b@x>\r";
+    let want = [name(b"Jane", b"a@x"), name(b"Bob", b"b@x")];
+    assert_parsed_alike(&rt, alloc, returns, &want)
+}
+
+fn assert_one_byte(rt: &impl Abort, alloc: Global, buf: &[u8], byte: u8) -> Result<(), Fail> {
+    if matches!(byte, 9..=13 | b' ' | b'#') {
+        return assert_parsed_alike(rt, alloc, buf, &[]);
+    }
+    if byte == b'<' {
+        return assert_parsed_alike(rt, alloc, buf, &[missing_closing_bracket(1, b"<")]);
+    }
+    assert_parsed_alike(rt, alloc, buf, &[no_email(1, buf)])
 }
 
 #[test]
 fn one_byte_alone_is_blank_a_comment_or_a_fault(rt: HostRuntime) -> Result<(), Fail> {
     for byte in 0..=255u8 {
-        let buf = [byte];
-        let items: Vec<Item<'_>> = parse(&buf).collect(rt.alloc())?;
-        let want: &[Item<'_>] = match byte {
-            b'\t' | b'\n' | 11 | 12 | b'\r' | b' ' | b'#' => &[],
-            b'<' => &[missing_closing_bracket(1, b"<")],
-            _ => &[no_email(1, &buf)],
-        };
-        assert_eq!(rt; items.as_slice(), want, "{byte}");
+        assert_one_byte(&rt, rt.alloc(), &[byte], byte)?;
     }
     Ok(())
 }
 
 #[test]
 fn each_front_of_a_line_with_two_halves(rt: HostRuntime) -> Result<(), Fail> {
-    let line = b"Jane <a@x> Bob <b@x>";
-    for end in 0..=20 {
+    let alloc = rt.alloc();
+    let line = b"Jane <a@x> Bob <b@x>".as_slice();
+    let both = Entry::change_name_and_email_by_name_and_email(b"Jane", b"a@x", b"Bob", b"b@x");
+    assert_parsed_alike(&rt, alloc, b"", &[])?;
+    for end in 1..=4 {
         let front = &line[..end];
-        let lenient: &[Item<'_>] = match end {
-            0 => &[],
-            1..=4 => &[no_email(1, front)],
-            5 => &[no_email(1, b"Jane")],
-            6..=9 => &[missing_closing_bracket(1, front)],
-            10..=19 => &[name(b"Jane", b"a@x")],
-            _ => &[Ok(Entry::change_name_and_email_by_name_and_email(
-                b"Jane", b"a@x", b"Bob", b"b@x",
-            ))],
-        };
-        assert_parsed(&rt, rt.alloc(), &[(front, lenient)])?;
-        if end < 16 || end == 20 {
-            assert_parsed_strictly(&rt, rt.alloc(), &[(front, lenient)])?;
-        } else {
-            assert_parsed_strictly(
-                &rt,
-                rt.alloc(),
-                &[(front, &[unclosed_second(1, &line[10..end])])],
-            )?;
-        }
+        assert_parsed_alike(&rt, alloc, front, &[no_email(1, front)])?;
     }
-    Ok(())
+    assert_parsed_alike(&rt, alloc, &line[..5], &[no_email(1, b"Jane")])?;
+    for end in 6..=9 {
+        let front = &line[..end];
+        assert_parsed_alike(&rt, alloc, front, &[missing_closing_bracket(1, front)])?;
+    }
+    for end in 10..=15 {
+        assert_parsed_alike(&rt, alloc, &line[..end], &[name(b"Jane", b"a@x")])?;
+    }
+    for end in 16..=19 {
+        let front = &line[..end];
+        assert_parsed(&rt, alloc, front, &[name(b"Jane", b"a@x")])?;
+        assert_parsed_strictly(&rt, alloc, front, &[unclosed_second(1, &line[10..end])])?;
+    }
+    assert_parsed_alike(&rt, alloc, line, &[Ok(both)])
 }
 
 #[test]
 fn many_opening_brackets_are_one_fault(rt: HostRuntime) -> Result<(), Fail> {
     let buf = vec![in rt.alloc(); b'<'; 100_000]?;
-    assert_parsed(
-        &rt,
-        rt.alloc(),
-        &[(
-            buf.as_slice(),
-            &[missing_closing_bracket(1, buf.as_slice())],
-        )],
-    )
+    let want = [missing_closing_bracket(1, buf.as_slice())];
+    assert_parsed_alike(&rt, rt.alloc(), buf.as_slice(), &want)
 }
 
 #[test]
 fn each_fault_has_its_text(rt: HostRuntime) -> Result<(), Fail> {
-    let buf = b"<a@x>\nJane <a@x\nJane < > <b@x>\nplain\n<a@x> <b";
-    let want = [
+    let mut items = parse_strict(b"<a@x>\nJane <a@x\nJane < > <b@x>\nplain\n<a@x> <b");
+    for text in [
         "1: Emails without a name or email to map to are invalid",
         "2: Missing closing bracket '>' in email",
         "3: Email must not be empty",
         "Line 4 does not contain an email",
         "5: Missing closing bracket '>' in second email",
-    ];
-    let mut count = 0;
-    for (item, text) in parse_strict(buf).zip(want) {
-        let error = item.err().ok_or("a fault")?;
-        assert_eq!(rt; error.to_string(rt.alloc())?.as_str(), text);
-        count += 1;
+    ] {
+        let fault = items.next().and_then(|item| item.err()).ok_or("a fault")?;
+        assert_eq!(rt; fault.to_string(rt.alloc())?.as_str(), text);
     }
-    assert_eq!(rt; count, 5);
+    assert!(rt; items.next().is_none());
     Ok(())
 }
 
