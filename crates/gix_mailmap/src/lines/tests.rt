@@ -264,3 +264,12 @@ Jane Doe <jane@example.com> Jane <bugs@example.com>
     assert_eq!(rt; parsed.as_slice(), want.as_slice());
     Ok(())
 }
+
+#[test]
+fn an_entry_and_a_fault_outlive_their_lines(rt: HostRuntime) {
+    let buf = b"Jane <a@x>\nplain";
+    let entry = parse_ignore_errors(buf).next();
+    let fault = parse(buf).filter_map(Result::err).next();
+    assert_eq!(rt; entry, Some(Entry::change_name_by_email(b"Jane", b"a@x")));
+    assert_eq!(rt; fault, no_email(2, b"plain").err());
+}
