@@ -118,6 +118,19 @@ fn text_behind_a_closed_email_is_no_fault_and_an_empty_email_is_one(
 }
 
 #[test]
+fn lines_that_begin_with_a_blank_have_no_fault_under_either_reading(
+    rt: HostRuntime,
+) -> Result<(), Fail> {
+    let buf = b" Jane <j@x> <>\n # c <a@x>\n <n@y> Bob <a@x>\n";
+    let want = [
+        Ok(Entry::change_name_and_email_by_email(b"Jane", b"j@x", b"")),
+        name(b"# c", b"a@x"),
+        Ok(Entry::change_email_by_name_and_email(b"n@y", b"Bob", b"a@x")),
+    ];
+    assert_parsed_alike(&rt, rt.alloc(), buf, &want)
+}
+
+#[test]
 fn the_second_email_may_be_empty(rt: HostRuntime) -> Result<(), Fail> {
     let both = Entry::change_name_and_email_by_email(b"Jane", b"a@x", b"");
     assert_parsed_alike(&rt, rt.alloc(), b"Jane <a@x> <>", &[Ok(both)])
