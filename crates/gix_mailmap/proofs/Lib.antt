@@ -38,3 +38,4 @@ pub mod Collected
 pub mod Parting
 pub mod NamePlaces
 pub mod NamesLoop
+pub mod FrontRuns
