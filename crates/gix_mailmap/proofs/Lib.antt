@@ -39,3 +39,5 @@ pub mod Parting
 pub mod NamePlaces
 pub mod NamesLoop
 pub mod FrontRuns
+pub mod Given
+pub mod Passing
