@@ -41,3 +41,4 @@ pub mod NamesLoop
 pub mod FrontRuns
 pub mod Given
 pub mod Passing
+pub mod EmailPuts
