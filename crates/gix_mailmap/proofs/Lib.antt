@@ -42,3 +42,4 @@ pub mod FrontRuns
 pub mod Given
 pub mod Passing
 pub mod EmailPuts
+pub mod RunPuts
