@@ -43,3 +43,4 @@ pub mod Given
 pub mod Passing
 pub mod EmailPuts
 pub mod RunPuts
+pub mod EmailsLoop
