@@ -21,10 +21,10 @@ use Rattle.gix_mailmap.proofs.NamesLoop.{behind_run}
 use Rattle.gix_mailmap.proofs.Parts.{all_front, all_back, all_append}
 use Rattle.gix_mailmap.proofs.Runs.{order_start, order_missing, order_found, order_end, turned}
 
-abbrev Item : Type 0
+abbrev pub Item : Type 0
 Item = ℕ × Mapping
 
-abbrev by : Item → Text
+abbrev pub by : Item → Text
 by p = email_text p.1
 
 abbrev spelt : (Text → Text) → List Item → List Mapping

@@ -44,3 +44,4 @@ pub mod Passing
 pub mod EmailPuts
 pub mod RunPuts
 pub mod EmailsLoop
+pub mod SortedRuns
