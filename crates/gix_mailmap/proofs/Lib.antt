@@ -45,3 +45,4 @@ pub mod EmailPuts
 pub mod RunPuts
 pub mod EmailsLoop
 pub mod SortedRuns
+pub mod WholeMerge
