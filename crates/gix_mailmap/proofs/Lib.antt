@@ -37,3 +37,7 @@ pub mod WrittenLine
 pub mod WrittenText
 pub mod Times
 pub mod Collected
+pub mod Parting
+pub mod NamePlaces
+pub mod NamesLoop
+pub mod FrontRuns

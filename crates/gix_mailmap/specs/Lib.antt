@@ -14,3 +14,4 @@ pub mod Alike
 pub mod Merging
 pub mod CanonicalText
 pub mod Times
+pub mod Named
