@@ -1,8 +1,7 @@
 -- That equal listings are the same, and the laws of their equality and of their hash that follow.
 use Rattle.std.proofs.Common.{◌≡◌, ◌&&◌, Bool, true, false, true≢false, List, [], ◌∷◌, Option, Some, None, refl, sym, ap, ap₂, subst, ◌∙◌}
-use Rattle.std.specs.Bool.{Decides}
+use Rattle.std.specs.Bool.{Decides, IsTrue}
 use Rattle.std.specs.Cmp.{IsEquivalence, IsPartialEquivalence, partial_equiv_from_equiv, first_so, second_so}
-use Rattle.std.specs.Hash.{Alike, same_Alike}
 use Rattle.std.specs.Prelude.{nat_eq}
 use lib.Pointwise.{pointwise, pointwise_decides, bytes_decides}
 use Rattle.gix_mailmap.specs.Entries.{Mapping}
@@ -58,5 +57,5 @@ equal_entries = record {
 pub partly_equal_entries : IsPartialEquivalence same_entries
 partly_equal_entries = partial_equiv_from_equiv equal_entries
 
-pub equal_hashes : Alike same_entries entries_hashed
-equal_hashes = same_Alike entries_hashed entries_decide
+pub equal_hashes : (xs ys : List Mapping) → IsTrue (same_entries xs ys) → entries_hashed xs ≡ entries_hashed ys
+equal_hashes xs ys e = ap entries_hashed ((entries_decide xs ys).0 e)
