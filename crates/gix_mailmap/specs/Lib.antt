@@ -10,3 +10,4 @@ pub mod Alike
 pub mod Merging
 pub mod CanonicalText
 pub mod Times
+pub mod Answers

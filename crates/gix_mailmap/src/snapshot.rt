@@ -2,8 +2,10 @@
 ghost use Rattle.std.specs.Prelude.{◌≡◌, []};
 
 mod batch;
+mod signature;
 mod tables;
 
+pub use signature::Signature;
 use std::alloc::Global;
 use std::marker::Model;
 use tables::Tables;
