@@ -1,5 +1,5 @@
 -- Signatures as they are answered: three fields, of which a mailmap may change two.
-use Rattle.std.specs.Prelude.{◌≡◌, ◌++◌, ℕ, List, [], unwrap_or, MatchOption}
+use Rattle.std.specs.Prelude.{◌≡◌, ◌++◌, ℕ, List, [], Option, unwrap_or, MatchOption}
 use Rattle.std.specs.Cow.{cow_slice_items, IsOwnedSlice, IsBorrowedSlice}
 use Rattle.std.specs.Hash as fed
 use Rattle.std.specs.Ordering.{ordering_then}
@@ -59,9 +59,9 @@ IsHeldAs a b = (IsOwnedSlice a → IsOwnedSlice b) × (IsBorrowedSlice a → IsB
 
 -- ---- answers
 
--- what a history gives in the place of a signature's name and email
-abbrev pub mapped : List Mapping → SignatureRef → Fields
-mapped h signature = unwrap_or (scan h signature.name.now signature.email.now) no_fields
+-- what a history gives in the place of a signature's name and email, if it gives either
+abbrev pub mapped : List Mapping → SignatureRef → Option Fields
+mapped h signature = scan h signature.name.now signature.email.now
 
 -- a signature with these fields, where there are any, in the place of its own, and its time
 pub record IsEnriched (new : Fields) (signature : SignatureRef) (answer : SignatureFields) : Type 0 where
@@ -76,8 +76,8 @@ pub record OwnsJust (new : Fields) (answer : Signature) : Type 0 where
 
 -- the answer of a history to a signature: what it maps is replaced, the rest kept, and the time read
 abbrev pub IsAnswer : List Mapping → SignatureRef → SignatureFields → Type 0
-IsAnswer h signature answer = IsEnriched (mapped h signature) signature answer
+IsAnswer h signature answer = IsEnriched (unwrap_or (mapped h signature) no_fields) signature answer
 
 -- just what the history maps is owned
 abbrev pub OwnsMapped : List Mapping → SignatureRef → Signature → Type 0
-OwnsMapped h signature answer = OwnsJust (mapped h signature) answer
+OwnsMapped h signature answer = OwnsJust (unwrap_or (mapped h signature) no_fields) answer
