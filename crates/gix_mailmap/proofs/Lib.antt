@@ -31,3 +31,4 @@ pub mod WrittenExamples
 pub mod WrittenLine
 pub mod WrittenText
 pub mod Times
+pub mod Collected

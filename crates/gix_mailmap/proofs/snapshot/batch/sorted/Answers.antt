@@ -1,0 +1,25 @@
+use Rattle.std.proofs.Common.{◌≡◌, ◌∷◌, Bool, List, map, sym, ap, subst, ◌∙◌, rules}
+use Rattle.std.specs.Cmp.{IsStrictWeakOrder}
+use Rattle.std.specs.Fn.{Called, AlwaysReturns}
+use Rattle.std.specs.List.{enumerate_from}
+use Rattle.std.specs.List.Sorted.{IsPermutation, IsStableBy, IsSortedBy}
+use Rattle.std.specs.Ordering.{is_lt}
+use Rattle.std.proofs.lemmas.List.Sorted.{ranks_by, answers_always, IsPermutation-map}
+use Rattle.gix_mailmap.specs.Entries.{Mapping, mapping_of}
+use Rattle.gix_mailmap.specs.Histories.{Key, key, key_cmp, of_key}
+use Rattle.gix_mailmap.specs.Merging.{mapping_at, placed_at, IsSorted}
+use Rattle.gix_mailmap.specs.declared.snapshot.batch.Placed.{Placed}
+use Rattle.gix_mailmap.proofs.Keys.{keys_total}
+use Rattle.gix_mailmap.proofs.Batch.{keyed_from_stable}
+use Rattle.gix_mailmap.proofs.Collected.{sorted_batch}
+use Rattle.gix_mailmap.proofs.snapshot.batch.sorted.Goals as goal
+
+pub returns : goal.returns
+returns c =
+    let xs = c.args.entries.now in
+    let old = c.in_ok-batch.batch.items in
+    let new = c.sort_by.new.self.items in
+    let lt : Placed → Placed → Bool = λ p q. is_lt (key_cmp (key (mapping_at p)) (key (mapping_at q))) in
+    let order : IsStrictWeakOrder lt = ranks_by keys_total (λ p. key (mapping_at p)) in
+    let compares = answers_always _ (λ a r. is_lt r ≡ lt a.0.now a.1.0.now) _ (λ f a r f' k. let e : r ≡ key_cmp (key (mapping_at a.0.now)) (key (mapping_at a.1.0.now)) = search rules in ap is_lt e) in
+    sorted_batch (map mapping_of xs) old new c.in_ok-batch.ensures c.sort_by.ensures.permutation (c.in_ok-sort_by.ensures.sorted lt order compares) (c.sort_by.ensures.stable lt order compares)
