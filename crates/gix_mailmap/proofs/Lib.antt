@@ -23,6 +23,9 @@ pub mod Folding
 pub mod Lookups
 pub mod Search
 pub mod Complete
+pub mod Places
+pub mod Counts
+pub mod Resolved
 pub mod Runs
 pub mod WhiteEnds
 pub mod WritableLines

@@ -6,6 +6,9 @@ pub mod Histories
 pub mod Groups
 pub mod Pool
 pub mod Search
+pub mod Places
+pub mod Signatures
+pub mod Listings
 pub mod Alike
 pub mod Merging
 pub mod CanonicalText

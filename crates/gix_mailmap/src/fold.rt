@@ -56,6 +56,7 @@ pub fn search<P: Probe>(len: usize, p: &mut P) -> Result<usize, usize>
     ensures same { P.answers p.new ≡ P.answers p.old }
     ensures at_most { P.asked p.new ≤ P.asked p.old + digits len }
     ensures at_least { 0 < len → P.asked p.old < P.asked p.new }
+    ensures no_fewer { P.asked p.old ≤ P.asked p.new }
 {
     let mut low = 0;
     let mut high = len;

@@ -2,9 +2,15 @@
 ghost use Rattle.std.specs.Prelude.{◌≡◌, []};
 
 mod batch;
+mod listing;
+mod lookup;
+mod resolve;
+mod resolved;
 mod signature;
 mod tables;
 
+pub use listing::Iter;
+pub use resolved::ResolvedSignature;
 pub use signature::Signature;
 use std::alloc::Global;
 use std::marker::Model;

@@ -192,3 +192,40 @@ fn part(names: &[NameRow], from: usize, to: usize) -> &[NameRow]
 {
     &names[from..to]
 }
+
+// What lookups and the listing read.
+impl Tables {
+    ghost use Rattle.gix_mailmap.specs.Groups.{Contents, EmailGroup};
+    ghost use Rattle.gix_mailmap.specs.Pool.{spelled, LiesIn};
+
+    /// The text of the email at a place.
+    pub(crate) fn email_text(&self, place: usize) -> &[u8]
+        requires { place < length self.now.groups }
+        ensures { slice_get (map (λ (g : EmailGroup). g.old_email) self.now.groups) place ≡ Some result.now }
+    {
+        let row = self.emails[place];
+        self.text(row.old_email)
+    }
+
+    /// The text that a span names, if there is one.
+    pub(crate) fn optional_text(&self, span: Option<Span>) -> Option<&[u8]>
+        requires { ForSome span (LiesIn (length self.now.pool)) }
+        ensures { option_copied result ≡ option_map (spelled self.now.pool) span }
+    {
+        match span {
+            Some(span) => Some(self.text(span)),
+            None => None,
+        }
+    }
+
+    /// The same tables in memory of their own.
+    pub(crate) fn try_clone(&self, alloc: Global) -> Result<Tables, AllocError>
+        ensures { IfOk result (λ copy. copy ≡ self.now) }
+    {
+        Ok(Tables {
+            pool: Vec::from_slice(alloc, &self.pool)?,
+            emails: Vec::from_slice(alloc, &self.emails)?,
+            names: Vec::from_slice(alloc, &self.names)?,
+        })
+    }
+}
