@@ -1,5 +1,5 @@
 -- The first of some readings, and whether it is good.
-use Rattle.std.proofs.Common.{◌≡◌, Result, Ok, Err, List, [], ◌∷◌, ◌++◌, option_to_list, refl, sym, ap, ◌∙◌}
+use Rattle.std.proofs.Common.{◌≡◌, ◌≤◌, Result, Ok, Err, List, [], ◌∷◌, ◌++◌, length, option_to_list, arith, refl, sym, ap, ◌∙◌}
 use Rattle.gix_mailmap.specs.declared.entry.Entry.{Entry}
 use Rattle.gix_mailmap.specs.declared.lines.Error.{Error}
 use Rattle.gix_mailmap.specs.Entries.{Mapping, mapping_of}
@@ -19,3 +19,10 @@ module _ (said : List Mapping) (rs rest : List Reading) (x : Result Entry Error)
 pub good_of-nil : good_of [] ≡ []
 unfolding good_of
 good_of-nil = refl
+
+-- no more mappings than items
+pub length-good_of : (rs : List Reading) → length (good_of rs) ≤ length rs
+unfolding good_of
+length-good_of [] = omega arith
+length-good_of (Ok m ∷ rs) = omega (arith, length-good_of rs)
+length-good_of (Err f ∷ rs) = omega (arith, length-good_of rs)

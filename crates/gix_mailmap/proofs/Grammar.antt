@@ -1,9 +1,9 @@
 -- A reading is the relation by cases.
-use Rattle.std.proofs.Common.{◌≡◌, ◌≢◌, ◌⊎◌, ℕ, Bool, true, false, cond, Option, Some, None, Ok, [], ◌∷◌, refl, sym, ap, subst, ◌∙◌, inl, inr, ⊎_elim}
-use Rattle.std.proofs.lemmas.Bool.{cond-true, cond-false, eq-eqb, eqb-true, ne_eqb, cases_Bool}
+use Rattle.std.proofs.Common.{◌≡◌, ◌≢◌, ◌⊎◌, ℕ, true, false, Option, Some, Ok, [], ◌∷◌, refl, sym, ap, subst, ◌∙◌, inl, inr, ⊎_elim}
+use Rattle.std.proofs.lemmas.Bool.{cond-true, cond-false, eqb-true, cases_Bool}
 use Rattle.gix_mailmap.specs.Folding.{Text}
 use Rattle.gix_mailmap.specs.Trimming.{trim, IsTrimmed}
-use Rattle.gix_mailmap.specs.Lines.{Reading, Half, Absent, Unclosed, Closed, cut, trimmed_half, non_empty, fault, no_email, missing_closing_bracket, empty_email, nothing_to_map, unclosed_second, by_both, by_name, two_halves, strict_halves, first_half, is_comment, unless_blank, reading_by, line_reading, strict_line_reading, reading, strict_reading, HoldsNo, IsUnclosed, IsHalf, NoHalf, IsSecondRead, second, name_alone, neither, IsSecondReadStrictly, open_second, as_ever, IsFirstRead, no_bracket, open_first, blank_email, first, IsComment, IsReadBy, comment, blank, said, IsRead, IsReadStrictly}
+use Rattle.gix_mailmap.specs.Lines.{Reading, Half, Absent, Unclosed, Closed, cut, trimmed_half, fault, nothing_to_map, by_both, by_name, two_halves, strict_halves, first_half, is_comment, unless_blank, reading_by, line_reading, strict_line_reading, reading, strict_reading, HoldsNo, IsUnclosed, IsHalf, NoHalf, IsSecondRead, second, name_alone, neither, IsSecondReadStrictly, open_second, as_ever, IsFirstRead, no_bracket, open_first, blank_email, first, IsComment, IsReadBy, comment, blank, said, IsRead, IsReadStrictly}
 use Rattle.gix_mailmap.proofs.Cut.{kind, absent_kind, unclosed_kind, closed_kind, cut-absent, cut-unclosed, cut-closed}
 use Rattle.gix_mailmap.proofs.Trimmed.{trimmed-same, trimmed-made}
 

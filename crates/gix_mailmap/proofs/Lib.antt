@@ -35,3 +35,6 @@ pub mod WrittenLine
 pub mod WrittenText
 pub mod Times
 pub mod Collected
+pub mod Parting
+pub mod NamePlaces
+pub mod NamesLoop

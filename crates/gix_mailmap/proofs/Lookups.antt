@@ -1,14 +1,13 @@
 -- What a search by a key says of a table whose keys strictly ascend.
-use Rattle.std.proofs.Common.{◌≡◌, ◌≢◌, ℕ, ◌<◌, ◌≤◌, List, [], ◌∷◌, length, map, get_or, All, Some, Bool, true, false, Ordering, Less, Equal, Greater, refl, sym, ap, ◌∙◌, arith, inl, inr, ⊎_elim}
-use Rattle.std.specs.List.{slice_get, AllByRecursion, AllWithin, list_any}
+use Rattle.std.proofs.Common.{◌≡◌, ◌≢◌, ℕ, ◌<◌, ◌≤◌, List, [], ◌∷◌, length, map, get_or, All, Some, true, false, Ordering, Less, Equal, Greater, refl, sym, ap, ◌∙◌, arith, ⊎_elim}
+use Rattle.std.specs.List.{slice_get, AllByRecursion, AllWithin, HoldsAt, list_any}
 use Rattle.std.specs.List.Sorted.{IsStrictlySortedBy, IsPartitionPoint}
 use Rattle.std.specs.Ordering.{ordering_reverse, eq_by_cmp, is_eq}
 use Rattle.std.specs.Cmp.{IsTotalOrder}
 use Rattle.std.specs.FinMap.{IsAntisymmetric}
 use Rattle.std.proofs.lemmas.Bool.{cases_lt}
-use Rattle.std.proofs.lemmas.Cmp.{tied_back}
+use Rattle.std.proofs.lemmas.Cmp.{tied_back, tied_itself}
 use Rattle.std.proofs.lemmas.List.{get_or-map, length-map}
-use Rattle.std.proofs.lemmas.List.Elements.{All-map}
 use Rattle.std.proofs.lemmas.List.Folds.{list_any_none, list_any_at}
 use Rattle.std.proofs.lemmas.Option.{slice_get_within, get_or_from_slice_get}
 use Rattle.gix_mailmap.specs.Search.{IsParted}
@@ -44,17 +43,17 @@ module _ {K : Type 0} {R : K → K → Ordering} (o : IsTotalOrder R) where
     IsParted-from_ascending (x ∷ xs) up = parted_on (key x) (R (key x) q) refl xs up.0 (IsParted-from_ascending xs up.1)
 
 module _ {X K : Type 0} (R : K → K → Ordering) (key : X → K) (q : K) where
-  -- the place that a search finds is one of the table, and its key compares as equal
-  pub found-at : (xs : List X) (i : ℕ) (d : X) → slice_get (map (λ x. R (key x) q) xs) i ≡ Some Equal → (i < length xs) × (R (key (get_or xs i d)) q ≡ Equal)
-  found-at xs i d found =
+  -- the place that a search finds is one of the table, and the key there compares as equal
+  pub found-at : (xs : List X) (i : ℕ) → slice_get (map (λ x. R (key x) q) xs) i ≡ Some Equal → (i < length xs) × HoldsAt (λ x. R (key x) q ≡ Equal) xs i
+  found-at xs i found =
       let compare : X → Ordering = λ x. R (key x) q in
       let within : i < length (map compare xs) = slice_get_within (map compare xs) i Equal found in
       let inside : i < length xs = omega (arith, length-map xs compare) in
-      (inside, sym (get_or-map compare xs i d Equal inside) ∙ get_or_from_slice_get (map compare xs) i Equal Equal found)
+      (inside, λ d. sym (get_or-map compare xs i d Equal inside) ∙ get_or_from_slice_get (map compare xs) i Equal Equal found)
 
-  -- where only equal keys tie, its key is q
-  pub found-key : IsAntisymmetric R → (xs : List X) (i : ℕ) (d : X) → slice_get (map (λ x. R (key x) q) xs) i ≡ Some Equal → key (get_or xs i d) ≡ q
-  found-key same xs i d found = same (key (get_or xs i d)) q (found-at xs i d found).1
+  -- where only equal keys tie, it is the key that was sought
+  pub found-key : IsAntisymmetric R → (xs : List X) (i : ℕ) → slice_get (map (λ x. R (key x) q) xs) i ≡ Some Equal → (i < length xs) × HoldsAt (λ x. key x ≡ q) xs i
+  found-key same xs i found = let at = found-at xs i found in (at.0, λ d. same (key (get_or xs i d)) q (at.1 d))
 
   -- before the place where nothing is found stand the lower keys
   pub missing-below : (xs : List X) (i : ℕ) → i ≤ length xs → IsPartitionPoint (λ a. a ≡ Less) (λ a. a ≡ Greater) (map (λ x. R (key x) q) xs) i → AllWithin (λ x. R (key x) q ≡ Less) xs 0 i
@@ -74,6 +73,7 @@ module _ {X K : Type 0} (R : K → K → Ordering) (key : X → K) (q : K) where
       (cases_lt k i)
 
 module _ {X K : Type 0} {R : K → K → Ordering} (o : IsTotalOrder R) (key : X → K) (q : K) where
+  -- keys that do not tie are not told equal
   untied : (k : K) (a : Ordering) → R q k ≡ a → R k q ≢ Equal → eq_by_cmp R q k ≡ false
   untied k Less is other = ap is_eq is
   untied k Equal is other = absurd (other (tied_back o q k is))
@@ -83,9 +83,14 @@ module _ {X K : Type 0} {R : K → K → Ordering} (o : IsTotalOrder R) (key : X
   pub found-any : (xs : List X) (i : ℕ) → slice_get (map (λ x. R (key x) q) xs) i ≡ Some Equal → list_any (λ x. eq_by_cmp R q (key x)) xs ≡ true
   found-any [] i found = absurd (cc)
   found-any (x ∷ xs) i found =
-      let at = found-at R key q (x ∷ xs) i x found in
-      list_any_at (λ x. eq_by_cmp R q (key x)) (x ∷ xs) i x at.0 (ap is_eq (tied_back o (key (get_or (x ∷ xs) i x)) q at.1))
+      let at = found-at R key q (x ∷ xs) i found in
+      list_any_at (λ x. eq_by_cmp R q (key x)) (x ∷ xs) i x at.0 (ap is_eq (tied_back o (key (get_or (x ∷ xs) i x)) q (at.1 x)))
 
   -- and one where q is missing has not
   pub missing-none : (xs : List X) (i : ℕ) → i ≤ length xs → IsPartitionPoint (λ a. a ≡ Less) (λ a. a ≡ Greater) (map (λ x. R (key x) q) xs) i → list_any (λ x. eq_by_cmp R q (key x)) xs ≡ false
-  missing-none xs i le missing = list_any_none (λ x. eq_by_cmp R q (key x)) xs (λ k d high. untied (key (get_or xs k d)) (R q (key (get_or xs k d))) refl (missing-all R key q xs i le missing k d high))
+  missing-none xs i le missing = list_any_none (λ x. eq_by_cmp R q (key x)) xs
+      (λ k d high. untied (key (get_or xs k d)) (R q (key (get_or xs k d))) refl (missing-all R key q xs i le missing k d high))
+
+  -- nor is any key of it q itself
+  pub missing-key : (xs : List X) (i : ℕ) → i ≤ length xs → IsPartitionPoint (λ a. a ≡ Less) (λ a. a ≡ Greater) (map (λ x. R (key x) q) xs) i → All (λ x. key x ≢ q) xs
+  missing-key xs i le missing = λ k d high e. missing-all R key q xs i le missing k d high (ap (λ j. R j q) e ∙ tied_itself o q)

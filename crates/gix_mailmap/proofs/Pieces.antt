@@ -111,3 +111,16 @@ module _ (read : ℕ → Text → Option Reading) (reading-cr : (n : ℕ) (z : T
 
   pub readings_from-lines : (bs : List ℕ) (n : ℕ) → readings_from read n (map without_terminator (lines_of bs)) ≡ readings_from read n (pieces bs)
   readings_from-lines bs n = same_from (length bs) bs n (omega arith)
+
+length-with_first : (b : ℕ) (ps : List Text) → length (with_first b ps) ≤ suc (length ps)
+length-with_first b [] = omega arith
+length-with_first b (p ∷ ps) = omega arith
+
+-- no more lines than bytes
+pub length-pieces : (s : Text) → length (pieces s) ≤ length s
+unfolding pieces
+length-pieces [] = omega arith
+length-pieces (b ∷ s) = elim (b == 10) as (λ t. length (cond t ([] ∷ pieces s) (with_first b (pieces s))) ≤ suc (length s)) [
+  | true ↦ omega (arith, length-pieces s)
+  | false ↦ omega (arith, length-with_first b (pieces s), length-pieces s)
+]

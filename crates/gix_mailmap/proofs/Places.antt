@@ -44,12 +44,12 @@ module _ {X : Type 0} (f : X → Text) (k : Text) (xs : List X) (start i j : ℕ
   -- the key is found there
   pub found_from : X → IsStrictlySortedBy text_cmp (map f xs) → slice_get (map (λ x. text_cmp (f x) k) (drop start xs)) i ≡ Some Equal → IsFound f k start xs j
   found_from d up found =
-      let within : j < length xs = omega (arith, (found-at text_cmp f k (drop start xs) i d found).0, length-drop start xs) in
+      let within : j < length xs = omega (arith, (found-at text_cmp f k (drop start xs) i found).0, length-drop start xs) in
       let here : (e : X) → get_or (map f xs) j (f e) ≡ k = λ e.
       get_or-map f xs j e (f e) within
       ∙ ap (λ m. f (get_or xs m e)) is
       ∙ ap f (sym (get_or-drop start xs i e))
-      ∙ exact_bytes (f (get_or (drop start xs) i e)) k (found-at text_cmp f k (drop start xs) i e found).1 in
+      ∙ exact_bytes (f (get_or (drop start xs) i e)) k ((found-at text_cmp f k (drop start xs) i found).1 e) in
       let inside : j < length (map f xs) = omega (arith, length-map xs f) in
       record {
         behind_start = omega arith;

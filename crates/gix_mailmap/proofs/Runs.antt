@@ -86,7 +86,7 @@ ascending_back (x ∷ xs) ys s = ascending_back xs ys s.1
 -- ---- the order of a join
 
 pub order_start : (standing batch : List Text) → IsStrictlySortedBy text_cmp standing → IsAscending text_cmp batch → InOrder [] standing batch []
-order_start standing batch s t = record { out_ascends = none_sorted; standing_ascends = s; batch_ascends = t; out_standing = tt; out_batch = tt; taken_standing = tt }
+order_start standing batch s t = record { out_ascends = none_sorted; standing_ascends = s; batch_ascends = t; out_standing = tt; out_batch = tt; taken_standing = tt; taken_batch = tt }
 
 -- the standing texts below f come out, and then f, which is that of the batch's next ones
 pub order_missing : (out run standing fs batch taken : List Text) (f : Text) → InOrder out (run ++ standing) (f ∷ fs ++ batch) taken → AllByRecursion (λ x. x ≡ f) fs → AllByRecursion (λ y. text_cmp f y ≡ Less) batch
@@ -101,6 +101,7 @@ order_missing out run standing fs batch taken f o same below_batch run_below bel
       out_standing = all_append _ (out ++ run) (f ∷ []) (all_append _ out run (each_back out run standing o.out_standing) (sorted_across run standing o.standing_ascends)) (below_standing, tt);
       out_batch = all_append _ (out ++ run) (f ∷ []) (all_append _ out run (each_back out (f ∷ fs) batch o.out_batch) (all_below_through run f run_below batch below_batch)) (below_batch, tt);
       taken_standing = all_append _ taken (f ∷ fs) (each_back taken run standing o.taken_standing) (below_standing, same_below f fs same standing below_standing);
+      taken_batch = all_append _ taken (f ∷ fs) (each_back taken (f ∷ fs) batch o.taken_batch) (below_batch, same_below f fs same batch below_batch);
     }
   where
     single : (xs : List Text) → AllByRecursion (λ x. text_cmp x f ≡ Less) xs → AreBelowAll xs (f ∷ [])
@@ -119,6 +120,7 @@ order_found out run standing fs batch taken f o same below_batch =
       out_standing = without out o.out_standing;
       out_batch = o.out_batch;
       taken_standing = without taken o.taken_standing;
+      taken_batch = o.taken_batch;
     } in
     order_missing out run standing fs batch taken f less same below_batch (each_first run f standing (sorted_across run (f ∷ standing) s)) (sorted_head text_cmp f standing (sorted_back run (f ∷ standing) s))
   where

@@ -1,5 +1,6 @@
 -- What one entry of a mailmap says.
-use Rattle.std.specs.Prelude.{Option, None, []}
+use Rattle.std.specs.Prelude.{ℕ, Option, None, List, [], ◌++◌}
+use Rattle.std.specs.Hash as fed
 use Rattle.std.specs.Ordering.{ordering_then}
 use Rattle.std.specs.Option.{option_cmp, option_copied}
 use Rattle.std.specs.declared.cmp.Ordering.{Ordering}
@@ -13,7 +14,7 @@ pub record Mapping : Type 0 where
   pub old_name : Option Text
   pub old_email : Text
 
--- what an entry says
+-- what an entry says: the texts that it borrows
 abbrev pub mapping_of : Entry → Mapping
 mapping_of e = record {
   new_name = option_copied e.new_name;
@@ -26,10 +27,18 @@ mapping_of e = record {
 abbrev pub nothing : Mapping
 nothing = record { new_name = None; new_email = None; old_name = None; old_email = [] }
 
--- by new name, new email, old name and old email, each bytewise and with an absent one first
+-- the order of entries: by new name, new email, old name and old email, each byte by byte and a missing one first
 abbrev pub mapping_cmp : Mapping → Mapping → Ordering
 mapping_cmp a b =
     ordering_then (option_cmp text_cmp a.new_name b.new_name)
     (ordering_then (option_cmp text_cmp a.new_email b.new_email)
     (ordering_then (option_cmp text_cmp a.old_name b.old_name)
     (text_cmp a.old_email b.old_email)))
+
+-- what a text that may be missing feeds a hasher
+abbrev pub text_writes : Option Text → List (List ℕ)
+text_writes = fed.option (fed.slice fed.u8)
+
+-- what an entry feeds a hasher: its four texts in turn, and nothing of where they lie
+abbrev pub mapping_writes : Mapping → List (List ℕ)
+mapping_writes m = text_writes m.new_name ++ (text_writes m.new_email ++ (text_writes m.old_name ++ fed.slice fed.u8 m.old_email))

@@ -14,3 +14,4 @@ pub mod Merging
 pub mod CanonicalText
 pub mod Times
 pub mod Answers
+pub mod Named

@@ -26,6 +26,7 @@ pub record Fault : Type 0 where
   pub line : ℕ
   pub input : Text
 
+-- the code's fault
 abbrev pub fault_of : Error → Fault
 fault_of (NoEmail line input) = record { kind = no_email; line = line; input = input.now }
 fault_of (MissingClosingBracket line input) = record { kind = missing_closing_bracket; line = line; input = input.now }
@@ -33,25 +34,27 @@ fault_of (EmptyEmail line input) = record { kind = empty_email; line = line; inp
 fault_of (NothingToMap line input) = record { kind = nothing_to_map; line = line; input = input.now }
 fault_of (UnclosedSecond line input) = record { kind = unclosed_second; line = line; input = input.now }
 
--- a mapping or a fault
+-- what a line says: a mapping or a fault
 abbrev pub Reading : Type 0
 Reading = Result Mapping Fault
 
+-- the code's item
 abbrev pub reading_of : Result Entry Error → Reading
 reading_of (Ok e) = Ok (mapping_of e)
 reading_of (Err e) = Err (fault_of e)
 
--- what stands before the first byte b and what after it, or None
+-- what stands before the first byte b and what after it, or None where there is no b
 unfoldable pub split_once : ℕ → Text → Option (Text × Text)
 split_once b [] = None
 split_once b (c ∷ s) = if c == b then Some ([], s) else option_map (λ p. (c ∷ p.0, p.1)) (split_once b s)
 
--- a text by its first `<` and the first `>` behind it
+-- a text by its first `<` and the first `>` behind it: what stands before, between and behind
 pub data Half : Type 0 where
   Absent : Half
   Unclosed : Half
   Closed : Text → Text → Text → Half
 
+-- the two cuts of `cut`: at `>` behind the `<`, and at `<`
 abbrev pub closed : Text → Option (Text × Text) → Half
 closed a None = Unclosed
 closed a (Some p) = Closed a p.0 p.1
@@ -60,6 +63,7 @@ abbrev pub opened : Option (Text × Text) → Half
 opened None = Absent
 opened (Some p) = closed p.0 (split_once 62 p.1)
 
+-- a text cut at the first `<` and the first `>` behind it; IsCut, IsUnclosed and HoldsNo say which half it is
 abbrev pub cut : Text → Half
 cut s = opened (split_once 60 s)
 
@@ -80,6 +84,7 @@ half_of variant.Absent = Absent
 half_of variant.Unclosed = Unclosed
 half_of (variant.Closed name email rest) = Closed name.now email.now rest.now
 
+-- the fault of this kind on this line
 abbrev pub fault : Kind → ℕ → Text → Reading
 fault kind line input = Err (record { kind = kind; line = line; input = input })
 
@@ -125,6 +130,7 @@ abbrev pub is_comment : Text → Bool
 is_comment [] = false
 is_comment (b ∷ s) = b == 35
 
+-- what `says` says of a trimmed line, None where that is empty
 abbrev pub unless_blank : (ℕ → Text → Reading) → ℕ → Text → Option Reading
 unless_blank says n [] = None
 unless_blank says n (b ∷ t) = Some (says n (b ∷ t))
@@ -151,16 +157,17 @@ unfoldable pub readings_from : (ℕ → Text → Option Reading) → ℕ → Lis
 readings_from read n [] = []
 readings_from read n (l ∷ ls) = option_to_list (read n l) ++ readings_from read (n + 1) ls
 
+-- the pieces with one more byte at the front of the first
 abbrev pub with_first : ℕ → List Text → List Text
 with_first b [] = (b ∷ []) ∷ []
 with_first b (p ∷ ps) = (b ∷ p) ∷ ps
 
--- the texts between the line feeds, without a last one that is empty
+-- the lines of a buffer: the texts between its line feeds, without a last one that is empty
 unfoldable pub pieces : Text → List Text
 pieces [] = []
 pieces (b ∷ s) = if b == 10 then [] ∷ pieces s else with_first b (pieces s)
 
--- what a buffer says
+-- what a buffer says: its lines are numbered from 1, comments and blank lines too
 abbrev pub readings : Text → List Reading
 readings buf = readings_from reading 1 (pieces buf)
 
@@ -168,6 +175,7 @@ readings buf = readings_from reading 1 (pieces buf)
 abbrev pub strict_readings : Text → List Reading
 strict_readings buf = readings_from strict_reading 1 (pieces buf)
 
+-- the mapping, if the line has no fault
 abbrev pub is_good : Reading → Option Mapping
 is_good (Ok m) = Some m
 is_good (Err f) = None
@@ -177,6 +185,7 @@ unfoldable pub good_of : List Reading → List Mapping
 good_of [] = []
 good_of (r ∷ rs) = option_to_list (is_good r) ++ good_of rs
 
+-- what a buffer maps: the mappings of its lines, in order, without the faults
 abbrev pub good : Text → List Mapping
 good buf = good_of (readings buf)
 

@@ -17,9 +17,16 @@ pub fn cmp_ignore_ascii_case(a: &[u8], b: &[u8]) -> Ordering
     ensures less { (result ≡ Ordering.Less) ↔ IsBelow a.now b.now }
     ensures equal { (result ≡ Ordering.Equal) ↔ (folded a.now ≡ folded b.now) }
 {
-    a.iter()
-        .map(|x| x.to_ascii_lowercase())
-        .cmp(b.iter().map(|y| y.to_ascii_lowercase()))
+    // Only bytes that differ need folding.
+    for (x, y) in a.iter().zip(b) {
+        if x != y {
+            let order = x.to_ascii_lowercase().cmp(&y.to_ascii_lowercase());
+            if order.is_ne() {
+                return order;
+            }
+        }
+    }
+    a.len().cmp(&b.len())
 }
 
 /// A list of answers that is asked for one place at a time, and counts how often.

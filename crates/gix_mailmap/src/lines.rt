@@ -1,5 +1,19 @@
 //! The lines of a mailmap: how a buffer is cut into lines, what each line says, and why one says nothing that can be
-//! used. The grammar is that of git's `.mailmap` files as the original reads it.
+//! used. The grammar is that of git's `.mailmap` files as the crate gix-mailmap reads it.
+//!
+//! A buffer is cut after each line feed. A line whose first byte is `#` is a comment, also where white space would have
+//! to go before the `#` to hide it: ` # c` is none. A line of white space alone is blank. Both give nothing, but they
+//! are counted: lines are numbered from 1.
+//!
+//! Any other line is trimmed of Unicode's white space and read as one half or two, each a name and an email in
+//! brackets: `Proper <proper@x> Commit <commit@x>`.
+//!
+//! - The first `<` opens the email and the first `>` behind it closes it; name and email are trimmed, too. So a `>` may
+//!   stand in a name and a `<` in an email.
+//! - Either name may be missing, and the second half as well. The second email may be empty, the first one not.
+//! - What stands behind the second half is ignored. So is a second half without its `<`, and one without its `>`,
+//!   unless lines are read strictly, by [`parse_strict`].
+//! - One email alone maps nothing.
 ghost use Rattle.std.specs.Prelude.{◌≡◌, ◌≤◌, option_map, length};
 ghost use Rattle.std.specs.Option.{option_copied};
 ghost use Rattle.std.specs.Iterator.{YieldsFirstBy, item_count};
@@ -9,22 +23,181 @@ ghost use Rattle.gix_mailmap.specs.Entries.{mapping_of};
 ghost use Rattle.gix_mailmap.specs.Trimming.{trim as spec_trim};
 ghost use Rattle.gix_mailmap.specs.Lines.{half_of, trimmed_half, reading_of, reading_by, line_reader, cut, non_empty as spec_non_empty, by_both, readings, readings_from, strict_readings, pieces, fault_lines, good};
 
+#[cfg(test)]
+mod tests;
+
 use crate::entry::Entry;
 use bstr::ByteSlice;
 use std::marker::Model;
 use thiserror::Error;
 
+/// Parses `buf` line by line: an item for each line that is neither blank nor a comment, in their order.
+///
+/// A fault stands for its own line alone, and the lines behind it are read all the same; whether to stop at a fault is
+/// up to the caller. Nothing is allocated, and the entries borrow from `buf`: they outlive the iterator.
+///
+/// The buffer `# team\nJane <j@x>\nplain\n` gives the entry of `Jane` by `j@x`, and a fault on line 3.
+pub fn parse(buf: &[u8]) -> Lines<'_>
+    ensures value { result ≡ readings buf.now }
+
+    // A line gives at most one item, and the lines of the faults rise.
+    ensures at_most_one { length result ≤ length (pieces buf.now) }
+    ensures rising { IsStrictlySortedBy nat_cmp (fault_lines result) }
+
+    // The items can be counted.
+    ensures countable { length result ≤ length buf.now }
+{
+    Lines {
+        walk: Walk::new(buf, Strictness::Lenient),
+    }
+}
+
+/// Parses `buf` as [`parse`] does, but takes a second half that has its `<` and not its `>` for a fault,
+/// [`Error::UnclosedSecond`].
+///
+/// Of `Jane <a@x> <b` this makes a fault, where [`parse`] gives the entry of `Jane` by `a@x`. Text behind a closed email,
+/// as in `Jane <a@x> tail`, is no fault here, either. A line that has another fault in its first half keeps that one.
+pub fn parse_strict(buf: &[u8]) -> StrictLines<'_>
+    ensures value { result ≡ strict_readings buf.now }
+
+    // A line gives at most one item, and the lines of the faults rise.
+    ensures at_most_one { length result ≤ length (pieces buf.now) }
+    ensures rising { IsStrictlySortedBy nat_cmp (fault_lines result) }
+
+    // The items can be counted.
+    ensures countable { length result ≤ length buf.now }
+{
+    StrictLines {
+        walk: Walk::new(buf, Strictness::Strict),
+    }
+}
+
+/// Parses `buf` as [`parse`] does and leaves out the lines that don't parse, as git does.
+///
+/// The buffer `<a@x>\nJane <j@x>\nplain` gives the entry of `Jane` by `j@x` alone.
+pub fn parse_ignore_errors(buf: &[u8]) -> GoodLines<'_>
+    ensures value { result ≡ good buf.now }
+
+    // The items can be counted.
+    ensures countable { length result ≤ length buf.now }
+{
+    GoodLines { lines: parse(buf) }
+}
+
+/// The lines of a mailmap, parsed on demand: the iterator that [`parse`] makes.
+///
+/// To a contract it is the list of the items that are left.
+#[derive(Drop)]
+pub struct Lines<'a> {
+    walk: Walk<'a>,
+}
+
+impl<'a> Model for Lines<'a> {
+    ghost use Rattle.std.specs.Prelude.{List};
+    ghost use Rattle.gix_mailmap.specs.Lines.{Reading};
+
+    ghost Value = { List Reading };
+
+    ghost view = { λ s. s.walk };
+}
+
+impl<'a> Iterator for Lines<'a> {
+    type Item = Result<Entry<'a>, Error<'a>>;
+
+    ghost next_gives = { YieldsFirstBy reading_of (λ s. s) };
+
+    ghost remaining = { item_count (λ s. s) };
+
+    fn next(&mut self) -> Option<Result<Entry<'a>, Error<'a>>> {
+        self.walk.next()
+    }
+}
+
+/// The lines of a mailmap, parsed strictly and on demand: the iterator that [`parse_strict`] makes.
+///
+/// To a contract it is the list of the items that are left.
+#[derive(Drop)]
+pub struct StrictLines<'a> {
+    walk: Walk<'a>,
+}
+
+impl<'a> Model for StrictLines<'a> {
+    ghost use Rattle.std.specs.Prelude.{List};
+    ghost use Rattle.gix_mailmap.specs.Lines.{Reading};
+
+    ghost Value = { List Reading };
+
+    ghost view = { λ s. s.walk };
+}
+
+impl<'a> Iterator for StrictLines<'a> {
+    type Item = Result<Entry<'a>, Error<'a>>;
+
+    ghost next_gives = { YieldsFirstBy reading_of (λ s. s) };
+
+    ghost remaining = { item_count (λ s. s) };
+
+    fn next(&mut self) -> Option<Result<Entry<'a>, Error<'a>>> {
+        self.walk.next()
+    }
+}
+
+/// The entries of a mailmap, without its faults: the iterator that [`parse_ignore_errors`] makes.
+///
+/// To a contract it is the list of the mappings that are left.
+#[derive(Drop)]
+pub struct GoodLines<'a> {
+    lines: Lines<'a>,
+}
+
+impl<'a> Model for GoodLines<'a> {
+    ghost use Rattle.std.specs.Prelude.{List};
+    ghost use Rattle.gix_mailmap.specs.Entries.{Mapping};
+    ghost use Rattle.gix_mailmap.specs.Lines.{good_of};
+
+    ghost Value = { List Mapping };
+
+    ghost view = { λ s. good_of s.lines };
+}
+
+impl<'a> Iterator for GoodLines<'a> {
+    type Item = Entry<'a>;
+
+    ghost next_gives = { YieldsFirstBy mapping_of (λ s. s) };
+
+    ghost remaining = { item_count (λ s. s) };
+
+    fn next(&mut self) -> Option<Entry<'a>> {
+        while let Some(item) = self.lines.next() {
+            if let Ok(entry) = item {
+                return Some(entry);
+            }
+        }
+        None
+    }
+}
+
 /// Why a line maps nothing.
+///
+/// Each fault has the number of its line, from 1, and as `input` the whole line without the white space at its ends;
+/// [`Error::UnclosedSecond`] has the rest of the line. Its text names the line and the defect, and doesn't show `input`,
+/// which need not be UTF-8.
 #[derive(Debug, PartialEq, Eq, Drop, Error)]
 pub enum Error<'a> {
+    /// The line has no `<`, as `plain`.
     #[error("Line {line} does not contain an email")]
     NoEmail { line: usize, input: &'a [u8] },
+    /// The first `<` has no `>` behind it, as in `Jane <a@x`.
     #[error("{line}: Missing closing bracket '>' in email")]
     MissingClosingBracket { line: usize, input: &'a [u8] },
+    /// The first email is empty or white space, as in `Jane < > <b@x>`.
     #[error("{line}: Email must not be empty")]
     EmptyEmail { line: usize, input: &'a [u8] },
+    /// An email stands alone, as in `<a@x>`: there is nothing that it could be mapped to.
     #[error("{line}: Emails without a name or email to map to are invalid")]
     NothingToMap { line: usize, input: &'a [u8] },
+    /// The second `<` has no `>` behind it, as in `Jane <a@x> <b`. `input` is what stands behind the `>` that closes the
+    /// first half, with its white space. Of the calls here [`parse_strict`] alone makes this fault.
     #[error("{line}: Missing closing bracket '>' in second email")]
     UnclosedSecond { line: usize, input: &'a [u8] },
 }
@@ -32,7 +205,7 @@ pub enum Error<'a> {
 impl<'a> Error<'a> {
     ghost use Rattle.gix_mailmap.specs.Lines.{fault_of};
 
-    /// The number of the line.
+    /// The number of the line that the fault stands on. The first line of a buffer is 1.
     pub fn line(&self) -> usize
         ensures { result ≡ (fault_of self.now).line }
     {
@@ -45,7 +218,7 @@ impl<'a> Error<'a> {
         }
     }
 
-    /// The trimmed line.
+    /// The trimmed line, or the rest of it for [`Error::UnclosedSecond`]. It is lent for as long as the buffer lives.
     pub fn input(&self) -> &'a [u8]
         ensures { result.now ≡ (fault_of self.now).input }
     {
@@ -59,48 +232,12 @@ impl<'a> Error<'a> {
     }
 }
 
-/// What stands round the first `<` of a text and the first `>` behind it.
-#[derive(Clone, Copy)]
-pub(crate) enum Half<'a> {
-    /// No `<`.
-    Absent,
-    /// A `<` and no `>` behind it.
-    Unclosed,
-    /// Name and email are trimmed, the rest is as it stands behind the `>`.
-    Closed {
-        name: &'a [u8],
-        email: &'a [u8],
-        rest: &'a [u8],
-    },
-}
-
-pub(crate) fn parse_name_and_email(text: &[u8]) -> Half<'_>
-    ensures { half_of result ≡ trimmed_half (cut text.now) }
-{
-    let Some(open) = text.find_byte(b'<') else {
-        return Half::Absent;
-    };
-    let behind = &text[open + 1..];
-    let Some(close) = behind.find_byte(b'>') else {
-        return Half::Unclosed;
-    };
-    Half::Closed {
-        name: trim(&text[..open]),
-        email: trim(&behind[..close]),
-        rest: &behind[close + 1..],
-    }
-}
-
-fn trim(text: &[u8]) -> &[u8]
-    ensures { result.now ≡ spec_trim text.now }
-{
-    text.trim()
-}
-
-fn non_empty(text: &[u8]) -> Option<&[u8]>
-    ensures { option_copied result ≡ spec_non_empty text.now }
-{
-    if text.is_empty() { None } else { Some(text) }
+/// The items of either kind of reading, which [`Lines`] and [`StrictLines`] wrap.
+#[derive(Drop)]
+struct Walk<'a> {
+    lines: bstr::Lines<'a>,
+    line_no: usize,
+    strictness: Strictness,
 }
 
 /// Whether a second half that has its `<` and not its `>` is a fault.
@@ -108,80 +245,6 @@ fn non_empty(text: &[u8]) -> Option<&[u8]>
 enum Strictness {
     Lenient,
     Strict,
-}
-
-/// The reading of the trimmed line `input`.
-fn parse_line(input: &[u8], line: usize, strictness: Strictness) -> Result<Entry<'_>, Error<'_>>
-    ensures { reading_of result ≡ line_reader strictness line input.now }
-{
-    let (name, email, rest) = match parse_name_and_email(input) {
-        Half::Absent => return Err(Error::NoEmail { line, input }),
-        Half::Unclosed => return Err(Error::MissingClosingBracket { line, input }),
-        Half::Closed { name, email, rest } => (name, email, rest),
-    };
-    if email.is_empty() {
-        return Err(Error::EmptyEmail { line, input });
-    }
-    match (parse_name_and_email(rest), strictness) {
-        (
-            Half::Closed {
-                name: old_name,
-                email: old_email,
-                ..
-            },
-            _,
-        ) => Ok(entry_of(name, email, old_name, old_email)),
-        (Half::Unclosed, Strictness::Strict) => Err(Error::UnclosedSecond { line, input: rest }),
-        _ => match non_empty(name) {
-            Some(name) => Ok(Entry::change_name_by_email(name, email)),
-            None => Err(Error::NothingToMap { line, input }),
-        },
-    }
-}
-
-/// The entry of a line with two halves.
-fn entry_of<'a>(
-    name: &'a [u8],
-    email: &'a [u8],
-    old_name: &'a [u8],
-    old_email: &'a [u8],
-) -> Entry<'a>
-    ensures { mapping_of result ≡ by_both name.now email.now old_name.now old_email.now }
-{
-    match (non_empty(name), non_empty(old_name)) {
-        (None, None) => Entry::change_email_by_email(email, old_email),
-        (None, Some(old_name)) => Entry::change_email_by_name_and_email(email, old_name, old_email),
-        (Some(name), None) => Entry::change_name_and_email_by_email(name, email, old_email),
-        (Some(name), Some(old_name)) => {
-            Entry::change_name_and_email_by_name_and_email(name, email, old_name, old_email)
-        }
-    }
-}
-
-/// The reading of a line as it stands, `None` for a comment and for a blank line.
-fn read_line(
-    text: &[u8],
-    line: usize,
-    strictness: Strictness,
-) -> Option<Result<Entry<'_>, Error<'_>>>
-    ensures { option_map reading_of result ≡ reading_by (line_reader strictness) line text.now }
-{
-    if let Some(b'#') = text.first() {
-        return None;
-    }
-    let text = trim(text);
-    if text.is_empty() {
-        return None;
-    }
-    Some(parse_line(text, line, strictness))
-}
-
-/// The readings of a buffer's lines, under either strictness.
-#[derive(Drop)]
-struct Walk<'a> {
-    lines: bstr::Lines<'a>,
-    line_no: usize,
-    strictness: Strictness,
 }
 
 impl<'a> Model for Walk<'a> {
@@ -200,6 +263,7 @@ impl<'a> Walk<'a> {
         ensures value { result ≡ readings_from (reading_by (line_reader strictness)) 1 (pieces buf.now) }
         ensures at_most_one { length result ≤ length (pieces buf.now) }
         ensures rising { IsStrictlySortedBy nat_cmp (fault_lines result) }
+        ensures countable { length result ≤ length buf.now }
     {
         Walk {
             lines: buf.lines(),
@@ -227,122 +291,115 @@ impl<'a> Iterator for Walk<'a> {
     }
 }
 
-/// The lines of a mailmap, parsed on demand.
-#[derive(Drop)]
-pub struct Lines<'a> {
-    walk: Walk<'a>,
-}
-
-impl<'a> Model for Lines<'a> {
-    ghost use Rattle.std.specs.Prelude.{List};
-    ghost use Rattle.gix_mailmap.specs.Lines.{Reading};
-
-    ghost Value = { List Reading };
-
-    ghost view = { λ s. s.walk };
-}
-
-/// Reads each line.
-pub fn parse(buf: &[u8]) -> Lines<'_>
-    ensures value { result ≡ readings buf.now }
-
-    // A line gives at most one item, and the lines of the faults rise.
-    ensures at_most_one { length result ≤ length (pieces buf.now) }
-    ensures rising { IsStrictlySortedBy nat_cmp (fault_lines result) }
+/// What the line `text` says, as it stands in its buffer; `None` for a comment and for a blank line.
+fn read_line(
+    text: &[u8],
+    line: usize,
+    strictness: Strictness,
+) -> Option<Result<Entry<'_>, Error<'_>>>
+    ensures { option_map reading_of result ≡ reading_by (line_reader strictness) line text.now }
 {
-    Lines {
-        walk: Walk::new(buf, Strictness::Lenient),
+    if let Some(b'#') = text.first() {
+        return None;
     }
-}
-
-impl<'a> Iterator for Lines<'a> {
-    type Item = Result<Entry<'a>, Error<'a>>;
-
-    ghost next_gives = { YieldsFirstBy reading_of (λ s. s) };
-
-    ghost remaining = { item_count (λ s. s) };
-
-    fn next(&mut self) -> Option<Result<Entry<'a>, Error<'a>>> {
-        self.walk.next()
+    let input = trim(text);
+    if input.is_empty() {
+        return None;
     }
+    Some(parse_line(input, line, strictness))
 }
 
-/// The lines of a mailmap, read strictly.
-#[derive(Drop)]
-pub struct StrictLines<'a> {
-    walk: Walk<'a>,
-}
-
-impl<'a> Model for StrictLines<'a> {
-    ghost use Rattle.std.specs.Prelude.{List};
-    ghost use Rattle.gix_mailmap.specs.Lines.{Reading};
-
-    ghost Value = { List Reading };
-
-    ghost view = { λ s. s.walk };
-}
-
-/// Reads each line strictly.
-pub fn parse_strict(buf: &[u8]) -> StrictLines<'_>
-    ensures value { result ≡ strict_readings buf.now }
-
-    // A line gives at most one item, and the lines of the faults rise.
-    ensures at_most_one { length result ≤ length (pieces buf.now) }
-    ensures rising { IsStrictlySortedBy nat_cmp (fault_lines result) }
+/// What the trimmed line `input` says. A fault shows it as its input, under the number `line`.
+fn parse_line(input: &[u8], line: usize, strictness: Strictness) -> Result<Entry<'_>, Error<'_>>
+    ensures { reading_of result ≡ line_reader strictness line input.now }
 {
-    StrictLines {
-        walk: Walk::new(buf, Strictness::Strict),
+    let (name, email, rest) = match parse_name_and_email(input) {
+        Half::Absent => return Err(Error::NoEmail { line, input }),
+        Half::Unclosed => return Err(Error::MissingClosingBracket { line, input }),
+        Half::Closed { name, email, rest } => (name, email, rest),
+    };
+    if email.is_empty() {
+        return Err(Error::EmptyEmail { line, input });
+    }
+    match (parse_name_and_email(rest), strictness) {
+        (
+            Half::Closed {
+                name: old_name,
+                email: old_email,
+                ..
+            },
+            _,
+        ) => Ok(change_by_both(name, email, old_name, old_email)),
+        (Half::Unclosed, Strictness::Strict) => Err(Error::UnclosedSecond { line, input: rest }),
+        _ => match non_empty(name) {
+            Some(name) => Ok(Entry::change_name_by_email(name, email)),
+            None => Err(Error::NothingToMap { line, input }),
+        },
     }
 }
 
-impl<'a> Iterator for StrictLines<'a> {
-    type Item = Result<Entry<'a>, Error<'a>>;
-
-    ghost next_gives = { YieldsFirstBy reading_of (λ s. s) };
-
-    ghost remaining = { item_count (λ s. s) };
-
-    fn next(&mut self) -> Option<Result<Entry<'a>, Error<'a>>> {
-        self.walk.next()
-    }
-}
-
-/// The mappings of a mailmap, without its faults.
-#[derive(Drop)]
-pub struct GoodLines<'a> {
-    lines: Lines<'a>,
-}
-
-impl<'a> Model for GoodLines<'a> {
-    ghost use Rattle.std.specs.Prelude.{List};
-    ghost use Rattle.gix_mailmap.specs.Entries.{Mapping};
-    ghost use Rattle.gix_mailmap.specs.Lines.{good_of};
-
-    ghost Value = { List Mapping };
-
-    ghost view = { λ s. good_of s.lines };
-}
-
-/// Reads each line and leaves faults out.
-pub fn parse_ignore_errors(buf: &[u8]) -> GoodLines<'_>
-    ensures { result ≡ good buf.now }
+/// The entry of a line with two halves, where either name may be empty and then is none.
+fn change_by_both<'a>(
+    name: &'a [u8],
+    email: &'a [u8],
+    old_name: &'a [u8],
+    old_email: &'a [u8],
+) -> Entry<'a>
+    ensures { mapping_of result ≡ by_both name.now email.now old_name.now old_email.now }
 {
-    GoodLines { lines: parse(buf) }
-}
-
-impl<'a> Iterator for GoodLines<'a> {
-    type Item = Entry<'a>;
-
-    ghost next_gives = { YieldsFirstBy mapping_of (λ s. s) };
-
-    ghost remaining = { item_count (λ s. s) };
-
-    fn next(&mut self) -> Option<Entry<'a>> {
-        while let Some(item) = self.lines.next() {
-            if let Ok(entry) = item {
-                return Some(entry);
-            }
+    match (non_empty(name), non_empty(old_name)) {
+        (None, None) => Entry::change_email_by_email(email, old_email),
+        (None, Some(old_name)) => Entry::change_email_by_name_and_email(email, old_name, old_email),
+        (Some(name), None) => Entry::change_name_and_email_by_email(name, email, old_email),
+        (Some(name), Some(old_name)) => {
+            Entry::change_name_and_email_by_name_and_email(name, email, old_name, old_email)
         }
-        None
     }
+}
+
+/// What stands round the first `<` of a text and the first `>` behind it.
+#[derive(Clone, Copy)]
+pub(crate) enum Half<'a> {
+    /// There is no `<`.
+    Absent,
+    /// There is a `<`, and no `>` behind it.
+    Unclosed,
+    /// Name and email are trimmed, and either may be empty. The rest is what stands behind the `>`, as it stands.
+    Closed {
+        name: &'a [u8],
+        email: &'a [u8],
+        rest: &'a [u8],
+    },
+}
+
+/// Cuts a text at its first `<` and the first `>` behind it. This serves either half of a line, and contact lines.
+pub(crate) fn parse_name_and_email(text: &[u8]) -> Half<'_>
+    ensures { half_of result ≡ trimmed_half (cut text.now) }
+{
+    let Some(start_bracket) = text.find_byte(b'<') else {
+        return Half::Absent;
+    };
+    let behind = &text[start_bracket + 1..];
+    let Some(closing_bracket) = behind.find_byte(b'>') else {
+        return Half::Unclosed;
+    };
+    Half::Closed {
+        name: trim(&text[..start_bracket]),
+        email: trim(&behind[..closing_bracket]),
+        rest: &behind[closing_bracket + 1..],
+    }
+}
+
+/// The text without the white space of Unicode at its ends. Bytes that are no UTF-8 stay.
+pub(crate) fn trim(text: &[u8]) -> &[u8]
+    ensures { result.now ≡ spec_trim text.now }
+{
+    text.trim()
+}
+
+/// The text, or `None` where it is empty.
+fn non_empty(text: &[u8]) -> Option<&[u8]>
+    ensures { option_copied result ≡ spec_non_empty text.now }
+{
+    if text.is_empty() { None } else { Some(text) }
 }

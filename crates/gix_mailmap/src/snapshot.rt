@@ -4,6 +4,7 @@ ghost use Rattle.std.specs.Prelude.{◌≡◌, []};
 mod batch;
 mod listing;
 mod lookup;
+mod merge;
 mod resolve;
 mod resolved;
 mod signature;

@@ -55,31 +55,24 @@ fn each_constructor_sets_just_its_fields(rt: HostRuntime) {
 }
 
 #[test]
-fn a_missing_field_comes_before_one_that_is_there(rt: HostRuntime) {
-    let ascending = [
-        Entry::default(),
-        Entry::change_email_by_email(b"e", b"a"),
-        Entry::change_name_by_email(b"A", b"a"),
-    ];
-    for (i, a) in ascending.iter().enumerate() {
-        for (k, b) in ascending.iter().enumerate() {
-            assert_eq!(rt; a.cmp(b), i.cmp(&k), "{i} and {k}");
-        }
-    }
-}
-
-#[test]
-fn the_order_takes_the_fields_in_turn_and_folds_no_case(rt: HostRuntime) {
-    let a = Entry::change_name_and_email_by_name_and_email;
+fn the_order_takes_the_fields_in_turn_a_missing_one_first_and_folds_no_case(rt: HostRuntime) {
+    let empty = Entry::default();
+    let email = Entry::change_email_by_email(b"e", b"a");
+    let name = Entry::change_name_by_email(b"A", b"a");
+    let full = Entry::change_name_and_email_by_name_and_email;
     let table = [
-        (a(b"A", b"z", b"z", b"z"), a(b"B", b"a", b"a", b"a")),
-        (a(b"A", b"a", b"z", b"z"), a(b"A", b"b", b"a", b"a")),
-        (a(b"A", b"a", b"a", b"z"), a(b"A", b"a", b"b", b"a")),
-        (a(b"A", b"a", b"a", b"a"), a(b"A", b"a", b"a", b"aa")),
-        (a(b"Z", b"a", b"a", b"a"), a(b"a", b"a", b"a", b"a")),
+        (empty, email),
+        (empty, name),
+        (email, name),
+        (full(b"A", b"z", b"z", b"z"), full(b"B", b"a", b"a", b"a")),
+        (full(b"A", b"a", b"z", b"z"), full(b"A", b"b", b"a", b"a")),
+        (full(b"A", b"a", b"a", b"z"), full(b"A", b"a", b"b", b"a")),
+        (full(b"A", b"a", b"a", b"a"), full(b"A", b"a", b"a", b"aa")),
+        (full(b"Z", b"a", b"a", b"a"), full(b"a", b"a", b"a", b"a")),
     ];
     for (less, greater) in table {
         assert_eq!(rt; less.cmp(&greater), Ordering::Less, "{less:?}");
+        assert_eq!(rt; greater.cmp(&less), Ordering::Greater, "{less:?}");
         assert!(rt; less != greater);
     }
 }

@@ -1,24 +1,23 @@
-use Rattle.std.proofs.Common.{rules, ◌≡◌, ◌∙◌, refl, sym, ap}
-use Rattle.std.specs.Ordering.{nat_cmp}
-use Rattle.std.specs.Cmp.Lexicographic.{slice_cmp}
-use Rattle.std.specs.Char.{to_ascii_lowercase}
-use Rattle.std.proofs.lemmas.Iterator.{YieldsList-from_slice, YieldsList-from_map}
-use Rattle.std.proofs.lemmas.Iterator.Search.{cmp_from_yields_List}
-use Rattle.std.specs.Iterator.Adapters.{map_callee}
-use Rattle.gix_mailmap.specs.Folding.{folded}
-use Rattle.gix_mailmap.proofs.Folding.{less-smaller, smaller-less, equal-same, same-equal}
+use Rattle.std.proofs.Common.{◌∙◌, sym, inl, inr, ⊎_elim, rules}
+use Rattle.gix_mailmap.proofs.Folding.{text_cmp-end, less-below, equal-folded}
 use Rattle.gix_mailmap.proofs.fold.cmp_ignore_ascii_case.Goals as goal
+
+pub returns-then-is_ne-clause-value : goal.returns-then-is_ne-clause-value
+returns-then-is_ne-clause-value c = search rules
+
+pub returns-then-is_ne-clause-less : goal.returns-then-is_ne-clause-less
+returns-then-is_ne-clause-less c = less-below _ _ _ (returns-then-is_ne-clause-value c)
+
+pub returns-then-is_ne-clause-equal : goal.returns-then-is_ne-clause-equal
+returns-then-is_ne-clause-equal c = equal-folded _ _ _ (returns-then-is_ne-clause-value c)
 
 pub returns-clause-value : goal.returns-clause-value
 returns-clause-value c =
-    cmp_from_yields_List (λ x y. y ≡ x) _ nat_cmp _ c.cmp.ensures.ran
-    (YieldsList-from_map _ to_ascii_lowercase (YieldsList-from_slice c.args.a.now cc) c.map.ensures.closure (λ x r q k. search rules))
-    (λ it e. YieldsList-from_map _ to_ascii_lowercase (YieldsList-from_slice c.args.b.now (cc)) (ap map_callee e ∙ c.map-2.ensures.closure) (λ x r q k. search rules))
-    (λ x y. refl)
+    let some_empty = ⊎_elim (λ a_at_end. inl a_at_end.1.0) (λ b_at_end. inr b_at_end.1.0) c.in-None.ensures.steps in
+    c.cmp.ensures ∙ sym (c.loop-x.invariant.decides ∙ text_cmp-end _ _ _ _ c.loop-x.invariant.long some_empty)
 
 pub returns-clause-less : goal.returns-clause-less
-returns-clause-less c = let value = returns-clause-value c in (λ e. less-smaller _ _ (sym value ∙ e), λ h. value ∙ smaller-less _ _ h)
+returns-clause-less c = less-below _ _ _ (returns-clause-value c)
 
 pub returns-clause-equal : goal.returns-clause-equal
-returns-clause-equal c = let value = returns-clause-value c in
-    (λ e. equal-same _ _ (sym value ∙ e), λ h. value ∙ ap (λ t. slice_cmp nat_cmp t (folded c.args.b.now)) h ∙ same-equal (folded c.args.b.now))
+returns-clause-equal c = equal-folded _ _ _ (returns-clause-value c)

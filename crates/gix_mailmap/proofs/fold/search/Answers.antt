@@ -1,5 +1,4 @@
-use Rattle.std.proofs.Common.{◌≡◌, ◌∙◌, ◌+◌, ◌-◌, ◌/◌, ◌<◌, ◌≤◌, List, Some, Ordering, Less, Greater, ap, sym, arith}
-use Rattle.std.specs.List.{slice_get}
+use Rattle.std.proofs.Common.{◌∙◌, ◌+◌, ◌-◌, ◌/◌, ◌≤◌, arith}
 use Rattle.gix_mailmap.specs.Search.{digits}
 use Rattle.gix_mailmap.proofs.Search.{digits-le, digits-part, less_before, greater_from}
 use Rattle.gix_mailmap.proofs.fold.search.Goals as goal

@@ -1,4 +1,4 @@
-use Rattle.std.proofs.Common.{◌≡◌, ◌+◌, ◌-◌, ◌<◌, ◌≤◌, length, Less, Greater}
+use Rattle.std.proofs.Common.{◌≡◌, ◌+◌, ◌-◌, ◌<◌, ◌≤◌, Less, Greater}
 use Rattle.std.specs.List.{AllWithin}
 use Rattle.gix_mailmap.specs.Search.{digits}
 use Rattle.gix_mailmap.proofs.fold.search.Given as goal

@@ -7,9 +7,9 @@ returns-in_default c = rw (split_once-none 60 c.args.text.now c.in_default.ensur
 
 pub returns-in_default-find_byte : goal.returns-in_default-find_byte
 returns-in_default-find_byte c =
-    rw (split_once-some 60 c.args.text.now c.in-Some.open c.in-Some.ensures, split_once-none 62 _ c.in_default-find_byte.ensures) refl
+    rw (split_once-some 60 c.args.text.now c.in-Some.start_bracket c.in-Some.ensures, split_once-none 62 _ c.in_default-find_byte.ensures) refl
 
 pub returns : goal.returns
 returns c =
-    rw (split_once-some 60 c.args.text.now c.in-Some.open c.in-Some.ensures, split_once-some 62 _ c.in-Some-find_byte.close c.in-Some-find_byte.ensures)
+    rw (split_once-some 60 c.args.text.now c.in-Some.start_bracket c.in-Some.ensures, split_once-some 62 _ c.in-Some-find_byte.closing_bracket c.in-Some-find_byte.ensures)
     (cc)

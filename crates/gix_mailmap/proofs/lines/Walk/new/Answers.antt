@@ -1,6 +1,6 @@
-use Rattle.std.proofs.Common.{◌∙◌, ap}
+use Rattle.std.proofs.Common.{arith, ◌∙◌, ap}
 use Rattle.gix_mailmap.specs.Lines.{readings_from, pieces, reading_by, line_reader}
-use Rattle.gix_mailmap.proofs.Pieces.{reading_by-cr, readings_from-lines}
+use Rattle.gix_mailmap.proofs.Pieces.{reading_by-cr, readings_from-lines, length-pieces}
 use Rattle.gix_mailmap.proofs.Rising.{walk-line, fault_lines-rise, length-readings_from}
 use Rattle.gix_mailmap.proofs.lines.Walk.new.Goals as goal
 
@@ -14,3 +14,6 @@ returns-clause-at_most_one c = rw (returns-clause-value c) (length-readings_from
 
 pub returns-clause-rising : goal.returns-clause-rising
 returns-clause-rising c = rw (returns-clause-value c) (fault_lines-rise _ (walk-line c.args.strictness) 1 (pieces c.args.buf.now))
+
+pub returns-clause-countable : goal.returns-clause-countable
+returns-clause-countable c = omega (arith, returns-clause-at_most_one c, length-pieces c.args.buf.now)

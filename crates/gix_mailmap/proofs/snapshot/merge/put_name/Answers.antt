@@ -1,0 +1,57 @@
+use Rattle.std.proofs.Common.{◌≡◌, ◌∙◌, ◌++◌, ◌∷◌, [], List, map, take, drop, get_or, length, None, refl, sym, ap, subst}
+use Rattle.std.specs.List.{AllByRecursion}
+use Rattle.gix_mailmap.specs.Groups.{NameGroup, Contents}
+use Rattle.gix_mailmap.specs.Merging.{Extends, NamePlaced, NamePut}
+use Rattle.gix_mailmap.specs.Named.{named_group}
+use Rattle.gix_mailmap.specs.Pool.{spelled, NameLies, name_group}
+use Rattle.gix_mailmap.specs.declared.snapshot.tables.NameRow.{NameRow}
+use Rattle.gix_mailmap.proofs.NamePlaces.{all_rest, extends_through, extends_itself, names_lie_on, placed_found, placed_new, put_from}
+use Rattle.gix_mailmap.proofs.snapshot.merge.put_name.Goals as goal
+
+-- ---- the name stands
+
+pub returns-in_ok-push_named-in-Ok-clause-lie : goal.returns-in_ok-push_named-in-Ok-clause-lie
+returns-in_ok-push_named-in-Ok-clause-lie c =
+    let grown : Extends c.args.out.now.pool c.push_named.new.out.pool = subst (λ (v : Contents). Extends v.pool c.push_named.new.out.pool) c.in_ok-push_names-in-Ok.ensures c.in_ok-push_named-in-Ok.ensures.grown in
+    names_lie_on _ _ grown _ (subst (AllByRecursion (NameLies (length c.args.out.now.pool))) (sym c.rest.ensures) (all_rest _ _ _ c.requires.lie))
+
+pub returns-in_ok-push_named-in-Ok-clause-put : goal.returns-in_ok-push_named-in-Ok-clause-put
+returns-in_ok-push_named-in-Ok-clause-put c =
+    let pool = c.args.out.now.pool in
+    let kept = c.args.kept.now in
+    let place = c.in-Ok.place in
+    let step = c.in_ok-push_names-in-Ok.ensures in
+    let pushed = c.in_ok-push_named-in-Ok.ensures in
+    let row : NameRow = get_or kept place (record { old_name = record { start = 0; len = 0 }; new_name = None; new_email = record { start = 0; len = 0 } }) in
+    put_from _ _ (named_group c.args.named) c.args.out.now c.push_named.new.out (map (name_group pool) (take place kept)) (spelled pool row.old_name)
+    (subst (λ (v : Contents). Extends v.pool c.push_named.new.out.pool) step pushed.grown)
+    (pushed.groups ∙ ap (λ (v : Contents). v.groups) step)
+    (pushed.loose ∙ ap (λ (v : Contents). v.loose ++ record (named_group c.args.named) { old_name = spelled v.pool row.old_name } ∷ []) step
+    ∙ ap (λ l. (c.args.out.now.loose ++ map (name_group pool) l) ++ record (named_group c.args.named) { old_name = spelled pool row.old_name } ∷ []) c.front.ensures)
+    (subst (λ l. NamePlaced (map (name_group pool) kept) (map (name_group pool) (take place kept)) c.args.named.old_name.now (spelled pool row.old_name) (map (name_group pool) l)) (sym c.rest.ensures)
+    (placed_found pool kept c.args.named.old_name.now place _ c.in-Ok.ensures.found))
+
+-- ---- the name is new
+
+pub returns-in_ok-push_named-in-Err-clause-lie : goal.returns-in_ok-push_named-in-Err-clause-lie
+returns-in_ok-push_named-in-Err-clause-lie c =
+    let text : Extends c.args.out.now.pool c.push_text.new.self.pool = (c.args.named.old_name.now, ap (λ (v : Contents). v.pool) (c.in_ok-old_name-in-Err.ensures.grown) ∙ ap (λ (v : Contents). v.pool ++ c.args.named.old_name.now) c.in_ok-push_names-in-Err.ensures) in
+    names_lie_on _ _ (extends_through _ _ _ text c.in_ok-push_named-in-Err.ensures.grown) _ (subst (AllByRecursion (NameLies (length c.args.out.now.pool))) (sym c.rest-in-Err.ensures) (all_rest _ _ _ c.requires.lie))
+
+pub returns-in_ok-push_named-in-Err-clause-put : goal.returns-in_ok-push_named-in-Err-clause-put
+returns-in_ok-push_named-in-Err-clause-put c =
+    let pool = c.args.out.now.pool in
+    let kept = c.args.kept.now in
+    let place = c.in-Err.place in
+    let step = c.in_ok-push_names-in-Err.ensures in
+    let texted = c.in_ok-old_name-in-Err.ensures in
+    let pushed = c.in_ok-push_named-in-Err.ensures in
+    let text : Extends pool c.push_text.new.self.pool = (c.args.named.old_name.now, ap (λ (v : Contents). v.pool) texted.grown ∙ ap (λ (v : Contents). v.pool ++ c.args.named.old_name.now) step) in
+    put_from _ _ (named_group c.args.named) c.args.out.now c.push_named-in-Err.new.out (map (name_group pool) (take place kept)) c.args.named.old_name.now
+    (extends_through _ _ _ text pushed.grown)
+    (pushed.groups ∙ ap (λ (v : Contents). v.groups) texted.grown ∙ ap (λ (v : Contents). v.groups) step)
+    (pushed.loose ∙ ap (λ (v : Contents). v.loose ++ record (named_group c.args.named) { old_name = spelled c.push_text.new.self.pool c.in_ok-old_name-in-Err.old_name } ∷ []) texted.grown
+    ∙ ap (λ (v : Contents). v.loose ++ record (named_group c.args.named) { old_name = spelled c.push_text.new.self.pool c.in_ok-old_name-in-Err.old_name } ∷ []) step
+    ∙ (λ j. (c.args.out.now.loose ++ map (name_group pool) (c.front-in-Err.ensures j)) ++ record (named_group c.args.named) { old_name = texted.spells j } ∷ []))
+    (subst (λ l. NamePlaced (map (name_group pool) kept) (map (name_group pool) (take place kept)) c.args.named.old_name.now c.args.named.old_name.now (map (name_group pool) l)) (sym c.rest-in-Err.ensures)
+    (placed_new pool kept c.args.named.old_name.now place c.args.named.old_name.now c.in-Err.ensures.missing refl))

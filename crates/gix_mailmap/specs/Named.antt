@@ -1,0 +1,8 @@
+-- A name of a batch on its way out.
+use Rattle.std.specs.Option.{option_copied}
+use Rattle.gix_mailmap.specs.Groups.{NameGroup}
+use Rattle.gix_mailmap.specs.declared.snapshot.merge.Named.{Named}
+
+-- what the name says
+abbrev pub named_group : Named → NameGroup
+named_group n = record { old_name = n.old_name.now; new_name = option_copied n.new_name; new_email = n.new_email.now }

@@ -1,0 +1,145 @@
+//! Joining a sorted batch with the standing tables: email by email, and within an email name by name. The standing rows
+//! between two emails of the batch are passed on without a look at their texts.
+ghost use Rattle.std.specs.Prelude.{◌≡◌, ◌≢◌, ◌+◌, ◌-◌, ◌<◌, ◌≤◌, [], ◌++◌, ◌∷◌, List, None, OnOk, IfOk, IfSome, Some, IsSome, take, drop, map, length, ℕ};
+ghost use Rattle.std.specs.Option.{option_copied, option_map, ForSome};
+ghost use Rattle.std.specs.List.{AllByRecursion, HoldsAt, fold};
+ghost use Rattle.std.specs.List.Sorted.{IsStrictlySortedBy};
+ghost use Rattle.gix_mailmap.specs.Entries.{mapping_of};
+ghost use Rattle.gix_mailmap.specs.Folding.{folded, text_cmp};
+ghost use Rattle.gix_mailmap.specs.Groups.{Contents, AreGroups, name_key, email_key};
+ghost use Rattle.gix_mailmap.specs.Histories.{is_accepted, key, key_cmp, no_fields};
+ghost use Rattle.gix_mailmap.specs.Merging.{IsAscending, IsNamed, mapping_at, placed_at, email_text, name_text, Extends, NamePut, NamesPut, EmailPut, RunPut, AllJoined};
+ghost use Rattle.gix_mailmap.specs.Pool.{spelled, LiesIn, NameLies, EmailLies, RowsLie, name_group, group_of};
+ghost use Rattle.gix_mailmap.specs.Named.{named_group};
+
+use crate::fold::cmp_ignore_ascii_case;
+use crate::snapshot::batch::Placed;
+use crate::snapshot::lookup::{place_email, place_name};
+use crate::snapshot::tables::{EmailRow, NameRow, Span, Tables};
+use std::alloc::{AllocError, Global};
+
+// The texts that stand for an old name.
+#[derive(Clone, Copy)]
+struct Named<'a> {
+    old_name: &'a [u8],
+    new_name: Option<&'a [u8]>,
+    new_email: &'a [u8],
+}
+
+// Puts a text that may be missing at the end of the pool.
+fn push_optional(out: &mut Tables, text: Option<&[u8]>) -> Result<Option<Span>, AllocError>
+    ensures grown { OnOk result ((more : List ℕ) × (out.new ≡ record out.old { pool = out.old.pool ++ more })) }
+    ensures lies { IfOk result (λ span. ForSome span (LiesIn (length out.new.pool))) }
+    ensures spells { IfOk result (λ span. option_map (spelled out.new.pool) span ≡ option_copied text.entry) }
+{
+    match text {
+        Some(text) => Ok(Some(out.push_text(text)?)),
+        None => Ok(None),
+    }
+}
+
+// Puts a name out, its old name as `old_name` spells it.
+fn push_named(out: &mut Tables, old_name: Span, named: Named<'_>) -> Result<(), AllocError>
+    requires { LiesIn (length out.old.pool) old_name }
+    ensures grown { OnOk result (Extends out.old.pool out.new.pool) }
+    ensures groups { OnOk result (out.new.groups ≡ out.old.groups) }
+    ensures loose { OnOk result (out.new.loose ≡ out.old.loose ++ record {
+      old_name = spelled out.old.pool old_name;
+      new_name = option_copied named.entry.new_name;
+      new_email = named.entry.new_email.now;
+    } ∷ []) }
+{
+    let new_name = push_optional(out, named.new_name)?;
+    let new_email = out.push_text(named.new_email)?;
+    out.push_name(NameRow {
+        old_name,
+        new_name,
+        new_email,
+    })
+}
+
+// Puts a name out, behind the kept names that stand before it, and gives those that are left.
+fn put_name<'k>(
+    out: &mut Tables,
+    kept: &'k [NameRow],
+    named: Named<'_>,
+) -> Result<&'k [NameRow], AllocError>
+    requires lie { AllByRecursion (NameLies (length out.old.pool)) kept.now }
+    requires ascending { IsStrictlySortedBy text_cmp (map name_key (map (name_group out.old.pool) kept.now)) }
+    ensures lie { IfOk result (λ left. AllByRecursion (NameLies (length out.new.pool)) left.now) }
+    ensures put { IfOk result (λ left. NamePut (map (name_group out.old.pool) kept.entry.now) (map (name_group out.old.pool) left.now) (named_group named.entry) out.old out.new) }
+{
+    match place_name(out, kept, named.old_name) {
+        Ok(place) => {
+            let row = kept[place];
+            out.push_names(front(kept, place))?;
+            push_named(out, row.old_name, named)?;
+            Ok(rest(kept, place + 1))
+        }
+        Err(place) => {
+            out.push_names(front(kept, place))?;
+            let old_name = out.push_text(named.old_name)?;
+            push_named(out, old_name, named)?;
+            Ok(rest(kept, place))
+        }
+    }
+}
+
+// The rows before a place.
+fn front(rows: &[NameRow], place: usize) -> &[NameRow]
+    requires { place ≤ length rows.now }
+    ensures { result.now ≡ take place rows.now }
+{
+    &rows[..place]
+}
+
+// The rows from a place on.
+fn rest(rows: &[NameRow], place: usize) -> &[NameRow]
+    requires { place ≤ length rows.now }
+    ensures { result.now ≡ drop place rows.now }
+{
+    &rows[place..]
+}
+
+// How many entries at the front have this old name.
+fn name_run(batch: &[Placed<'_, '_>], name: &[u8]) -> usize
+    ensures within { result ≤ length batch.now }
+    ensures same { AllByRecursion (λ p. name_text (mapping_at p) ≡ folded name.now) (take result batch.now) }
+    ensures other { result < length batch.now → HoldsAt (λ p. name_text (mapping_at p) ≢ folded name.now) batch.now result }
+{
+    for (i, placed) in batch.iter().enumerate() {
+        let other = placed.entry.old_name().unwrap_or(&[]);
+        if cmp_ignore_ascii_case(other, name).is_ne() {
+            return i;
+        }
+    }
+    batch.len()
+}
+
+// How many entries at the front have this old email.
+fn email_run(batch: &[Placed<'_, '_>], email: &[u8]) -> usize
+    ensures within { result ≤ length batch.now }
+    ensures same { AllByRecursion (λ p. email_text (mapping_at p) ≡ folded email.now) (take result batch.now) }
+    ensures other { result < length batch.now → HoldsAt (λ p. email_text (mapping_at p) ≢ folded email.now) batch.now result }
+{
+    for (i, placed) in batch.iter().enumerate() {
+        if cmp_ignore_ascii_case(placed.entry.old_email(), email).is_ne() {
+            return i;
+        }
+    }
+    batch.len()
+}
+
+// How many entries at the front have no old name.
+fn unnamed_run(batch: &[Placed<'_, '_>]) -> usize
+    ensures within { result ≤ length batch.now }
+    ensures none { AllByRecursion (λ p. (mapping_at p).old_name ≡ None) (take result batch.now) }
+    ensures other { result < length batch.now → HoldsAt (λ p. (mapping_at p).old_name ≢ None) batch.now result }
+{
+    for (i, placed) in batch.iter().enumerate() {
+        if placed.entry.old_name().is_some() {
+            return i;
+        }
+    }
+    batch.len()
+}
