@@ -7,8 +7,8 @@ use crate::date::Time;
 
 /// The author or committer of a commit, as its three texts stand in the commit.
 ///
-/// Who has the commit makes it of these texts; nothing here reads a whole line. Two are equal where all three texts are,
-/// so that two spellings of one time are not.
+/// It is made by naming its three fields: cutting them out of the line of a commit is left to the caller. Two are equal
+/// where all three texts are, so two spellings of one time are different.
 #[derive(Clone, Copy, PartialEq, Eq, Debug)]
 pub struct SignatureRef<'a> {
     /// The name, as it was recorded.
@@ -35,7 +35,9 @@ impl SignatureRef<'_> {
     }
 }
 
-/// The author or committer of a commit, with texts of its own: what outlives both the commit and the mailmap.
+/// The author or committer of a commit, with texts of its own, so that it may outlive the commit and the mailmap.
+///
+/// Two are equal where the bytes of both texts and the times are.
 #[derive(PartialEq, Eq, Debug, Drop)]
 pub struct Signature {
     /// The name.
