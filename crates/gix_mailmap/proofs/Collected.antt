@@ -1,6 +1,6 @@
 -- What a loop that collects the accepted entries of an iterator has when it has seen one more.
 use Rattle.std.proofs.Common.{◌≡◌, ◌≢◌, ◌+◌, ◌<◌, ◌≤◌, ℕ, suc, length, get_or, arith, true, false, cond, List, [], ◌∷◌, ◌++◌, map, Result, Ok, Err, Ordering, append-nil, refl, sym, ap, subst, ◌∙◌}
-use Rattle.std.specs.Result.{OnErr}
+use Rattle.std.specs.Result.{OnErr, OnOk}
 use Rattle.std.specs.List.{AllByRecursion, enumerate_from}
 use Rattle.std.specs.List.Sorted.{IsPermutation, IsSortedBy, IsStableBy}
 use Rattle.std.specs.Ordering.{is_lt}
@@ -69,3 +69,7 @@ sorted_batch xs old new is moved sorted stable =
       ascending = subst (IsAscending key_cmp) (sym (mapped_twice placed_at (λ p. key p.1) new))
           (ascending_from key_cmp (λ p. key (mapping_at p)) new (λ i j d le lt. sorted_far _ (ranks_by keys_total (λ p. key (mapping_at p))) new sorted i j d le lt));
     }
+
+pub on_ok_then : {T E : Type 0} (r : Result T E) (P Q : Type 0) → (P → Q) → OnOk r P → OnOk r Q
+on_ok_then (Ok x) P Q f p = f p
+on_ok_then (Err x) P Q f p = tt

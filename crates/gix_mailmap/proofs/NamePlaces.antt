@@ -10,7 +10,7 @@ use Rattle.gix_mailmap.specs.Pool.{spelled, LiesIn, NameLies, name_group}
 use Rattle.gix_mailmap.specs.declared.snapshot.tables.NameRow.{NameRow}
 use Rattle.gix_mailmap.specs.declared.snapshot.tables.Span.{Span}
 use Rattle.gix_mailmap.proofs.Parting.{part_front, split_front, found_key, missing_front, missing_above}
-use Rattle.gix_mailmap.proofs.Pooled.{names_lie_more}
+use Rattle.gix_mailmap.proofs.Pooled.{names_lie_more, name_groups-append}
 use Rattle.gix_mailmap.proofs.Parts.{all_back, all_front}
 
 pub all_rest : {X : Type 0} (P : X → Type 0) (n : ℕ) (xs : List X) → AllByRecursion P xs → AllByRecursion P (drop n xs)
@@ -30,6 +30,9 @@ extends_itself a b e = ([], e ∙ sym (nothing a))
 
 pub names_lie_on : (a b : Text) → Extends a b → (rows : List NameRow) → AllByRecursion (NameLies (length a)) rows → AllByRecursion (NameLies (length b)) rows
 names_lie_on a b e rows all = subst (λ p. AllByRecursion (NameLies (length p)) rows) (sym e.1) (names_lie_more a e.0 rows all)
+
+pub name_groups_on : (a b : Text) → Extends a b → (rows : List NameRow) → AllByRecursion (NameLies (length a)) rows → map (name_group a) rows ≡ map (name_group b) rows
+name_groups_on a b e rows all = sym (name_groups-append a e.0 rows all) ∙ ap (λ p. map (name_group p) rows) (sym e.1)
 
 module _ (pool : Text) (kept : List NameRow) (name : Text) (place : ℕ) where
   abbrev ks : List NameGroup

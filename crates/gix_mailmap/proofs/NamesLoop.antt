@@ -67,8 +67,11 @@ pub record NamesState (ks0 : List NameGroup) (ms0 : List Mapping) (c0 : Contents
 pub names_start : (ks : List NameGroup) (ms : List Mapping) (c : Contents) → IsStrictlySortedBy text_cmp (map name_key ks) → IsAscending text_cmp (map name_text ms) → NamesState ks ms c ks ms c
 names_start ks ms c s t =
     record {
-      done = []; taken = []; names = [];
-      kept_is = refl; batch_is = refl;
+      done = [];
+      taken = [];
+      names = [];
+      kept_is = refl;
+      batch_is = refl;
       pool = extends_itself c.pool c.pool refl;
       groups = refl;
       loose = sym (append-nil c.loose);
@@ -83,7 +86,7 @@ mailed e [] = tt
 mailed e (j ∷ js) = (refl, mailed e js)
 
 -- a named entry's name
-name_is : (m : Mapping) (x : Text) → m.old_name ≡ Some x → name_text m ≡ folded x
+pub name_is : (m : Mapping) (x : Text) → m.old_name ≡ Some x → name_text m ≡ folded x
 name_is m x e = ap (λ o. folded (unwrap_or o [])) e
 
 keyed_is : (m : Mapping) (k : Text) → IsNamed m → name_text m ≡ k → option_map folded m.old_name ≡ Some k

@@ -8,7 +8,7 @@ ghost use Rattle.gix_mailmap.specs.Entries.{mapping_of};
 ghost use Rattle.gix_mailmap.specs.Folding.{folded, text_cmp};
 ghost use Rattle.gix_mailmap.specs.Groups.{Contents, AreGroups, name_key, email_key};
 ghost use Rattle.gix_mailmap.specs.Histories.{is_accepted, key, key_cmp, no_fields};
-ghost use Rattle.gix_mailmap.specs.Merging.{IsAscending, IsNamed, mapping_at, placed_at, email_text, name_text, Extends, NamePut, NamesPut, EmailPut, RunPut, AllJoined};
+ghost use Rattle.gix_mailmap.specs.Merging.{IsAscending, IsNamed, mapping_at, placed_at, email_text, name_text, Extends, NamePut, NameRun, NamesPut, EmailPut, RunPut, AllJoined};
 ghost use Rattle.gix_mailmap.specs.Pool.{spelled, LiesIn, NameLies, EmailLies, RowsLie, name_group, group_of};
 ghost use Rattle.gix_mailmap.specs.Named.{named_group};
 
@@ -67,7 +67,7 @@ fn put_name<'k>(
     requires lie { AllByRecursion (NameLies (length out.old.pool)) kept.now }
     requires ascending { IsStrictlySortedBy text_cmp (map name_key (map (name_group out.old.pool) kept.now)) }
     ensures lie { IfOk result (λ left. AllByRecursion (NameLies (length out.new.pool)) left.now) }
-    ensures put { IfOk result (λ left. NamePut (map (name_group out.old.pool) kept.entry.now) (map (name_group out.old.pool) left.now) (named_group named.entry) out.old out.new) }
+    ensures put { IfOk result (λ left. NamePut (map (name_group out.old.pool) kept.entry.now) (map (name_group out.new.pool) left.now) (named_group named.entry) out.old out.new) }
 {
     match place_name(out, kept, named.old_name) {
         Ok(place) => {
@@ -142,4 +142,60 @@ fn unnamed_run(batch: &[Placed<'_, '_>]) -> usize
         }
     }
     batch.len()
+}
+
+// The name at the front of a batch of named entries, and how many entries it stands for.
+fn front_name<'a>(batch: &[Placed<'_, 'a>]) -> (Named<'a>, usize)
+    requires some { 0 < length batch.now }
+    requires named { AllByRecursion (λ p. IsNamed (mapping_at p)) batch.now }
+    ensures within { result.1 ≤ length batch.now }
+    ensures run { NameRun (map mapping_at batch.now) (named_group result.0) (map mapping_at (drop result.1 batch.now)) }
+{
+    let Some(old_name) = batch[0].entry.old_name() else {
+        unreachable!()
+    };
+    let len = name_run(batch, old_name);
+    let last = batch[len - 1].entry;
+    let Some(new_email) = last.new_email() else {
+        unreachable!()
+    };
+    let new_name = last.new_name();
+    (
+        Named {
+            old_name,
+            new_name,
+            new_email,
+        },
+        len,
+    )
+}
+
+// Puts out the kept names of an email and the named entries of a batch for it.
+fn join_names(
+    out: &mut Tables,
+    kept: &[NameRow],
+    named: &[Placed<'_, '_>],
+) -> Result<(), AllocError>
+    requires lie { AllByRecursion (NameLies (length out.old.pool)) kept.now }
+    requires kept_ascend { IsStrictlySortedBy text_cmp (map name_key (map (name_group out.old.pool) kept.now)) }
+    requires named { AllByRecursion (λ p. IsNamed (mapping_at p)) named.now }
+    requires named_ascend { IsAscending text_cmp (map name_text (map mapping_at named.now)) }
+    ensures { OnOk result (NamesPut (map (name_group out.old.pool) kept.now) (map mapping_at named.now) out.old out.new) }
+{
+    let mut standing = kept;
+    let mut left = named;
+    while !left.is_empty() {
+        let (name, len) = front_name(left);
+        standing = put_name(out, standing, name)?;
+        left = behind(left, len);
+    }
+    out.push_names(standing)
+}
+
+// The entries from a place on.
+fn behind<'s, 'e, 'a>(batch: &'s [Placed<'e, 'a>], place: usize) -> &'s [Placed<'e, 'a>]
+    requires { place ≤ length batch.now }
+    ensures { result.now ≡ drop place batch.now }
+{
+    &batch[place..]
 }
