@@ -14,6 +14,7 @@ use Rattle.gix_mailmap.proofs.Alike.{Alike, alike_itself, alike_joined}
 use Rattle.gix_mailmap.proofs.Grouped.{all_weaker, all_rows, rows_spelled, listing_all, listing-append}
 use Rattle.gix_mailmap.proofs.Joined.{IsApart, alike_trans, alike_swapped, alike_combined, either_given, never}
 use Rattle.gix_mailmap.proofs.Parts.{all_apply, or-None}
+pub use Rattle.gix_mailmap.specs.Merging.{give}
 
 -- ---- what is put on a batch and what it is joined with
 
@@ -152,10 +153,6 @@ names_pushed e ds os js m x y done same_email named given =
 
 abbrev pub own_of : Text → Fields → List Mapping
 own_of e f = if is_some f.name || is_some f.email then made f None e ∷ [] else []
-
--- each field as the entry gives it, and else as it was
-abbrev pub give : Fields → Mapping → Fields
-give f m = record { name = option_or m.new_name f.name; email = option_or m.new_email f.email }
 
 -- an accepted entry of the email e, without an old name
 abbrev pub IsOwn : Text → Mapping → Type 0

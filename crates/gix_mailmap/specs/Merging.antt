@@ -1,7 +1,8 @@
 -- How a sorted batch is joined with standing groups.
-use Rattle.std.specs.Prelude.{◌≡◌, ◌≤◌, ◌++◌, ℕ, false, IsSome, Some, List, [], ◌∷◌, All, Contains, map, unwrap_or}
+use Rattle.std.specs.Prelude.{◌≡◌, ◌≤◌, ◌++◌, ℕ, true, false, IsSome, Some, List, [], ◌∷◌, All, Contains, map, unwrap_or}
 use Rattle.std.specs.List.{AllByRecursion, enumerate_from}
 use Rattle.std.specs.List.Sorted.{IsPermutation, IsStrictlySortedBy}
+use Rattle.std.specs.Option.{option_cmp, option_map, option_or}
 use Rattle.std.specs.Ordering.{is_lt}
 use Rattle.std.specs.declared.cmp.Ordering.{Ordering}
 use Rattle.std.specs.declared.cmp.Ordering.TheVariants.{Less}
@@ -9,7 +10,7 @@ use Rattle.gix_mailmap.specs.Alike.{Alike}
 use Rattle.gix_mailmap.specs.Entries.{Mapping, mapping_of}
 use Rattle.gix_mailmap.specs.Folding.{Text, folded, text_cmp}
 use Rattle.gix_mailmap.specs.Groups.{NameGroup, EmailGroup, AreGroups, Contents, email_key, name_key, name_row, rows, listing}
-use Rattle.gix_mailmap.specs.Histories.{Key, key, key_cmp, of_key, no_fields, last}
+use Rattle.gix_mailmap.specs.Histories.{Key, Fields, key, key_cmp, is_accepted, of_key, no_fields, last}
 use Rattle.gix_mailmap.specs.declared.snapshot.batch.Placed.{Placed}
 
 -- no key is below one that stands before it
@@ -43,6 +44,11 @@ placed_at p = (p.index, mapping_at p)
 
 abbrev pub email_text : Mapping → Text
 email_text m = folded m.old_email
+
+-- the old email of the first entry, without its case
+abbrev pub first_email : List Mapping → Text
+first_email [] = []
+first_email (m ∷ ms) = email_text m
 
 abbrev pub name_text : Mapping → Text
 name_text m = folded (unwrap_or m.old_name [])
@@ -110,6 +116,15 @@ pub record EmailPut (g : EmailGroup) (ms : List Mapping) (old new : Contents) : 
   pub groups : new.groups ≡ old.groups ++ group ∷ []
   pub no_loose : new.loose ≡ []
   pub joined : EmailJoined g ms group
+
+-- each field as the entry gives it, and else as it was
+abbrev pub give : Fields → Mapping → Fields
+give f m = record { name = option_or m.new_name f.name; email = option_or m.new_email f.email }
+
+-- the accepted entries of one email, those without an old name in front, the others ascending by it
+pub record EmailRun (ms : List Mapping) : Type 0 where
+  pub accepted : AllByRecursion (λ m. is_accepted m ≡ true) ms
+  pub ascending : IsAscending (option_cmp text_cmp) (map (λ m. option_map folded m.old_name) ms)
 
 -- an email of which nothing is known but its spelling
 abbrev pub bare : Text → EmailGroup

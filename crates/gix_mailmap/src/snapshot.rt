@@ -2,6 +2,7 @@
 ghost use Rattle.std.specs.Prelude.{◌≡◌, []};
 
 mod batch;
+mod build;
 mod listing;
 mod lookup;
 mod merge;

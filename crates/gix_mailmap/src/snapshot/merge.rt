@@ -1,19 +1,20 @@
 //! Joining a sorted batch with the standing tables: email by email, and within an email name by name. The standing rows
 //! between two emails of the batch are passed on without a look at their texts.
-ghost use Rattle.std.specs.Prelude.{◌≡◌, ◌≢◌, ◌+◌, ◌-◌, ◌<◌, ◌≤◌, [], ◌++◌, ◌∷◌, List, None, OnOk, IfOk, IfSome, Some, IsSome, take, drop, map, length, ℕ};
-ghost use Rattle.std.specs.Option.{option_copied, option_map, ForSome};
+ghost use Rattle.std.specs.Prelude.{◌≡◌, ◌≢◌, ◌+◌, ◌-◌, ◌<◌, ◌≤◌, [], ◌++◌, ◌∷◌, List, None, true, OnOk, IfOk, IfSome, Some, IsSome, take, drop, map, length, ℕ};
+ghost use Rattle.std.specs.Option.{option_copied, option_map, option_or, ForSome};
 ghost use Rattle.std.specs.List.{AllByRecursion, HoldsAt, fold};
 ghost use Rattle.std.specs.List.Sorted.{IsStrictlySortedBy};
 ghost use Rattle.gix_mailmap.specs.Entries.{mapping_of};
 ghost use Rattle.gix_mailmap.specs.Folding.{folded, text_cmp};
-ghost use Rattle.gix_mailmap.specs.Groups.{Contents, AreGroups, name_key, email_key};
-ghost use Rattle.gix_mailmap.specs.Histories.{is_accepted, key, key_cmp, no_fields};
-ghost use Rattle.gix_mailmap.specs.Merging.{IsAscending, IsNamed, mapping_at, placed_at, email_text, name_text, Extends, NamePut, NameRun, NamesPut, EmailPut, RunPut, AllJoined};
+ghost use Rattle.gix_mailmap.specs.Groups.{Contents, AreGroups, IsComplete, name_key, email_key, listing};
+ghost use Rattle.gix_mailmap.specs.Histories.{IsNormal, is_accepted, key, key_cmp, no_fields};
+ghost use Rattle.gix_mailmap.specs.Merging.{IsAscending, first_email, IsNamed, mapping_at, placed_at, email_text, name_text, Extends, NamePut, NameRun, NamesPut, EmailRun, IsEarliest, give, EmailPut, RunPut, AllJoined};
 ghost use Rattle.gix_mailmap.specs.Pool.{spelled, LiesIn, NameLies, EmailLies, RowsLie, name_group, group_of};
-ghost use Rattle.gix_mailmap.specs.Named.{named_group};
+ghost use Rattle.gix_mailmap.specs.Named.{named_group, fields_given};
 
+use crate::Entry;
 use crate::fold::cmp_ignore_ascii_case;
-use crate::snapshot::batch::Placed;
+use crate::snapshot::batch::{Placed, sorted};
 use crate::snapshot::lookup::{place_email, place_name};
 use crate::snapshot::tables::{EmailRow, NameRow, Span, Tables};
 use std::alloc::{AllocError, Global};
@@ -24,6 +25,13 @@ struct Named<'a> {
     old_name: &'a [u8],
     new_name: Option<&'a [u8]>,
     new_email: &'a [u8],
+}
+
+// The fields that entries without an old name give.
+#[derive(Clone, Copy)]
+struct Given<'a> {
+    new_name: Option<&'a [u8]>,
+    new_email: Option<&'a [u8]>,
 }
 
 // Puts a text that may be missing at the end of the pool.
@@ -198,4 +206,186 @@ fn behind<'s, 'e, 'a>(batch: &'s [Placed<'e, 'a>], place: usize) -> &'s [Placed<
     ensures { result.now ≡ drop place batch.now }
 {
     &batch[place..]
+}
+
+// The fields that entries without an old name give last, each for itself.
+fn last_given<'a>(own: &[Placed<'_, 'a>]) -> Given<'a>
+    ensures { fields_given result ≡ fold give no_fields (map mapping_at own.now) }
+{
+    let mut given = Given {
+        new_name: None,
+        new_email: None,
+    };
+    for placed in own {
+        given = Given {
+            new_name: placed.entry.new_name().or(given.new_name),
+            new_email: placed.entry.new_email().or(given.new_email),
+        };
+    }
+    given
+}
+
+// Puts a text out if there is one, and else keeps that which stood.
+fn push_given(
+    out: &mut Tables,
+    given: Option<&[u8]>,
+    stood: Option<Span>,
+) -> Result<Option<Span>, AllocError>
+    requires { ForSome stood (LiesIn (length out.old.pool)) }
+    ensures grown { OnOk result ((more : List ℕ) × (out.new ≡ record out.old { pool = out.old.pool ++ more })) }
+    ensures lies { IfOk result (λ span. ForSome span (LiesIn (length out.new.pool))) }
+    ensures spells { IfOk result (λ span. option_map (spelled out.new.pool) span ≡ option_or (option_copied given.entry) (option_map (spelled out.old.pool) stood)) }
+{
+    match given {
+        Some(text) => Ok(Some(out.push_text(text)?)),
+        None => Ok(stood),
+    }
+}
+
+// The entries before a place.
+fn before<'s, 'e, 'a>(batch: &'s [Placed<'e, 'a>], place: usize) -> &'s [Placed<'e, 'a>]
+    requires { place ≤ length batch.now }
+    ensures { result.now ≡ take place batch.now }
+{
+    &batch[..place]
+}
+
+// Puts an email out: what stood of it, and the entries of a batch for it.
+fn join_email(
+    out: &mut Tables,
+    row: EmailRow,
+    names: &[NameRow],
+    batch: &[Placed<'_, '_>],
+) -> Result<(), AllocError>
+    requires lie { RowsLie out.old.pool row names.now }
+    requires ascending { IsStrictlySortedBy text_cmp (map name_key (map (name_group out.old.pool) names.now)) }
+    requires no_loose { out.old.loose ≡ [] }
+    requires run { EmailRun (map mapping_at batch.now) }
+    ensures { OnOk result (EmailPut (group_of out.old.pool row names.now) (map mapping_at batch.now) out.old out.new) }
+{
+    let len = unnamed_run(batch);
+    join_names(out, names, behind(batch, len))?;
+    let given = last_given(before(batch, len));
+    let new_name = push_given(out, given.new_name, row.new_name)?;
+    let new_email = push_given(out, given.new_email, row.new_email)?;
+    out.push_email(row.old_email, new_name, new_email)
+}
+
+// The entry that came first.
+fn earliest<'e, 'a>(batch: &[Placed<'e, 'a>]) -> Placed<'e, 'a>
+    requires { 0 < length batch.now }
+    ensures { IsEarliest (map placed_at batch.now) (placed_at result) }
+{
+    let mut first = batch[0];
+    for placed in batch {
+        if placed.index < first.index {
+            first = *placed;
+        }
+    }
+    first
+}
+
+// Passes standing emails on, from one place up to another.
+fn pass_emails(
+    out: &mut Tables,
+    standing: &Tables,
+    from: usize,
+    to: usize,
+) -> Result<(), AllocError>
+    requires up { from ≤ to }
+    requires within { to ≤ length standing.now.groups }
+    requires pool { Extends standing.now.pool out.old.pool }
+    requires no_loose { out.old.loose ≡ [] }
+    ensures { OnOk result (out.new ≡ record out.old { groups = out.old.groups ++ take (to - from) (drop from standing.now.groups) }) }
+{
+    for place in from..to {
+        let (row, names) = standing.email(place);
+        out.push_names(names)?;
+        out.push_email(row.old_email, row.new_name, row.new_email)?;
+    }
+    Ok(())
+}
+
+// Puts the email of a run of the batch out, behind the standing emails before it, and gives the place of the next
+// standing email.
+fn join_run(
+    out: &mut Tables,
+    standing: &Tables,
+    from: usize,
+    run: &[Placed<'_, '_>],
+) -> Result<usize, AllocError>
+    requires within { from ≤ length standing.now.groups }
+    requires standing { AreGroups standing.now.groups }
+    requires pool { Extends standing.now.pool out.old.pool }
+    requires no_loose { out.old.loose ≡ [] }
+    requires some { 0 < length run.now }
+    requires run { EmailRun (map mapping_at run.now) }
+    ensures within { IfOk result (λ next. next ≤ length standing.now.groups) }
+    ensures put { IfOk result (λ next. RunPut (drop from standing.now.groups) (drop next standing.now.groups) (map placed_at run.now) (first_email (map mapping_at run.now)) out.old out.new) }
+{
+    match place_email(standing, from, run[0].entry.old_email()) {
+        Ok(place) => {
+            pass_emails(out, standing, from, place)?;
+            let (row, names) = standing.email(place);
+            join_email(out, row, names, run)?;
+            Ok(place + 1)
+        }
+        Err(place) => {
+            pass_emails(out, standing, from, place)?;
+            let old_email = out.push_text(earliest(run).entry.old_email())?;
+            join_email(out, bare_row(old_email), &[], run)?;
+            Ok(place)
+        }
+    }
+}
+
+// The row of an email of which nothing is known yet.
+fn bare_row(old_email: Span) -> EmailRow
+    ensures { result ≡ record { old_email = old_email; new_name = None; new_email = None; names_start = 0; names_end = 0 } }
+{
+    EmailRow {
+        old_email,
+        new_name: None,
+        new_email: None,
+        names_start: 0,
+        names_end: 0,
+    }
+}
+
+// The standing tables with a sorted batch behind them.
+fn join_sorted(
+    alloc: Global,
+    standing: &Tables,
+    batch: &[Placed<'_, '_>],
+) -> Result<Tables, AllocError>
+    requires standing { AreGroups standing.now.groups }
+    requires accepted { AllByRecursion (λ m. is_accepted m ≡ true) (map mapping_at batch.now) }
+    requires ascending { IsAscending key_cmp (map key (map mapping_at batch.now)) }
+    ensures joined { IfOk result (λ made. AllJoined standing.now.groups (map placed_at batch.now) made.groups) }
+    ensures no_loose { IfOk result (λ made. made.loose ≡ []) }
+{
+    let mut out = Tables::over_pool(alloc, standing)?;
+    let mut from = 0;
+    let mut left = batch;
+    while !left.is_empty() {
+        let len = email_run(left, left[0].entry.old_email());
+        from = join_run(&mut out, standing, from, before(left, len))?;
+        left = behind(left, len);
+    }
+    pass_emails(&mut out, standing, from, standing.len())?;
+    Ok(out)
+}
+
+/// The standing tables with entries behind them.
+pub(crate) fn joined(
+    alloc: Global,
+    standing: &Tables,
+    entries: &[Entry<'_>],
+) -> Result<Tables, AllocError>
+    requires standing { AreGroups standing.now.groups }
+    requires accepted { AllByRecursion (λ m. is_accepted m ≡ true) (map mapping_of entries.now) }
+    ensures { IfOk result (λ made. IsComplete made × IsNormal (listing standing.now.groups ++ map mapping_of entries.now) (listing made.groups)) }
+{
+    let batch = sorted(alloc, entries)?;
+    join_sorted(alloc, standing, &batch)
 }

@@ -148,6 +148,11 @@ impl Tables {
     ghost use Rattle.gix_mailmap.specs.Groups.{Contents, EmailGroup, NameGroup};
     ghost use Rattle.gix_mailmap.specs.Pool.{spelled, LiesIn, group_of, RowsLie};
 
+    /// The allocator that the tables keep.
+    pub(crate) fn allocator(&self) -> Global {
+        *self.pool.allocator()
+    }
+
     /// The number of emails.
     pub(crate) fn len(&self) -> usize
         ensures { result ≡ length self.now.groups }

@@ -20,8 +20,7 @@ loop-left-preserved c =
     let len = c.front_name-len.result.1 in
     let named0 = all_mapped mapping_at IsNamed c.args.named.now c.requires.named in
     subst (λ (l : List Placed). NamesState (map (name_group c.args.out.now.pool) c.args.kept.now) (map mapping_at c.args.named.now) c.args.out.now (map (name_group c.put_name.new.out.pool) c.in_ok-standing.standing.now) (map mapping_at l) c.put_name.new.out
-    × AllByRecursion (NameLies (length c.put_name.new.out.pool)) c.in_ok-standing.standing.now × AllByRecursion (λ p. IsNamed (mapping_at p)) l) (sym c.behind-left.ensures)
-    (
+    × AllByRecursion (NameLies (length c.put_name.new.out.pool)) c.in_ok-standing.standing.now × AllByRecursion (λ p. IsNamed (mapping_at p)) l) (sym c.behind-left.ensures) (
       names_step _ _ _ named0 _ _ (map mapping_at left) (map mapping_at (drop len left)) _ _ _ c.loop-left.invariant.0 c.in_ok-standing.ensures.put c.front_name-len.ensures.run,
       c.in_ok-standing.ensures.lie,
       all_rest _ len left c.loop-left.invariant.2,

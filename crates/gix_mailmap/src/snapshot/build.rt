@@ -1,0 +1,63 @@
+//! Making snapshots, and merging entries into them.
+ghost use Rattle.std.specs.Prelude.{◌≡◌, ◌≢◌, [], ◌++◌, List, map, IfOk, OnOk, OnErr};
+ghost use Rattle.std.specs.Iterator.{IsFinite, Drains, Yields};
+ghost use Rattle.gix_mailmap.specs.Entries.{mapping_of};
+ghost use Rattle.gix_mailmap.specs.Histories.{IsNormal, accepted};
+ghost use Rattle.gix_mailmap.specs.Lines.{good};
+ghost use Rattle.gix_mailmap.specs.declared.entry.Entry.{Entry as Item};
+
+use crate::snapshot::Snapshot;
+use crate::snapshot::batch::accepted_of;
+use crate::snapshot::merge::joined;
+use crate::{Entry, parse_ignore_errors};
+use std::alloc::{AllocError, Global};
+
+impl Snapshot {
+    /// A snapshot of the entries of `buf`, lines that can't be read left out, as git leaves them out.
+    pub fn from_bytes(alloc: Global, buf: &[u8]) -> Result<Snapshot, AllocError>
+        ensures ok { IfOk result (IsNormal (good buf.now)) }
+
+        // Memory is asked for only once an entry is accepted.
+        ensures refused { OnErr result (accepted (good buf.now) ≢ []) }
+    {
+        Snapshot::new(alloc, parse_ignore_errors(buf))
+    }
+
+    /// A snapshot of `entries`.
+    pub fn new<'a, I: Iterator<Item = Entry<'a>> + Drop>(
+        alloc: Global,
+        entries: I,
+    ) -> Result<Snapshot, AllocError>
+        requires can { I.can_next entries }
+        requires finite { IsFinite (I.remaining entries) }
+        ensures ok { IfOk result (λ made. (xs : List Item) × Drains I.next_gives entries xs × IsNormal (map mapping_of xs) made) }
+        ensures refused { OnErr result ((xs : List Item) × (rest : I) × Yields I.next_gives entries xs rest × (accepted (map mapping_of xs) ≢ [])) }
+    {
+        let mut snapshot = Snapshot::empty(alloc);
+        snapshot.merge(entries)?;
+        Ok(snapshot)
+    }
+
+    /// Merges `entries` behind those that the snapshot has.
+    pub fn merge<'a, I: Iterator<Item = Entry<'a>> + Drop>(
+        &mut self,
+        entries: I,
+    ) -> Result<(), AllocError>
+        requires can { I.can_next entries }
+        requires finite { IsFinite (I.remaining entries) }
+        ensures ok { OnOk result ((xs : List Item) × Drains I.next_gives entries xs × IsNormal (self.old ++ map mapping_of xs) self.new) }
+        ensures err { OnErr result (self.new ≡ self.old) }
+
+        // Memory is asked for only once an entry is accepted.
+        ensures refused { OnErr result ((xs : List Item) × (rest : I) × Yields I.next_gives entries xs rest × (accepted (map mapping_of xs) ≢ [])) }
+    {
+        let alloc = self.tables.allocator();
+        let batch = accepted_of(alloc, entries)?;
+        if batch.is_empty() {
+            return Ok(());
+        }
+        let tables = joined(alloc, &self.tables, &batch)?;
+        self.tables = tables;
+        Ok(())
+    }
+}
