@@ -14,4 +14,5 @@ pub mod Alike
 pub mod Merging
 pub mod CanonicalText
 pub mod Times
+pub mod Answers
 pub mod Named

@@ -6,11 +6,14 @@ mod build;
 mod listing;
 mod lookup;
 mod merge;
+mod resolve;
 mod resolved;
+mod signature;
 mod tables;
 
 pub use listing::Iter;
 pub use resolved::ResolvedSignature;
+pub use signature::Signature;
 use std::alloc::Global;
 use std::marker::Model;
 use tables::Tables;
