@@ -48,3 +48,4 @@ pub mod RunPuts
 pub mod EmailsLoop
 pub mod SortedRuns
 pub mod WholeMerge
+pub mod Built
