@@ -9,6 +9,7 @@ pub mod Search
 pub mod Places
 pub mod Signatures
 pub mod Listings
+pub mod EqualListings
 pub mod Alike
 pub mod Merging
 pub mod CanonicalText
