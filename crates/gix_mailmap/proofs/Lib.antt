@@ -41,3 +41,6 @@ pub mod Parting
 pub mod NamePlaces
 pub mod NamesLoop
 pub mod FrontRuns
+pub mod Whole
+pub mod RowCount
+pub mod Left

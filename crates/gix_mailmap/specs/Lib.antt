@@ -15,3 +15,4 @@ pub mod Merging
 pub mod CanonicalText
 pub mod Times
 pub mod Named
+pub mod Writing
