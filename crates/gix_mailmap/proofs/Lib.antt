@@ -44,3 +44,5 @@ pub mod FrontRuns
 pub mod Whole
 pub mod RowCount
 pub mod Left
+pub mod Drained
+pub mod Compacted

@@ -1,18 +1,22 @@
 -- How many entries the tables of a snapshot list at most.
-use Rattle.std.proofs.Common.{◌≡◌, ◌+◌, ◌-◌, ◌≤◌, ℕ, List, [], ◌∷◌, ◌++◌, map, take, drop, length, length-append, length-drop, arith, sym, ap, Option, Some, None}
-use Rattle.std.proofs.lemmas.List.{length-map, length-take-le}
+use Rattle.std.proofs.Common.{◌≡◌, ◌+◌, ◌-◌, ◌≤◌, ◌||◌, if◌then◌else◌, Bool, true, false, is_some, ℕ, List, [], ◌∷◌, ◌++◌, map, take, drop, length, length-append, arith, None}
+use Rattle.std.proofs.lemmas.List.{length-map, length-take}
 use Rattle.gix_mailmap.specs.Folding.{Text}
 use Rattle.gix_mailmap.specs.Groups.{EmailGroup, listing, rows, own_rows, name_row}
-use Rattle.gix_mailmap.specs.Histories.{Fields}
+use Rattle.gix_mailmap.specs.Entries.{Mapping}
+use Rattle.gix_mailmap.specs.Histories.{made}
 use Rattle.gix_mailmap.specs.Pool.{names_of, group_of, name_group, email_group, Follow}
 use Rattle.gix_mailmap.specs.declared.snapshot.tables.NameRow.{NameRow}
 use Rattle.gix_mailmap.specs.declared.snapshot.tables.EmailRow.{EmailRow}
 
+-- one, where there is any
+one : (b : Bool) (m : Mapping) → length (if b then m ∷ [] else []) ≤ 1
+one true m = omega arith
+one false m = omega arith
+
 -- an email has one entry of its own at most
 own_one : (g : EmailGroup) → length (own_rows g) ≤ 1
-own_one (record { old_email = t; own = record { name = None; email = None }; names = ns }) = omega arith
-own_one (record { old_email = t; own = record { name = None; email = Some e }; names = ns }) = omega arith
-own_one (record { old_email = t; own = record { name = Some n; email = e }; names = ns }) = omega arith
+own_one g = one (is_some g.own.name || is_some g.own.email) (made g.own None g.old_email)
 
 -- the entries of an email: its own one, and those of its names
 rows_most : (g : EmailGroup) → length (rows g) ≤ 1 + length g.names
@@ -32,4 +36,4 @@ listed_most pool names k (r ∷ rs) follow =
     omega (arith, here, count, few, rest, both, follow.0, follow.1)
   where
     most : {X : Type 0} (n : ℕ) (xs : List X) → length (take n xs) ≤ n
-    most n xs = omega (arith, length-take-le n xs)
+    most n xs = omega (arith, length-take n xs)
