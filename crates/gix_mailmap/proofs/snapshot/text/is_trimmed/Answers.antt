@@ -4,6 +4,7 @@ use Rattle.gix_mailmap.proofs.Whole.{whole}
 use Rattle.gix_mailmap.proofs.snapshot.text.is_trimmed.Goals as goal
 
 pub returns : goal.returns
-returns c =
-    (λ same. whole c.args.text.now (ap length (sym c.trim.ensures) ∙ eqb-true _ _ same),
-     λ is. eq-eqb _ _ (ap length (c.trim.ensures ∙ sym is)))
+returns c = (
+  λ same. whole c.args.text.now (ap length (sym c.trim.ensures) ∙ eqb-true _ _ same),
+  λ is. eq-eqb _ _ (ap length (c.trim.ensures ∙ sym is)),
+)
