@@ -1,5 +1,5 @@
 -- Buffers that are merged one after another, and the writing of what they build.
-use Rattle.std.proofs.Common.{◌≡◌, ◌+◌, ◌<◌, ℕ, ◌++◌, ◌∷◌, List, [], map, take, length, get_or, Bor, refl, subst, sym, ap, ◌∙◌}
+use Rattle.std.proofs.Common.{◌≡◌, ◌+◌, ◌<◌, ℕ, ◌++◌, ◌∷◌, List, [], map, take, length, get_or, Bor, refl, subst, sym}
 use Rattle.std.specs.List.{All, flat_map}
 use Rattle.std.specs.List.Sorted.{IsStrictlySortedBy}
 use Rattle.std.proofs.lemmas.List.{flat_map_more, map_more}

@@ -1,11 +1,11 @@
 -- How many entries the tables of a snapshot list at most.
-use Rattle.std.proofs.Common.{◌≡◌, ◌+◌, ◌-◌, ◌≤◌, ◌||◌, if◌then◌else◌, Bool, true, false, is_some, ℕ, List, [], ◌∷◌, ◌++◌, map, take, drop, length, length-append, arith, None}
+use Rattle.std.proofs.Common.{◌+◌, ◌-◌, ◌≤◌, ◌||◌, if◌then◌else◌, Bool, true, false, is_some, ℕ, List, [], ◌∷◌, map, take, drop, length, length-append, arith, None}
 use Rattle.std.proofs.lemmas.List.{length-map, length-take}
 use Rattle.gix_mailmap.specs.Folding.{Text}
 use Rattle.gix_mailmap.specs.Groups.{EmailGroup, listing, rows, own_rows, name_row}
 use Rattle.gix_mailmap.specs.Entries.{Mapping}
 use Rattle.gix_mailmap.specs.Histories.{made}
-use Rattle.gix_mailmap.specs.Pool.{names_of, group_of, name_group, email_group, Follow}
+use Rattle.gix_mailmap.specs.Pool.{names_of, name_group, email_group, Follow}
 use Rattle.gix_mailmap.specs.declared.snapshot.tables.NameRow.{NameRow}
 use Rattle.gix_mailmap.specs.declared.snapshot.tables.EmailRow.{EmailRow}
 

@@ -1,8 +1,8 @@
 -- Texts that trimming leaves whole.
-use Rattle.std.proofs.Common.{◌≡◌, ◌+◌, ℕ, List, [], ◌∷◌, ◌++◌, length, length-append, append-nil, refl, sym, ap, ◌∙◌, arith}
+use Rattle.std.proofs.Common.{◌≡◌, [], ◌∷◌, ◌++◌, length, length-append, append-nil, refl, sym, ap, ◌∙◌, arith}
 use Rattle.std.specs.Str.{encode_utf8_all}
 use Rattle.gix_mailmap.specs.Folding.{Text}
-use Rattle.gix_mailmap.specs.Trimming.{trim, IsTrimmed, IsTrimmedStart, IsTrimmedEnd}
+use Rattle.gix_mailmap.specs.Trimming.{trim, IsTrimmed}
 use Rattle.gix_mailmap.proofs.Trimmed.{trimmed-made}
 
 -- no bytes before or behind a text of the same length

@@ -1,5 +1,5 @@
-use Rattle.std.proofs.Common.{◌≡◌, [], ◌++◌, map, take, subst, sym, ap, ◌∙◌, arith}
-use Rattle.gix_mailmap.specs.Entries.{Mapping, mapping_of}
+use Rattle.std.proofs.Common.{[], map, take, subst, sym, ◌∙◌, arith}
+use Rattle.gix_mailmap.specs.Entries.{mapping_of}
 use Rattle.gix_mailmap.specs.Histories.{IsNormal}
 use Rattle.gix_mailmap.specs.Writing.{IsFirstUnwritable, IsUnwrittenBy}
 use Rattle.gix_mailmap.proofs.Compacted.{nothing_normal, next_merged, never_unwritable}

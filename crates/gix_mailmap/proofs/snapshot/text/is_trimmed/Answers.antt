@@ -1,4 +1,4 @@
-use Rattle.std.proofs.Common.{◌≡◌, length, sym, ap, ◌∙◌}
+use Rattle.std.proofs.Common.{length, sym, ap, ◌∙◌}
 use Rattle.std.proofs.lemmas.Bool.{eqb-true, eq-eqb}
 use Rattle.gix_mailmap.proofs.Whole.{whole}
 use Rattle.gix_mailmap.proofs.snapshot.text.is_trimmed.Goals as goal

@@ -1,4 +1,4 @@
-use Rattle.std.proofs.Common.{◌≡◌, ◌≤◌, ◌+◌, length, ap, sym, arith}
+use Rattle.std.proofs.Common.{length, ap, arith}
 use Rattle.gix_mailmap.specs.Groups.{Contents, listing}
 use Rattle.gix_mailmap.proofs.RowCount.{listed_most}
 use Rattle.gix_mailmap.proofs.snapshot.tables.Tables.row_count.Goals as goal
