@@ -15,7 +15,7 @@ use Rattle.gix_mailmap.proofs.Normal.{normal_then}
 use Rattle.gix_mailmap.proofs.WritableLines.{all_read}
 use Rattle.gix_mailmap.proofs.WritableValues.{normal_fits}
 
--- no entry says nothing
+-- no entries have the empty normal list
 pub nothing_normal : IsNormal [] []
 unfolding IsStrictlySortedBy
 nothing_normal = record { ascending = tt; keys = λ k. refl; values = All-nil _ }

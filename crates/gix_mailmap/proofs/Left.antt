@@ -9,6 +9,7 @@ first_left zero (y ∷ xs) x rest e = cc
 first_left (suc n) [] x rest e = cc
 first_left (suc n) (y ∷ xs) x rest e = first_left n xs x rest e
 
+-- by recursion on the place, whose next one is `suc n`
 next : {X : Type 0} (n : ℕ) (xs : List X) (x : X) (rest : List X) → drop n xs ≡ x ∷ rest → drop (suc n) xs ≡ rest
 next zero [] x rest e = cc
 next zero (y ∷ xs) x rest e = cc
@@ -20,6 +21,7 @@ pub next_left : {X : Type 0} (n : ℕ) (xs : List X) (x : X) (rest : List X) →
 next_left n xs x rest e = rw add-one (next n xs x rest e)
 
 module _ {X : Type 0} (P : X → Type 0) where
+  -- what holds of those seen and of the next, by the same recursion
   more : (n : ℕ) (xs : List X) (x : X) (rest : List X) → drop n xs ≡ x ∷ rest → AllByRecursion P (take n xs) → P x → AllByRecursion P (take (suc n) xs)
   more zero [] x rest e all p = tt
   more zero (y ∷ xs) x rest e all p = (let h : x ≡ y = cc in subst P h p, tt)

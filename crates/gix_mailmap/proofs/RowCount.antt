@@ -35,5 +35,6 @@ listed_most pool names k (r ∷ rs) follow =
     let both = length-append (rows (email_group pool names r)) (listing (map (email_group pool names) rs)) in
     omega (arith, here, count, few, rest, both, follow.0, follow.1)
   where
+    -- n elements at most are taken
     most : {X : Type 0} (n : ℕ) (xs : List X) → length (take n xs) ≤ n
     most n xs = omega (arith, length-take n xs)
