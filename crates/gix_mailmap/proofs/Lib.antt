@@ -46,3 +46,9 @@ pub mod RowCount
 pub mod Left
 pub mod Drained
 pub mod Compacted
+pub mod Given
+pub mod Passing
+pub mod EmailPuts
+pub mod RunPuts
+pub mod EmailsLoop
+pub mod SortedRuns
