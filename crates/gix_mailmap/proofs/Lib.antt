@@ -41,6 +41,11 @@ pub mod Parting
 pub mod NamePlaces
 pub mod NamesLoop
 pub mod FrontRuns
+pub mod Whole
+pub mod RowCount
+pub mod Left
+pub mod Drained
+pub mod Compacted
 pub mod Given
 pub mod Passing
 pub mod EmailPuts

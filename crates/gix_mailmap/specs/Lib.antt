@@ -16,3 +16,4 @@ pub mod CanonicalText
 pub mod Times
 pub mod Answers
 pub mod Named
+pub mod Writing

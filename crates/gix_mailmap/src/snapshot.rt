@@ -10,6 +10,7 @@ mod resolve;
 mod resolved;
 mod signature;
 mod tables;
+mod text;
 
 pub use listing::Iter;
 pub use resolved::ResolvedSignature;
@@ -17,6 +18,7 @@ pub use signature::Signature;
 use std::alloc::Global;
 use std::marker::Model;
 use tables::Tables;
+pub use text::WriteError;
 
 /// What a history of entries maps: for each old email, and for each old name of it, the name and the email that stand
 /// in their place. Case is ignored where it is that of ASCII letters.

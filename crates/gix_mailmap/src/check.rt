@@ -1,0 +1,5 @@
+//! What the program mailmap_check answers.
+
+mod compaction;
+
+pub use compaction::compact;
