@@ -14,3 +14,5 @@ pub mod Merging
 pub mod CanonicalText
 pub mod Times
 pub mod Named
+pub mod Sources
+pub mod Contacts

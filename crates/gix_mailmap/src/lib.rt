@@ -3,6 +3,7 @@
 #![tactic(auto)]
 
 pub mod actor;
+pub mod check;
 pub mod date;
 mod entry;
 pub mod fold;

@@ -7,10 +7,12 @@ mod listing;
 mod lookup;
 mod merge;
 mod resolved;
+mod sources;
 mod tables;
 
 pub use listing::Iter;
 pub use resolved::ResolvedSignature;
+pub use sources::Source;
 use std::alloc::Global;
 use std::marker::Model;
 use tables::Tables;
