@@ -39,3 +39,6 @@ pub mod Parting
 pub mod NamePlaces
 pub mod NamesLoop
 pub mod FrontRuns
+pub mod Sources
+pub mod Contacts
+pub mod Dividers

@@ -16,3 +16,4 @@ pub mod Times
 pub mod Named
 pub mod Sources
 pub mod Contacts
+pub mod Parts

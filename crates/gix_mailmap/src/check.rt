@@ -5,10 +5,15 @@ ghost use Rattle.gix_mailmap.specs.Contacts.{answer, answers, contact, fields_fo
 ghost use Rattle.gix_mailmap.specs.Histories.{IsNormal};
 ghost use Rattle.gix_mailmap.specs.Lines.{good};
 
+mod parts;
+#[cfg(test)]
+mod tests;
+
 use crate::actor::SignatureRef;
 use crate::lines::{Half, parse_ignore_errors, parse_name_and_email, trim};
 use crate::snapshot::Snapshot;
 use bstr::ByteSlice;
+pub use parts::split;
 use std::alloc::{AllocError, Global};
 
 /// Answers each line of `contacts` by what the buffers map, later buffers behind earlier ones: a line for each line.
@@ -23,12 +28,7 @@ pub fn check(alloc: Global, buffers: &[&[u8]], contacts: &[u8]) -> Result<Vec<u8
     ensures { IfOk result (λ text. text.items ≡ answers (flat_map good (map (λ b. b.now) buffers.now)) contacts.now) }
 {
     let snapshot = merged(alloc, buffers)?;
-    let mut text = Vec::new(alloc);
-    for line in contacts.lines() {
-        push_answer(&mut text, &snapshot, line)?;
-        text.push(b'\n')?;
-    }
-    Ok(text)
+    answer_all(alloc, &snapshot, contacts)
 }
 
 /// A snapshot of what the buffers say, one after another.
@@ -40,6 +40,18 @@ pub(crate) fn merged(alloc: Global, buffers: &[&[u8]]) -> Result<Snapshot, Alloc
         snapshot.merge(parse_ignore_errors(buf))?;
     }
     Ok(snapshot)
+}
+
+// The answers to all lines, each with its line feed.
+fn answer_all(alloc: Global, snapshot: &Snapshot, contacts: &[u8]) -> Result<Vec<u8>, AllocError>
+    ensures { IfOk result (λ text. text.items ≡ answers snapshot.now contacts.now) }
+{
+    let mut text = Vec::new(alloc);
+    for line in contacts.lines() {
+        push_answer(&mut text, snapshot, line)?;
+        text.push(b'\n')?;
+    }
+    Ok(text)
 }
 
 // Appends the answer to one line.

@@ -4,6 +4,9 @@ ghost use Rattle.gix_mailmap.specs.Histories.{IsNormal, accepted};
 ghost use Rattle.gix_mailmap.specs.Sources.{history, said_by};
 ghost use Rattle.gix_mailmap.specs.declared.snapshot.sources.Source.{Source as Said};
 
+#[cfg(test)]
+mod tests;
+
 use crate::snapshot::Snapshot;
 use crate::{Entry, parse_ignore_errors};
 use std::alloc::AllocError;
@@ -27,6 +30,8 @@ impl Snapshot {
         ensures unrefused { (i : ℕ) (s : Said) → slice_get sources.now i ≡ Some s → accepted (said_by s) ≡ [] → slice_get made.new i ≡ Some true }
         ensures marks { length made.new ≡ length made.old }
     {
+        // What is listed is its own normal list, by the invariant of the tables.
+        let _ = &self.tables;
         for (i, source) in sources.iter().enumerate() {
             made[i] = self.merge_source(source).is_ok();
         }
