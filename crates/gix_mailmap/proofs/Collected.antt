@@ -50,7 +50,7 @@ module _ {X K : Type 0} (R : K → K → Ordering) (by : X → K) where
   ascending_from [] h = tt
   ascending_from (x ∷ xs) h = (all_from x xs (λ k lt. h 0 (suc k) x (omega arith) (omega arith)), ascending_from xs (λ i j d le lt. h (suc i) (suc j) d (omega arith) (omega arith)))
 
-mapped_twice : {X Y Z : Type 0} (f : X → Y) (g : Y → Z) (xs : List X) → map g (map f xs) ≡ map (λ x. g (f x)) xs
+pub mapped_twice : {X Y Z : Type 0} (f : X → Y) (g : Y → Z) (xs : List X) → map g (map f xs) ≡ map (λ x. g (f x)) xs
 mapped_twice f g [] = refl
 mapped_twice f g (x ∷ xs) = ap (λ l. g (f x) ∷ l) (mapped_twice f g xs)
 

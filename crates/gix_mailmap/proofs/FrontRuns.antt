@@ -1,14 +1,16 @@
 -- The entries at the front of a batch that belong together.
-use Rattle.std.proofs.Common.{◌≡◌, ◌≢◌, ◌+◌, ◌-◌, ◌<◌, ◌≤◌, ℕ, zero, suc, List, [], ◌∷◌, ◌++◌, map, take, drop, get_or, length, Option, Some, HoldsAt, unwrap_or, refl, sym, ap, ◌∙◌, arith, take-append-drop, length-append}
+use Rattle.std.proofs.Common.{◌≡◌, ◌≢◌, ◌+◌, ◌-◌, ◌<◌, ◌≤◌, ℕ, zero, suc, List, [], ◌∷◌, ◌++◌, map, take, drop, get_or, length, Option, Some, Contains, HoldsAt, subst, unwrap_or, refl, sym, ap, ◌∙◌, arith, take-append-drop, length-append}
 use Rattle.std.specs.List.{AllByRecursion}
-use Rattle.std.proofs.lemmas.List.{map-append, length-map}
+use Rattle.std.proofs.lemmas.List.{map-append, length-map, take_more, get_or-map}
+use Rattle.std.proofs.lemmas.List.Elements.{Contains-get_or, All-from_recursion}
 use Rattle.gix_mailmap.specs.Entries.{Mapping}
 use Rattle.gix_mailmap.specs.Folding.{Text, folded}
 use Rattle.gix_mailmap.specs.Histories.{last}
 use Rattle.gix_mailmap.specs.Groups.{NameGroup}
-use Rattle.gix_mailmap.specs.Merging.{NameRun, StartsOther, mapping_at, name_text}
+use Rattle.gix_mailmap.specs.Merging.{IsEarliest, NameRun, StartsOther, mapping_at, placed_at, name_text}
 use Rattle.gix_mailmap.specs.declared.snapshot.batch.Placed.{Placed}
 use Rattle.gix_mailmap.proofs.NamesLoop.{name_is}
+use Rattle.gix_mailmap.proofs.Parts.{all_append}
 
 -- the last of a front, by its place
 last_at : {X Y : Type 0} (f : X → Y) (x : X) (xs : List X) (k : ℕ) (d : X) → k ≤ length xs → unwrap_or (last (map f (take k xs))) (f x) ≡ f (get_or (x ∷ xs) k d)
@@ -50,3 +52,26 @@ pub run_shortens : (xs : List Placed) (len : ℕ) (n : NameGroup) → NameRun (m
 run_shortens xs len n run =
     let whole : length (map mapping_at xs) ≡ suc (length (run.more ++ map mapping_at (drop len xs))) = ap length run.whole in
     omega (arith, whole, length-append run.more (map mapping_at (drop len xs)), length-map xs mapping_at, length-map (drop len xs) mapping_at)
+
+-- it is one of the list
+pub record IsAt (xs : List Placed) (p : Placed) : Type 0 where
+  pub place : ℕ
+  pub within : place < length xs
+  pub read : p ≡ get_or xs place p
+
+-- ---- the earliest entry
+
+pub least_more : (xs : List Placed) (i : ℕ) (x p q : Placed) → i < length xs → x ≡ get_or xs i x → AllByRecursion (λ y. p.index ≤ y.index) (take i xs) → q.index ≤ p.index → q.index ≤ x.index → AllByRecursion (λ y. q.index ≤ y.index) (take (i + 1) xs)
+least_more xs i x p q lt read a le here =
+    subst (AllByRecursion (λ y. q.index ≤ y.index)) (sym (take_more xs i x lt)) (all_append _ (take i xs) (get_or xs i x ∷ []) (through (take i xs) a) (subst (λ y. q.index ≤ y.index) read here, tt))
+  where
+    through : (ys : List Placed) → AllByRecursion (λ y. p.index ≤ y.index) ys → AllByRecursion (λ y. q.index ≤ y.index) ys
+    through [] a = tt
+    through (y ∷ ys) a = (omega (arith, a.0, le), through ys a.1)
+
+pub earliest_from : (xs : List Placed) (p : Placed) → IsAt xs p → AllByRecursion (λ y. p.index ≤ y.index) xs → IsEarliest (map placed_at xs) (placed_at p)
+earliest_from xs p at a =
+    record {
+      among = subst (Contains (map placed_at xs)) (get_or-map placed_at xs at.place p (placed_at p) at.within ∙ ap placed_at (sym at.read)) (Contains-get_or (map placed_at xs) at.place (placed_at p) (omega (arith, at.within, length-map xs placed_at)));
+      least = All-from_recursion _ (map placed_at xs) (all_mapped placed_at (λ q. p.index ≤ q.0) xs a);
+    }

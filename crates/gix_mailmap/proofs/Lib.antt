@@ -42,3 +42,9 @@ pub mod FrontRuns
 pub mod Sources
 pub mod Contacts
 pub mod Dividers
+pub mod Given
+pub mod Passing
+pub mod EmailPuts
+pub mod RunPuts
+pub mod EmailsLoop
+pub mod SortedRuns

@@ -75,7 +75,7 @@ module _ where
   unfolding IsStrictlySortedBy
   sorted_one x = (tt, tt)
 
-  none_sorted : IsStrictlySortedBy text_cmp []
+  pub none_sorted : IsStrictlySortedBy text_cmp []
   unfolding IsStrictlySortedBy
   none_sorted = tt
 

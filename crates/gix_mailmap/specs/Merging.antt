@@ -156,6 +156,7 @@ pub record RunPut (gs left : List EmailGroup) (ps : List (ℕ × Mapping)) (emai
 
 -- s spells each email as the groups do, and any other as its earliest entry
 pub record IsSpelling (gs : List EmailGroup) (ps : List (ℕ × Mapping)) (s : Text → Text) : Type 0 where
+  pub same : AllByRecursion (λ p. folded (s (email_text p.1)) ≡ email_text p.1) ps
   pub stood : AllByRecursion (λ g. s (email_key g) ≡ g.old_email) gs
   pub new : (p : ℕ × Mapping) → AllByRecursion (λ g. email_key g ≡ email_text p.1 → ⊥) gs → Contains ps p → All (λ q. email_text q.1 ≡ email_text p.1 → p.0 ≤ q.0) ps → s (email_text p.1) ≡ p.1.old_email
 

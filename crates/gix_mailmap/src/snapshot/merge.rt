@@ -328,6 +328,8 @@ fn join_run(
             pass_emails(out, standing, from, place)?;
             let (row, names) = standing.email(place);
             join_email(out, row, names, run)?;
+            let count = standing.len();
+            prove!(place < count);
             Ok(place + 1)
         }
         Err(place) => {
