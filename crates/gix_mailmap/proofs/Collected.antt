@@ -1,6 +1,6 @@
 -- What a loop that collects the accepted entries of an iterator has when it has seen one more.
 use Rattle.std.proofs.Common.{◌≡◌, ◌≢◌, ◌+◌, ◌<◌, ◌≤◌, ℕ, suc, length, get_or, arith, true, false, cond, List, [], ◌∷◌, ◌++◌, map, Result, Ok, Err, Ordering, append-nil, refl, sym, ap, subst, ◌∙◌}
-use Rattle.std.specs.Result.{OnErr, OnOk}
+use Rattle.std.specs.Result.{IfOk, OnErr, OnOk}
 use Rattle.std.specs.List.{AllByRecursion, enumerate_from}
 use Rattle.std.specs.List.Sorted.{IsPermutation, IsSortedBy, IsStableBy}
 use Rattle.std.specs.Ordering.{is_lt}
@@ -73,3 +73,7 @@ sorted_batch xs old new is moved sorted stable =
 pub on_ok_then : {T E : Type 0} (r : Result T E) (P Q : Type 0) → (P → Q) → OnOk r P → OnOk r Q
 on_ok_then (Ok x) P Q f p = f p
 on_ok_then (Err x) P Q f p = tt
+
+pub if_ok_then : {T E : Type 0} (r : Result T E) (P Q R : T → Type 0) → ((x : T) → P x → Q x → R x) → IfOk r P → IfOk r Q → IfOk r R
+if_ok_then (Ok x) P Q R f p q = f x p q
+if_ok_then (Err e) P Q R f p q = tt

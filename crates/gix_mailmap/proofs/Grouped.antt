@@ -147,11 +147,11 @@ listing_sorted (g ∷ gs) s each =
 -- ---- the entries of one email
 
 -- what a test lets through of entries that all fail it
-picked_none : (p : Mapping → Bool) (l : List Mapping) → AllByRecursion (λ x. p x ≡ false) l → filter p (accepted l) ≡ []
+pub picked_none : (p : Mapping → Bool) (l : List Mapping) → AllByRecursion (λ x. p x ≡ false) l → filter p (accepted l) ≡ []
 picked_none p l a = filter_none p (accepted l) (recursion_from_All _ (accepted l) (All-filter is_accepted (λ x. p x ≡ false) l (All-from_recursion _ l a)))
 
 -- other emails than the groups have
-not_mailed : (email : Text) (gs : List EmailGroup) → AllByRecursion (λ g. eq_by_cmp text_cmp email (email_key g) ≡ false) gs → AllByRecursion (λ x. eq_by_cmp text_cmp email (folded x.old_email) ≡ false) (listing gs)
+pub not_mailed : (email : Text) (gs : List EmailGroup) → AllByRecursion (λ g. eq_by_cmp text_cmp email (email_key g) ≡ false) gs → AllByRecursion (λ x. eq_by_cmp text_cmp email (folded x.old_email) ≡ false) (listing gs)
 not_mailed email gs other = listing_all _ gs (all_weaker gs (λ g no. all_weaker (rows g) (λ x same. ap (λ t. eq_by_cmp text_cmp email (folded t)) same ∙ no) (rows_spelled g)) other)
 
 -- two orders of which the first tells apart
@@ -183,7 +183,7 @@ module _ (gs : List EmailGroup) (are : AreGroups gs) (front : List EmailGroup) (
       ∙ append-nil (filter p (accepted (rows g)))
       ∙ ap (filter p) (filter_all is_accepted (rows g) (rows_accepted g))
 
-  spelled_at : spelling (listing gs) (email_key g) ≡ Some g.old_email
+  pub spelled_at : spelling (listing gs) (email_key g) ≡ Some g.old_email
   spelled_at =
       let p : Mapping → Bool = λ x. eq_by_cmp text_cmp (email_key g) (folded x.old_email) in
       ap (λ l. option_map (λ e. e.old_email) (first l)) (picked_at p (λ x no. no) ∙ filter_all p (rows g) (all_weaker (rows g) (λ x same. ap (λ t. eq_by_cmp text_cmp (email_key g) (folded t)) same ∙ ap is_eq (tied_itself nat_list_cmp_total (email_key g))) (rows_spelled g)))

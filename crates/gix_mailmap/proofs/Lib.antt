@@ -26,6 +26,8 @@ pub mod Complete
 pub mod Places
 pub mod Counts
 pub mod Resolved
+pub mod Listed
+pub mod Compared
 pub mod Runs
 pub mod WhiteEnds
 pub mod WritableLines
@@ -48,3 +50,4 @@ pub mod EmailPuts
 pub mod RunPuts
 pub mod EmailsLoop
 pub mod SortedRuns
+pub mod WholeMerge

@@ -9,10 +9,12 @@ pub mod Search
 pub mod Places
 pub mod Signatures
 pub mod Listings
+pub mod EqualListings
 pub mod Alike
 pub mod Merging
 pub mod CanonicalText
 pub mod Times
+pub mod Answers
 pub mod Named
 pub mod Sources
 pub mod Contacts

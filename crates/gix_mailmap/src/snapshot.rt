@@ -6,12 +6,15 @@ mod build;
 mod listing;
 mod lookup;
 mod merge;
+mod resolve;
 mod resolved;
+mod signature;
 mod sources;
 mod tables;
 
 pub use listing::Iter;
 pub use resolved::ResolvedSignature;
+pub use signature::Signature;
 pub use sources::Source;
 use std::alloc::Global;
 use std::marker::Model;

@@ -12,6 +12,8 @@ use crate::Entry;
 use crate::snapshot::Snapshot;
 use crate::snapshot::tables::{EmailRow, NameRow, Tables};
 use std::alloc::{AllocError, Global};
+use std::fmt;
+use std::hash::{Hash, Hasher};
 use std::marker::Model;
 
 /// The entries of a snapshot, in ascending order of their keys.
@@ -139,5 +141,50 @@ impl Snapshot {
         Ok(Snapshot {
             tables: self.tables.try_clone(alloc)?,
         })
+    }
+}
+
+impl PartialEq for Snapshot {
+    ghost use Rattle.std.specs.Prelude.{◌≡◌, ◌↔◌, IsTrue};
+    ghost use Rattle.gix_mailmap.specs.Listings.{same_entries};
+    ghost use Rattle.gix_mailmap.specs.EqualListings.{partly_equal_entries};
+
+    ghost eq = { same_entries };
+
+    ghost laws = { partly_equal_entries };
+
+    /// Whether the listings are equal: how the snapshots came about plays no part.
+    fn eq(&self, other: &Snapshot) -> bool
+        ensures value { result ≡ same_entries self.now other.now }
+        ensures same { IsTrue result ↔ (self.now ≡ other.now) }
+    {
+        self.iter().eq(other.iter())
+    }
+}
+
+impl Eq for Snapshot {
+    ghost use Rattle.gix_mailmap.specs.EqualListings.{equal_entries};
+
+    ghost laws = { equal_entries };
+}
+
+impl Hash for Snapshot {
+    ghost use Rattle.gix_mailmap.specs.Listings.{entries_hashed};
+    ghost use Rattle.gix_mailmap.specs.EqualListings.{equal_hashes};
+
+    ghost hash_input = { entries_hashed };
+
+    ghost respects_eq = { equal_hashes };
+
+    fn hash<H: Hasher>(&self, state: &mut H) {
+        for entry in self.iter() {
+            entry.hash(state);
+        }
+    }
+}
+
+impl fmt::Debug for Snapshot {
+    fn fmt<W: fmt::Write>(&self, f: &mut fmt::Formatter<W>) -> fmt::Result {
+        f.debug_list().entries(self.iter()).finish()
     }
 }

@@ -76,9 +76,12 @@ pub(crate) fn place_email(tables: &Tables, start: usize, email: &[u8]) -> Result
 /// Where a name stands among the names of an email, or where it would stand.
 pub(crate) fn place_name(tables: &Tables, names: &[NameRow], name: &[u8]) -> Result<usize, usize>
     requires lie { AllByRecursion (NameLies (length tables.now.pool)) names.now }
-    requires ascending { IsStrictlySortedBy text_cmp (map name_key (map (name_group tables.now.pool) names.now)) }
-    ensures found { IfOk result (IsFound name_key (folded name.now) 0 (map (name_group tables.now.pool) names.now)) }
-    ensures missing { IfErr result (IsMissing name_key (folded name.now) 0 (map (name_group tables.now.pool) names.now)) }
+    requires ascending { IsStrictlySortedBy text_cmp
+        (map name_key (map (name_group tables.now.pool) names.now)) }
+    ensures found { IfOk result
+        (IsFound name_key (folded name.now) 0 (map (name_group tables.now.pool) names.now)) }
+    ensures missing { IfErr result
+        (IsMissing name_key (folded name.now) 0 (map (name_group tables.now.pool) names.now)) }
 {
     search_name(tables, names, name, &mut Steps::new())
 }
@@ -122,10 +125,13 @@ fn search_name(
     steps: &mut Steps,
 ) -> Result<usize, usize>
     requires lie { AllByRecursion (NameLies (length tables.now.pool)) names.now }
-    requires ascending { IsStrictlySortedBy text_cmp (map name_key (map (name_group tables.now.pool) names.now)) }
+    requires ascending { IsStrictlySortedBy text_cmp
+        (map name_key (map (name_group tables.now.pool) names.now)) }
     requires countable { steps.old ≤ usize.MAX - 64 }
-    ensures found { IfOk result (IsFound name_key (folded name.now) 0 (map (name_group tables.now.pool) names.now)) }
-    ensures missing { IfErr result (IsMissing name_key (folded name.now) 0 (map (name_group tables.now.pool) names.now)) }
+    ensures found { IfOk result
+        (IsFound name_key (folded name.now) 0 (map (name_group tables.now.pool) names.now)) }
+    ensures missing { IfErr result
+        (IsMissing name_key (folded name.now) 0 (map (name_group tables.now.pool) names.now)) }
     ensures at_most { steps.new ≤ steps.old + digits (length names.now) }
     ensures at_least { steps.old + min 1 (length names.now) ≤ steps.new }
 {
@@ -151,8 +157,10 @@ fn look_up<'a>(
     requires countable { steps.old ≤ usize.MAX - 128 }
     ensures fields { option_map shown result ≡ scan (listing tables.now.groups) name.now email.now }
     ensures says { IfSome result (λ r. IsTrue (is_some r.name || is_some r.email)) }
-    ensures at_most { steps.new ≤ steps.old + digits (length tables.now.groups) + digits (name_count (listing tables.now.groups) email.now) }
-    ensures at_least { steps.old + min 1 (length tables.now.groups) + min 1 (name_count (listing tables.now.groups) email.now) ≤ steps.new }
+    ensures at_most { steps.new ≤ steps.old + digits (length tables.now.groups)
+        + digits (name_count (listing tables.now.groups) email.now) }
+    ensures at_least { steps.old + min 1 (length tables.now.groups)
+        + min 1 (name_count (listing tables.now.groups) email.now) ≤ steps.new }
 {
     let Ok(place) = search_email(tables, 0, email, steps) else {
         return None;
@@ -212,7 +220,8 @@ impl Snapshot {
         ensures view { option_map shown result ≡ scan self.now signature.entry.name.now signature.entry.email.now }
 
         // the answer of each history whose normal list the snapshot is
-        ensures history { (h : List Mapping) → IsNormal h self.now → option_map shown result ≡ scan h signature.entry.name.now signature.entry.email.now }
+        ensures history { (h : List Mapping) → IsNormal h self.now →
+            option_map shown result ≡ scan h signature.entry.name.now signature.entry.email.now }
         ensures says { IfSome result (λ r. IsTrue (is_some r.name || is_some r.email)) }
     {
         self.try_resolve_ref_counted(signature, &mut Steps::new())
@@ -232,10 +241,13 @@ impl Snapshot {
         ensures view { option_map shown result ≡ scan self.now signature.entry.name.now signature.entry.email.now }
 
         // the answer of each history whose normal list the snapshot is
-        ensures history { (h : List Mapping) → IsNormal h self.now → option_map shown result ≡ scan h signature.entry.name.now signature.entry.email.now }
+        ensures history { (h : List Mapping) → IsNormal h self.now →
+            option_map shown result ≡ scan h signature.entry.name.now signature.entry.email.now }
         ensures says { IfSome result (λ r. IsTrue (is_some r.name || is_some r.email)) }
-        ensures at_most { steps.new ≤ steps.old + digits (email_count self.now) + digits (name_count self.now signature.entry.email.now) }
-        ensures at_least { steps.old + min 1 (email_count self.now) + min 1 (name_count self.now signature.entry.email.now) ≤ steps.new }
+        ensures at_most { steps.new ≤ steps.old + digits (email_count self.now)
+            + digits (name_count self.now signature.entry.email.now) }
+        ensures at_least { steps.old + min 1 (email_count self.now)
+            + min 1 (name_count self.now signature.entry.email.now) ≤ steps.new }
     {
         look_up(&self.tables, signature.name, signature.email, steps)
     }

@@ -27,7 +27,10 @@ impl<'a> ResolvedSignature<'a> {
         current_email: &[u8],
         new_name: Option<&'a [u8]>,
     ) -> Option<Self>
-        ensures fields { option_map shown result ≡ answered current_email.now (record { name = option_copied new_name.entry; email = option_copied new_email.entry }) (Some matched_email.now) }
+        ensures fields { option_map shown result ≡ answered current_email.now (record {
+          name = option_copied new_name.entry;
+          email = option_copied new_email.entry;
+        }) (Some matched_email.now) }
         ensures says { IfSome result (λ r. IsTrue (is_some r.name || is_some r.email)) }
     {
         let email = match new_email {

@@ -1,10 +1,34 @@
+use Rattle.std.proofs.Common.{◌≡◌, ◌∙◌, ◌++◌, List, true, map, sym, ap, subst}
+use Rattle.std.specs.List.{AllByRecursion}
+use Rattle.gix_mailmap.specs.Entries.{Mapping, mapping_of}
+use Rattle.gix_mailmap.specs.Groups.{Contents, IsComplete, listing}
+use Rattle.gix_mailmap.specs.Histories.{IsNormal, is_accepted, key, key_cmp}
+use Rattle.gix_mailmap.specs.Merging.{IsAscending, AllJoined, mapping_at, placed_at}
+use Rattle.gix_mailmap.specs.declared.snapshot.batch.Placed.{Placed}
+use Rattle.gix_mailmap.proofs.Collected.{mapped_twice, if_ok_then}
+use Rattle.gix_mailmap.proofs.FrontRuns.{all_mapped}
+use Rattle.gix_mailmap.proofs.WholeMerge.{sorted_all, joined_normal, of_placed}
 use Rattle.gix_mailmap.proofs.snapshot.merge.joined.Goals as goal
 
 pub join_sorted-requires-clause-accepted : goal.join_sorted-requires-clause-accepted
-join_sorted-requires-clause-accepted c = ?
+join_sorted-requires-clause-accepted c =
+    let items = c.in_ok-batch.batch.items in
+    subst (λ (l : List Placed). AllByRecursion (λ m. is_accepted m ≡ true) (map mapping_at l)) (sym c.deref.ensures.value)
+    (of_placed (λ m. is_accepted m ≡ true) items (sorted_all (λ m. is_accepted m ≡ true) (map mapping_of c.args.entries.now) (map placed_at items) c.in_ok-batch.ensures c.requires.accepted))
 
 pub join_sorted-requires-clause-ascending : goal.join_sorted-requires-clause-ascending
-join_sorted-requires-clause-ascending c = ?
+join_sorted-requires-clause-ascending c =
+    let items = c.in_ok-batch.batch.items in
+    subst (λ (l : List Placed). IsAscending key_cmp (map key (map mapping_at l))) (sym c.deref.ensures.value)
+    (subst (IsAscending key_cmp) (mapped_twice placed_at (λ p. key p.1) items ∙ sym (mapped_twice mapping_at key items)) c.in_ok-batch.ensures.ascending)
 
 pub returns : goal.returns
-returns c = ?
+returns c =
+    let items = c.in_ok-batch.batch.items in
+    let gs = c.args.standing.now.groups in
+    let xs = map mapping_of c.args.entries.now in
+    if_ok_then c.join_sorted.result _ _ _ (λ (made : Contents) j none. (
+      record { groups = j.groups; no_loose = none },
+      joined_normal gs c.requires.standing xs c.requires.accepted (map placed_at items) c.in_ok-batch.ensures made.groups
+          (subst (λ (l : List Placed). AllJoined gs (map placed_at l) made.groups) c.deref.ensures.value j),
+    )) c.join_sorted.ensures.joined c.join_sorted.ensures.no_loose

@@ -1,11 +1,15 @@
-use Rattle.std.proofs.Common.{◌≡◌, ◌-◌, ◌≤◌, length}
+use Rattle.std.proofs.Common.{◌≡◌, ◌-◌, length}
 use Rattle.std.specs.List.{AllByRecursion}
 use Rattle.gix_mailmap.specs.Listings.{left_to_list}
 use Rattle.gix_mailmap.specs.Pool.{NameLies}
 use Rattle.gix_mailmap.proofs.snapshot.listing.IterIterator.next.Given as goal
 
-abbrev pub invariant-loop-self : goal.invariant-loop-self
-invariant-loop-self l = ?
+abbrev pub invariant-loop-row : goal.invariant-loop-row
+invariant-loop-row l = record {
+  same : l.self-inside.tables.now ≡ l.tables;
+  lie : AllByRecursion (NameLies (length l.tables.pool)) l.self-inside.names.now;
+  left : left_to_list l.tables l.self-inside.old_email.now l.self-inside.names.now l.self-inside.reached ≡ l.fn.self;
+}
 
-abbrev pub decreases-loop-self : goal.decreases-loop-self
-decreases-loop-self l = ?
+abbrev pub decreases-loop-row : goal.decreases-loop-row
+decreases-loop-row l = length l.tables.groups - l.self-inside.reached
