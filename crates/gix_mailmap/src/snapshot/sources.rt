@@ -12,6 +12,7 @@ use crate::{Entry, parse_ignore_errors};
 use std::alloc::AllocError;
 
 /// Where entries come from.
+#[derive(Drop)]
 pub enum Source<'a> {
     /// The text of a mailmap; lines that can't be read are left out.
     Buffer(&'a [u8]),
