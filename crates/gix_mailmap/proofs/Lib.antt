@@ -46,6 +46,9 @@ pub mod RowCount
 pub mod Left
 pub mod Drained
 pub mod Compacted
+pub mod Sources
+pub mod Contacts
+pub mod Dividers
 pub mod Given
 pub mod Passing
 pub mod EmailPuts

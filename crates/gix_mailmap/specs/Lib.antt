@@ -17,3 +17,6 @@ pub mod Times
 pub mod Answers
 pub mod Named
 pub mod Writing
+pub mod Sources
+pub mod Contacts
+pub mod Parts

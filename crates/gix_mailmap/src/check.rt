@@ -1,5 +1,98 @@
-//! What the program mailmap_check answers.
+//! Answers for contacts: what mailmaps make of lines like `Jane <jane@x>`.
+ghost use Rattle.std.specs.Prelude.{◌≡◌, ◌++◌, map, unwrap_or, IfOk, OnOk};
+ghost use Rattle.std.specs.List.{flat_map};
+ghost use Rattle.gix_mailmap.specs.Contacts.{answer, answers, contact, fields_for};
+ghost use Rattle.gix_mailmap.specs.Histories.{IsNormal};
+ghost use Rattle.gix_mailmap.specs.Lines.{good};
 
 mod compaction;
+mod parts;
+#[cfg(test)]
+mod tests;
 
+use crate::actor::SignatureRef;
+use crate::lines::{Half, parse_ignore_errors, parse_name_and_email, trim};
+use crate::snapshot::Snapshot;
+use bstr::ByteSlice;
 pub use compaction::compact;
+pub use parts::split;
+use std::alloc::{AllocError, Global};
+
+/// Answers each line of `contacts` by what the buffers map, later buffers behind earlier ones: a line for each line.
+///
+/// A contact is a name and an email in brackets, `Jane <jane@x>`; name and email are trimmed, either may be empty, and
+/// what stands behind the `>` is ignored. Its answer is the name, a blank and the email in brackets that the mailmap
+/// puts in their place, without the blank where the name is empty. Every other line is answered by itself as it stands,
+/// without its line end; `#` means nothing here. Each answer ends with a line feed, also where the last line has none.
+///
+/// By the buffer `Jane Doe <jane@x>` the contacts `jane <JANE@x>\r\nplain` are answered `Jane Doe <jane@x>\nplain\n`.
+pub fn check(alloc: Global, buffers: &[&[u8]], contacts: &[u8]) -> Result<Vec<u8>, AllocError>
+    ensures { IfOk result (λ text. text.items ≡ answers (flat_map good (map (λ b. b.now) buffers.now)) contacts.now) }
+{
+    let snapshot = merged(alloc, buffers)?;
+    answer_all(alloc, &snapshot, contacts)
+}
+
+/// A snapshot of what the buffers say, one after another.
+pub(crate) fn merged(alloc: Global, buffers: &[&[u8]]) -> Result<Snapshot, AllocError>
+    ensures { IfOk result (IsNormal (flat_map good (map (λ b. b.now) buffers.now))) }
+{
+    let mut snapshot = Snapshot::empty(alloc);
+    for buf in buffers {
+        snapshot.merge(parse_ignore_errors(buf))?;
+    }
+    Ok(snapshot)
+}
+
+// The answers to all lines, each with its line feed.
+fn answer_all(alloc: Global, snapshot: &Snapshot, contacts: &[u8]) -> Result<Vec<u8>, AllocError>
+    ensures { IfOk result (λ text. text.items ≡ answers snapshot.now contacts.now) }
+{
+    let mut text = Vec::new(alloc);
+    for line in contacts.lines() {
+        push_answer(&mut text, snapshot, line)?;
+        text.push(b'\n')?;
+    }
+    Ok(text)
+}
+
+// Appends the answer to one line.
+fn push_answer(text: &mut Vec<u8>, snapshot: &Snapshot, line: &[u8]) -> Result<(), AllocError>
+    ensures { OnOk result (text.new.items ≡ text.old.items ++ answer snapshot.now line.now) }
+{
+    let Half::Closed { name, email, .. } = parse_name_and_email(trim(line)) else {
+        return text.extend_from_slice(line);
+    };
+    let (name, email) = resolved(snapshot, name, email);
+    push_contact(text, name, email)
+}
+
+// The name and the email that stand in the place of those of a contact.
+fn resolved<'a>(snapshot: &'a Snapshot, name: &'a [u8], email: &'a [u8]) -> (&'a [u8], &'a [u8])
+    ensures name { result.0.now ≡ unwrap_or (fields_for snapshot.now name.now email.now).name name.now }
+    ensures email { result.1.now ≡ unwrap_or (fields_for snapshot.now name.now email.now).email email.now }
+{
+    let contact = SignatureRef {
+        name,
+        email,
+        time: "",
+    };
+    match snapshot.try_resolve_ref(contact) {
+        Some(found) => (found.name.unwrap_or(name), found.email.unwrap_or(email)),
+        None => (name, email),
+    }
+}
+
+// Appends a contact: the name and a blank, unless it is empty, and the email in brackets.
+fn push_contact(text: &mut Vec<u8>, name: &[u8], email: &[u8]) -> Result<(), AllocError>
+    ensures { OnOk result (text.new.items ≡ text.old.items ++ contact name.now email.now) }
+{
+    text.extend_from_slice(name)?;
+    if !name.is_empty() {
+        text.push(b' ')?;
+    }
+    text.push(b'<')?;
+    text.extend_from_slice(email)?;
+    text.push(b'>')?;
+    Ok(())
+}

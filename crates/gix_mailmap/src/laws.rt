@@ -4,6 +4,7 @@ ghost use Rattle.gix_mailmap.specs.Folding.{Text};
 ghost use Rattle.gix_mailmap.specs.Entries.{Mapping};
 ghost use Rattle.gix_mailmap.specs.Histories.{IsNormal, of_email, scan};
 ghost use Rattle.gix_mailmap.specs.Lines.{cut, Closed, Unclosed, Absent, IsCut, IsUnclosed, HoldsNo, Reading, reading, strict_reading, IsRead, IsReadStrictly};
+ghost use Rattle.gix_mailmap.specs.Parts.{IsParted};
 ghost use Rattle.gix_mailmap.specs.Times.{Spells, IsTimeOf};
 ghost use Rattle.gix_mailmap.specs.Trimming.{IsTrimmed, trim};
 ghost use Rattle.gix_mailmap.specs.declared.date.Time.{Time};
@@ -74,4 +75,9 @@ pub fn law_shortest()
 pub fn law_time()
     ensures spelled { (text : Text) (a b : Time) → Spells text a → Spells text b → a ≡ b }
     ensures time_of { (text : Text) (a b : Time) → IsTimeOf text a → IsTimeOf text b → a ≡ b }
+{}
+
+/// An input is parted in one way.
+pub fn law_parts()
+    ensures { (input p r q s : Text) → IsParted input p r → IsParted input q s → (p ≡ q) × (r ≡ s) }
 {}

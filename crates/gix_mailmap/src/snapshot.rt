@@ -9,12 +9,14 @@ mod merge;
 mod resolve;
 mod resolved;
 mod signature;
+mod sources;
 mod tables;
 mod text;
 
 pub use listing::Iter;
 pub use resolved::ResolvedSignature;
 pub use signature::Signature;
+pub use sources::Source;
 use std::alloc::Global;
 use std::marker::Model;
 use tables::Tables;

@@ -1,0 +1,228 @@
+-- Where an input is parted: what a walk over its lines knows, and that an input is parted in one way.
+use Rattle.std.proofs.Common.{◌≡◌, ◌⊎◌, ◌+◌, ◌<◌, ◌≤◌, ℕ, suc, ◌==◌, List, [], ◌∷◌, ◌++◌, length, take, drop, refl, sym, ap, subst, ◌∙◌, arith, inl, inr, ⊎_elim}
+use Rattle.std.proofs.lemmas.Bool.{cases_Bool, cond-true, cond-false, eqb-true}
+use Rattle.std.proofs.lemmas.List.{append_assoc, append_cancel_left, drop-append-le, drop-drop, drop_all, length-append, length-drop, length-take-le, take-append-drop}
+use Rattle.std.proofs.Math.Seq.{take-add, take-append_seam}
+use Rattle.bstr.specs.Text.{line_len, lines_of}
+use Rattle.bstr.proofs.lemmas.LineLemmas.{line_len-bounds, lines-nil, lines-step}
+use Rattle.gix_mailmap.specs.Parts.{EndsLine, IsDividerLine, IsDivider, PartsAt, IsFirstParting, IsParted}
+
+-- one number is at most the other, or above it
+le_or_lt : (a b : ℕ) → (a ≤ b) ⊎ (b < a)
+le_or_lt a b = grind arith
+
+-- the two dashes alone end with no line feed
+no_feed : (front : List ℕ) → 45 ∷ 45 ∷ [] ≡ front ++ 10 ∷ [] → ⊥
+no_feed [] is = cc
+no_feed (a ∷ []) is = cc
+no_feed (a ∷ b ∷ front) is = omega (arith, ap length is, length-append front (10 ∷ []))
+
+-- a line `--` has two bytes at least
+IsDividerLine-length : (line : List ℕ) → IsDividerLine line → 2 ≤ length line
+IsDividerLine-length line divider = ⊎_elim
+    (λ is. omega (arith, ap length is))
+    (λ others. ⊎_elim (λ is. omega (arith, ap length is)) (λ is. omega (arith, ap length is)) others)
+    divider
+
+-- a line that something follows ends with its line feed
+line_ends : (bs : List ℕ) → line_len bs < length bs → (front : List ℕ) × (take (line_len bs) bs ≡ front ++ 10 ∷ [])
+unfolding line_len
+line_ends [] more = absurd (omega arith)
+line_ends (b ∷ bs) more = ⊎_elim
+    (λ feed. ([], ap (λ n. take n (b ∷ bs)) (cond-true _ _ _ feed) ∙ ap (λ x. x ∷ []) (eqb-true _ _ feed)))
+    (λ other.
+    let len : line_len (b ∷ bs) ≡ suc (line_len bs) = cond-false _ _ _ other in
+    let inner = line_ends bs (omega arith) in
+    (b ∷ inner.0, ap (λ n. take n (b ∷ bs)) len ∙ ap (λ l. b ∷ l) inner.1))
+    (cases_Bool (b == 10))
+
+-- a line ends at the latest at a line feed
+line_len-feed : (xs ys : List ℕ) → line_len (xs ++ 10 ∷ ys) ≤ length xs + 1
+unfolding line_len
+line_len-feed [] ys = omega arith
+line_len-feed (x ∷ xs) ys =
+    let inner = line_len-feed xs ys in
+    ⊎_elim
+    (λ feed. let len : line_len (x ∷ xs ++ 10 ∷ ys) ≡ 1 = cond-true _ _ _ feed in omega arith)
+    (λ other. let len : line_len (x ∷ (xs ++ 10 ∷ ys)) ≡ suc (line_len (xs ++ 10 ∷ ys)) = cond-false _ _ _ other in omega arith)
+    (cases_Bool (x == 10))
+
+-- a line `--` at the front of some bytes is their first line
+first_divider : (line behind : List ℕ) → IsDivider line behind → take (line_len (line ++ behind)) (line ++ behind) ≡ line
+unfolding line_len
+first_divider line behind (divider, last) = ⊎_elim
+    (λ is. rw is)
+    (λ others. ⊎_elim (λ is. rw is) (λ is. rw (last is, is)) others)
+    divider
+
+-- what is left of whole lines behind some bytes ends a line too
+EndsLine-drop : (n : ℕ) (xs : List ℕ) → EndsLine xs → EndsLine (drop n xs)
+EndsLine-drop n xs (inl none) = inl (drop_all n xs (omega (arith, ap length none)))
+EndsLine-drop n xs (inr (front, is)) = ⊎_elim
+    (λ whole. inl (drop_all n xs whole))
+    (λ part.
+    let long : length xs ≡ length front + 1 = ap length is ∙ length-append front (10 ∷ []) in
+    inr (drop n front, ap (drop n) is ∙ drop-append-le n front (10 ∷ []) (omega arith)))
+    (le_or_lt (length xs) n)
+  where
+    le_or_lt : (a b : ℕ) → (a ≤ b) ⊎ (b < a)
+    le_or_lt a b = grind arith
+
+-- no parting stands within a first line that is not `--`
+past_line : (before line behind : List ℕ) → EndsLine before → IsDivider line behind → (IsDividerLine (take (line_len (before ++ (line ++ behind))) (before ++ (line ++ behind))) → ⊥)
+    → line_len (before ++ (line ++ behind)) ≤ length before
+past_line before line behind (inl none) divider other = absurd (other (subst IsDividerLine (sym (ap (λ b. take (line_len (b ++ (line ++ behind))) (b ++ (line ++ behind))) none ∙ first_divider line behind divider)) divider.0))
+past_line before line behind (inr (front, is)) divider other =
+    let long : length before ≡ length front + 1 = ap length is ∙ length-append front (10 ∷ []) in
+    let regrouped : before ++ (line ++ behind) ≡ front ++ 10 ∷ (line ++ behind) = ap (λ b. b ++ (line ++ behind)) is ∙ append_assoc front (10 ∷ []) (line ++ behind) in
+    let feed = line_len-feed front (line ++ behind) in
+    let len = ap line_len regrouped in
+    omega arith
+
+-- there is a line only where there are bytes
+some_line : (bs line : List ℕ) (left : List (List ℕ)) → line ∷ left ≡ lines_of bs → 0 < length bs
+some_line [] line left is = let none = is ∙ lines-nil in cc
+some_line (b ∷ bs) line left is = omega arith
+
+-- there are bytes only where there is a line
+no_bytes : (bs : List ℕ) → [] ≡ lines_of bs → length bs ≡ 0
+no_bytes [] none = refl
+no_bytes (b ∷ bs) none = let some = lines-step (b ∷ bs) (omega arith) in absurd (cc)
+
+-- a term of the type given
+abbrev by : (A : Type 0) → A → A
+by A a = a
+
+-- A walk over the lines of the input has come to this place: these lines are left, and the input is not parted before it.
+pub record HasPassed (input : List ℕ) (place : ℕ) (left : List (List ℕ)) : Type 0 where
+  pub within : place ≤ length input
+  pub starts : place < length input → EndsLine (take place input)
+  pub left_are : left ≡ lines_of (drop place input)
+  pub none : (p r : List ℕ) → PartsAt input p r → place ≤ length p
+
+-- the walk begins at the front, with all lines left
+pub begins : (input : List ℕ) → HasPassed input 0 (lines_of input)
+begins input = record { within = omega arith; starts = λ some. inl refl; left_are = refl; none = λ p r parts. omega arith }
+
+module _ (input : List ℕ) (place : ℕ) (lines : List (List ℕ)) (line : List ℕ) (left : List (List ℕ)) (next : lines ≡ line ∷ left) (passed : HasPassed input place lines) where
+  abbrev rest : List ℕ
+  rest = drop place input
+
+  -- the line at the place, and what the step over it leaves
+  record Stepped : Type 0 where
+    is : line ≡ take (line_len rest) rest
+    len : length line ≡ line_len rest
+    some : 0 < length rest
+    short : line_len rest ≤ length rest
+    long : place + length rest ≡ length input
+    left_is : left ≡ lines_of (drop (line_len rest) rest)
+
+  stepped : Stepped
+  stepped =
+      let long : place + length rest ≡ length input = omega (arith, passed.within, length-drop place input) in
+      let some : 0 < length rest = some_line rest line left (sym next ∙ passed.left_are) in
+      let bounds = line_len-bounds rest some in
+      let both : line ∷ left ≡ take (line_len rest) rest ∷ lines_of (drop (line_len rest) rest) = sym next ∙ passed.left_are ∙ lines-step rest some in
+      record {
+        is = cc;
+        len = ap length (by (line ≡ take (line_len rest) rest) (cc)) ∙ length-take-le (line_len rest) rest bounds.1;
+        some = some;
+        short = bounds.1;
+        long = long;
+        left_is = cc;
+      }
+
+  -- the line lies within the input
+  pub fits : place + length line ≤ length input
+  fits = omega (arith, stepped.len, stepped.short, stepped.long)
+
+  -- a line that is not `--` is passed
+  pub passes : (IsDividerLine line → ⊥) → HasPassed input (place + length line) left
+  passes other = record {
+    within = fits;
+    starts = λ more.
+        let ends = line_ends rest (omega (arith, stepped.len, stepped.long)) in
+        inr (
+          take place input ++ ends.0,
+          take-add place (length line) input ∙ ap (λ n. take place input ++ take n rest) stepped.len ∙ ap (λ l. take place input ++ l) ends.1
+              ∙ sym (append_assoc (take place input) ends.0 (10 ∷ [])),
+        );
+    left_are = stepped.left_is ∙ ap (λ n. lines_of (drop n rest)) (sym stepped.len) ∙ ap lines_of (drop-drop (length line) place input);
+    none = λ p r parts.
+        let before = drop place p in
+        let within : place ≤ length p = passed.none p r parts in
+        let rest_is : rest ≡ before ++ (parts.line ++ r) =
+        ap (drop place) (parts.whole ∙ append_assoc p parts.line r) ∙ drop-append-le place p (parts.line ++ r) within in
+        let bound = past_line before parts.line r (EndsLine-drop place p parts.starts) parts.divides
+        (λ divider. other (subst IsDividerLine (sym (stepped.is ∙ ap (λ b. take (line_len b) b) rest_is)) divider)) in
+        omega (arith, stepped.len, ap line_len rest_is, length-drop place p);
+  }
+
+  -- at a line `--` the input is parted
+  pub parted : IsDividerLine line → IsParted input (take place input) (drop (place + length line) input)
+  parted divider = inl (record {
+    parts = record {
+      line = line;
+      whole =
+          let behind = drop (length line) rest in
+          let line_is : take (length line) rest ≡ line = ap (λ n. take n rest) stepped.len ∙ sym stepped.is in
+          sym (take-append-drop place input)
+          ∙ ap (λ l. take place input ++ l) (sym (take-append-drop (length line) rest) ∙ ap (λ l. l ++ behind) line_is)
+          ∙ sym (append_assoc (take place input) line behind)
+          ∙ ap (λ l. (take place input ++ line) ++ l) (drop-drop (length line) place input);
+      starts = passed.starts (omega (arith, stepped.some, stepped.long));
+      divides = (
+        divider,
+        λ bare. ⊎_elim
+            (λ end. drop_all (place + length line) input end)
+            (λ more.
+            let ends = line_ends rest (omega (arith, stepped.len, stepped.long)) in
+            absurd (no_feed ends.0 (sym bare ∙ stepped.is ∙ ends.1)))
+            (le_or_lt (length input) (place + length line)),
+      );
+    };
+    first = λ p r parts. omega (arith, passed.none p r parts, length-take-le place input passed.within);
+  })
+
+-- where no line is left the input is not parted
+pub ended : (input : List ℕ) (place : ℕ) (lines : List (List ℕ)) → lines ≡ [] → HasPassed input place lines → IsParted input [] input
+ended input place lines over passed = inr (record {
+  none = λ p r parts.
+      let less = no_bytes (drop place input) (sym over ∙ passed.left_are) in
+      let long = ap length parts.whole ∙ length-append (p ++ parts.line) r in
+      omega (arith, less, long, length-append p parts.line, IsDividerLine-length parts.line parts.divides.0, length-drop place input, passed.none p r parts);
+  nothing = refl;
+  all = refl;
+})
+
+-- ---- an input is parted in one way
+
+-- what is behind a line `--` is behind it in each reading
+same_behind : (line behind line' behind' : List ℕ) → IsDivider line behind → IsDivider line' behind' → line ++ behind ≡ line' ++ behind' → behind ≡ behind'
+same_behind line r line' s (inl is, last) (inl also, last') same = by (r ≡ s) (let e : 45 ∷ 45 ∷ 10 ∷ r ≡ 45 ∷ 45 ∷ 10 ∷ s = ap (λ l. l ++ r) (sym is) ∙ same ∙ ap (λ l. l ++ s) also in cc)
+same_behind line r line' s (inl is, last) (inr (inl also), last') same = let e : 45 ∷ 45 ∷ 10 ∷ r ≡ 45 ∷ 45 ∷ 13 ∷ 10 ∷ s = ap (λ l. l ++ r) (sym is) ∙ same ∙ ap (λ l. l ++ s) also in absurd (cc)
+same_behind line r line' s (inl is, last) (inr (inr also), last') same = let e : 45 ∷ 45 ∷ 10 ∷ r ≡ 45 ∷ 45 ∷ [] = ap (λ l. l ++ r) (sym is) ∙ same ∙ ap (λ l. l ++ s) also ∙ ap (λ l. 45 ∷ 45 ∷ l) (last' also) in absurd (cc)
+same_behind line r line' s (inr (inl is), last) (inl also, last') same = let e : 45 ∷ 45 ∷ 13 ∷ 10 ∷ r ≡ 45 ∷ 45 ∷ 10 ∷ s = ap (λ l. l ++ r) (sym is) ∙ same ∙ ap (λ l. l ++ s) also in absurd (cc)
+same_behind line r line' s (inr (inl is), last) (inr (inl also), last') same = let e : 45 ∷ 45 ∷ 13 ∷ 10 ∷ r ≡ 45 ∷ 45 ∷ 13 ∷ 10 ∷ s = ap (λ l. l ++ r) (sym is) ∙ same ∙ ap (λ l. l ++ s) also in cc
+same_behind line r line' s (inr (inl is), last) (inr (inr also), last') same = let e : 45 ∷ 45 ∷ 13 ∷ 10 ∷ r ≡ 45 ∷ 45 ∷ [] = ap (λ l. l ++ r) (sym is) ∙ same ∙ ap (λ l. l ++ s) also ∙ ap (λ l. 45 ∷ 45 ∷ l) (last' also) in absurd (cc)
+same_behind line r line' s (inr (inr is), last) (inl also, last') same = let e : 45 ∷ 45 ∷ [] ≡ 45 ∷ 45 ∷ 10 ∷ s = sym (ap (λ l. 45 ∷ 45 ∷ l) (last is)) ∙ ap (λ l. l ++ r) (sym is) ∙ same ∙ ap (λ l. l ++ s) also in absurd (cc)
+same_behind line r line' s (inr (inr is), last) (inr (inl also), last') same = let e : 45 ∷ 45 ∷ [] ≡ 45 ∷ 45 ∷ 13 ∷ 10 ∷ s = sym (ap (λ l. 45 ∷ 45 ∷ l) (last is)) ∙ ap (λ l. l ++ r) (sym is) ∙ same ∙ ap (λ l. l ++ s) also in absurd (cc)
+same_behind line r line' s (inr (inr is), last) (inr (inr also), last') same = last is ∙ sym (last' also)
+
+-- two first partings of an input are one
+first_same : (input p r q s : List ℕ) → IsFirstParting input p r → IsFirstParting input q s → (p ≡ q) × (r ≡ s)
+first_same input p r q s here there =
+    let long : length p ≡ length q = omega (arith, here.first q s there.parts, there.first p r here.parts) in
+    let p_is : take (length p) input ≡ p = ap (take (length p)) (here.parts.whole ∙ append_assoc p here.parts.line r) ∙ take-append_seam p (here.parts.line ++ r) in
+    let q_is : take (length q) input ≡ q = ap (take (length q)) (there.parts.whole ∙ append_assoc q there.parts.line s) ∙ take-append_seam q (there.parts.line ++ s) in
+    let fronts : p ≡ q = sym p_is ∙ ap (λ n. take n input) long ∙ q_is in
+    let wholes : p ++ (here.parts.line ++ r) ≡ p ++ (there.parts.line ++ s) =
+    sym (append_assoc p here.parts.line r) ∙ sym here.parts.whole ∙ there.parts.whole ∙ append_assoc q there.parts.line s ∙ ap (λ l. l ++ (there.parts.line ++ s)) (sym fronts) in
+    (fronts, same_behind here.parts.line r there.parts.line s here.parts.divides there.parts.divides (append_cancel_left p _ _ wholes))
+
+-- an input is parted in one way
+pub parted_same : (input p r q s : List ℕ) → IsParted input p r → IsParted input q s → (p ≡ q) × (r ≡ s)
+parted_same input p r q s (inl here) (inl there) = first_same input p r q s here there
+parted_same input p r q s (inl here) (inr there) = absurd (there.none p r here.parts)
+parted_same input p r q s (inr here) (inl there) = absurd (here.none q s there.parts)
+parted_same input p r q s (inr here) (inr there) = (here.nothing ∙ sym there.nothing, here.all ∙ sym there.all)

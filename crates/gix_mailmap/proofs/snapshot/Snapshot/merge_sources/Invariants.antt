@@ -1,0 +1,13 @@
+use Rattle.std.proofs.Common.{◌≡◌, ◌++◌, length, take}
+use Rattle.gix_mailmap.specs.Histories.{IsNormal}
+use Rattle.gix_mailmap.specs.Sources.{history}
+use Rattle.gix_mailmap.proofs.Sources.{MarksIdle}
+use Rattle.gix_mailmap.proofs.snapshot.Snapshot.merge_sources.Given as goal
+
+abbrev pub invariant-loop-i : goal.invariant-loop-i
+invariant-loop-i l =
+    record {
+      marks : length l.made ≡ length l.sources;
+      normal : IsNormal (l.fn.self ++ history (take l.i l.sources) (take l.i l.made)) l.self;
+      unrefused : MarksIdle l.sources l.made l.i;
+    }

@@ -1,0 +1,46 @@
+-- What contact lines are answered.
+use Rattle.std.specs.Prelude.{ℕ, ◌==◌, Bool, false, ◌&&◌, if◌then◌else◌, List, [], ◌∷◌, ◌++◌, unwrap_or}
+use Rattle.std.specs.List.{flat_map}
+use Rattle.gix_mailmap.specs.Entries.{Mapping}
+use Rattle.gix_mailmap.specs.Folding.{Text}
+use Rattle.gix_mailmap.specs.Histories.{Fields, no_fields, scan}
+use Rattle.gix_mailmap.specs.Lines.{Half, Absent, Unclosed, Closed, cut, trimmed_half, with_first}
+use Rattle.gix_mailmap.specs.Trimming.{trim}
+
+-- a line feed comes next
+abbrev pub feeds : Text → Bool
+feeds [] = false
+feeds (b ∷ s) = b == 10
+
+-- the lines of a text: each ends before its line feed, and before a carriage return directly before that; the last one
+-- may have no line feed, and then a carriage return at its end stays
+unfoldable pub lines : Text → List Text
+lines [] = []
+lines (b ∷ s) = if b == 10 then [] ∷ lines s else if b == 13 && feeds s then lines s else with_first b (lines s)
+
+-- a name and an email as a contact line; without a blank where the name is empty
+abbrev pub contact : Text → Text → Text
+contact [] email = 60 ∷ email ++ 62 ∷ []
+contact (b ∷ name) email = (b ∷ name) ++ 32 ∷ 60 ∷ email ++ 62 ∷ []
+
+-- the fields that a history gives to a name and an email
+abbrev pub fields_for : List Mapping → Text → Text → Fields
+fields_for h name email = unwrap_or (scan h name email) no_fields
+
+-- a contact with these fields, where there are any, in the place of its own
+abbrev pub replaced : Fields → Text → Text → Text
+replaced f name email = contact (unwrap_or f.name name) (unwrap_or f.email email)
+
+-- what a history answers to a line that begins with this half: a line that is no contact is its own answer
+abbrev pub half_answer : List Mapping → Text → Half → Text
+half_answer h line Absent = line
+half_answer h line Unclosed = line
+half_answer h line (Closed name email rest) = replaced (fields_for h name email) name email
+
+-- the answer to a line: a contact is what stands at the front of the trimmed line, its email may be empty
+abbrev pub answer : List Mapping → Text → Text
+answer h line = half_answer h line (trimmed_half (cut (trim line)))
+
+-- one answer for each line of contacts, each with a line feed at its end
+abbrev pub answers : List Mapping → Text → Text
+answers h contacts = flat_map (λ line. answer h line ++ 10 ∷ []) (lines contacts)

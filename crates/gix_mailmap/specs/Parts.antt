@@ -1,0 +1,36 @@
+-- How one input is parted into a mailmap and contact lines, at its first line `--`.
+use Rattle.std.specs.Prelude.{◌≡◌, ℕ, ◌≤◌, ◌⊎◌, List, [], ◌∷◌, ◌++◌, length}
+
+-- a line begins after these bytes: there are none, or a line feed ends them
+abbrev pub EndsLine : List ℕ → Type 0
+EndsLine bytes = (bytes ≡ []) ⊎ ((front : List ℕ) × (bytes ≡ front ++ 10 ∷ []))
+
+-- the line `--`, with the line feed or the carriage return and line feed that end it; the last line of an input may have neither
+abbrev pub IsDividerLine : List ℕ → Type 0
+IsDividerLine line = (line ≡ 45 ∷ 45 ∷ 10 ∷ []) ⊎ ((line ≡ 45 ∷ 45 ∷ 13 ∷ 10 ∷ []) ⊎ (line ≡ 45 ∷ 45 ∷ []))
+
+-- such a line before these bytes: where nothing ends it, nothing is behind it
+abbrev pub IsDivider : List ℕ → List ℕ → Type 0
+IsDivider line behind = IsDividerLine line × (line ≡ 45 ∷ 45 ∷ [] → behind ≡ [])
+
+-- the input is `before`, a line `--`, and `behind`
+pub record PartsAt (input before behind : List ℕ) : Type 0 where
+  pub line : List ℕ
+  pub whole : input ≡ before ++ line ++ behind
+  pub starts : EndsLine before
+  pub divides : IsDivider line behind
+
+-- the input is parted at its first line `--`
+pub record IsFirstParting (input before behind : List ℕ) : Type 0 where
+  pub parts : PartsAt input before behind
+  pub first : (p r : List ℕ) → PartsAt input p r → length before ≤ length p
+
+-- no line of the input is `--`, and all of it is behind
+pub record IsUndivided (input before behind : List ℕ) : Type 0 where
+  pub none : (p r : List ℕ) → PartsAt input p r → ⊥
+  pub nothing : before ≡ []
+  pub all : behind ≡ input
+
+-- what stands before the first line `--` and what behind it; without such a line nothing and the whole input
+abbrev pub IsParted : List ℕ → List ℕ → List ℕ → Type 0
+IsParted input before behind = IsFirstParting input before behind ⊎ IsUndivided input before behind

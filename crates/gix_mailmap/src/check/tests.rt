@@ -1,0 +1,69 @@
+use super::*;
+use std::test::Fail;
+
+/// Two mappings of one email: for everybody, and for one name.
+const TEAM: &[u8] = b"
+Joe R. Developer <joe@example.com> <bugs@example.com>
+Jane Doe <jane@example.com> Jane <bugs@example.com>
+";
+
+/// Each contact is looked up; later buffers stand behind earlier ones.
+#[test]
+fn contacts_are_answered_by_the_buffers(rt: HostRuntime) -> Result<(), Fail> {
+    let rows: [(&[&[u8]], &[u8], &[u8]); 4] = [
+        (
+            &[b"Joe R. Developer <joe@example.com> <bugs@example.com>\n"],
+            b"bob <BUGS@example.com>\n",
+            b"Joe R. Developer <joe@example.com>\n",
+        ),
+        (
+            &[TEAM],
+            b"JANE <Bugs@example.com>",
+            b"Jane Doe <jane@example.com>\n",
+        ),
+        (
+            &[TEAM],
+            b"bob <BUGS@example.com>\nnot a contact\n",
+            b"Joe R. Developer <joe@example.com>\nnot a contact\n",
+        ),
+        (&[b"N <a@x>", b"M <A@x>"], b"b <A@x>", b"M <a@x>\n"),
+    ];
+    for (buffers, contacts, answers) in rows {
+        let text = check(rt.alloc(), buffers, contacts)?;
+        assert_eq!(rt; text.as_slice(), answers, "{contacts:?}");
+    }
+    Ok(())
+}
+
+/// Contacts that nothing is known of are trimmed, and other lines stand as they are, without their ends.
+#[test]
+fn without_buffers_contacts_are_laid_out(rt: HostRuntime) -> Result<(), Fail> {
+    let rows: [(&[u8], &[u8]); 3] = [
+        (
+            b"  Bob  < q@z > rest\r\n<>\n\nopen <x",
+            b"Bob <q@z>\n<>\n\nopen <x\n",
+        ),
+        (b"x\r\ny\r", b"x\ny\r\n"),
+        (b"", b""),
+    ];
+    for (contacts, answers) in rows {
+        let text = check(rt.alloc(), &[], contacts)?;
+        assert_eq!(rt; text.as_slice(), answers, "{contacts:?}");
+    }
+    Ok(())
+}
+
+/// The first line that is just `--` parts the input; blanks, or a carriage return at the end, make another line.
+#[test]
+fn split_parts_at_the_first_line_of_two_dashes(rt: HostRuntime) {
+    let rows = [
+        (b"a\n--\nb".as_slice(), b"a\n".as_slice(), b"b".as_slice()),
+        (b"--", b"", b""),
+        (b"a\n -- \n", b"", b"a\n -- \n"),
+        (b"--\r\nx", b"", b"x"),
+        (b"--\r", b"", b"--\r"),
+    ];
+    for (input, before, behind) in rows {
+        assert_eq!(rt; split(input), (before, behind));
+    }
+}
