@@ -65,8 +65,10 @@ pub record EmailsState (gs0 : List EmailGroup) (ps0 : List Item) (pool0 : Text) 
 pub emails_start : (gs : List EmailGroup) (ps : List Item) (c : Contents) (pool0 : Text) → AreGroups gs → IsAscending text_cmp (map by ps) → c ≡ record { pool = pool0; groups = []; loose = [] } → EmailsState gs ps pool0 gs ps c
 emails_start gs ps c pool0 are up is =
     subst (EmailsState gs ps pool0 gs ps) (sym is) (record {
-      done = []; taken = [];
-      standing_is = refl; batch_is = refl;
+      done = [];
+      taken = [];
+      standing_is = refl;
+      batch_is = refl;
       pool = extends_itself pool0 pool0 refl;
       no_loose = refl;
       order = order_start (map email_key gs) (map by ps) are.ascending up;

@@ -32,8 +32,7 @@ loop-left-preserved c =
     let good = good_items c.args.batch.now c.requires.accepted in
     let put = subst (λ (l : List Placed). RunPut (drop c.loop-left.from standing.groups) (drop c.in_ok-from.from standing.groups) (map placed_at l) (first_email (map mapping_at l)) c.loop-left.out c.join_run.new.out) c.before-in-loop-left.ensures c.in_ok-from.ensures.put in
     subst (λ (l : List Placed). EmailsState standing.groups (map placed_at c.args.batch.now) standing.pool (drop c.in_ok-from.from standing.groups) (map placed_at l) c.join_run.new.out × (c.in_ok-from.from ≤ length standing.groups) × IsBatch l)
-    (sym c.behind-left.ensures)
-    (
+    (sym c.behind-left.ensures) (
       step_at standing.groups (map placed_at c.args.batch.now) standing.pool c.requires.standing good (drop c.loop-left.from standing.groups) (drop c.in_ok-from.from standing.groups) left len _ (folded c.old_email.result.now) c.loop-left.out c.join_run.new.out
           c.loop-left.invariant.0 some (sym (ap folded c.old_email.ensures)) c.email_run-len.ensures.within c.email_run-len.ensures.same c.email_run-len.ensures.other put,
       c.in_ok-from.ensures.within,
