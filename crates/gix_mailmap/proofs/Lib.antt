@@ -41,6 +41,11 @@ pub mod Parting
 pub mod NamePlaces
 pub mod NamesLoop
 pub mod FrontRuns
+pub mod Whole
+pub mod RowCount
+pub mod Left
+pub mod Drained
+pub mod Compacted
 pub mod Sources
 pub mod Contacts
 pub mod Dividers
@@ -51,3 +56,4 @@ pub mod RunPuts
 pub mod EmailsLoop
 pub mod SortedRuns
 pub mod WholeMerge
+pub mod Built

@@ -16,6 +16,7 @@ pub mod CanonicalText
 pub mod Times
 pub mod Answers
 pub mod Named
+pub mod Writing
 pub mod Sources
 pub mod Contacts
 pub mod Parts

@@ -5,6 +5,7 @@ ghost use Rattle.gix_mailmap.specs.Contacts.{answer, answers, contact, fields_fo
 ghost use Rattle.gix_mailmap.specs.Histories.{IsNormal};
 ghost use Rattle.gix_mailmap.specs.Lines.{good};
 
+mod compaction;
 mod parts;
 #[cfg(test)]
 mod tests;
@@ -13,6 +14,7 @@ use crate::actor::SignatureRef;
 use crate::lines::{Half, parse_ignore_errors, parse_name_and_email, trim};
 use crate::snapshot::Snapshot;
 use bstr::ByteSlice;
+pub use compaction::compact;
 pub use parts::split;
 use std::alloc::{AllocError, Global};
 

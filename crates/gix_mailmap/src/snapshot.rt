@@ -11,6 +11,7 @@ mod resolved;
 mod signature;
 mod sources;
 mod tables;
+mod text;
 
 pub use listing::Iter;
 pub use resolved::ResolvedSignature;
@@ -19,6 +20,7 @@ pub use sources::Source;
 use std::alloc::Global;
 use std::marker::Model;
 use tables::Tables;
+pub use text::WriteError;
 
 /// What a history of entries maps: for each old email, and for each old name of it, the name and the email that stand
 /// in their place. Case is ignored where it is that of ASCII letters.

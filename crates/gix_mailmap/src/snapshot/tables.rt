@@ -146,6 +146,7 @@ impl Tables {
 
 impl Tables {
     ghost use Rattle.gix_mailmap.specs.Groups.{Contents, EmailGroup, NameGroup};
+    ghost use Rattle.gix_mailmap.specs.Groups.{listing};
     ghost use Rattle.gix_mailmap.specs.Pool.{spelled, LiesIn, group_of, RowsLie};
 
     /// The allocator that the tables keep.
@@ -158,6 +159,13 @@ impl Tables {
         ensures { result ≡ length self.now.groups }
     {
         self.emails.len()
+    }
+
+    /// The number of rows in both tables. No listing is longer.
+    pub(crate) fn row_count(&self) -> usize
+        ensures { length (listing self.now.groups) ≤ result }
+    {
+        self.emails.len() + self.names.len()
     }
 
     /// The text that a span names.

@@ -1,0 +1,169 @@
+#!/usr/bin/env python3
+"""Makes the maps and the contacts that bench/compare.py measures with.
+
+    make_maps.py FOLDER [LINES ..]      LINES: 1000 10000 100000 1000000 where none is given
+
+For each number of lines it writes into FOLDER three maps and two lists of contacts for each map:
+
+    mixed-LINES.mailmap       the emails in random order, one to three lines an email
+    sorted-LINES.mailmap      the same lines, in the order of their old emails
+    hundred-LINES.mailmap     a hundred lines an email, each for another old name, in random order
+    KIND-LINES.hits           contacts that are mapped, in random order, some of them in other letters
+    KIND-LINES.misses         contacts whose email no line of the map has, with the same domains and like names
+
+At most 100,000 contacts are written. The generator has a seed, so the same call writes the same bytes everywhere.
+"""
+import random
+import sys
+from pathlib import Path
+
+FIRST = """Ada Alan Alice Amir Anna Anton Barbara Bjarne Bob Carla Chen Claire Dana David Dmitri Edsger Elena Emil Eva
+Fatima Felix Fran Grace Hana Hugo Ines Ivan Jane Joan Joe John Jorge Julia Karl Katya Ken Lars Leslie Li Linus Luis
+Maria Marta Max Mei Mia Nadia Niklaus Nina Olga Omar Paul Pia Priya Rachel Ravi Robin Rosa Sam Sara Sofia Sven Tariq
+Theo Tim Tony Uma Vera Wang Yuki Zoe José Jürgen Łukasz Søren""".split()
+LAST = """Abe Adams Allen Bauer Becker Berg Brown Carter Castro Chang Clark Cruz Davis Diaz Dijkstra Evans Fischer
+Garcia Gomez Gupta Haas Hansen Hopper Huang Ito Jansen Johnson Jones Kaur Kim Klein Knuth Kowalski Kumar Lamport Lee
+Lopez Lovelace Martin Meyer Miller Moore Nguyen Novak Olsen Park Patel Perez Petrov Popov Quinn Rao Ritchie Rossi Sato
+Schmidt Silva Singh Smith Suzuki Tanaka Taylor Thompson Torres Turing Vogel Wagner Walker Wang Weber White Wilson Wirth
+Wong Yamada Young Zhang Müller Gödel""".split()
+DOMAINS = """example.com example.org example.net mail.example.com corp.example.com dev.corp.example.com
+users.noreply.example.com localhost.localdomain build.example.org kernel.example.org lists.example.net uni.example.edu
+cs.uni.example.edu math.uni.example.edu""".split()
+MOST_CONTACTS = 100_000
+
+
+def plain(text):
+    return text.lower().encode("ascii", "ignore").decode()
+
+
+def in_other_letters(rng, text):
+    """`text` with the case of some ASCII letters changed."""
+    return "".join(c.swapcase() if c.isascii() and rng.random() < 0.3 else c for c in text)
+
+
+class Person:
+    def __init__(self, rng, number):
+        self.first = rng.choice(FIRST)
+        self.last = rng.choice(LAST)
+        self.number = number
+        self.domain = rng.choice(DOMAINS)
+        self.form = rng.randrange(4)
+
+    def name(self):
+        return f"{self.first} {self.last}"
+
+    def email(self, suffix=""):
+        first, last = plain(self.first), plain(self.last)
+        local = [
+            f"{first}.{last}{self.number}",
+            f"{first[:1]}{last}{self.number}",
+            f"{self.number}+{first}",
+            f"{last}-{self.number}",
+        ][self.form]
+        return f"{local}{suffix}@{self.domain}"
+
+    def proper_email(self):
+        return f"{plain(self.first)}@{plain(self.last)}{self.number % 97}.example.com"
+
+
+def entry(rng, person, spelling, name):
+    """A line for an old email, and for an old name where there is one; a fifth of the lines without one has two names."""
+    if name is not None:
+        proper = f"{person.name()} " if rng.random() < 0.7 else ""
+        return f"{proper}<{person.proper_email()}> {name} <{spelling}>"
+    form = rng.random()
+    if form < 0.35:
+        return f"{person.name()} <{spelling}>"
+    if form < 0.55:
+        return f"<{person.proper_email()}> <{spelling}>"
+    return f"{person.name()} <{person.proper_email()}> <{spelling}>"
+
+
+def dressed(rng, line):
+    """The line as some people write it: with a comment behind it, or with more white space."""
+    form = rng.random()
+    if form < 0.02:
+        return f"{line} # was wrong"
+    if form < 0.05:
+        return f"  {line}\t"
+    return line
+
+
+def other_line(rng):
+    """A line that maps nothing: blank, a comment, or a fault."""
+    return rng.choice(["", "", "# people who moved", "#", "plain words", "Jane <jane@example.com", "<x@example.com>", "A <> <b@example.com>"])
+
+
+def mixed(rng, lines):
+    """Entries as (old email, old name, line), one to three an email, and the people behind them."""
+    made, number = [], 0
+    while len(made) < lines:
+        number += 1
+        person = Person(rng, number)
+        email = person.email()
+        for place in range(min(rng.choice([1, 1, 1, 2, 3]), lines - len(made))):
+            spelling = email if rng.random() < 0.9 else in_other_letters(rng, email)
+            name = f"{person.first} {place}" if rng.random() < 0.3 else None
+            made.append((email, name or person.name(), dressed(rng, entry(rng, person, spelling, name))))
+    return made
+
+
+def hundred(rng, lines):
+    """Entries of which a hundred stand for each email."""
+    made, number = [], 0
+    while len(made) < lines:
+        number += 1
+        person = Person(rng, number)
+        email = person.email()
+        for place in range(min(100, lines - len(made))):
+            name = f"{rng.choice(FIRST)} {person.last} {place}"
+            made.append((email, name, dressed(rng, entry(rng, person, email, name))))
+    return made
+
+
+def written(rng, path, entries, others):
+    """Writes the lines, and among them `others` that map nothing."""
+    places = sorted(rng.randrange(len(entries)) for _ in range(others))
+    text, done = [], 0
+    for place in places:
+        text += [line for _, _, line in entries[done:place]]
+        text.append(other_line(rng))
+        done = place
+    text += [line for _, _, line in entries[done:]]
+    path.write_text("\n".join(text) + "\n", encoding="utf-8")
+
+
+def contacts(rng, folder, stem, entries):
+    hits = [entries[rng.randrange(len(entries))] for _ in range(min(len(entries), MOST_CONTACTS))]
+    text = []
+    for email, name, _ in hits:
+        email = in_other_letters(rng, email) if rng.random() < 0.2 else email
+        text.append(f"{name} <{email}>\n")
+    (folder / f"{stem}.hits").write_text("".join(text), encoding="utf-8")
+    text = []
+    for number in range(len(hits)):
+        person = Person(rng, number)
+        text.append(f"{person.name()} <{person.email('x')}>\n")
+    (folder / f"{stem}.misses").write_text("".join(text), encoding="utf-8")
+
+
+def main():
+    folder = Path(sys.argv[1])
+    folder.mkdir(parents=True, exist_ok=True)
+    for lines in [int(word) for word in sys.argv[2:]] or [1_000, 10_000, 100_000, 1_000_000]:
+        rng = random.Random(lines)
+        others = lines // 64
+        some = mixed(rng, lines - others)
+        many = hundred(rng, lines - others)
+        by_email = sorted(some, key=lambda e: e[0])
+        rng.shuffle(some)
+        rng.shuffle(many)
+        for kind, entries in [("mixed", some), ("sorted", by_email), ("hundred", many)]:
+            written(rng, folder / f"{kind}-{lines}.mailmap", entries, others)
+            contacts(rng, folder, f"{kind}-{lines}", entries)
+
+
+if __name__ == "__main__":
+    if len(sys.argv) < 2:
+        sys.exit(__doc__)
+    main()

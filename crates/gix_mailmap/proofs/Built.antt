@@ -1,0 +1,47 @@
+-- What a merge of an iterator's entries makes of a snapshot.
+use Rattle.std.proofs.Common.{◌≡◌, ◌≢◌, true, List, [], ◌∷◌, ◌++◌, map, Result, Ok, Err, append-nil, refl, sym, ap, subst, ◌∙◌}
+use Rattle.std.specs.Iterator.{Yields, YieldsFirstBy}
+use Rattle.std.specs.List.{AllByRecursion}
+use Rattle.std.specs.Result.{IfOk, OnErr}
+use Rattle.std.proofs.lemmas.List.Elements.{filter-append, filter_passes, recursion_from_All}
+use Rattle.gix_mailmap.specs.Entries.{Mapping}
+use Rattle.gix_mailmap.specs.Histories.{IsNormal, accepted, is_accepted}
+use Rattle.gix_mailmap.proofs.Alike.{same_normal, alike_accepted}
+use Rattle.gix_mailmap.proofs.Parts.{filter_all}
+
+accepted_twice : (xs : List Mapping) → accepted (accepted xs) ≡ accepted xs
+accepted_twice xs = filter_all is_accepted (accepted xs) (recursion_from_All _ (accepted xs) (filter_passes is_accepted xs))
+
+-- only the accepted entries count
+pub normal_accepted : (a xs n : List Mapping) → IsNormal (a ++ accepted xs) n → IsNormal (a ++ xs) n
+normal_accepted a xs n =
+    same_normal (a ++ accepted xs) (a ++ xs) n (alike_accepted (a ++ accepted xs) (a ++ xs)
+    (filter-append is_accepted a (accepted xs) ∙ ap (λ l. accepted a ++ l) (accepted_twice xs) ∙ sym (filter-append is_accepted a xs)))
+
+-- where nothing is accepted nothing changes
+pub normal_unchanged : (a xs : List Mapping) → accepted xs ≡ [] → IsNormal a a → IsNormal (a ++ xs) a
+normal_unchanged a xs none d = normal_accepted a xs a (subst (λ l. IsNormal (a ++ l) a) (sym none) (subst (λ l. IsNormal l a) (sym (append-nil a)) d))
+
+pub accepted_good : (xs : List Mapping) → AllByRecursion (λ m. is_accepted m ≡ true) (accepted xs)
+accepted_good xs = recursion_from_All _ (accepted xs) (filter_passes is_accepted xs)
+
+-- ---- an iterator over a list
+
+pub yields_front : {S A B : Type 0} (v : A → B) (rest : S → List B) (xs : List A) (s t : S) → Yields (YieldsFirstBy v rest) s xs t → rest s ≡ map v xs ++ rest t
+yields_front v rest [] s t e = ap rest e
+yields_front v rest (x ∷ xs) s t e = e.1 ∙ ap (λ l. v x ∷ l) (yields_front v rest xs e.0 t e.2)
+
+pub accepted_front : (xs ys : List Mapping) → accepted xs ≢ [] → accepted (xs ++ ys) ≢ []
+accepted_front xs ys some none = front (accepted xs) some (sym (filter-append is_accepted xs ys) ∙ none)
+  where
+    front : (l : List Mapping) → l ≢ [] → l ++ accepted ys ≡ [] → ⊥
+    front [] n e = n refl
+    front (x ∷ l) n e = cc
+
+pub if_ok_map : {T E : Type 0} (r : Result T E) (P Q : T → Type 0) → ((x : T) → P x → Q x) → IfOk r P → IfOk r Q
+if_ok_map (Ok x) P Q f p = f x p
+if_ok_map (Err e) P Q f p = tt
+
+pub on_err_map : {T E : Type 0} (r : Result T E) (P Q : Type 0) → (P → Q) → OnErr r P → OnErr r Q
+on_err_map (Ok x) P Q f p = tt
+on_err_map (Err e) P Q f p = f p

@@ -1,0 +1,21 @@
+-- Texts that trimming leaves whole.
+use Rattle.std.proofs.Common.{◌≡◌, [], ◌∷◌, ◌++◌, length, length-append, append-nil, refl, sym, ap, ◌∙◌, arith}
+use Rattle.std.specs.Str.{encode_utf8_all}
+use Rattle.gix_mailmap.specs.Folding.{Text}
+use Rattle.gix_mailmap.specs.Trimming.{trim, IsTrimmed}
+use Rattle.gix_mailmap.proofs.Trimmed.{trimmed-made}
+
+-- no bytes before or behind a text of the same length
+nothing_round : (a b t : Text) → length ((a ++ (t ++ b))) ≡ length t → a ++ (t ++ b) ≡ t
+nothing_round [] [] t e = append-nil t
+nothing_round [] (x ∷ b) t e = absurd (omega (arith, e, length-append t (x ∷ b)))
+nothing_round (x ∷ a) b t e = absurd (omega (arith, e, length-append (x ∷ a) (t ++ b), length-append t b))
+
+-- a text that trimming doesn't shorten is trimmed
+pub whole : (s : Text) → length (trim s) ≡ length s → s ≡ trim s
+whole s e =
+    let made : IsTrimmed s (trim s) = trimmed-made s (trim s) refl in
+    let before : Text = encode_utf8_all made.1.white in
+    let behind : Text = encode_utf8_all made.2.white in
+    let parts : s ≡ before ++ (trim s ++ behind) = made.1.whole ∙ ap (λ l. before ++ l) made.2.whole in
+    parts ∙ nothing_round before behind (trim s) (ap length (sym parts) ∙ sym e)

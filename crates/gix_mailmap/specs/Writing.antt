@@ -1,0 +1,19 @@
+-- What the writing of a snapshot answers.
+use Rattle.std.specs.Prelude.{◌≡◌, ℕ, List, Some, take, slice_get}
+use Rattle.std.specs.List.{All}
+use Rattle.gix_mailmap.specs.declared.snapshot.text.WriteError.{WriteError}
+use Rattle.gix_mailmap.specs.declared.snapshot.text.WriteError.TheVariants.{Unwritable, Memory}
+use Rattle.gix_mailmap.specs.CanonicalText.{IsWritable}
+use Rattle.gix_mailmap.specs.Entries.{Mapping}
+
+-- a line can hold each entry before this place, and not the one at it
+pub record IsFirstUnwritable (es : List Mapping) (place : ℕ) : Type 0 where
+  pub before : All IsWritable (take place es)
+  pub entry : Mapping
+  pub here : slice_get es place ≡ Some entry
+  pub unwritable : ¬ IsWritable entry
+
+-- why these entries aren't written: the first that no line can hold, or want of memory where a line can hold each
+abbrev pub IsUnwrittenBy : List Mapping → WriteError → Type 0
+IsUnwrittenBy es (Unwritable place) = IsFirstUnwritable es place
+IsUnwrittenBy es (Memory error) = All IsWritable es

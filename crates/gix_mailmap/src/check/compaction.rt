@@ -1,0 +1,36 @@
+//! Buffers of mailmap lines, merged into one mailmap without what later lines replaced.
+ghost use Rattle.std.specs.Prelude.{◌≡◌, IfOk, List, map};
+ghost use Rattle.std.specs.List.{flat_map};
+ghost use Rattle.gix_mailmap.specs.CanonicalText.{text};
+ghost use Rattle.gix_mailmap.specs.Entries.{Mapping};
+ghost use Rattle.gix_mailmap.specs.Histories.{IsNormal};
+ghost use Rattle.gix_mailmap.specs.Lines.{good};
+
+#[cfg(test)]
+mod tests;
+
+use crate::parse_ignore_errors;
+use crate::snapshot::{Snapshot, WriteError};
+use std::alloc::{AllocError, Global};
+
+/// The mailmap that maps as the buffers do, one after another: each key has one line, and the lines are in the order of
+/// [`Snapshot::iter`](crate::snapshot::Snapshot::iter()).
+///
+/// Lines that can't be read are left out, comments too. `Err` where memory is refused.
+///
+/// The buffers `N <a@x>` and `M <A@x>` give ` M <a@x>`.
+pub fn compact(alloc: Global, buffers: &[&[u8]]) -> Result<Vec<u8>, AllocError>
+    // the text of the normal list of what the buffers say
+    ensures { IfOk result (λ v. (n : List Mapping) × IsNormal (flat_map good (map (λ b. b.now) buffers.now)) n × (v.items ≡ text n)) }
+{
+    let mut snapshot = Snapshot::empty(alloc);
+    for buffer in buffers {
+        snapshot.merge(parse_ignore_errors(buffer))?;
+    }
+    match snapshot.write(alloc) {
+        Ok(written) => Ok(written),
+        Err(WriteError::Memory(error)) => Err(error),
+        // a line can hold each entry that was read from one
+        Err(WriteError::Unwritable { .. }) => unreachable!(),
+    }
+}

@@ -1,0 +1,29 @@
+//! The contacts that are looked up, a line for each.
+
+use bstr::ByteSlice;
+use gix_mailmap::actor::SignatureRef;
+use std::alloc::{AllocError, Global};
+
+/// The name and the email of a line, as in `Jane <j@x>`, `None` where there is none.
+fn contact(line: &[u8]) -> Option<SignatureRef<'_>> {
+    let line = line.trim();
+    let open = line.find_byte(b'<')?;
+    let behind = &line[open + 1..];
+    let close = behind.find_byte(b'>')?;
+    Some(SignatureRef {
+        name: (&line[..open]).trim(),
+        email: (&behind[..close]).trim(),
+        time: "1711398853 +0800",
+    })
+}
+
+/// The contacts of a text.
+pub fn contacts(alloc: Global, text: &[u8]) -> Result<Vec<SignatureRef<'_>>, AllocError> {
+    let mut all = Vec::new(alloc);
+    for line in text.lines() {
+        if let Some(contact) = contact(line) {
+            all.push(contact)?;
+        }
+    }
+    Ok(all)
+}

@@ -1,0 +1,40 @@
+//! Times the calls of gix_mailmap on mailmaps in files, so that they can be compared with the same calls elsewhere.
+#![tactic(auto)]
+
+mod contacts;
+mod input;
+mod laps;
+mod modes;
+mod tally;
+
+use anyhow::{Result, bail};
+use std::env;
+
+const USAGE: &str = "\
+usage: mailmap_bench MODE ARGS
+    bench-parse FILE [N]             walks over the items of FILE, N times
+    bench-build FILE [N]             builds the snapshot of FILE, N times
+    bench-lookup FILE CONTACTS [N]   looks each line of CONTACTS up, N times
+    bench-merge1 FILE                merges the entries of FILE one by one
+    bench-merge FILE K               merges the entries of FILE in batches of K
+Each prints one line: how often, and the nanoseconds of all, the quickest, the middle and the slowest one.
+";
+
+fn main(rt: HostRuntime) -> Result<()> {
+    let words: Vec<String> = env::args(&rt)?.collect(rt.alloc())?;
+    let (mode, words) = match words.as_slice() {
+        [_, mode, words @ ..] => (mode.as_str(), words),
+        _ => {
+            print!(rt; "{USAGE}")?;
+            return Ok(());
+        }
+    };
+    match mode {
+        "bench-parse" => modes::walks(&rt, words),
+        "bench-build" => modes::builds(&rt, words),
+        "bench-lookup" => modes::lookups(&rt, words),
+        "bench-merge1" => modes::merges(&rt, mode, words, 1),
+        "bench-merge" => modes::merges(&rt, mode, words, input::number(words, 1)?),
+        _ => bail!("unknown mode {mode}"),
+    }
+}

@@ -1,0 +1,141 @@
+//! What is timed. Each mode sums up what it is given, so that none of it can be left out.
+ghost use Rattle.std.specs.Prelude.{◌<◌};
+
+use crate::contacts::contacts;
+use crate::input::{file, number};
+use crate::laps::Laps;
+use crate::tally::Tally;
+use anyhow::Result;
+use gix_mailmap::actor::SignatureRef;
+use gix_mailmap::snapshot::Snapshot;
+use gix_mailmap::{Entry, parse, parse_ignore_errors};
+use std::alloc::{AllocError, Global};
+use std::rt::Runtime;
+use std::time::Instant;
+
+/// Walks over the items of a file.
+pub fn walks<R: Runtime + AllocGlobal>(rt: &R, words: &[String]) -> Result<()> {
+    let buf = file(rt, words, 0)?;
+    let mut laps = Laps::new(rt.alloc());
+    let mut tally = Tally::new();
+    for _ in 0..number(words, 1)? {
+        let start = Instant::now(rt)?;
+        tally = walk(&buf);
+        laps.end(rt, start)?;
+    }
+    let bytes = buf.len();
+    let laps = laps.summary();
+    println!(rt; "bench-parse {laps} bytes={bytes} items={tally}")?;
+    Ok(())
+}
+
+fn walk(buf: &[u8]) -> Tally {
+    let mut tally = Tally::new();
+    for item in parse(buf) {
+        match item {
+            Ok(entry) => tally.add(entry_len(&entry)),
+            Err(error) => tally.add(error.input().len()),
+        }
+    }
+    tally
+}
+
+// How long the texts of an entry are together.
+fn entry_len(entry: &Entry<'_>) -> usize {
+    let names = optional_len(entry.new_name()).wrapping_add(optional_len(entry.old_name()));
+    let emails = optional_len(entry.new_email()).wrapping_add(entry.old_email().len());
+    names.wrapping_add(emails)
+}
+
+fn optional_len(text: Option<&[u8]>) -> usize {
+    match text {
+        Some(text) => text.len(),
+        None => 0,
+    }
+}
+
+/// Builds the snapshot of a file.
+pub fn builds<R: Runtime + AllocGlobal>(rt: &R, words: &[String]) -> Result<()> {
+    let buf = file(rt, words, 0)?;
+    let mut laps = Laps::new(rt.alloc());
+    let mut tally = Tally::new();
+    for _ in 0..number(words, 1)? {
+        let start = Instant::now(rt)?;
+        let snapshot = Snapshot::from_bytes(rt.alloc(), &buf)?;
+        laps.end(rt, start)?;
+        tally = listed(&snapshot);
+    }
+    let bytes = buf.len();
+    let laps = laps.summary();
+    println!(rt; "bench-build {laps} bytes={bytes} entries={tally}")?;
+    Ok(())
+}
+
+fn listed(snapshot: &Snapshot) -> Tally {
+    let mut tally = Tally::new();
+    for entry in snapshot.iter() {
+        tally.add(entry_len(&entry));
+    }
+    tally
+}
+
+/// Looks contacts up in the snapshot of a file.
+pub fn lookups<R: Runtime + AllocGlobal>(rt: &R, words: &[String]) -> Result<()> {
+    let buf = file(rt, words, 0)?;
+    let snapshot = Snapshot::from_bytes(rt.alloc(), &buf)?;
+    let text = file(rt, words, 1)?;
+    let contacts = contacts(rt.alloc(), &text)?;
+    let mut laps = Laps::new(rt.alloc());
+    let mut tally = Tally::new();
+    for _ in 0..number(words, 2)? {
+        let start = Instant::now(rt)?;
+        tally = look_up(&snapshot, &contacts);
+        laps.end(rt, start)?;
+    }
+    let count = contacts.len();
+    let laps = laps.summary();
+    println!(rt; "bench-lookup {laps} contacts={count} hits={tally}")?;
+    Ok(())
+}
+
+fn look_up(snapshot: &Snapshot, contacts: &[SignatureRef<'_>]) -> Tally {
+    let mut tally = Tally::new();
+    for contact in contacts {
+        if let Some(found) = snapshot.try_resolve_ref(*contact) {
+            tally.add(optional_len(found.name).wrapping_add(optional_len(found.email)));
+        }
+    }
+    tally
+}
+
+/// Merges the entries of a file, in batches.
+pub fn merges<R: Runtime + AllocGlobal>(
+    rt: &R,
+    mode: &str,
+    words: &[String],
+    batch: usize,
+) -> Result<()>
+    requires { 0 < batch }
+{
+    let buf = file(rt, words, 0)?;
+    let entries: Vec<Entry<'_>> = parse_ignore_errors(&buf).collect(rt.alloc())?;
+    let mut laps = Laps::new(rt.alloc());
+    let start = Instant::now(rt)?;
+    let snapshot = merged(rt.alloc(), &entries, batch)?;
+    laps.end(rt, start)?;
+    let merges = entries.len().div_ceil(batch);
+    let laps = laps.summary();
+    let tally = listed(&snapshot);
+    println!(rt; "{mode} {laps} merges={merges} batch={batch} entries={tally}")?;
+    Ok(())
+}
+
+fn merged(alloc: Global, entries: &[Entry<'_>], batch: usize) -> Result<Snapshot, AllocError>
+    requires { 0 < batch }
+{
+    let mut snapshot = Snapshot::empty(alloc);
+    for chunk in entries.chunks(batch) {
+        snapshot.merge(chunk.iter().copied())?;
+    }
+    Ok(snapshot)
+}

@@ -1,0 +1,29 @@
+//! What was given, in two numbers.
+
+use std::fmt;
+
+/// How many items there were, and how long their texts are together.
+#[derive(Clone, Copy)]
+pub struct Tally {
+    items: usize,
+    bytes: usize,
+}
+
+impl Tally {
+    /// No item yet.
+    pub fn new() -> Tally {
+        Tally { items: 0, bytes: 0 }
+    }
+
+    /// Adds an item whose texts are `bytes` long.
+    pub fn add(&mut self, bytes: usize) {
+        self.items = self.items.wrapping_add(1);
+        self.bytes = self.bytes.wrapping_add(bytes);
+    }
+}
+
+impl fmt::Display for Tally {
+    fn fmt<W: fmt::Write>(&self, f: &mut fmt::Formatter<W>) -> fmt::Result {
+        write!(f, "{} texts={}", self.items, self.bytes)
+    }
+}
