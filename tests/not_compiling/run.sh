@@ -9,6 +9,8 @@ trap 'rm -rf "$work"' EXIT
 
 mkdir -p "$work/crates/gix_mailmap" "$work/crates/case/src"
 cp -r "$top/crates/gix_mailmap/"{src,specs,proofs} "$work/crates/gix_mailmap"
+# what earlier runs proved need not be proved again
+[ ! -d "$top/crates/gix_mailmap/out" ] || cp -r "$top/crates/gix_mailmap/out" "$work/crates/gix_mailmap"
 cp "$top/HANDLES" "$work"
 grep '^gix_mailmap:' "$top/crates.txt" > "$work/crates.txt"
 echo 'case: gix_mailmap' >> "$work/crates.txt"
