@@ -16,11 +16,13 @@ import re
 import subprocess
 import sys
 import tempfile
+import time
 from pathlib import Path
 
 KINDS = ["mixed", "sorted", "hundred"]
 SIZES = [1_000, 100_000, 1_000_000]
 MERGE_SIZE = 10_000
+WHOLE_SIZE = 100_000
 # how often a run repeats what it times, by the number of lines
 REPEATS = {1_000: 400, 10_000: 40, 100_000: 5, 1_000_000: 2}
 
@@ -37,13 +39,33 @@ def fields(line):
 
 
 def peak(words):
-    """The largest resident set of a run, in bytes."""
-    child = subprocess.Popen(words, stdin=subprocess.DEVNULL, stdout=subprocess.DEVNULL)
-    _, status, usage = os.wait4(child.pid, 0)
-    child.returncode = os.waitstatus_to_exitcode(status)
-    if child.returncode != 0:
+    """The largest resident set of a run, in bytes, as the system counted it when the run had printed its line.
+
+    The line goes into a full pipe, so the program stands still behind all its work until it has been asked.
+    """
+    reader, writer = os.pipe()
+    os.set_blocking(writer, False)
+    filled = 0
+    try:
+        while True:
+            filled += os.write(writer, b"\0" * 4096)
+    except BlockingIOError:
+        os.set_blocking(writer, True)
+    child = subprocess.Popen(words, stdin=subprocess.DEVNULL, stdout=writer)
+    os.close(writer)
+    still, largest = 0, 0
+    while still < 20:
+        status = Path(f"/proc/{child.pid}/status").read_text()
+        if "VmHWM" not in status:
+            raise RuntimeError(f"{' '.join(words)}: ended early")
+        still = still + 1 if "State:\tS" in status else 0
+        largest = int(re.search(r"VmHWM:\s*(\d+)", status).group(1)) * 1024
+        time.sleep(0.005)
+    with os.fdopen(reader, "rb") as pipe:
+        said = pipe.read()[filled:]
+    if child.wait() != 0 or not said:
         raise RuntimeError(f"{' '.join(words)}: status {child.returncode}")
-    return usage.ru_maxrss * 1024
+    return largest
 
 
 class Cell:
@@ -77,6 +99,11 @@ def cells(maps):
                 yield Cell(f"lookups, {contacts}", kind, size, words)
         path = str(maps / f"{kind}-{MERGE_SIZE}.mailmap")
         yield Cell("one merge per entry", kind, MERGE_SIZE, ["bench-merge1", path])
+        path = str(maps / f"{kind}-{WHOLE_SIZE}")
+        repeats = str(REPEATS[WHOLE_SIZE])
+        words = ["bench-check", f"{path}.mailmap", f"{path}.hits", repeats]
+        yield Cell("check", kind, WHOLE_SIZE, words)
+        yield Cell("compact", kind, WHOLE_SIZE, ["bench-compact", f"{path}.mailmap", repeats])
 
 
 def duration(nanos):

@@ -4,7 +4,7 @@ use Rattle.std.specs.List.{flat_map}
 use Rattle.gix_mailmap.specs.Entries.{Mapping}
 use Rattle.gix_mailmap.specs.Folding.{Text}
 use Rattle.gix_mailmap.specs.Histories.{Fields, no_fields, scan}
-use Rattle.gix_mailmap.specs.Lines.{Half, Absent, Unclosed, Closed, cut, trimmed_half, with_first}
+use Rattle.gix_mailmap.specs.Lines.{Half, Absent, Unclosed, Closed, cut, good, trimmed_half, with_first}
 use Rattle.gix_mailmap.specs.Trimming.{trim}
 
 -- a line feed comes next
@@ -44,3 +44,7 @@ answer h line = half_answer h line (trimmed_half (cut (trim line)))
 -- one answer for each line of contacts, each with a line feed at its end
 abbrev pub answers : List Mapping → Text → Text
 answers h contacts = flat_map (λ line. answer h line ++ 10 ∷ []) (lines contacts)
+
+-- the answers to lines of contacts by what the buffers say, one buffer after another
+abbrev pub answers_by : List Text → Text → Text
+answers_by buffers contacts = answers (flat_map good buffers) contacts

@@ -1,10 +1,13 @@
 -- What the writing of a snapshot answers.
 use Rattle.std.specs.Prelude.{◌≡◌, ℕ, List, Some, take, slice_get}
-use Rattle.std.specs.List.{All}
+use Rattle.std.specs.List.{All, flat_map}
 use Rattle.gix_mailmap.specs.declared.snapshot.text.WriteError.{WriteError}
 use Rattle.gix_mailmap.specs.declared.snapshot.text.WriteError.TheVariants.{Unwritable, Memory}
-use Rattle.gix_mailmap.specs.CanonicalText.{IsWritable}
+use Rattle.gix_mailmap.specs.CanonicalText.{IsWritable, text}
 use Rattle.gix_mailmap.specs.Entries.{Mapping}
+use Rattle.gix_mailmap.specs.Folding.{Text}
+use Rattle.gix_mailmap.specs.Histories.{IsNormal}
+use Rattle.gix_mailmap.specs.Lines.{good}
 
 -- a line can hold each entry before this place, and not the one at it
 pub record IsFirstUnwritable (es : List Mapping) (place : ℕ) : Type 0 where
@@ -17,3 +20,7 @@ pub record IsFirstUnwritable (es : List Mapping) (place : ℕ) : Type 0 where
 abbrev pub IsUnwrittenBy : List Mapping → WriteError → Type 0
 IsUnwrittenBy es (Unwritable place) = IsFirstUnwritable es place
 IsUnwrittenBy es (Memory error) = All IsWritable es
+
+-- the bytes are the text of the normal list of what the buffers say, one buffer after another
+abbrev pub IsCompacted : List Text → Text → Type 0
+IsCompacted buffers bytes = (n : List Mapping) × IsNormal (flat_map good buffers) n × (bytes ≡ text n)

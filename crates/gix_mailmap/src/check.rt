@@ -1,7 +1,7 @@
 //! Answers for contacts: what mailmaps make of lines like `Jane <jane@x>`.
 ghost use Rattle.std.specs.Prelude.{◌≡◌, ◌++◌, map, unwrap_or, IfOk, OnOk};
 ghost use Rattle.std.specs.List.{flat_map};
-ghost use Rattle.gix_mailmap.specs.Contacts.{answer, answers, contact, fields_for};
+ghost use Rattle.gix_mailmap.specs.Contacts.{answer, answers, answers_by, contact, fields_for};
 ghost use Rattle.gix_mailmap.specs.Histories.{IsNormal};
 ghost use Rattle.gix_mailmap.specs.Lines.{good};
 
@@ -27,7 +27,7 @@ use std::alloc::{AllocError, Global};
 ///
 /// By the buffer `Jane Doe <jane@x>` the contacts `jane <JANE@x>\r\nplain` are answered `Jane Doe <jane@x>\nplain\n`.
 pub fn check(alloc: Global, buffers: &[&[u8]], contacts: &[u8]) -> Result<Vec<u8>, AllocError>
-    ensures { IfOk result (λ text. text.items ≡ answers (flat_map good (map (λ b. b.now) buffers.now)) contacts.now) }
+    ensures { IfOk result (λ text. text.items ≡ answers_by (map (λ b. b.now) buffers.now) contacts.now) }
 {
     let snapshot = merged(alloc, buffers)?;
     answer_all(alloc, &snapshot, contacts)

@@ -15,6 +15,8 @@ usage: mailmap_bench MODE ARGS
     bench-parse FILE [N]             walks over the items of FILE, N times
     bench-build FILE [N]             builds the snapshot of FILE, N times
     bench-lookup FILE CONTACTS [N]   looks each line of CONTACTS up, N times
+    bench-check FILE CONTACTS [N]    answers each line of CONTACTS, N times
+    bench-compact FILE [N]           writes the canonical text of FILE, N times
     bench-merge1 FILE                merges the entries of FILE one by one
     bench-merge FILE K               merges the entries of FILE in batches of K
 Each prints one line: how often, and the nanoseconds of all, the quickest, the middle and the slowest one.
@@ -33,6 +35,8 @@ fn main(rt: HostRuntime) -> Result<()> {
         "bench-parse" => modes::walks(&rt, words),
         "bench-build" => modes::builds(&rt, words),
         "bench-lookup" => modes::lookups(&rt, words),
+        "bench-check" => modes::checks(&rt, words),
+        "bench-compact" => modes::compactions(&rt, words),
         "bench-merge1" => modes::merges(&rt, mode, words, 1),
         "bench-merge" => modes::merges(&rt, mode, words, input::number(words, 1)?),
         _ => bail!("unknown mode {mode}"),

@@ -8,7 +8,7 @@ use crate::tally::Tally;
 use anyhow::Result;
 use gix_mailmap::actor::SignatureRef;
 use gix_mailmap::snapshot::Snapshot;
-use gix_mailmap::{Entry, parse, parse_ignore_errors};
+use gix_mailmap::{Entry, check, parse, parse_ignore_errors};
 use std::alloc::{AllocError, Global};
 use std::rt::Runtime;
 use std::time::Instant;
@@ -138,4 +138,37 @@ fn merged(alloc: Global, entries: &[Entry<'_>], batch: usize) -> Result<Snapshot
         snapshot.merge(chunk.iter().copied())?;
     }
     Ok(snapshot)
+}
+
+/// Answers a file of contacts by the snapshot of a file.
+pub fn checks<R: Runtime + AllocGlobal>(rt: &R, words: &[String]) -> Result<()> {
+    let buf = file(rt, words, 0)?;
+    let contacts = file(rt, words, 1)?;
+    let mut laps = Laps::new(rt.alloc());
+    let mut len = 0;
+    for _ in 0..number(words, 2)? {
+        let start = Instant::now(rt)?;
+        let answers = check::check(rt.alloc(), &[&buf], &contacts)?;
+        laps.end(rt, start)?;
+        len = answers.len();
+    }
+    let laps = laps.summary();
+    println!(rt; "bench-check {laps} texts={len}")?;
+    Ok(())
+}
+
+/// Writes the canonical text of a file.
+pub fn compactions<R: Runtime + AllocGlobal>(rt: &R, words: &[String]) -> Result<()> {
+    let buf = file(rt, words, 0)?;
+    let mut laps = Laps::new(rt.alloc());
+    let mut len = 0;
+    for _ in 0..number(words, 1)? {
+        let start = Instant::now(rt)?;
+        let text = check::compact(rt.alloc(), &[&buf])?;
+        laps.end(rt, start)?;
+        len = text.len();
+    }
+    let laps = laps.summary();
+    println!(rt; "bench-compact {laps} texts={len}")?;
+    Ok(())
 }

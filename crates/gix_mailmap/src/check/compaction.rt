@@ -1,10 +1,6 @@
 //! Buffers of mailmap lines, merged into one mailmap without what later lines replaced.
-ghost use Rattle.std.specs.Prelude.{◌≡◌, IfOk, List, map};
-ghost use Rattle.std.specs.List.{flat_map};
-ghost use Rattle.gix_mailmap.specs.CanonicalText.{text};
-ghost use Rattle.gix_mailmap.specs.Entries.{Mapping};
-ghost use Rattle.gix_mailmap.specs.Histories.{IsNormal};
-ghost use Rattle.gix_mailmap.specs.Lines.{good};
+ghost use Rattle.std.specs.Prelude.{IfOk, map};
+ghost use Rattle.gix_mailmap.specs.Writing.{IsCompacted};
 
 #[cfg(test)]
 mod tests;
@@ -21,7 +17,7 @@ use std::alloc::{AllocError, Global};
 /// The buffers `N <a@x>` and `M <A@x>` give ` M <a@x>`.
 pub fn compact(alloc: Global, buffers: &[&[u8]]) -> Result<Vec<u8>, AllocError>
     // the text of the normal list of what the buffers say
-    ensures { IfOk result (λ v. (n : List Mapping) × IsNormal (flat_map good (map (λ b. b.now) buffers.now)) n × (v.items ≡ text n)) }
+    ensures { IfOk result (λ v. IsCompacted (map (λ b. b.now) buffers.now) v.items) }
 {
     let mut snapshot = Snapshot::empty(alloc);
     for buffer in buffers {

@@ -4,25 +4,18 @@ use std::test::Fail;
 /// With ample memory all sources are made, also an empty one, and later ones count.
 #[test]
 fn each_source_is_merged_behind_the_ones_before_it(rt: HostRuntime) -> Result<(), Fail> {
-    let n = [Entry::change_name_by_email(b"N", b"a@x")];
-    let rows = [
-        [
-            Source::Buffer(b"N <a@x>"),
-            Source::Buffer(b""),
-            Source::Buffer(b"M <a@x>"),
-        ],
-        [
-            Source::Entries(&n),
-            Source::Entries(&[]),
-            Source::Buffer(b"M <A@x>"),
-        ],
-        [
-            Source::Buffer(b"plain"),
-            Source::Buffer(b"M <a@x>"),
-            Source::Entries(&[]),
-        ],
+    let n: &[Entry<'_>] = &[Entry::change_name_by_email(b"N", b"a@x")];
+    let rows: [(&[u8], &[Entry<'_>], &[u8]); 3] = [
+        (b"N <a@x>", &[], b"M <a@x>"),
+        (b"", n, b"M <A@x>"),
+        (b"M <a@x>", &[], b"plain"),
     ];
-    for sources in rows {
+    for (first, entries, last) in rows {
+        let sources = [
+            Source::Buffer(first),
+            Source::Entries(entries),
+            Source::Buffer(last),
+        ];
         let mut snapshot = Snapshot::empty(rt.alloc());
         let mut made = [false; 3];
         snapshot.merge_sources(&sources, &mut made);

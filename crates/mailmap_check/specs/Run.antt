@@ -1,0 +1,32 @@
+-- What the two runs of the program write, in terms of the library's two texts.
+use Rattle.std.specs.Prelude.{◌≡◌, ℕ, List, [], ◌∷◌, Option, None, Some, map, option_map, take, ⊤}
+use Rattle.std.specs.Borrow.{Bor}
+use Rattle.std.specs.Io.KnownBytes.{Appends}
+use Rattle.gix_mailmap.specs.Contacts.{answers_by}
+use Rattle.gix_mailmap.specs.Parts.{IsParted}
+use Rattle.gix_mailmap.specs.Writing.{IsCompacted}
+
+-- the bytes of the files, where files are given
+abbrev pub bytes_of : Option (Bor (List (Bor (List ℕ)))) → Option (List (List ℕ))
+bytes_of files = option_map (λ given. map (λ file. file.now) given.now) files
+
+-- The text answers the contact lines. With files all of the input holds contacts; without, they stand behind the mailmap.
+-- Of an input that isn't known it says nothing.
+abbrev pub IsAnswer : Option (List (List ℕ)) → Option (List ℕ) → List ℕ → Type 0
+IsAnswer files None text = ⊤
+IsAnswer (Some buffers) (Some input) text = text ≡ answers_by buffers input
+IsAnswer None (Some input) text = (mailmap contacts : List ℕ) × IsParted input mailmap contacts × (text ≡ answers_by (mailmap ∷ []) contacts)
+
+-- The text is the mailmap written anew: of the files, or without files of all of the input, where that is known.
+abbrev pub IsMailmap : Option (List (List ℕ)) → Option (List ℕ) → List ℕ → Type 0
+IsMailmap (Some buffers) input text = IsCompacted buffers text
+IsMailmap None (Some input) text = IsCompacted (input ∷ []) text
+IsMailmap None None text = ⊤
+
+-- what a writer holds has grown by such a text
+abbrev pub Prints : (List ℕ → Type 0) → Option (List ℕ) → Option (List ℕ) → Type 0
+Prints IsText old new = (text : List ℕ) × IsText text × Appends old new text
+
+-- what a writer holds has grown by a front of such a text
+abbrev pub PrintsFront : (List ℕ → Type 0) → Option (List ℕ) → Option (List ℕ) → Type 0
+PrintsFront IsText old new = (text : List ℕ) × IsText text × ((count : ℕ) × Appends old new (take count text))
