@@ -1,5 +1,5 @@
 -- Two iterators whose items are compared, and entries that are compared or hashed by what they say.
-use Rattle.std.proofs.Common.{◌≡◌, ◌&&◌, Bool, true, false, List, [], ◌∷◌, ◌++◌, map, Option, Some, None, option_map, IfSome, fold, refl, sym, ap, ap₂, subst, ◌∙◌}
+use Rattle.std.proofs.Common.{◌≡◌, ◌&&◌, Bool, true, false, List, [], ◌∷◌, Option, Some, None, IfSome, refl, sym, ap, ap₂, subst, ◌∙◌}
 use Rattle.std.specs.Hash as fed
 use Rattle.std.specs.Iterator.{YieldsThen, AlwaysYields, ComparesItemsByEq}
 use Rattle.std.specs.List.{AllZip}

@@ -1,8 +1,8 @@
 -- What a search behind a place says of the whole list.
 use Rattle.std.proofs.Common.{◌≡◌, ℕ, zero, suc, ◌+◌, ◌-◌, ◌<◌, ◌≤◌, List, [], ◌∷◌, length, map, drop, get_or, Some, Ordering, Less, Equal, Greater, Result, Ok, Err, IfOk, IfErr, sym, ap, ◌∙◌, arith, option_map, refl}
-use Rattle.std.specs.List.{slice_get, AllByRecursion}
+use Rattle.std.specs.List.{slice_get}
 use Rattle.std.specs.List.Sorted.{IsStrictlySortedBy, IsPartitionPoint, IsSearchInRange}
-use Rattle.std.proofs.lemmas.List.{get_or-map, get_or-drop, length-map, length-drop, drop-map}
+use Rattle.std.proofs.lemmas.List.{get_or-map, get_or-drop, length-map, length-drop}
 use Rattle.std.proofs.lemmas.Map.Keys.{Less-from_sorted}
 use Rattle.std.proofs.lemmas.Map.Lookups.{exact_bytes}
 use Rattle.std.proofs.lemmas.Option.{slice_get-get_or, slice_get-map}

@@ -1,5 +1,5 @@
 -- That equal listings are the same, and the laws of their equality and of their hash that follow.
-use Rattle.std.proofs.Common.{◌≡◌, ◌&&◌, Bool, true, false, true≢false, List, [], ◌∷◌, Option, Some, None, refl, sym, ap, ap₂, subst, ◌∙◌}
+use Rattle.std.proofs.Common.{◌≡◌, ◌&&◌, Bool, true, false, true≢false, List, Option, Some, None, refl, sym, ap, ap₂, subst}
 use Rattle.std.specs.Bool.{Decides, IsTrue}
 use Rattle.std.specs.Cmp.{IsEquivalence, IsPartialEquivalence, partial_equiv_from_equiv, first_so, second_so}
 use Rattle.std.specs.Prelude.{nat_eq}

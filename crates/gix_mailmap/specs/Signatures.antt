@@ -1,5 +1,5 @@
 -- What a lookup answers, and what it may have to look through.
-use Rattle.std.specs.Prelude.{◌≡◌, ◌+◌, ℕ, Bool, ◌&&◌, if◌then◌else◌, is_some, List, [], ◌∷◌, count_by}
+use Rattle.std.specs.Prelude.{◌+◌, ℕ, Bool, ◌&&◌, if◌then◌else◌, is_some, List, [], ◌∷◌, count_by}
 use Rattle.std.specs.List.{list_any}
 use Rattle.std.specs.Option.{option_copied}
 use Rattle.std.specs.Ordering.{eq_by_cmp}

@@ -1,4 +1,4 @@
-use Rattle.std.proofs.Common.{◌≡◌, ℕ, map, [], None, refl, arith, Equal, Less, Greater, Some, length}
+use Rattle.std.proofs.Common.{◌≡◌, map, [], None, arith, Equal, Less, Greater, Some, length}
 use Rattle.std.specs.List.{slice_get}
 use Rattle.std.specs.List.Sorted.{IsPartitionPoint}
 use Rattle.std.specs.Cmp.Lexicographic.{nat_list_cmp_total}

@@ -1,4 +1,4 @@
-use Rattle.std.proofs.Common.{◌≡◌, ◌++◌, fold, sym, ap, ◌∙◌}
+use Rattle.std.proofs.Common.{◌++◌, fold, sym, ap, ◌∙◌}
 use Rattle.std.specs.Hash as fed
 use Rattle.std.proofs.lemmas.List.Sums.{fold-append}
 use Rattle.gix_mailmap.specs.Entries.{mapping_of}
