@@ -1,9 +1,7 @@
 -- Tables that are a snapshot's.
-use Rattle.std.proofs.Common.{◌≡◌, List, [], refl}
-use Rattle.std.specs.List.{AllByRecursion}
+use Rattle.std.proofs.Common.{[], refl}
 use Rattle.std.specs.List.Sorted.{IsStrictlySortedBy}
-use Rattle.gix_mailmap.specs.Folding.{text_cmp}
-use Rattle.gix_mailmap.specs.Groups.{AreGroups, Contents, IsComplete}
+use Rattle.gix_mailmap.specs.Groups.{AreGroups, IsComplete}
 
 pub no_groups : AreGroups []
 unfolding IsStrictlySortedBy

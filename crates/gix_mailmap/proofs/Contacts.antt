@@ -1,15 +1,15 @@
 -- The lines of contacts are those that bstr gives, and a normal list answers them as its history does.
-use Rattle.std.proofs.Common.{◌≡◌, ◌≢◌, ◌+◌, ◌-◌, ◌<◌, ◌≤◌, ℕ, suc, Bool, true, false, cond, ◌==◌, nat_lt, List, [], ◌∷◌, ◌++◌, length, take, drop, map, slice_index, unwrap_or, refl, sym, ap, ◌∙◌, arith, ⊎_elim}
+use Rattle.std.proofs.Common.{◌≡◌, ◌≢◌, ◌-◌, ℕ, suc, Bool, true, false, cond, ◌==◌, nat_lt, List, [], ◌∷◌, ◌++◌, length, take, drop, map, slice_index, unwrap_or, refl, sym, ap, ◌∙◌, arith, ⊎_elim}
 use Rattle.std.specs.Prelude.{◌&&◌}
 use Rattle.std.specs.List.{flat_map}
-use Rattle.std.proofs.lemmas.Bool.{cases_Bool, cond-true, cond-false, eqb-true, eqb-false, ne_eqb}
+use Rattle.std.proofs.lemmas.Bool.{cases_Bool, cond-true, cond-false, eqb-false, ne_eqb}
 use Rattle.std.proofs.lemmas.Bool.Decides.{nat_tests}
 use Rattle.bstr.specs.Text.{line_len, lines_of, no_cr, without_terminator}
 use Rattle.bstr.proofs.lemmas.LineLemmas.{lines-nil, lines-step}
 use Rattle.gix_mailmap.specs.Contacts.{answer, answers, fields_for, feeds, half_answer, lines, replaced}
 use Rattle.gix_mailmap.specs.Entries.{Mapping}
 use Rattle.gix_mailmap.specs.Folding.{Text}
-use Rattle.gix_mailmap.specs.Histories.{IsNormal, no_fields, scan}
+use Rattle.gix_mailmap.specs.Histories.{IsNormal, no_fields}
 use Rattle.gix_mailmap.specs.Lines.{Half, Absent, Unclosed, Closed, cut, trimmed_half, with_first}
 use Rattle.gix_mailmap.specs.Trimming.{trim}
 use Rattle.gix_mailmap.proofs.Alike.{same_scan}

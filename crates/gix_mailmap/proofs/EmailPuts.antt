@@ -1,21 +1,20 @@
 -- One email on its way out of a merge.
-use Rattle.std.proofs.Common.{◌≡◌, ◌≢◌, ◌+◌, ◌<◌, ◌≤◌, ℕ, zero, suc, true, false, List, [], ◌∷◌, ◌++◌, map, take, drop, get_or, length, Option, Some, None, IsSome, Bor, HoldsAt, unwrap_or, option_map, Ordering, Less, Equal, Greater, length-append, refl, sym, ap, subst, ◌∙◌, arith}
+use Rattle.std.proofs.Common.{◌≡◌, ◌≢◌, ◌<◌, ℕ, zero, suc, true, false, List, [], ◌∷◌, ◌++◌, map, drop, length, Option, Some, None, IsSome, Bor, HoldsAt, unwrap_or, option_map, Ordering, length-append, refl, sym, ap, subst, ◌∙◌, arith}
 use Rattle.std.specs.List.{AllByRecursion, fold}
-use Rattle.std.specs.Option.{ForSome, option_cmp, option_copied, option_or}
+use Rattle.std.specs.Option.{ForSome, option_cmp, option_copied}
 use Rattle.std.specs.Ordering.{is_lt}
 use Rattle.std.proofs.lemmas.List.{map-append}
 use Rattle.gix_mailmap.specs.Alike.{Alike}
 use Rattle.gix_mailmap.specs.Entries.{Mapping}
 use Rattle.gix_mailmap.specs.Folding.{Text, folded, text_cmp}
-use Rattle.gix_mailmap.specs.Groups.{NameGroup, EmailGroup, Contents, own_rows, rows, name_row}
-use Rattle.gix_mailmap.specs.Histories.{Fields, no_fields, is_accepted}
-use Rattle.gix_mailmap.specs.Merging.{IsAscending, EmailRun, Extends, IsNamed, NamesJoined, NamesPut, EmailJoined, EmailPut, give, mapping_at, name_text, with_email}
+use Rattle.gix_mailmap.specs.Groups.{NameGroup, EmailGroup, own_rows, rows}
+use Rattle.gix_mailmap.specs.Histories.{is_accepted}
+use Rattle.gix_mailmap.specs.Merging.{IsAscending, Extends, IsNamed, NamesJoined, EmailJoined, give, mapping_at, name_text, with_email}
 use Rattle.gix_mailmap.specs.Pool.{spelled, LiesIn}
 use Rattle.gix_mailmap.specs.declared.snapshot.batch.Placed.{Placed}
 use Rattle.gix_mailmap.specs.declared.snapshot.tables.Span.{Span}
-use Rattle.gix_mailmap.proofs.Given.{fold-give, fold-give-with_email}
+use Rattle.gix_mailmap.proofs.Given.{fold-give-with_email}
 use Rattle.gix_mailmap.proofs.Merging.{own_of, IsOwn, own_joined, group_joined}
-use Rattle.gix_mailmap.proofs.Parts.{all_front}
 use Rattle.gix_mailmap.proofs.Pooled.{spelled-append, options-append}
 
 -- ---- texts in a pool that has grown

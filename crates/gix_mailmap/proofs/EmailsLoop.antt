@@ -1,5 +1,5 @@
 -- The emails of a snapshot, as they come out one after another.
-use Rattle.std.proofs.Common.{◌≡◌, ◌≢◌, ◌<◌, ◌≤◌, ℕ, false, true, List, [], ◌∷◌, ◌++◌, map, All, Contains, Option, Some, None, unwrap_or, option_map, Ordering, Less, Equal, Greater, is_eq, cond, filter, append-nil, append_assoc, refl, sym, ap, subst, ◌∙◌}
+use Rattle.std.proofs.Common.{◌≡◌, ◌≢◌, ◌≤◌, ℕ, false, true, List, [], ◌∷◌, ◌++◌, map, All, Contains, Option, Some, None, option_map, Ordering, Less, Equal, Greater, is_eq, cond, filter, append-nil, append_assoc, refl, sym, ap, subst, ◌∙◌}
 use Rattle.std.specs.Cmp.{tied_itself}
 use Rattle.std.specs.Cmp.Lexicographic.{nat_list_cmp_total}
 use Rattle.std.specs.List.{AllByRecursion}
@@ -13,7 +13,7 @@ use Rattle.gix_mailmap.specs.Entries.{Mapping}
 use Rattle.gix_mailmap.specs.Folding.{Text, folded, text_cmp}
 use Rattle.gix_mailmap.specs.Groups.{EmailGroup, IsGroup, AreGroups, Contents, email_key, rows, listing}
 use Rattle.gix_mailmap.specs.Histories.{key, key_cmp, is_accepted, accepted, first, of_email, spelling}
-use Rattle.gix_mailmap.specs.Merging.{IsAscending, AreBelowAll, InOrder, Extends, EmailJoined, EmailPlaced, known, unknown, IsEarliest, RunPut, IsSpelling, AllJoined, StartsOther, bare, email_text, first_email, spelled_by, with_email}
+use Rattle.gix_mailmap.specs.Merging.{IsAscending, AreBelowAll, InOrder, Extends, known, unknown, IsEarliest, RunPut, IsSpelling, AllJoined, StartsOther, bare, email_text, spelled_by, with_email}
 use Rattle.gix_mailmap.proofs.Alike.{alike_itself, first_parts}
 use Rattle.gix_mailmap.proofs.Merging.{AreBelow, step_copied, step_joined, step_made}
 use Rattle.gix_mailmap.proofs.NamePlaces.{extends_itself, extends_through}

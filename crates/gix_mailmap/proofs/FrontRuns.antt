@@ -1,10 +1,9 @@
 -- The entries at the front of a batch that belong together.
-use Rattle.std.proofs.Common.{◌≡◌, ◌≢◌, ◌+◌, ◌-◌, ◌<◌, ◌≤◌, ℕ, zero, suc, List, [], ◌∷◌, ◌++◌, map, take, drop, get_or, length, Option, Some, Contains, HoldsAt, subst, unwrap_or, refl, sym, ap, ◌∙◌, arith, take-append-drop, length-append}
+use Rattle.std.proofs.Common.{◌≡◌, ◌≢◌, ◌+◌, ◌-◌, ◌<◌, ◌≤◌, ℕ, zero, suc, List, [], ◌∷◌, ◌++◌, map, take, drop, get_or, length, Some, Contains, HoldsAt, subst, unwrap_or, refl, sym, ap, ◌∙◌, arith, take-append-drop, length-append}
 use Rattle.std.specs.List.{AllByRecursion}
 use Rattle.std.proofs.lemmas.List.{map-append, length-map, take_more, get_or-map}
 use Rattle.std.proofs.lemmas.List.Elements.{Contains-get_or, All-from_recursion}
-use Rattle.gix_mailmap.specs.Entries.{Mapping}
-use Rattle.gix_mailmap.specs.Folding.{Text, folded}
+use Rattle.gix_mailmap.specs.Folding.{folded}
 use Rattle.gix_mailmap.specs.Histories.{last}
 use Rattle.gix_mailmap.specs.Groups.{NameGroup}
 use Rattle.gix_mailmap.specs.Merging.{IsEarliest, NameRun, StartsOther, mapping_at, placed_at, name_text}

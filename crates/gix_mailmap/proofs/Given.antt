@@ -1,10 +1,10 @@
 -- Fields that are given one after another.
-use Rattle.std.proofs.Common.{◌≡◌, List, [], ◌∷◌, map, Option, Some, None, Bor, option_map, refl, sym, ap, ◌∙◌}
+use Rattle.std.proofs.Common.{◌≡◌, List, [], ◌∷◌, map, Option, Some, None, Bor, refl, sym, ap, ◌∙◌}
 use Rattle.std.specs.Option.{option_or, option_copied}
 use Rattle.std.specs.List.{fold}
 use Rattle.gix_mailmap.specs.Entries.{Mapping}
 use Rattle.gix_mailmap.specs.Folding.{Text}
-use Rattle.gix_mailmap.specs.Histories.{Fields, no_fields}
+use Rattle.gix_mailmap.specs.Histories.{Fields}
 use Rattle.gix_mailmap.specs.Merging.{give, with_email}
 
 pub copied-or : (a b : Option (Bor Text)) → option_copied (option_or a b) ≡ option_or (option_copied a) (option_copied b)

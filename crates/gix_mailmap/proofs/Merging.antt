@@ -1,7 +1,7 @@
 -- A sorted batch joined with standing groups, email by email and name by name.
 use Rattle.std.proofs.Common.{◌≡◌, ◌||◌, if◌then◌else◌, true, true≢false, List, [], ◌∷◌, ◌++◌, map, append-nil, append_assoc, is_some, option_map, Option, Some, None, Less, Greater, is_eq, refl, sym, ap, subst, ◌∙◌}
 use Rattle.std.specs.Cmp.Lexicographic.{nat_list_cmp_total, options_total}
-use Rattle.std.specs.Option.{option_or, option_cmp}
+use Rattle.std.specs.Option.{option_cmp}
 use Rattle.std.specs.Ordering.{ordering_then, ordering_reverse}
 use Rattle.std.specs.List.{AllByRecursion, fold}
 use Rattle.std.proofs.lemmas.Bool.{or_right}

@@ -1,17 +1,15 @@
 -- A name's place among the rows that are kept.
-use Rattle.std.proofs.Common.{◌≡◌, ◌+◌, ◌<◌, ◌≤◌, ℕ, zero, suc, Less, List, [], ◌∷◌, ◌++◌, map, take, drop, get_or, length, refl, sym, ap, subst, ◌∙◌, arith, append_assoc}
+use Rattle.std.proofs.Common.{◌≡◌, ◌+◌, ◌<◌, ℕ, zero, suc, Less, List, [], ◌∷◌, ◌++◌, map, take, drop, get_or, length, refl, sym, ap, subst, ◌∙◌, arith, append_assoc}
 use Rattle.std.specs.List.{AllByRecursion}
 use Rattle.std.proofs.lemmas.List.{map-append, take-map, drop-map, length-map, get_or-map, get_or_default}
 use Rattle.gix_mailmap.specs.Folding.{Text, folded, text_cmp}
 use Rattle.gix_mailmap.specs.Groups.{NameGroup, Contents, name_key}
 use Rattle.gix_mailmap.specs.Merging.{Extends, NamePut, NamePlaced, known, unknown}
 use Rattle.gix_mailmap.specs.Places.{IsFound, IsMissing}
-use Rattle.gix_mailmap.specs.Pool.{spelled, LiesIn, NameLies, name_group}
+use Rattle.gix_mailmap.specs.Pool.{spelled, NameLies, name_group}
 use Rattle.gix_mailmap.specs.declared.snapshot.tables.NameRow.{NameRow}
-use Rattle.gix_mailmap.specs.declared.snapshot.tables.Span.{Span}
 use Rattle.gix_mailmap.proofs.Parting.{part_front, split_front, found_key, missing_front, missing_above}
 use Rattle.gix_mailmap.proofs.Pooled.{names_lie_more, name_groups-append}
-use Rattle.gix_mailmap.proofs.Parts.{all_back, all_front}
 
 pub all_rest : {X : Type 0} (P : X → Type 0) (n : ℕ) (xs : List X) → AllByRecursion P xs → AllByRecursion P (drop n xs)
 all_rest P zero xs a = a

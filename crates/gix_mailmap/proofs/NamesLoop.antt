@@ -1,5 +1,5 @@
 -- The names of one email, as they come out one after another.
-use Rattle.std.proofs.Common.{◌≡◌, ◌≢◌, ◌<◌, false, true, List, [], ◌∷◌, ◌++◌, map, Option, Some, None, unwrap_or, option_map, IsSome, Ordering, Less, Equal, Greater, append-nil, append_assoc, refl, sym, ap, subst, ◌∙◌}
+use Rattle.std.proofs.Common.{◌≡◌, ◌≢◌, false, List, [], ◌∷◌, ◌++◌, map, Option, Some, None, unwrap_or, option_map, IsSome, Ordering, Less, Equal, Greater, append-nil, append_assoc, refl, sym, ap, subst, ◌∙◌}
 use Rattle.std.specs.Cmp.Lexicographic.{nat_list_cmp_total}
 use Rattle.std.specs.List.{AllByRecursion}
 use Rattle.std.specs.List.Sorted.{IsStrictlySortedBy}
@@ -10,13 +10,13 @@ use Rattle.std.proofs.lemmas.Map.Lookups.{exact_bytes}
 use Rattle.gix_mailmap.specs.Alike.{Alike}
 use Rattle.gix_mailmap.specs.Entries.{Mapping}
 use Rattle.gix_mailmap.specs.Folding.{Text, folded, text_cmp}
-use Rattle.gix_mailmap.specs.Groups.{NameGroup, Contents, name_key, name_row}
-use Rattle.gix_mailmap.specs.Histories.{key, last}
-use Rattle.gix_mailmap.specs.Merging.{IsAscending, AreBelowAll, InOrder, Extends, IsNamed, NamePut, NamePlaced, known, unknown, NamesJoined, NamesPut, NameRun, StartsOther, name_text, with_email}
+use Rattle.gix_mailmap.specs.Groups.{NameGroup, Contents, name_key}
+use Rattle.gix_mailmap.specs.Histories.{last}
+use Rattle.gix_mailmap.specs.Merging.{IsAscending, AreBelowAll, InOrder, Extends, IsNamed, NamePut, known, unknown, NamesPut, NameRun, StartsOther, name_text, with_email}
 use Rattle.gix_mailmap.proofs.Alike.{alike_itself}
 use Rattle.gix_mailmap.proofs.Merging.{name_rows, AreNamedBelow, renewed, names_copied, names_found, names_replaced, names_pushed}
 use Rattle.gix_mailmap.proofs.NamePlaces.{extends_itself, extends_through}
-use Rattle.gix_mailmap.proofs.Parts.{all_front, all_back, all_append}
+use Rattle.gix_mailmap.proofs.Parts.{all_front, all_back}
 use Rattle.gix_mailmap.proofs.Runs.{order_start, order_missing, order_found, order_end, turned}
 
 -- ---- what comes behind a run

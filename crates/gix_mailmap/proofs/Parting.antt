@@ -1,10 +1,10 @@
 -- A list round the place where a search ends.
-use Rattle.std.proofs.Common.{◌≡◌, ◌+◌, ◌-◌, ◌<◌, ◌≤◌, ℕ, zero, suc, List, [], ◌∷◌, ◌++◌, map, take, drop, get_or, length, Some, Less, Greater, refl, sym, ap, subst, ◌∙◌, arith, take-append-drop, length-drop, drop-cons}
+use Rattle.std.proofs.Common.{◌≡◌, ◌+◌, ◌-◌, ◌<◌, ◌≤◌, ℕ, zero, suc, List, [], ◌∷◌, ◌++◌, take, drop, get_or, length, Some, Less, Greater, refl, sym, ap, subst, ◌∙◌, arith, take-append-drop, length-drop, drop-cons}
 use Rattle.std.proofs.Math.Seq.{take-length}
 use Rattle.std.proofs.lemmas.List.{drop-drop}
 use Rattle.std.specs.Cmp.Lexicographic.{nat_list_cmp_total}
 use Rattle.std.specs.Ordering.{ordering_reverse}
-use Rattle.std.specs.List.{AllByRecursion, AllWithin, slice_get}
+use Rattle.std.specs.List.{AllByRecursion, AllWithin}
 use Rattle.gix_mailmap.specs.Folding.{Text, text_cmp}
 use Rattle.gix_mailmap.specs.Places.{IsFound, IsMissing}
 use Rattle.gix_mailmap.proofs.Pooled.{slice_get-map_at}

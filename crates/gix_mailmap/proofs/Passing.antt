@@ -1,16 +1,15 @@
 -- Standing emails that are passed on.
-use Rattle.std.proofs.Common.{◌≡◌, ◌+◌, ◌-◌, ◌≤◌, ◌<◌, ℕ, List, [], ◌∷◌, ◌++◌, map, take, drop, get_or, length, Some, length-drop, refl, sym, ap, subst, ◌∙◌, arith}
-use Rattle.std.specs.List.{AllByRecursion, slice_get}
+use Rattle.std.proofs.Common.{◌≡◌, ◌+◌, ◌-◌, ◌≤◌, ◌<◌, ℕ, List, [], ◌∷◌, ◌++◌, take, drop, get_or, length, Some, length-drop, ap, ◌∙◌, arith}
+use Rattle.std.specs.List.{slice_get}
 use Rattle.std.proofs.lemmas.List.{take_more, get_or-drop}
 use Rattle.std.proofs.lemmas.Option.{slice_get_within, get_or_from_slice_get}
 use Rattle.gix_mailmap.specs.Folding.{Text}
 use Rattle.gix_mailmap.specs.Groups.{EmailGroup}
 use Rattle.gix_mailmap.specs.Merging.{Extends}
-use Rattle.gix_mailmap.specs.Pool.{RowsLie, EmailLies, spelled, name_group, group_of}
+use Rattle.gix_mailmap.specs.Pool.{RowsLie, group_of}
 use Rattle.gix_mailmap.specs.declared.snapshot.tables.EmailRow.{EmailRow}
 use Rattle.gix_mailmap.specs.declared.snapshot.tables.NameRow.{NameRow}
 use Rattle.gix_mailmap.proofs.Pooled.{spelled-append, options-append, name_groups-append}
-use Rattle.gix_mailmap.proofs.NamePlaces.{names_lie_on}
 
 -- a row spells the same in a pool that has grown
 pub group_on : (a b : Text) → Extends a b → (row : EmailRow) (names : List NameRow) → RowsLie a row names → group_of b row names ≡ group_of a row names

@@ -1,13 +1,11 @@
 -- What tables denote when the pool, the names or the emails grow.
-use Rattle.std.proofs.Common.{◌≡◌, ◌+◌, ◌-◌, ◌≤◌, ◌<◌, get_or, ℕ, zero, suc, List, [], ◌∷◌, ◌++◌, map, take, drop, length, Option, Some, None, option_map, length-append, length-drop, refl, sym, ap, ap₂, ◌∙◌, arith, subst, append_assoc}
+use Rattle.std.proofs.Common.{◌≡◌, ◌-◌, ◌≤◌, ◌<◌, get_or, ℕ, zero, suc, List, [], ◌∷◌, ◌++◌, map, take, drop, length, Option, Some, None, option_map, length-append, length-drop, refl, sym, ap, ◌∙◌, arith, subst}
 use Rattle.std.specs.Option.{ForSome, option_map_or}
 use Rattle.std.specs.List.{slice_get}
 use Rattle.std.specs.List.{AllByRecursion}
 use Rattle.std.proofs.lemmas.List.{take-append-le, drop-append-le, drop_all, take_all, map-append}
-use Rattle.std.proofs.Math.Seq.{take-append_seam, drop-append_seam}
 use Rattle.gix_mailmap.specs.Folding.{Text}
-use Rattle.gix_mailmap.specs.Groups.{NameGroup, EmailGroup, Contents}
-use Rattle.gix_mailmap.specs.Pool.{RowsLie, names_of, group_of, spelled, LiesIn, name_group, email_group, NameLies, EmailLies, Follow, end_of, AreTables, contents}
+use Rattle.gix_mailmap.specs.Pool.{RowsLie, names_of, spelled, LiesIn, name_group, email_group, NameLies, EmailLies, Follow, end_of, AreTables, contents}
 use Rattle.gix_mailmap.specs.declared.snapshot.tables.Span.{Span}
 use Rattle.gix_mailmap.specs.declared.snapshot.tables.NameRow.{NameRow}
 use Rattle.gix_mailmap.specs.declared.snapshot.tables.EmailRow.{EmailRow}

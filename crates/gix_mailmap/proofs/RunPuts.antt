@@ -1,9 +1,8 @@
 -- The email of one run of the batch, behind the standing emails before it.
-use Rattle.std.proofs.Common.{◌≡◌, ◌+◌, ◌-◌, ◌<◌, ◌≤◌, ℕ, suc, Less, List, [], ◌∷◌, ◌++◌, map, take, drop, get_or, length, Some, append_assoc, refl, sym, ap, subst, ◌∙◌, arith}
-use Rattle.std.specs.List.{AllByRecursion, slice_get}
+use Rattle.std.proofs.Common.{◌≡◌, ◌+◌, ◌-◌, ◌<◌, ℕ, List, [], ◌∷◌, ◌++◌, map, take, drop, get_or, length, Some, append_assoc, refl, sym, ap, subst, ◌∙◌, arith}
+use Rattle.std.specs.List.{slice_get}
 use Rattle.std.specs.List.Sorted.{IsStrictlySortedBy}
 use Rattle.std.proofs.lemmas.Option.{slice_get_within, get_or_from_slice_get}
-use Rattle.gix_mailmap.specs.Entries.{Mapping}
 use Rattle.gix_mailmap.specs.Folding.{Text, text_cmp}
 use Rattle.gix_mailmap.specs.Groups.{EmailGroup, AreGroups, Contents, IsGroup, email_key, name_key}
 use Rattle.gix_mailmap.specs.Merging.{Extends, EmailPut, EmailJoined, EmailPlaced, known, unknown, IsEarliest, RunPut, bare, email_text, first_email, mapping_at, placed_at}

@@ -1,6 +1,5 @@
 -- Texts in order: what has come out of two lists lies below what is left of them.
-use Rattle.std.proofs.Common.{◌≡◌, ◌≢◌, true, false, List, [], ◌∷◌, ◌++◌, Ordering, Less, Equal, Greater, refl, sym, ap, subst, ◌∙◌}
-use Rattle.std.specs.Cmp.{IsTotalOrder}
+use Rattle.std.proofs.Common.{◌≡◌, List, [], ◌∷◌, ◌++◌, Less, sym, subst}
 use Rattle.std.specs.Cmp.Lexicographic.{nat_list_cmp_total}
 use Rattle.std.specs.List.{AllByRecursion}
 use Rattle.std.specs.List.Sorted.{IsStrictlySortedBy}
@@ -8,8 +7,6 @@ use Rattle.std.proofs.lemmas.Map.Keys.{sorted_head, sorted_tail}
 use Rattle.gix_mailmap.specs.Folding.{Text, text_cmp}
 use Rattle.gix_mailmap.specs.Merging.{IsAscending, AreBelowAll, InOrder}
 use Rattle.gix_mailmap.proofs.Parts.{all_append, all_front, all_back}
-use Rattle.gix_mailmap.proofs.Ascending.{before, behind}
-use Rattle.std.proofs.lemmas.Map.Lookups.{exact_bytes}
 
 abbrev Below : Text → List Text → Type 0
 Below x ys = AllByRecursion (λ y. text_cmp x y ≡ Less) ys

@@ -1,16 +1,15 @@
 -- The runs of a sorted batch, email by email.
-use Rattle.std.proofs.Common.{◌≡◌, ◌≢◌, ◌<◌, ◌≤◌, ◌==◌, ℕ, zero, suc, true, false, List, [], ◌∷◌, ◌++◌, map, take, drop, get_or, length, HoldsAt, option_map, refl, sym, ap, subst, ◌∙◌, arith, take-append-drop, eqb-true}
+use Rattle.std.proofs.Common.{◌≡◌, ◌≢◌, ◌<◌, ◌≤◌, ◌==◌, ℕ, zero, suc, true, false, List, [], ◌∷◌, ◌++◌, map, take, drop, get_or, length, HoldsAt, sym, ap, subst, ◌∙◌, arith, take-append-drop, eqb-true}
 use Rattle.std.specs.List.{AllByRecursion}
-use Rattle.std.specs.Option.{option_cmp}
 use Rattle.std.proofs.lemmas.List.{map-append, nil_from_length}
 use Rattle.gix_mailmap.specs.Entries.{Mapping}
-use Rattle.gix_mailmap.specs.Folding.{Text, folded, text_cmp}
+use Rattle.gix_mailmap.specs.Folding.{Text, text_cmp}
 use Rattle.gix_mailmap.specs.Groups.{EmailGroup, AreGroups, Contents}
 use Rattle.gix_mailmap.specs.Histories.{is_accepted, key, key_cmp}
 use Rattle.gix_mailmap.specs.Merging.{IsAscending, EmailRun, RunPut, StartsOther, email_text, first_email, mapping_at, placed_at}
 use Rattle.gix_mailmap.specs.declared.snapshot.batch.Placed.{Placed}
 use Rattle.gix_mailmap.proofs.Collected.{mapped_twice}
-use Rattle.gix_mailmap.proofs.EmailsLoop.{Item, by, EmailsState, emails_start, emails_step, emails_ascend, run_ascends, ascending_front}
+use Rattle.gix_mailmap.proofs.EmailsLoop.{Item, by, EmailsState, emails_step, emails_ascend, run_ascends, ascending_front}
 use Rattle.gix_mailmap.proofs.FrontRuns.{starts_other, all_mapped}
 use Rattle.gix_mailmap.proofs.Parts.{all_front, all_back}
 

@@ -1,7 +1,7 @@
 -- What merging an iterator says where it is known which entries it gives, and the history of sources step by step.
-use Rattle.std.proofs.Common.{◌≡◌, ◌≢◌, ◌+◌, ◌<◌, ◌≤◌, ℕ, suc, Bool, true, false, cond, Option, Some, List, [], ◌∷◌, ◌++◌, map, take, drop, length, get_or, Result, Ok, Err, OnOk, OnErr, is_ok, set, slice_get, Bor, ⊎_elim, append-nil, length-set, length-take-le, refl, sym, ap, subst, ◌∙◌, arith, append_assoc, take-append-drop}
+use Rattle.std.proofs.Common.{◌≡◌, ◌≢◌, ◌+◌, ◌<◌, ℕ, Bool, true, cond, Option, Some, List, [], ◌∷◌, ◌++◌, map, take, drop, length, get_or, Result, Ok, Err, OnOk, OnErr, is_ok, set, slice_get, Bor, ⊎_elim, append-nil, length-set, length-take-le, refl, sym, ap, subst, ◌∙◌, arith, append_assoc, take-append-drop}
 use Rattle.std.specs.List.{flat_map}
-use Rattle.std.specs.Iterator.{Drains, Yields, YieldsFirstBy}
+use Rattle.std.specs.Iterator.{Drains, Yields}
 use Rattle.std.proofs.lemmas.Iterator.{YieldsList, items_from_drains}
 use Rattle.std.proofs.lemmas.Iterator.Consumers.{YieldsList-so_far}
 use Rattle.std.specs.declared.alloc.AllocError.{AllocError}

@@ -1,8 +1,7 @@
 -- A merge as a whole: the emails are spelled as they are kept, and the result is normal.
-use Rattle.std.proofs.Common.{◌≡◌, ◌<◌, ◌≤◌, ◌+◌, append_assoc, ℕ, suc, true, List, [], ◌∷◌, ◌++◌, map, All, Contains, Option, Some, None, is_some, unwrap_or, option_map, refl, sym, ap, subst, ◌∙◌}
+use Rattle.std.proofs.Common.{◌≡◌, ◌+◌, append_assoc, ℕ, true, List, [], ◌∷◌, ◌++◌, map, Some, None, is_some, unwrap_or, option_map, refl, sym, ap, subst, ◌∙◌}
 use Rattle.std.specs.Cmp.{Equal-is}
 use Rattle.std.specs.List.{AllByRecursion, enumerate_from}
-use Rattle.std.specs.List.Sorted.{IsPermutation}
 use Rattle.std.specs.Option.{option_or}
 use Rattle.std.specs.Ordering.{eq_by_cmp}
 use Rattle.std.proofs.lemmas.Bool.{false_from_ne_true}
@@ -12,20 +11,19 @@ use Rattle.std.proofs.lemmas.Map.Lookups.{exact_bytes}
 use Rattle.gix_mailmap.specs.Alike.{Alike}
 use Rattle.gix_mailmap.specs.Entries.{Mapping}
 use Rattle.gix_mailmap.specs.Folding.{Text, folded, text_cmp}
-use Rattle.gix_mailmap.specs.Groups.{EmailGroup, AreGroups, Contents, email_key, listing}
-use Rattle.gix_mailmap.specs.Histories.{Key, key, key_cmp, first, is_accepted, accepted, of_key, has_key, spelling, value, IsNormal}
-use Rattle.gix_mailmap.specs.Merging.{IsAscending, IsSorted, IsSpelling, AllJoined, email_text, spelled_by, mapping_at, placed_at}
+use Rattle.gix_mailmap.specs.Groups.{EmailGroup, AreGroups, email_key, listing}
+use Rattle.gix_mailmap.specs.Histories.{Key, key, first, is_accepted, accepted, has_key, spelling, value, IsNormal}
+use Rattle.gix_mailmap.specs.Merging.{IsSorted, IsSpelling, AllJoined, email_text, spelled_by, mapping_at, placed_at}
 use Rattle.gix_mailmap.specs.declared.snapshot.batch.Placed.{Placed}
 use Rattle.gix_mailmap.proofs.Alike.{first_parts, key_parts}
 use Rattle.gix_mailmap.proofs.Ascending.{each_key}
 use Rattle.gix_mailmap.proofs.Batch.{respelled, alike_respelled, least_spells}
-use Rattle.gix_mailmap.proofs.Collected.{mapped_twice}
 use Rattle.gix_mailmap.proofs.Exists.{speller}
 use Rattle.gix_mailmap.proofs.Grouped.{spelled_at, picked_none, not_mailed, all_weaker, normal_of_groups}
 use Rattle.gix_mailmap.proofs.Joined.{alike_trans}
 use Rattle.gix_mailmap.proofs.Keys.{keys_total, keys_exact}
 use Rattle.gix_mailmap.proofs.Normal.{known}
-use Rattle.gix_mailmap.proofs.Parts.{filter_all, all_back}
+use Rattle.gix_mailmap.proofs.Parts.{filter_all}
 use Rattle.std.proofs.lemmas.Bool.{or_right}
 
 abbrev Item : Type 0

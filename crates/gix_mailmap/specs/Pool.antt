@@ -1,5 +1,5 @@
 -- Texts in a pool of bytes, and tables whose rows say where their texts stand in it.
-use Rattle.std.specs.Prelude.{◌≡◌, ◌≤◌, ◌+◌, ◌-◌, ℕ, Option, List, [], ◌∷◌, map, take, drop, length}
+use Rattle.std.specs.Prelude.{◌≡◌, ◌≤◌, ◌+◌, ◌-◌, ℕ, List, [], ◌∷◌, map, take, drop, length}
 use Rattle.std.specs.Option.{option_map, ForSome}
 use Rattle.std.specs.List.{AllByRecursion}
 use Rattle.gix_mailmap.specs.Folding.{Text}

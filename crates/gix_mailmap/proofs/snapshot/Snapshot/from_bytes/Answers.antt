@@ -1,5 +1,5 @@
-use Rattle.std.proofs.Common.{◌≡◌, ◌≢◌, ◌∙◌, [], ◌++◌, List, map, append-nil, sym, ap, subst}
-use Rattle.gix_mailmap.specs.Entries.{Mapping, mapping_of}
+use Rattle.std.proofs.Common.{◌≡◌, ◌≢◌, ◌∙◌, [], ◌++◌, map, append-nil, sym, ap, subst}
+use Rattle.gix_mailmap.specs.Entries.{mapping_of}
 use Rattle.gix_mailmap.specs.Histories.{IsNormal, accepted}
 use Rattle.gix_mailmap.specs.Lines.{good}
 use Rattle.gix_mailmap.proofs.Built.{yields_front, accepted_front, if_ok_map, on_err_map}

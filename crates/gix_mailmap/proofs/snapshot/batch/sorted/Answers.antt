@@ -1,16 +1,12 @@
-use Rattle.std.proofs.Common.{◌≡◌, ◌∷◌, Bool, List, map, sym, ap, subst, ◌∙◌, rules}
+use Rattle.std.proofs.Common.{◌≡◌, Bool, map, ap, rules}
 use Rattle.std.specs.Cmp.{IsStrictWeakOrder}
-use Rattle.std.specs.Fn.{Called, AlwaysReturns}
-use Rattle.std.specs.List.{enumerate_from}
-use Rattle.std.specs.List.Sorted.{IsPermutation, IsStableBy, IsSortedBy}
 use Rattle.std.specs.Ordering.{is_lt}
-use Rattle.std.proofs.lemmas.List.Sorted.{ranks_by, answers_always, IsPermutation-map}
-use Rattle.gix_mailmap.specs.Entries.{Mapping, mapping_of}
-use Rattle.gix_mailmap.specs.Histories.{Key, key, key_cmp, of_key}
-use Rattle.gix_mailmap.specs.Merging.{mapping_at, placed_at, IsSorted}
+use Rattle.std.proofs.lemmas.List.Sorted.{ranks_by, answers_always}
+use Rattle.gix_mailmap.specs.Entries.{mapping_of}
+use Rattle.gix_mailmap.specs.Histories.{key, key_cmp}
+use Rattle.gix_mailmap.specs.Merging.{mapping_at}
 use Rattle.gix_mailmap.specs.declared.snapshot.batch.Placed.{Placed}
 use Rattle.gix_mailmap.proofs.Keys.{keys_total}
-use Rattle.gix_mailmap.proofs.Batch.{keyed_from_stable}
 use Rattle.gix_mailmap.proofs.Collected.{sorted_batch}
 use Rattle.gix_mailmap.proofs.snapshot.batch.sorted.Goals as goal
 

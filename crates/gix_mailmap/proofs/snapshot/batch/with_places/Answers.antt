@@ -1,7 +1,7 @@
 use Rattle.std.proofs.Common.{◌≡◌, ◌+◌, ◌∷◌, [], ◌++◌, map, take, length, sym, ap, ◌∙◌, arith}
 use Rattle.std.specs.List.{enumerate_from}
 use Rattle.std.proofs.lemmas.List.{map_more, map_push, length-map, length-take-le}
-use Rattle.gix_mailmap.specs.Entries.{Mapping, mapping_of}
+use Rattle.gix_mailmap.specs.Entries.{mapping_of}
 use Rattle.gix_mailmap.specs.Merging.{placed_at}
 use Rattle.gix_mailmap.proofs.Collected.{enumerate_from-push}
 use Rattle.gix_mailmap.proofs.snapshot.batch.with_places.Goals as goal

@@ -1,4 +1,4 @@
-use Rattle.std.proofs.Common.{◌≡◌, map, take, length}
+use Rattle.std.proofs.Common.{◌≡◌, map, take}
 use Rattle.std.specs.List.{enumerate_from}
 use Rattle.gix_mailmap.specs.Entries.{mapping_of}
 use Rattle.gix_mailmap.specs.Merging.{placed_at}

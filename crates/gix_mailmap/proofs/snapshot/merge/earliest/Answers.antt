@@ -1,4 +1,4 @@
-use Rattle.std.proofs.Common.{◌≡◌, ◌≤◌, ◌+◌, take, length, sym, ap, subst, arith, take_all}
+use Rattle.std.proofs.Common.{◌≤◌, ◌+◌, take, sym, subst, arith, take_all}
 use Rattle.std.specs.List.{AllByRecursion}
 use Rattle.gix_mailmap.proofs.FrontRuns.{IsAt, least_more, earliest_from}
 use Rattle.gix_mailmap.proofs.snapshot.merge.earliest.Goals as goal

@@ -1,4 +1,4 @@
-use Rattle.std.proofs.Common.{◌≤◌, ◌<◌, take}
+use Rattle.std.proofs.Common.{◌≤◌, take}
 use Rattle.std.specs.List.{AllByRecursion}
 use Rattle.gix_mailmap.proofs.FrontRuns.{IsAt}
 use Rattle.gix_mailmap.proofs.snapshot.merge.earliest.Given as goal

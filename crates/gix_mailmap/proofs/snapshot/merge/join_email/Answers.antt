@@ -1,10 +1,9 @@
-use Rattle.std.proofs.Common.{◌≡◌, ◌∙◌, ◌++◌, ◌∷◌, [], List, map, take, drop, length, Option, None, true, option_map, sym, ap, subst, take-append-drop}
+use Rattle.std.proofs.Common.{◌≡◌, ◌∙◌, ◌++◌, ◌∷◌, [], List, map, take, drop, None, true, option_map, sym, ap, subst, take-append-drop}
 use Rattle.std.specs.List.{AllByRecursion, fold}
 use Rattle.std.specs.Option.{option_cmp, option_or, option_copied}
 use Rattle.std.proofs.lemmas.List.{drop-map, map-append}
-use Rattle.gix_mailmap.specs.Folding.{Text, folded, text_cmp}
-use Rattle.gix_mailmap.specs.Entries.{Mapping}
-use Rattle.gix_mailmap.specs.Groups.{Contents, EmailGroup}
+use Rattle.gix_mailmap.specs.Folding.{text_cmp}
+use Rattle.gix_mailmap.specs.Groups.{Contents}
 use Rattle.gix_mailmap.specs.Histories.{Fields, is_accepted, no_fields}
 use Rattle.gix_mailmap.specs.Merging.{IsAscending, IsNamed, Extends, EmailJoined, NamesJoined, give, mapping_at, name_text}
 use Rattle.gix_mailmap.specs.Named.{fields_given}

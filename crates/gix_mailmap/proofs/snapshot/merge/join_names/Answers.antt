@@ -1,8 +1,7 @@
-use Rattle.std.proofs.Common.{eqb-true, ◌≡◌, ◌∙◌, [], ◌++◌, List, map, drop, length, sym, ap, subst, arith}
+use Rattle.std.proofs.Common.{eqb-true, ◌≡◌, [], List, map, drop, length, sym, ap, subst, arith}
 use Rattle.std.specs.List.{AllByRecursion}
 use Rattle.std.proofs.lemmas.List.{nil_from_length}
-use Rattle.gix_mailmap.specs.Groups.{Contents}
-use Rattle.gix_mailmap.specs.Merging.{IsNamed, NamesPut, mapping_at}
+use Rattle.gix_mailmap.specs.Merging.{IsNamed, mapping_at}
 use Rattle.gix_mailmap.specs.Pool.{NameLies, name_group}
 use Rattle.gix_mailmap.specs.declared.snapshot.batch.Placed.{Placed}
 use Rattle.gix_mailmap.proofs.Collected.{on_ok_then}

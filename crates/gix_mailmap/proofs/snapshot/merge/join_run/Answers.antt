@@ -1,13 +1,12 @@
-use Rattle.std.proofs.Common.{◌≡◌, ◌∙◌, ◌-◌, ◌++◌, ◌∷◌, [], None, Some, List, map, take, drop, length, refl, sym, ap, subst}
-use Rattle.std.specs.List.{slice_get}
+use Rattle.std.proofs.Common.{◌≡◌, ◌∙◌, ◌++◌, [], List, map, refl, sym, ap, subst}
 use Rattle.std.specs.List.Sorted.{IsStrictlySortedBy}
 use Rattle.gix_mailmap.specs.Folding.{Text, folded, text_cmp}
 use Rattle.gix_mailmap.specs.Groups.{Contents, EmailGroup, NameGroup, email_key, name_key}
-use Rattle.gix_mailmap.specs.Merging.{Extends, EmailPut, RunPut, bare, first_email, mapping_at}
+use Rattle.gix_mailmap.specs.Merging.{Extends, EmailPut, bare, first_email, mapping_at}
 use Rattle.gix_mailmap.specs.Places.{IsFound, IsMissing}
-use Rattle.gix_mailmap.specs.Pool.{spelled, name_group, group_of}
+use Rattle.gix_mailmap.specs.Pool.{group_of}
 use Rattle.gix_mailmap.specs.declared.snapshot.tables.EmailRow.{EmailRow}
-use Rattle.gix_mailmap.proofs.NamePlaces.{extends_through, name_groups_on}
+use Rattle.gix_mailmap.proofs.NamePlaces.{name_groups_on}
 use Rattle.gix_mailmap.proofs.Passing.{group_on}
 use Rattle.gix_mailmap.proofs.Runs.{none_sorted}
 use Rattle.gix_mailmap.proofs.RunPuts.{first_email_at, names_of_place, run_put_known, run_put_unknown}

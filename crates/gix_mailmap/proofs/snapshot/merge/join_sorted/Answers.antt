@@ -1,15 +1,8 @@
-use Rattle.std.proofs.Common.{eqb-true, ◌≡◌, ◌≢◌, ◌∙◌, ◌-◌, ◌<◌, ◌≤◌, ◌++◌, [], true, List, map, take, drop, length, take_all, length-drop, sym, ap, subst, arith}
-use Rattle.std.specs.List.{AllByRecursion}
-use Rattle.std.proofs.lemmas.List.{nil_from_length}
-use Rattle.gix_mailmap.specs.Entries.{Mapping}
-use Rattle.gix_mailmap.specs.Folding.{Text, folded}
-use Rattle.gix_mailmap.specs.Groups.{Contents}
-use Rattle.gix_mailmap.specs.Histories.{is_accepted}
-use Rattle.gix_mailmap.specs.Merging.{EmailRun, RunPut, AllJoined, first_email, mapping_at, placed_at, email_text}
+use Rattle.std.proofs.Common.{◌≡◌, ◌∙◌, ◌-◌, ◌<◌, ◌≤◌, ◌++◌, List, map, take, drop, length, take_all, length-drop, sym, ap, subst, arith}
+use Rattle.gix_mailmap.specs.Folding.{folded}
+use Rattle.gix_mailmap.specs.Merging.{EmailRun, RunPut, first_email, mapping_at, placed_at}
 use Rattle.gix_mailmap.specs.declared.snapshot.batch.Placed.{Placed}
-use Rattle.gix_mailmap.proofs.Collected.{mapped_twice}
 use Rattle.gix_mailmap.proofs.EmailsLoop.{EmailsState, emails_start, emails_end}
-use Rattle.gix_mailmap.proofs.FrontRuns.{all_mapped}
 use Rattle.gix_mailmap.proofs.SortedRuns.{IsBatch, batch_behind, batch_run, batch_emails, run_some, step_at, good_items, some_left, none_left}
 use Rattle.gix_mailmap.proofs.snapshot.merge.join_sorted.Goals as goal
 

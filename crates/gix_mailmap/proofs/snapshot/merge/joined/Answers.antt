@@ -1,12 +1,11 @@
-use Rattle.std.proofs.Common.{◌≡◌, ◌∙◌, ◌++◌, List, true, map, sym, ap, subst}
+use Rattle.std.proofs.Common.{◌≡◌, ◌∙◌, List, true, map, sym, subst}
 use Rattle.std.specs.List.{AllByRecursion}
-use Rattle.gix_mailmap.specs.Entries.{Mapping, mapping_of}
-use Rattle.gix_mailmap.specs.Groups.{Contents, IsComplete, listing}
-use Rattle.gix_mailmap.specs.Histories.{IsNormal, is_accepted, key, key_cmp}
+use Rattle.gix_mailmap.specs.Entries.{mapping_of}
+use Rattle.gix_mailmap.specs.Groups.{Contents}
+use Rattle.gix_mailmap.specs.Histories.{is_accepted, key, key_cmp}
 use Rattle.gix_mailmap.specs.Merging.{IsAscending, AllJoined, mapping_at, placed_at}
 use Rattle.gix_mailmap.specs.declared.snapshot.batch.Placed.{Placed}
 use Rattle.gix_mailmap.proofs.Collected.{mapped_twice, if_ok_then}
-use Rattle.gix_mailmap.proofs.FrontRuns.{all_mapped}
 use Rattle.gix_mailmap.proofs.WholeMerge.{sorted_all, joined_normal, of_placed}
 use Rattle.gix_mailmap.proofs.snapshot.merge.joined.Goals as goal
 

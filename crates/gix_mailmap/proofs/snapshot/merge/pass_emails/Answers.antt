@@ -1,6 +1,5 @@
-use Rattle.std.proofs.Common.{◌≡◌, ◌+◌, ◌-◌, ◌≤◌, ◌<◌, ◌∷◌, [], ◌++◌, Some, List, map, take, drop, get_or, length, sym, ap, subst, ◌∙◌, append_assoc}
-use Rattle.std.specs.List.{AllByRecursion}
-use Rattle.gix_mailmap.specs.Groups.{Contents, EmailGroup}
+use Rattle.std.proofs.Common.{◌≡◌, ◌-◌, ◌∷◌, [], ◌++◌, map, take, drop, sym, ap, subst, ◌∙◌, append_assoc}
+use Rattle.gix_mailmap.specs.Groups.{Contents}
 use Rattle.gix_mailmap.specs.Merging.{Extends}
 use Rattle.gix_mailmap.specs.Pool.{name_group, group_of}
 use Rattle.gix_mailmap.proofs.NamePlaces.{names_lie_on}

@@ -1,11 +1,11 @@
-use Rattle.std.proofs.Common.{◌≡◌, ◌∙◌, ◌++◌, ◌∷◌, [], List, map, take, drop, get_or, length, None, refl, sym, ap, subst}
+use Rattle.std.proofs.Common.{◌∙◌, ◌++◌, ◌∷◌, [], map, take, get_or, length, None, refl, sym, ap, subst}
 use Rattle.std.specs.List.{AllByRecursion}
-use Rattle.gix_mailmap.specs.Groups.{NameGroup, Contents}
+use Rattle.gix_mailmap.specs.Groups.{Contents}
 use Rattle.gix_mailmap.specs.Merging.{Extends, NamePlaced, NamePut}
 use Rattle.gix_mailmap.specs.Named.{named_group}
 use Rattle.gix_mailmap.specs.Pool.{spelled, NameLies, name_group}
 use Rattle.gix_mailmap.specs.declared.snapshot.tables.NameRow.{NameRow}
-use Rattle.gix_mailmap.proofs.NamePlaces.{all_rest, extends_through, extends_itself, names_lie_on, name_groups_on, placed_found, placed_new, put_from}
+use Rattle.gix_mailmap.proofs.NamePlaces.{all_rest, extends_through, names_lie_on, name_groups_on, placed_found, placed_new, put_from}
 use Rattle.gix_mailmap.proofs.snapshot.merge.put_name.Goals as goal
 
 -- ---- the name stands

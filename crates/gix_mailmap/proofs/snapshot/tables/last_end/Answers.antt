@@ -1,4 +1,4 @@
-use Rattle.std.proofs.Common.{sym, ap, ◌∙◌}
+use Rattle.std.proofs.Common.{sym}
 use Rattle.gix_mailmap.proofs.Pooled.{end_of-last}
 use Rattle.gix_mailmap.proofs.snapshot.tables.last_end.Goals as goal
 

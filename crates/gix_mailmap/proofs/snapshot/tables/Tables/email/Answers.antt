@@ -1,7 +1,7 @@
-use Rattle.std.proofs.Common.{◌≡◌, ◌≤◌, ◌<◌, ◌-◌, List, subst₂, length, map, sym, ap, ◌∙◌, subst, arith, Some, take, drop}
+use Rattle.std.proofs.Common.{◌≡◌, ◌≤◌, ◌<◌, ◌-◌, List, subst₂, length, sym, ap, ◌∙◌, subst, arith, Some, take, drop}
 use Rattle.std.proofs.lemmas.List.{length-map}
 use Rattle.std.specs.List.{slice_get}
-use Rattle.gix_mailmap.specs.Groups.{Contents, EmailGroup}
+use Rattle.gix_mailmap.specs.Groups.{Contents}
 use Rattle.gix_mailmap.specs.Pool.{RowsLie, names_of, group_of, email_group}
 use Rattle.gix_mailmap.specs.declared.snapshot.tables.NameRow.{NameRow}
 use Rattle.gix_mailmap.specs.declared.snapshot.tables.EmailRow.{EmailRow}

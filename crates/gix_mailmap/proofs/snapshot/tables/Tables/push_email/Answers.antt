@@ -2,7 +2,6 @@ use Rattle.std.proofs.Common.{◌≡◌, arith, ◌∙◌, ap, ◌++◌, ◌∷�
 use Rattle.std.specs.Option.{ForSome}
 use Rattle.gix_mailmap.specs.Pool.{contents, spelled, LiesIn, end_of}
 use Rattle.gix_mailmap.specs.Groups.{Contents}
-use Rattle.gix_mailmap.specs.declared.snapshot.tables.EmailRow.{EmailRow}
 use Rattle.gix_mailmap.proofs.Pooled.{contents-email, tables-email}
 use Rattle.gix_mailmap.proofs.snapshot.tables.Tables.push_email.Goals as goal
 

@@ -1,5 +1,5 @@
 use Rattle.std.proofs.Common.{◌∙◌, ap, ◌++◌, ◌∷◌, [], sym, subst, length}
-use Rattle.gix_mailmap.specs.Pool.{contents, name_group, AreTables, NameLies}
+use Rattle.gix_mailmap.specs.Pool.{contents, name_group, NameLies}
 use Rattle.gix_mailmap.specs.Groups.{Contents}
 use Rattle.gix_mailmap.proofs.Pooled.{contents-names, tables-names}
 use Rattle.gix_mailmap.proofs.snapshot.tables.Tables.push_name.Goals as goal

@@ -1,4 +1,4 @@
-use Rattle.std.proofs.Common.{sym, ◌∙◌, ap, ◌++◌}
+use Rattle.std.proofs.Common.{◌∙◌, ap, ◌++◌}
 use Rattle.gix_mailmap.specs.Pool.{contents}
 use Rattle.gix_mailmap.specs.Groups.{Contents}
 use Rattle.gix_mailmap.proofs.Pooled.{contents-text}
