@@ -57,3 +57,4 @@ pub mod EmailsLoop
 pub mod SortedRuns
 pub mod WholeMerge
 pub mod Built
+pub mod Unique

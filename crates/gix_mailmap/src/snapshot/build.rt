@@ -9,6 +9,7 @@ ghost use Rattle.gix_mailmap.specs.declared.entry.Entry.{Entry as Item};
 use crate::snapshot::Snapshot;
 use crate::snapshot::batch::accepted_of;
 use crate::snapshot::merge::joined;
+use crate::snapshot::tables::Tables;
 use crate::{Entry, parse_ignore_errors};
 use std::alloc::{AllocError, Global};
 
@@ -57,7 +58,29 @@ impl Snapshot {
             return Ok(());
         }
         let tables = joined(alloc, &self.tables, &batch)?;
-        self.tables = tables;
+        let merged = Snapshot { tables };
+        *self = merged.thinned()?;
         Ok(())
+    }
+
+    // Written anew where no more than half of the pool is in use, so that merges which replace don't make it grow
+    // without end.
+    fn thinned(self) -> Result<Snapshot, AllocError>
+        ensures { IfOk result (λ made. made ≡ self) }
+    {
+        if self.tables.is_half_dead() {
+            return self.rewritten();
+        }
+        Ok(self)
+    }
+
+    // An equal snapshot, whose pool has the texts in use alone.
+    fn rewritten(&self) -> Result<Snapshot, AllocError>
+        ensures { IfOk result (λ made. made ≡ self.now) }
+    {
+        let alloc = self.tables.allocator();
+        let entries = self.entries(alloc)?;
+        let tables = joined(alloc, &Tables::new(alloc), entries.as_slice())?;
+        Ok(Snapshot { tables })
     }
 }

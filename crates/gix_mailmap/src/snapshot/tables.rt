@@ -242,3 +242,39 @@ impl Tables {
         })
     }
 }
+
+// How much of the pool is in use.
+impl Tables {
+    /// Whether texts that no row names any more take half of the pool or more.
+    pub(crate) fn is_half_dead(&self) -> bool {
+        let used = emails_len(&self.emails).saturating_add(names_len(&self.names));
+        used < self.pool.len() && used <= self.pool.len() / 2
+    }
+}
+
+// The bytes of the texts of emails, as far as they can be counted.
+fn emails_len(rows: &[EmailRow]) -> usize {
+    let mut len: usize = 0;
+    for row in rows {
+        let fields = optional_len(row.new_name).saturating_add(optional_len(row.new_email));
+        len = len.saturating_add(row.old_email.len).saturating_add(fields);
+    }
+    len
+}
+
+// The bytes of the texts of names, as far as they can be counted.
+fn names_len(rows: &[NameRow]) -> usize {
+    let mut len: usize = 0;
+    for row in rows {
+        let fields = optional_len(row.new_name).saturating_add(row.new_email.len);
+        len = len.saturating_add(row.old_name.len).saturating_add(fields);
+    }
+    len
+}
+
+fn optional_len(span: Option<Span>) -> usize {
+    match span {
+        Some(span) => span.len,
+        None => 0,
+    }
+}

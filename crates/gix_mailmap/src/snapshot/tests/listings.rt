@@ -295,3 +295,17 @@ fn an_entry_that_maps_nothing_changes_nothing(rt: HostRuntime) -> Result<(), Fai
     assert_lists(&rt, rt.alloc(), &snapshot, &[name(b"N", b"a@x")])?;
     Ok(())
 }
+
+/// A pool of which half is out of use is given up, so that merges which replace don't make it grow without end.
+#[test]
+fn replaced_texts_are_given_up(rt: HostRuntime) -> Result<(), Fail> {
+    let alloc = rt.alloc();
+    let given = [both(b"New", b"new@x", b"a@x")];
+    let mut snapshot = snapshot_of(alloc, &given)?;
+    for _ in 0..20 {
+        snapshot.merge(given.iter().copied())?;
+        assert!(rt; !snapshot.tables.is_half_dead());
+    }
+    assert_lists(&rt, alloc, &snapshot, &given)?;
+    Ok(())
+}

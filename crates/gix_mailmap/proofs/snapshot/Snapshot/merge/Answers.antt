@@ -28,7 +28,8 @@ returns-clause-ok g c =
     let made = listing c.in_ok-tables.tables.groups in (
       w.0,
       w.1,
-      normal_accepted c.args.self.now (map mapping_of w.0) made
+      subst (IsNormal (c.args.self.now ++ map mapping_of w.0)) (sym (c.drop.view_is ∙ c.in_ok-self-inside.ensures))
+          (normal_accepted c.args.self.now (map mapping_of w.0) made
           (subst (λ v. IsNormal (v ++ accepted (map mapping_of w.0)) made) c.self.view_is
-          (subst (λ l. IsNormal (listing c.self.inside.tables.groups ++ l) made) (ap (map mapping_of) c.deref.ensures.value ∙ w.2) c.in_ok-tables.ensures.1)),
+          (subst (λ l. IsNormal (listing c.self.inside.tables.groups ++ l) made) (ap (map mapping_of) c.deref.ensures.value ∙ w.2) c.in_ok-tables.ensures.1))),
     )
