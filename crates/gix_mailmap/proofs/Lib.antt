@@ -20,6 +20,7 @@ pub mod SplitOnce
 pub mod Trimmed
 pub mod Pooled
 pub mod Folding
+pub mod Fronts
 pub mod Lookups
 pub mod Search
 pub mod Complete

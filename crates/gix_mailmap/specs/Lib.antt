@@ -1,4 +1,5 @@
 pub mod Folding
+pub mod Fronts
 pub mod Trimming
 pub mod Entries
 pub mod Lines
