@@ -19,6 +19,7 @@ pub mod Rising
 pub mod SplitOnce
 pub mod Trimmed
 pub mod Pooled
+pub mod Together
 pub mod Folding
 pub mod Fronts
 pub mod Lookups

@@ -1,9 +1,9 @@
 -- What tables denote when the pool, the names or the emails grow.
-use Rattle.std.proofs.Common.{◌≡◌, ◌-◌, ◌≤◌, ◌<◌, get_or, ℕ, zero, suc, List, [], ◌∷◌, ◌++◌, map, take, drop, length, Option, Some, None, option_map, length-append, length-drop, refl, sym, ap, ◌∙◌, arith, subst}
+use Rattle.std.proofs.Common.{◌≡◌, ◌+◌, ◌-◌, ◌≤◌, ◌<◌, get_or, ℕ, zero, suc, List, [], ◌∷◌, ◌++◌, map, take, drop, length, Option, Some, None, option_map, length-append, length-drop, refl, sym, ap, ◌∙◌, arith, subst}
 use Rattle.std.specs.Option.{ForSome, option_map_or}
 use Rattle.std.specs.List.{slice_get}
 use Rattle.std.specs.List.{AllByRecursion}
-use Rattle.std.proofs.lemmas.List.{take-append-le, drop-append-le, drop_all, take_all, map-append}
+use Rattle.std.proofs.lemmas.List.{take-append-le, drop-append-le, drop_all, take_all, map-append, take-map, drop-map, drop-drop, length-map}
 use Rattle.gix_mailmap.specs.Folding.{Text}
 use Rattle.gix_mailmap.specs.Pool.{RowsLie, names_of, spelled, LiesIn, name_group, email_group, NameLies, EmailLies, Follow, end_of, AreTables, contents}
 use Rattle.gix_mailmap.specs.declared.snapshot.tables.Span.{Span}
@@ -39,7 +39,7 @@ module _ (pool more : Text) where
   name_groups-append [] all = refl
   name_groups-append (r ∷ rs) all = λ i. name_group-append r all.0 i ∷ name_groups-append rs all.1 i
 
-  lies_more : (s : Span) → LiesIn (length pool) s → LiesIn (length (pool ++ more)) s
+  pub lies_more : (s : Span) → LiesIn (length pool) s → LiesIn (length (pool ++ more)) s
   lies_more s lies = omega (arith, lies, grown)
 
   name_lies_more : (r : NameRow) → NameLies (length pool) r → NameLies (length (pool ++ more)) r
@@ -61,7 +61,7 @@ all_take P zero xs all = tt
 all_take P (suc n) [] all = tt
 all_take P (suc n) (x ∷ xs) all = (all.0, all_take P n xs all.1)
 
-end_above : (k n : ℕ) (es : List EmailRow) → Follow k n es → k ≤ end_of k es
+pub end_above : (k n : ℕ) (es : List EmailRow) → Follow k n es → k ≤ end_of k es
 end_above k n [] h = omega arith
 end_above k n (r ∷ es) h = omega (arith, h.1, end_above r.names_end n es h.2)
 
@@ -73,9 +73,9 @@ pub follow_more : (k m n : ℕ) (es : List EmailRow) → m ≤ n → Follow k m 
 follow_more k m n [] le h = omega (arith, h)
 follow_more k m n (r ∷ es) le h = (h.0, h.1, follow_more r.names_end m n es le h.2)
 
-follow_push : (k n : ℕ) (es : List EmailRow) (r : EmailRow) → Follow k n es → r.names_start ≡ end_of k es → r.names_end ≡ n → Follow k n (es ++ r ∷ [])
-follow_push k n [] r h from to = (from, omega (arith, h, to), omega (arith, to))
-follow_push k n (e ∷ es) r h from to = (h.0, h.1, follow_push e.names_end n es r h.2 from to)
+follow_push : (k n : ℕ) (es : List EmailRow) (r : EmailRow) → Follow k n es → r.names_start ≡ end_of k es → r.names_start ≤ r.names_end → r.names_end ≤ n → Follow k n (es ++ r ∷ [])
+follow_push k n [] r h from up to = (from, omega (arith, from, up), to)
+follow_push k n (e ∷ es) r h from up to = (h.0, h.1, follow_push e.names_end n es r h.2 from up to)
 
 end_of-push : (k : ℕ) (es : List EmailRow) (r : EmailRow) → end_of k (es ++ r ∷ []) ≡ r.names_end
 end_of-push k [] r = refl
@@ -138,28 +138,37 @@ module _ (pool : Text) (names : List NameRow) (emails : List EmailRow) (h : AreT
         ranges = follow_more 0 (length names) (length (names ++ more)) emails (omega (arith, length-append names more)) h.ranges;
       }
 
-  module _ (r : EmailRow) (from : r.names_start ≡ end_of 0 emails) (to : r.names_end ≡ length names) where
-    pub tables-email : EmailLies (length pool) r → AreTables pool names (emails ++ r ∷ [])
-    tables-email lies =
+  module _ (r : EmailRow) (from : r.names_start ≡ end_of 0 emails) (up : r.names_start ≤ r.names_end) where
+    pub tables-email : r.names_end ≤ length names → EmailLies (length pool) r → AreTables pool names (emails ++ r ∷ [])
+    tables-email to lies =
         record {
           names_lie = h.names_lie;
           emails_lie = all_append _ emails (r ∷ []) h.emails_lie (lies, tt);
-          ranges = follow_push 0 (length names) emails r h.ranges from to;
+          ranges = follow_push 0 (length names) emails r h.ranges from up to;
         }
 
-    taken : take (r.names_end - r.names_start) (drop r.names_start names) ≡ drop (end_of 0 emails) names
-    taken =
-        let left = length-drop r.names_start names in
-        take_all (r.names_end - r.names_start) (drop r.names_start names) (omega (arith, to)) ∙ ap (λ k. drop k names) from
+    abbrev count : ℕ
+    count = r.names_end - r.names_start
+
+    -- the names of an email that takes so many of those that were left
+    taken : map (name_group pool) (names_of names r) ≡ take count (contents pool names emails).loose
+    taken = ap (λ k. map (name_group pool) (take count (drop k names))) from ∙ sym (take-map (name_group pool) count (drop (end_of 0 emails) names))
+
+    left : map (name_group pool) (drop (end_of 0 (emails ++ r ∷ [])) names) ≡ drop count (contents pool names emails).loose
+    left =
+        let there : r.names_end ≡ end_of 0 emails + count = omega (arith, from, up) in
+        ap (λ k. map (name_group pool) (drop k names)) (end_of-push 0 emails r ∙ there)
+        ∙ ap (map (name_group pool)) (sym (drop-drop count (end_of 0 emails) names))
+        ∙ sym (drop-map (name_group pool) count (drop (end_of 0 emails) names))
 
     pub contents-email : contents pool names (emails ++ r ∷ []) ≡ record {
       pool = pool;
       groups = (contents pool names emails).groups ++ record {
         old_email = spelled pool r.old_email;
         own = record { name = option_map (spelled pool) r.new_name; email = option_map (spelled pool) r.new_email };
-        names = (contents pool names emails).loose;
+        names = take count (contents pool names emails).loose;
       } ∷ [];
-      loose = [];
+      loose = drop count (contents pool names emails).loose;
     }
     contents-email i =
         record {
@@ -167,10 +176,14 @@ module _ (pool : Text) (names : List NameRow) (emails : List EmailRow) (h : AreT
           groups = (map-append (email_group pool names) emails (r ∷ []) ∙ ap (λ ns. map (email_group pool names) emails ++ record {
             old_email = spelled pool r.old_email;
             own = record { name = option_map (spelled pool) r.new_name; email = option_map (spelled pool) r.new_email };
-            names = map (name_group pool) ns;
+            names = ns;
           } ∷ []) taken) i;
-          loose = (ap (λ k. map (name_group pool) (drop k names)) (end_of-push 0 emails r) ∙ ap (map (name_group pool)) (drop_all r.names_end names (omega (arith, to)))) i;
+          loose = left i;
         }
+
+    -- none are left where the email takes all
+    pub takes_all : r.names_end ≡ length names → length (contents pool names emails).loose ≤ count
+    takes_all to = omega (arith, to, from, end, length-map (drop (end_of 0 emails) names) (name_group pool), length-drop (end_of 0 emails) names)
 
 -- the last row of a table
 pub end_of-last : (k : ℕ) (es : List EmailRow) (r : EmailRow) → slice_get es (length es - 1) ≡ Some r → end_of k es ≡ r.names_end

@@ -41,13 +41,18 @@ fn push_optional(out: &mut Tables, text: Option<&[u8]>) -> Result<Option<Span>, 
     ensures spells { IfOk result (λ span. option_map (spelled out.new.pool) span ≡ option_copied text.entry) }
 {
     match text {
-        Some(text) => Ok(Some(out.push_text(text)?)),
+        Some(text) => Ok(Some(out.push_text(text, 0)?)),
         None => Ok(None),
     }
 }
 
-// Puts a name out, its old name as `old_name` spells it.
-fn push_named(out: &mut Tables, old_name: Span, named: Named<'_>) -> Result<(), AllocError>
+// Puts a name out, its old name as `old_name` spells it, in the place of fields of so many bytes.
+fn push_named(
+    out: &mut Tables,
+    old_name: Span,
+    named: Named<'_>,
+    replaced: usize,
+) -> Result<(), AllocError>
     requires { LiesIn (length out.old.pool) old_name }
     ensures grown { OnOk result (Extends out.old.pool out.new.pool) }
     ensures groups { OnOk result (out.new.groups ≡ out.old.groups) }
@@ -58,7 +63,7 @@ fn push_named(out: &mut Tables, old_name: Span, named: Named<'_>) -> Result<(), 
     } ∷ []) }
 {
     let new_name = push_optional(out, named.new_name)?;
-    let new_email = out.push_text(named.new_email)?;
+    let new_email = out.push_text(named.new_email, replaced)?;
     out.push_name(NameRow {
         old_name,
         new_name,
@@ -81,15 +86,27 @@ fn put_name<'k>(
         Ok(place) => {
             let row = kept[place];
             out.push_names(front(kept, place))?;
-            push_named(out, row.old_name, named)?;
+            push_named(out, row.old_name, named, fields_len(row))?;
             Ok(rest(kept, place + 1))
         }
         Err(place) => {
             out.push_names(front(kept, place))?;
-            let old_name = out.push_text(named.old_name)?;
-            push_named(out, old_name, named)?;
+            let old_name = out.push_text(named.old_name, 0)?;
+            push_named(out, old_name, named, 0)?;
             Ok(rest(kept, place))
         }
+    }
+}
+
+// How many bytes the fields of a name have.
+fn fields_len(row: NameRow) -> usize {
+    span_len(row.new_name).saturating_add(row.new_email.len)
+}
+
+fn span_len(span: Option<Span>) -> usize {
+    match span {
+        Some(span) => span.len,
+        None => 0,
     }
 }
 
@@ -237,7 +254,7 @@ fn push_given(
     ensures spells { IfOk result (λ span. option_map (spelled out.new.pool) span ≡ option_or (option_copied given.entry) (option_map (spelled out.old.pool) stood)) }
 {
     match given {
-        Some(text) => Ok(Some(out.push_text(text)?)),
+        Some(text) => Ok(Some(out.push_text(text, span_len(stood))?)),
         None => Ok(stood),
     }
 }
@@ -298,10 +315,10 @@ fn pass_emails(
     requires no_loose { out.old.loose ≡ [] }
     ensures { OnOk result (out.new ≡ record out.old { groups = out.old.groups ++ take (to - from) (drop from standing.now.groups) }) }
 {
+    out.push_names(standing.names_between(from, to))?;
     for place in from..to {
-        let (row, names) = standing.email(place);
-        out.push_names(names)?;
-        out.push_email(row.old_email, row.new_name, row.new_email)?;
+        let (row, _) = standing.email(place);
+        out.pass_email(row)?;
     }
     Ok(())
 }
@@ -334,7 +351,7 @@ fn join_run(
         }
         Err(place) => {
             pass_emails(out, standing, from, place)?;
-            let old_email = out.push_text(earliest(run).entry.old_email())?;
+            let old_email = out.push_text(earliest(run).entry.old_email(), 0)?;
             join_email(out, bare_row(old_email), &[], run)?;
             Ok(place)
         }
@@ -354,11 +371,12 @@ fn bare_row(old_email: Span) -> EmailRow
     }
 }
 
-// The standing tables with a sorted batch behind them.
+// The standing tables with a sorted batch behind them, whose texts have so many bytes.
 fn join_sorted(
     alloc: Global,
     standing: &Tables,
     batch: &[Placed<'_, '_>],
+    bytes: usize,
 ) -> Result<Tables, AllocError>
     requires standing { AreGroups standing.now.groups }
     requires accepted { AllByRecursion (λ m. is_accepted m ≡ true) (map mapping_at batch.now) }
@@ -366,7 +384,7 @@ fn join_sorted(
     ensures joined { IfOk result (λ made. AllJoined standing.now.groups (map placed_at batch.now) made.groups) }
     ensures no_loose { IfOk result (λ made. made.loose ≡ []) }
 {
-    let mut out = Tables::over_pool(alloc, standing)?;
+    let mut out = Tables::over_pool(alloc, standing, batch.len(), bytes)?;
     let mut from = 0;
     let mut left = batch;
     while !left.is_empty() {
@@ -389,5 +407,23 @@ pub(crate) fn joined(
     ensures { IfOk result (λ made. IsComplete made × IsNormal (listing standing.now.groups ++ map mapping_of entries.now) (listing made.groups)) }
 {
     let batch = sorted(alloc, entries)?;
-    join_sorted(alloc, standing, &batch)
+    join_sorted(alloc, standing, &batch, texts_len(entries))
+}
+
+// How many bytes the texts of entries have, as far as they can be counted.
+fn texts_len(entries: &[Entry<'_>]) -> usize {
+    let mut len: usize = 0;
+    for entry in entries {
+        let fields = text_len(entry.new_name()).saturating_add(text_len(entry.new_email()));
+        let keys = text_len(entry.old_name()).saturating_add(entry.old_email().len());
+        len = len.saturating_add(fields).saturating_add(keys);
+    }
+    len
+}
+
+fn text_len(text: Option<&[u8]>) -> usize {
+    match text {
+        Some(text) => text.len(),
+        None => 0,
+    }
 }

@@ -2,7 +2,7 @@
 //! whose rows say where their texts stand in the pool.
 ghost use Rattle.std.specs.Prelude.{◌≡◌, ◌≤◌, ◌<◌, ◌++◌, [], ◌∷◌, length, OnOk, IfOk, map, Some, slice_get, take, drop, ◌-◌};
 ghost use Rattle.std.specs.Option.{option_map, option_copied, ForSome};
-ghost use Rattle.std.specs.List.{AllByRecursion, HoldsAt};
+ghost use Rattle.std.specs.List.{AllByRecursion, HoldsAt, flat_map};
 ghost use Rattle.gix_mailmap.specs.Pool.{end_of};
 
 use std::alloc::{AllocError, Global};
@@ -40,6 +40,8 @@ pub(crate) struct Tables {
     pool: Vec<u8>,
     emails: Vec<EmailRow>,
     names: Vec<NameRow>,
+    // how many bytes of the pool no row names any more
+    dead: usize,
 }
 
 impl Model for Tables {
@@ -56,7 +58,7 @@ impl Model for Tables {
 
 impl Tables {
     ghost use Rattle.gix_mailmap.specs.Groups.{Contents, EmailGroup, NameGroup};
-    ghost use Rattle.gix_mailmap.specs.Pool.{spelled, LiesIn, NameLies, name_group};
+    ghost use Rattle.gix_mailmap.specs.Pool.{spelled, LiesIn, NameLies, EmailLies, name_group, group_of};
 
     /// No email and no name, and no memory taken.
     pub(crate) fn new(alloc: Global) -> Tables
@@ -66,28 +68,40 @@ impl Tables {
             pool: Vec::new(alloc),
             emails: Vec::new(alloc),
             names: Vec::new(alloc),
+            dead: 0,
         }
     }
 
-    /// The pool of `standing` with its texts where they are, and no email and no name.
-    pub(crate) fn over_pool(alloc: Global, standing: &Tables) -> Result<Tables, AllocError>
+    /// The pool of `standing` with its texts where they are, and no email and no name. There is room for the rows of
+    /// `standing` and some more, and for so many bytes more in the pool.
+    pub(crate) fn over_pool(
+        alloc: Global,
+        standing: &Tables,
+        rows: usize,
+        bytes: usize,
+    ) -> Result<Tables, AllocError>
         ensures { IfOk result (λ made. made ≡ record { pool = standing.now.pool; groups = []; loose = [] }) }
     {
+        let len = standing.pool.len();
+        let mut pool = Vec::with_capacity(alloc, len.saturating_add(bytes))?;
+        pool.extend_from_slice(&standing.pool)?;
         Ok(Tables {
-            pool: Vec::from_slice(alloc, &standing.pool)?,
-            emails: Vec::new(alloc),
-            names: Vec::new(alloc),
+            pool,
+            emails: Vec::with_capacity(alloc, with_more(standing.emails.len(), rows))?,
+            names: Vec::with_capacity(alloc, with_more(standing.names.len(), rows))?,
+            dead: standing.dead,
         })
     }
 
-    /// Puts a text at the end of the pool.
-    pub(crate) fn push_text(&mut self, text: &[u8]) -> Result<Span, AllocError>
+    /// Puts a text at the end of the pool. So many bytes that stood there are out of use then.
+    pub(crate) fn push_text(&mut self, text: &[u8], replaced: usize) -> Result<Span, AllocError>
         ensures grown { OnOk result (self.new ≡ record self.old { pool = self.old.pool ++ text.now }) }
         ensures lies { IfOk result (LiesIn (length self.new.pool)) }
         ensures spells { IfOk result (λ span. spelled self.new.pool span ≡ text.now) }
     {
         let start = self.pool.len();
         self.pool.extend_from_slice(text)?;
+        self.dead = self.dead.saturating_add(replaced);
         Ok(Span {
             start,
             len: text.len(),
@@ -142,12 +156,37 @@ impl Tables {
         })?;
         Ok(())
     }
+
+    /// Puts an email behind the others, which takes as many of the names that no email has taken yet as the row has.
+    pub(crate) fn pass_email(&mut self, row: EmailRow) -> Result<(), AllocError>
+        requires lies { EmailLies (length self.old.pool) row }
+        requires up { row.names_start ≤ row.names_end }
+        requires loose { row.names_end - row.names_start ≤ length self.old.loose }
+        ensures { OnOk result (self.new ≡ record {
+          pool = self.old.pool;
+          groups = self.old.groups ++ record (group_of self.old.pool row []) { names = take (row.names_end - row.names_start) self.old.loose } ∷ [];
+          loose = drop (row.names_end - row.names_start) self.old.loose;
+        }) }
+    {
+        let names_start = last_end(&self.emails);
+        self.emails.push(EmailRow {
+            names_start,
+            names_end: names_start + (row.names_end - row.names_start),
+            ..row
+        })?;
+        Ok(())
+    }
+}
+
+// So many, and room for more, but not for more than twice as many and a few.
+fn with_more(len: usize, more: usize) -> usize {
+    len.saturating_add(more.min(len.saturating_add(64)))
 }
 
 impl Tables {
     ghost use Rattle.gix_mailmap.specs.Groups.{Contents, EmailGroup, NameGroup};
     ghost use Rattle.gix_mailmap.specs.Groups.{listing};
-    ghost use Rattle.gix_mailmap.specs.Pool.{spelled, LiesIn, group_of, RowsLie};
+    ghost use Rattle.gix_mailmap.specs.Pool.{spelled, LiesIn, NameLies, name_group, group_of, RowsLie};
 
     /// The allocator that the tables keep.
     pub(crate) fn allocator(&self) -> Global {
@@ -179,11 +218,27 @@ impl Tables {
     /// The email at a place, with its names.
     pub(crate) fn email(&self, place: usize) -> (EmailRow, &[NameRow])
         requires { place < length self.now.groups }
+        ensures up { result.0.names_start ≤ result.0.names_end }
+        ensures count { result.0.names_end - result.0.names_start ≡ length result.1.now }
         ensures group { slice_get self.now.groups place ≡ Some (group_of self.now.pool result.0 result.1.now) }
         ensures lie { RowsLie self.now.pool result.0 result.1.now }
     {
         let row = self.emails[place];
         (row, part(&self.names, row.names_start, row.names_end))
+    }
+
+    /// The names of the emails from one place up to another.
+    pub(crate) fn names_between(&self, from: usize, to: usize) -> &[NameRow]
+        requires up { from ≤ to }
+        requires within { to ≤ length self.now.groups }
+        ensures names { map (name_group self.now.pool) result.now ≡ flat_map (λ (g : EmailGroup). g.names) (take (to - from) (drop from self.now.groups)) }
+        ensures lie { AllByRecursion (NameLies (length self.now.pool)) result.now }
+    {
+        part(
+            &self.names,
+            last_end(&self.emails[..from]),
+            last_end(&self.emails[..to]),
+        )
     }
 }
 
@@ -239,6 +294,7 @@ impl Tables {
             pool: Vec::from_slice(alloc, &self.pool)?,
             emails: Vec::from_slice(alloc, &self.emails)?,
             names: Vec::from_slice(alloc, &self.names)?,
+            dead: self.dead,
         })
     }
 }
@@ -247,34 +303,6 @@ impl Tables {
 impl Tables {
     /// Whether texts that no row names any more take half of the pool or more.
     pub(crate) fn is_half_dead(&self) -> bool {
-        let used = emails_len(&self.emails).saturating_add(names_len(&self.names));
-        used < self.pool.len() && used <= self.pool.len() / 2
-    }
-}
-
-// The bytes of the texts of emails, as far as they can be counted.
-fn emails_len(rows: &[EmailRow]) -> usize {
-    let mut len: usize = 0;
-    for row in rows {
-        let fields = optional_len(row.new_name).saturating_add(optional_len(row.new_email));
-        len = len.saturating_add(row.old_email.len).saturating_add(fields);
-    }
-    len
-}
-
-// The bytes of the texts of names, as far as they can be counted.
-fn names_len(rows: &[NameRow]) -> usize {
-    let mut len: usize = 0;
-    for row in rows {
-        let fields = optional_len(row.new_name).saturating_add(row.new_email.len);
-        len = len.saturating_add(row.old_name.len).saturating_add(fields);
-    }
-    len
-}
-
-fn optional_len(span: Option<Span>) -> usize {
-    match span {
-        Some(span) => span.len,
-        None => 0,
+        self.dead > 0 && self.dead >= self.pool.len().saturating_sub(self.dead)
     }
 }
