@@ -1,5 +1,5 @@
 -- The numbers of the first bytes of two texts order the texts, where they differ.
-use Rattle.std.proofs.Common.{◌≡◌, ◌≢◌, ◌<◌, ◌≤◌, ◌+◌, ◌-◌, ◌*◌, ◌^◌, ℕ, zero, suc, List, [], ◌∷◌, drop, length, get_or, Ordering, Less, Equal, Greater, refl, sym, ap, ◌∙◌, arith, true, false, cond}
+use Rattle.std.proofs.Common.{◌≡◌, ◌≢◌, ◌<◌, ◌≤◌, ◌+◌, ◌-◌, ◌*◌, ◌^◌, ℕ, zero, suc, [], ◌∷◌, drop, get_or, Ordering, Less, Equal, Greater, refl, sym, ap, ◌∙◌, arith, true, false, cond}
 use Rattle.std.specs.Cmp.Lexicographic.{slice_cmp, nat_list_cmp_total}
 use Rattle.std.specs.Ordering.{nat_cmp, ordering_then, ordering_reverse}
 use Rattle.std.proofs.Math.Nat.{pow-succ', suc-mul, add-mul, mul_assoc, mul-le-mul_right, le-mul_of_pos_right}

@@ -1,8 +1,8 @@
 -- The names of emails that follow each other stand side by side in the table of names.
-use Rattle.std.proofs.Common.{◌≡◌, ◌+◌, ◌-◌, ◌≤◌, ℕ, zero, suc, List, [], ◌∷◌, ◌++◌, map, take, drop, length, refl, sym, ap, ap₂, ◌∙◌, arith, take-append-drop}
+use Rattle.std.proofs.Common.{◌≡◌, ◌+◌, ◌-◌, ◌≤◌, ℕ, zero, suc, List, [], ◌∷◌, ◌++◌, map, take, drop, refl, sym, ap, ap₂, ◌∙◌, arith}
 use Rattle.std.specs.List.{flat_map}
 use Rattle.std.proofs.Math.Seq.{take-add}
-use Rattle.std.proofs.lemmas.List.{map-append, take-map, drop-map, drop-drop, drop-take}
+use Rattle.std.proofs.lemmas.List.{map-append, take-map, drop-map, drop-drop}
 use Rattle.gix_mailmap.specs.Folding.{Text}
 use Rattle.gix_mailmap.specs.Groups.{EmailGroup}
 use Rattle.gix_mailmap.specs.Pool.{names_of, name_group, email_group, Follow, end_of}

@@ -1,6 +1,6 @@
-use Rattle.std.proofs.Common.{◌≡◌, ◌∙◌, ◌++◌, List, true, map, sym, ap, subst}
+use Rattle.std.proofs.Common.{◌≡◌, ◌∙◌, ◌++◌, true, map, sym, ap, subst}
 use Rattle.std.specs.List.{AllByRecursion}
-use Rattle.gix_mailmap.specs.Entries.{Mapping, mapping_of}
+use Rattle.gix_mailmap.specs.Entries.{mapping_of}
 use Rattle.gix_mailmap.specs.Groups.{AreGroups, Contents, listing}
 use Rattle.gix_mailmap.specs.Histories.{IsNormal, is_accepted}
 use Rattle.gix_mailmap.proofs.Complete.{no_groups}

@@ -1,7 +1,6 @@
-use Rattle.std.proofs.Common.{◌≡◌, ◌+◌, ◌-◌, ◌≤◌, ◌∷◌, [], ◌++◌, map, take, drop, length, append-nil, sym, ap, subst, ◌∙◌, append_assoc, arith}
+use Rattle.std.proofs.Common.{◌≡◌, ◌+◌, ◌-◌, ◌∷◌, [], ◌++◌, map, take, drop, length, append-nil, sym, ap, subst, ◌∙◌, append_assoc, arith}
 use Rattle.std.proofs.lemmas.List.{length-map, length-append}
 use Rattle.gix_mailmap.specs.Groups.{Contents}
-use Rattle.gix_mailmap.specs.Merging.{Extends}
 use Rattle.gix_mailmap.specs.Pool.{EmailLies, name_group, group_of}
 use Rattle.gix_mailmap.proofs.NamePlaces.{names_lie_on, name_groups_on}
 use Rattle.gix_mailmap.proofs.Passing.{passed_group, left_behind, email_lies_on, names_of_all, names_ahead, passed_more}
