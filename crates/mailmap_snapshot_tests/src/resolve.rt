@@ -1,6 +1,7 @@
-use super::*;
-use crate::date::Time;
-use crate::entry::Entry;
+use gix_mailmap::actor::SignatureRef;
+use gix_mailmap::date::Time;
+use gix_mailmap::{Entry, Snapshot, actor};
+use std::borrow::CowSlice;
 use std::test::Fail;
 
 /// A text of an answer.

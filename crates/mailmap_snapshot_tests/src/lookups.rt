@@ -1,6 +1,8 @@
-use super::*;
-use crate::actor::SignatureRef;
-use crate::fold::Steps;
+use crate::entries::{both, email, email_of_name, name, snapshot_of};
+use gix_mailmap::actor::SignatureRef;
+use gix_mailmap::fold::Steps;
+use gix_mailmap::{Entry, Snapshot};
+use std::process::Abort;
 use std::test::Fail;
 
 /// A name and an email, each if it is there.

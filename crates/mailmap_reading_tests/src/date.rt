@@ -1,4 +1,4 @@
-use crate::date::Time;
+use gix_mailmap::date::Time;
 
 #[test]
 fn texts_of_times(rt: HostRuntime) {

@@ -2,7 +2,8 @@
 ghost use Rattle.std.specs.Prelude.{◌≡◌, ◌≤◌, length};
 ghost use Rattle.gix_mailmap.specs.Search.{IsParted};
 
-use super::*;
+use gix_mailmap::fold::{Probe, Steps, cmp_ignore_ascii_case, search};
+use std::cmp::Ordering;
 use std::process::Abort;
 
 // Answers that are written out, and how often they were asked for.
@@ -38,7 +39,7 @@ fn finds<R: Abort>(rt: &R, answers: &[Ordering], want: Result<usize, usize>, at_
 }
 
 #[test]
-#[tactic(auto, unfolding(crate::specs::Search::IsParted))]
+#[tactic(auto, unfolding(gix_mailmap::specs::Search::IsParted))]
 fn search_finds_or_places_within_the_digits_of_the_length(rt: HostRuntime) {
     use std::cmp::Ordering::{Equal, Greater, Less};
     finds(&rt, &[], Err(0), 0);

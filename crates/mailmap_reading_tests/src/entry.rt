@@ -1,4 +1,4 @@
-use super::*;
+use gix_mailmap::Entry;
 use std::cmp::Ordering;
 
 /// The fields in the order that entries are compared by.

@@ -1,5 +1,9 @@
-use super::*;
+use crate::entries::{both, email, email_of_name, name, snapshot_of};
+use gix_mailmap::{Entry, Snapshot};
+use std::alloc::{AllocError, Global};
+use std::fs;
 use std::hash::{BuildHasher, BuildHasherDefault, FoldHasher};
+use std::process::Abort;
 use std::test::Fail;
 
 /// Wants these entries of a snapshot.
@@ -296,15 +300,31 @@ fn an_entry_that_maps_nothing_changes_nothing(rt: HostRuntime) -> Result<(), Fai
     Ok(())
 }
 
+/// How many bytes of memory the process has, by the second number of the system's text on it, which counts pages.
+fn resident(rt: &HostRuntime) -> Result<usize, Fail> {
+    let text = fs::read_to_string(rt, "/proc/self/statm")?;
+    let pages: usize = text.split(' ').nth(1).ok_or("a count of pages")?.parse()?;
+    Ok(pages.saturating_mul(4096))
+}
+
 /// A pool of which half is out of use is given up, so that merges which replace don't make it grow without end.
+///
+/// The pool can't be asked for its length, but forty copies show it: they take memory for at most twice their texts.
 #[test]
 fn replaced_texts_are_given_up(rt: HostRuntime) -> Result<(), Fail> {
     let alloc = rt.alloc();
-    let given = [both(b"New", b"new@x", b"a@x")];
+    let new_name = vec![in alloc; b'N'; 100_000]?;
+    let given = [both(&new_name, b"new@x", b"a@x")];
     let mut snapshot = snapshot_of(alloc, &given)?;
+    let mut copies = Vec::new(alloc);
     for _ in 0..20 {
         snapshot.merge(given.iter().copied())?;
-        assert!(rt; !snapshot.tables.is_half_dead());
+        let before = resident(&rt)?;
+        for _ in 0..40 {
+            copies.push(snapshot.try_clone(alloc)?)?;
+        }
+        let taken = resident(&rt)?.saturating_sub(before);
+        assert!(rt; 3_000_000 < taken && taken < 11_000_000, "{taken}");
     }
     assert_lists(&rt, alloc, &snapshot, &given)?;
     Ok(())

@@ -1,4 +1,5 @@
-use super::*;
+use gix_mailmap::snapshot::Source;
+use gix_mailmap::{Entry, Snapshot};
 use std::test::Fail;
 
 /// With ample memory all sources are made, also an empty one, and later ones count.
