@@ -1,30 +1,31 @@
 use gix_mailmap::date::Time;
+use std::process::Abort;
+
+/// Wants these seconds and this offset of a text.
+fn assert_read(rt: &impl Abort, text: &str, expected: Option<(i64, i32)>) {
+    let read = Time::read(text).map(|time| (time.seconds, time.offset));
+    assert_eq!(rt; read, expected, "{text}");
+}
 
 #[test]
 fn texts_of_times(rt: HostRuntime) {
-    let rows = [
-        ("-9223372036854775808 -0000", Some((i64::MIN, 0))),
-        ("9223372036854775807 +0000", Some((i64::MAX, 0))),
-        ("0000000000000000000000001 +0130", Some((1, 5400))),
-        ("-0 -0730", Some((0, -27000))),
-        ("1 +9999", Some((1, 362340))),
-        ("9223372036854775808 +0000", None),
-        ("-9223372036854775809 +0000", None),
-        ("1 +130", None),
-        ("1 +00000", None),
-        ("1 0000", None),
-        ("+1 +0000", None),
-        ("- +0000", None),
-        ("1  +0000", None),
-        (" 1 +0000", None),
-        ("1 +0000 ", None),
-        ("1", None),
-        ("", None),
-    ];
-    for (text, expected) in rows {
-        let read = Time::read(text).map(|time| (time.seconds, time.offset));
-        assert_eq!(rt; read, expected, "{text}");
-    }
+    assert_read(&rt, "-9223372036854775808 -0000", Some((i64::MIN, 0)));
+    assert_read(&rt, "9223372036854775807 +0000", Some((i64::MAX, 0)));
+    assert_read(&rt, "0000000000000000000000001 +0130", Some((1, 5400)));
+    assert_read(&rt, "-0 -0730", Some((0, -27000)));
+    assert_read(&rt, "1 +9999", Some((1, 362340)));
+    assert_read(&rt, "9223372036854775808 +0000", None);
+    assert_read(&rt, "-9223372036854775809 +0000", None);
+    assert_read(&rt, "1 +130", None);
+    assert_read(&rt, "1 +00000", None);
+    assert_read(&rt, "1 0000", None);
+    assert_read(&rt, "+1 +0000", None);
+    assert_read(&rt, "- +0000", None);
+    assert_read(&rt, "1  +0000", None);
+    assert_read(&rt, " 1 +0000", None);
+    assert_read(&rt, "1 +0000 ", None);
+    assert_read(&rt, "1", None);
+    assert_read(&rt, "", None);
 }
 
 #[test]
