@@ -34,105 +34,106 @@ fn nothing_is_listed_of_a_snapshot_without_an_entry(rt: HostRuntime) -> Result<(
     Ok(())
 }
 
-/// One snapshot and what it lists.
-type Row<'a> = (&'a [Entry<'a>], &'a [Entry<'a>]);
+/// Wants these entries of the snapshot of others.
+fn assert_listed(
+    rt: &impl Abort,
+    alloc: Global,
+    given: &[Entry<'_>],
+    want: &[Entry<'_>],
+) -> Result<(), AllocError> {
+    let snapshot = snapshot_of(alloc, given)?;
+    assert_lists(rt, alloc, &snapshot, want)
+}
 
 #[test]
 fn each_key_is_listed_once_with_the_spellings_that_came_first(rt: HostRuntime) -> Result<(), Fail> {
+    let alloc = rt.alloc();
     let jane = email_of_name(b"n@y", b"Jane", b"A@x");
     let plain = name(b"P", b"a@x");
-    let table: [Row<'_>; 6] = [
-        (
-            &[name(b"N1", b"A@x"), email(b"e@x", b"a@X")],
-            &[both(b"N1", b"e@x", b"A@x")],
-        ),
-        (&[jane, plain], &[name(b"P", b"A@x"), jane]),
-        (
-            &[plain, jane],
-            &[plain, email_of_name(b"n@y", b"Jane", b"a@x")],
-        ),
-        (
-            &[
-                Entry::change_name_and_email_by_name_and_email(b"Q", b"n1@y", b"Jane", b"x@y"),
-                email_of_name(b"n2@y", b"JANE", b"X@Y"),
-            ],
-            &[email_of_name(b"n2@y", b"Jane", b"x@y")],
-        ),
-        (
-            &[
-                name(b"P", b"x@y"),
-                name(b"Q", b"x@y"),
-                email_of_name(b"m@y", b"JANE", b"x@Y"),
-            ],
-            &[name(b"Q", b"x@y"), email_of_name(b"m@y", b"JANE", b"x@y")],
-        ),
-        (
-            &[
-                email_of_name(b"n@y", b"Jane", b"X@y"),
-                name(b"P", b"x@y"),
-                name(b"Q", b"x@y"),
-                email_of_name(b"m@y", b"JANE", b"x@Y"),
-                email(b"e@y", b"X@Y"),
-            ],
-            &[
-                both(b"Q", b"e@y", b"X@y"),
-                email_of_name(b"m@y", b"Jane", b"X@y"),
-            ],
-        ),
+    let given = [name(b"N1", b"A@x"), email(b"e@x", b"a@X")];
+    assert_listed(&rt, alloc, &given, &[both(b"N1", b"e@x", b"A@x")])?;
+    assert_listed(&rt, alloc, &[jane, plain], &[name(b"P", b"A@x"), jane])?;
+    let want = [plain, email_of_name(b"n@y", b"Jane", b"a@x")];
+    assert_listed(&rt, alloc, &[plain, jane], &want)?;
+
+    let given = [
+        Entry::change_name_and_email_by_name_and_email(b"Q", b"n1@y", b"Jane", b"x@y"),
+        email_of_name(b"n2@y", b"JANE", b"X@Y"),
     ];
-    for (given, want) in table {
-        let snapshot = snapshot_of(rt.alloc(), given)?;
-        assert_lists(&rt, rt.alloc(), &snapshot, want)?;
-    }
+    let want = [email_of_name(b"n2@y", b"Jane", b"x@y")];
+    assert_listed(&rt, alloc, &given, &want)?;
+
+    let (p, q) = (name(b"P", b"x@y"), name(b"Q", b"x@y"));
+    let m = email_of_name(b"m@y", b"JANE", b"x@Y");
+    let want = [q, email_of_name(b"m@y", b"JANE", b"x@y")];
+    assert_listed(&rt, alloc, &[p, q, m], &want)?;
+
+    let n = email_of_name(b"n@y", b"Jane", b"X@y");
+    let e = email(b"e@y", b"X@Y");
+    let want = [
+        both(b"Q", b"e@y", b"X@y"),
+        email_of_name(b"m@y", b"Jane", b"X@y"),
+    ];
+    assert_listed(&rt, alloc, &[n, p, q, m, e], &want)?;
     Ok(())
 }
 
 #[test]
 fn emails_and_their_names_are_listed_in_folded_order(rt: HostRuntime) -> Result<(), Fail> {
-    let table: [Row<'_>; 3] = [
-        (
-            &[name(b"1", b"Z@x"), name(b"2", b"_@x"), name(b"3", b"a@x")],
-            &[name(b"2", b"_@x"), name(b"3", b"a@x"), name(b"1", b"Z@x")],
-        ),
-        (
-            &[email_of_name(b"n@y", b"", b"x@y"), name(b"P", b"x@y")],
-            &[name(b"P", b"x@y"), email_of_name(b"n@y", b"", b"x@y")],
-        ),
-        // a name that answers just as its email does
-        (
-            &[
-                email_of_name(b"n@y", b"Jane", b"x@y"),
-                email(b"n@y", b"x@y"),
-            ],
-            &[
-                email(b"n@y", b"x@y"),
-                email_of_name(b"n@y", b"Jane", b"x@y"),
-            ],
-        ),
-    ];
-    for (given, want) in table {
-        let snapshot = snapshot_of(rt.alloc(), given)?;
-        assert_lists(&rt, rt.alloc(), &snapshot, want)?;
-    }
+    let alloc = rt.alloc();
+    assert_listed(
+        &rt,
+        alloc,
+        &[name(b"1", b"Z@x"), name(b"2", b"_@x"), name(b"3", b"a@x")],
+        &[name(b"2", b"_@x"), name(b"3", b"a@x"), name(b"1", b"Z@x")],
+    )?;
+    assert_listed(
+        &rt,
+        alloc,
+        &[email_of_name(b"n@y", b"", b"x@y"), name(b"P", b"x@y")],
+        &[name(b"P", b"x@y"), email_of_name(b"n@y", b"", b"x@y")],
+    )?;
+    // a name that answers just as its email does
+    assert_listed(
+        &rt,
+        alloc,
+        &[
+            email_of_name(b"n@y", b"Jane", b"x@y"),
+            email(b"n@y", b"x@y"),
+        ],
+        &[
+            email(b"n@y", b"x@y"),
+            email_of_name(b"n@y", b"Jane", b"x@y"),
+        ],
+    )?;
     Ok(())
+}
+
+/// Wants these entries of the snapshot of some, behind which others are merged.
+fn assert_merged(
+    rt: &impl Abort,
+    alloc: Global,
+    first: &[Entry<'_>],
+    later: &[Entry<'_>],
+    want: &[Entry<'_>],
+) -> Result<(), AllocError> {
+    let mut snapshot = snapshot_of(alloc, first)?;
+    snapshot.merge(later.iter().copied())?;
+    assert_lists(rt, alloc, &snapshot, want)
 }
 
 #[test]
 fn names_of_a_later_merge_come_to_their_emails(rt: HostRuntime) -> Result<(), Fail> {
-    let mut snapshot = snapshot_of(
-        rt.alloc(),
-        &[
-            name(b"A", b"a@x"),
-            email_of_name(b"e1@y", b"Bob", b"b@x"),
-            email_of_name(b"e2@y", b"Jane", b"b@x"),
-            name(b"C", b"c@x"),
-        ],
-    )?;
+    let first = [
+        name(b"A", b"a@x"),
+        email_of_name(b"e1@y", b"Bob", b"b@x"),
+        email_of_name(b"e2@y", b"Jane", b"b@x"),
+        name(b"C", b"c@x"),
+    ];
     let later = [
         email_of_name(b"e3@y", b"Zoe", b"a@x"),
         email_of_name(b"e4@y", b"BOB", b"B@x"),
     ];
-    snapshot.merge(later.iter().copied())?;
     let want = [
         name(b"A", b"a@x"),
         email_of_name(b"e3@y", b"Zoe", b"a@x"),
@@ -140,7 +141,18 @@ fn names_of_a_later_merge_come_to_their_emails(rt: HostRuntime) -> Result<(), Fa
         email_of_name(b"e2@y", b"Jane", b"b@x"),
         name(b"C", b"c@x"),
     ];
-    assert_lists(&rt, rt.alloc(), &snapshot, &want)?;
+    assert_merged(&rt, rt.alloc(), &first, &later, &want)?;
+    Ok(())
+}
+
+/// Wants the snapshots of these entries to be equal, and to hash alike.
+fn assert_alike(
+    rt: &impl Abort,
+    alloc: Global,
+    one: &[Entry<'_>],
+    other: &[Entry<'_>],
+) -> Result<(), AllocError> {
+    assert_same(rt, &snapshot_of(alloc, one)?, &snapshot_of(alloc, other)?);
     Ok(())
 }
 
@@ -156,25 +168,15 @@ fn snapshots_are_equal_by_what_they_list_and_hash_alike(rt: HostRuntime) -> Resu
     let listed = [name(b"Q", b"x@y"), email_of_name(b"m@y", b"JANE", b"x@y")];
     let end = email(b"e@y", b"X@Y");
     let [p, q, m] = middle;
-    let table: [Row<'_>; 5] = [
-        (
-            &[name(b"Long", b"a@x"), name(b"N", b"a@x")],
-            &[name(b"N", b"a@x")],
-        ),
-        (
-            &[name(b"A", b"a@x"), name(b"B", b"b@x")],
-            &[name(b"B", b"b@x"), name(b"A", b"a@x")],
-        ),
-        (&middle, &listed),
-        (&[start, p, q, m, end], &[start, listed[0], listed[1], end]),
-        (
-            &[start, p, q, m, end],
-            &[start, p, q, m, end, start, p, q, m, end],
-        ),
-    ];
-    for (one, other) in table {
-        assert_same(&rt, &snapshot_of(alloc, one)?, &snapshot_of(alloc, other)?);
-    }
+    let short = name(b"N", b"a@x");
+    assert_alike(&rt, alloc, &[name(b"Long", b"a@x"), short], &[short])?;
+    let (a, b) = (name(b"A", b"a@x"), name(b"B", b"b@x"));
+    assert_alike(&rt, alloc, &[a, b], &[b, a])?;
+    assert_alike(&rt, alloc, &middle, &listed)?;
+    let given = [start, p, q, m, end];
+    assert_alike(&rt, alloc, &given, &[start, listed[0], listed[1], end])?;
+    let twice = [start, p, q, m, end, start, p, q, m, end];
+    assert_alike(&rt, alloc, &given, &twice)?;
 
     let jane = email_of_name(b"n@y", b"Jane", b"A@x");
     let plain = name(b"P", b"a@x");
@@ -236,46 +238,60 @@ fn all_spellings(alloc: Global) -> Result<Vec<([u8; 12], String)>, AllocError> {
     Ok(all)
 }
 
+/// A name for each spelling of an email, its number.
+fn names_of<'a>(
+    alloc: Global,
+    spellings: &'a [([u8; 12], String)],
+) -> Result<Vec<Entry<'a>>, AllocError> {
+    let mut entries = Vec::new(alloc);
+    for (text, number) in spellings {
+        entries.push(name(number.as_bytes(), text))?;
+    }
+    Ok(entries)
+}
+
+/// The snapshot of these entries, each merged alone.
+fn merged_in_turn(alloc: Global, entries: &[Entry<'_>]) -> Result<Snapshot, AllocError> {
+    let mut in_turn = Snapshot::empty(alloc);
+    for entry in entries {
+        in_turn.merge([*entry].into_iter())?;
+    }
+    Ok(in_turn)
+}
+
 #[test]
 fn all_spellings_of_an_email_are_one(rt: HostRuntime) -> Result<(), Fail> {
     let alloc = rt.alloc();
     let spellings = all_spellings(alloc)?;
-    let mut entries = Vec::new(alloc);
-    for (text, number) in &spellings {
-        entries.push(name(number.as_bytes(), text))?;
-    }
+    let mut entries = names_of(alloc, &spellings)?;
+    assert_listed(&rt, alloc, &entries, &[name(b"4095", b"abcdefghijkl")])?;
     let at_once = snapshot_of(alloc, &entries)?;
-    let want = [name(b"4095", b"abcdefghijkl")];
-    assert_lists(&rt, alloc, &at_once, &want)?;
-
-    let mut in_turn = Snapshot::empty(alloc);
-    for entry in &entries {
-        in_turn.merge([*entry].into_iter())?;
-    }
-    assert_same(&rt, &in_turn, &at_once);
-
+    assert_same(&rt, &merged_in_turn(alloc, &entries)?, &at_once);
     entries.reverse();
-    let backwards = snapshot_of(alloc, &entries)?;
-    let want = [name(b"0", b"ABCDEFGHIJKL")];
-    assert_lists(&rt, alloc, &backwards, &want)?;
+    assert_listed(&rt, alloc, &entries, &[name(b"0", b"ABCDEFGHIJKL")])?;
     Ok(())
+}
+
+/// An email for each spelling, of its number.
+fn emails_of(alloc: Global, spellings: &[([u8; 12], String)]) -> Result<Vec<String>, AllocError> {
+    let mut emails = Vec::new(alloc);
+    for (_, number) in spellings {
+        emails.push(format!(in alloc; "e{number}")?)?;
+    }
+    Ok(emails)
 }
 
 #[test]
 fn all_spellings_of_a_name_are_one(rt: HostRuntime) -> Result<(), Fail> {
     let alloc = rt.alloc();
     let spellings = all_spellings(alloc)?;
-    let mut emails = Vec::new(alloc);
-    for (_, number) in &spellings {
-        emails.push(format!(in alloc; "e{number}")?)?;
-    }
+    let emails = emails_of(alloc, &spellings)?;
     let mut entries = Vec::new(alloc);
     for ((text, _), email) in spellings.iter().zip(emails.iter()) {
         entries.push(email_of_name(email.as_bytes(), text, b"K@x"))?;
     }
-    let snapshot = snapshot_of(alloc, &entries)?;
     let want = [email_of_name(b"e4095", b"abcdefghijkl", b"K@x")];
-    assert_lists(&rt, alloc, &snapshot, &want)?;
+    assert_listed(&rt, alloc, &entries, &want)?;
     Ok(())
 }
 
@@ -284,9 +300,7 @@ fn a_batch_may_come_in_parts(rt: HostRuntime) -> Result<(), Fail> {
     let alloc = rt.alloc();
     let given = [name(b"N1", b"A@x"), email(b"e@x", b"a@X")];
     let at_once = snapshot_of(alloc, &given)?;
-    let mut in_turn = snapshot_of(alloc, &given[..1])?;
-    in_turn.merge(given[1..].iter().copied())?;
-    assert_same(&rt, &in_turn, &at_once);
+    assert_same(&rt, &merged_in_turn(alloc, &given)?, &at_once);
     assert_same(&rt, &at_once.try_clone(alloc)?, &at_once);
     assert!(rt; at_once.iter().eq([both(b"N1", b"e@x", b"A@x")].into_iter()));
     Ok(())
@@ -294,9 +308,8 @@ fn a_batch_may_come_in_parts(rt: HostRuntime) -> Result<(), Fail> {
 
 #[test]
 fn an_entry_that_maps_nothing_changes_nothing(rt: HostRuntime) -> Result<(), Fail> {
-    let mut snapshot = snapshot_of(rt.alloc(), &[name(b"N", b"a@x")])?;
-    snapshot.merge([Entry::default()].into_iter())?;
-    assert_lists(&rt, rt.alloc(), &snapshot, &[name(b"N", b"a@x")])?;
+    let given = [name(b"N", b"a@x")];
+    assert_merged(&rt, rt.alloc(), &given, &[Entry::default()], &given)?;
     Ok(())
 }
 

@@ -1,7 +1,9 @@
 use gix_mailmap::actor::SignatureRef;
 use gix_mailmap::date::Time;
 use gix_mailmap::{Entry, Snapshot, actor};
+use std::alloc::{AllocError, Global};
 use std::borrow::CowSlice;
+use std::process::Abort;
 use std::test::Fail;
 
 /// A text of an answer.
@@ -18,33 +20,43 @@ fn text_of<'a>(text: &'a CowSlice<'_, u8>) -> Text<'a> {
     }
 }
 
+/// Wants these texts of the answer to Bob and an email, where there is one entry.
+fn assert_resolved(
+    rt: &impl Abort,
+    alloc: Global,
+    entry: Entry<'_>,
+    email: &str,
+    want_name: Text<'_>,
+    want_email: Text<'_>,
+) -> Result<(), AllocError> {
+    let snapshot = Snapshot::new(alloc, [entry].into_iter())?;
+    let signature = SignatureRef {
+        name: b"Bob",
+        email: email.as_bytes(),
+        time: "5 +0000",
+    };
+    let answer = snapshot.resolve_cow(alloc, signature)?;
+    assert_eq!(rt; text_of(&answer.name), want_name, "{email}");
+    assert_eq!(rt; text_of(&answer.email), want_email, "{email}");
+    assert_eq!(rt; answer.time.seconds, 5);
+    let resolved = snapshot.resolve(alloc, signature)?;
+    assert_eq!(rt; resolved, actor::Signature::from_cow(alloc, answer)?);
+    Ok(())
+}
+
 #[test]
 fn mapped_texts_are_owned_and_kept_ones_borrowed(rt: HostRuntime) -> Result<(), Fail> {
+    let alloc = rt.alloc();
     let name = Entry::change_name_by_email(b"P", b"x@y");
     let email = Entry::change_email_by_name_and_email(b"n@y", b"Jane", b"x@y");
     let both = Entry::change_name_and_email_by_email(b"P", b"n@y", b"x@y");
-    let rows = [
-        (name, "x@y", Text::Owned(b"P"), Text::Borrowed(b"x@y")),
-        (name, "X@y", Text::Owned(b"P"), Text::Owned(b"x@y")),
-        (name, "x@z", Text::Borrowed(b"Bob"), Text::Borrowed(b"x@z")),
-        (email, "X@y", Text::Borrowed(b"Bob"), Text::Owned(b"x@y")),
-        (email, "x@y", Text::Borrowed(b"Bob"), Text::Borrowed(b"x@y")),
-        (both, "x@y", Text::Owned(b"P"), Text::Owned(b"n@y")),
-    ];
-    for (entry, email, want_name, want_email) in rows {
-        let snapshot = Snapshot::new(rt.alloc(), [entry].into_iter())?;
-        let signature = SignatureRef {
-            name: b"Bob",
-            email: email.as_bytes(),
-            time: "5 +0000",
-        };
-        let answer = snapshot.resolve_cow(rt.alloc(), signature)?;
-        assert_eq!(rt; text_of(&answer.name), want_name, "{email}");
-        assert_eq!(rt; text_of(&answer.email), want_email, "{email}");
-        assert_eq!(rt; answer.time.seconds, 5);
-        let resolved = snapshot.resolve(rt.alloc(), signature)?;
-        assert_eq!(rt; resolved, actor::Signature::from_cow(rt.alloc(), answer)?);
-    }
+    let (bob, proper) = (Text::Borrowed(b"Bob"), Text::Owned(b"P"));
+    assert_resolved(&rt, alloc, name, "x@y", proper, Text::Borrowed(b"x@y"))?;
+    assert_resolved(&rt, alloc, name, "X@y", proper, Text::Owned(b"x@y"))?;
+    assert_resolved(&rt, alloc, name, "x@z", bob, Text::Borrowed(b"x@z"))?;
+    assert_resolved(&rt, alloc, email, "X@y", bob, Text::Owned(b"x@y"))?;
+    assert_resolved(&rt, alloc, email, "x@y", bob, Text::Borrowed(b"x@y"))?;
+    assert_resolved(&rt, alloc, both, "x@y", proper, Text::Owned(b"n@y"))?;
     Ok(())
 }
 
@@ -73,31 +85,38 @@ Jane Doe <jane@example.com> Jane <bugs@example.com>
     Ok(())
 }
 
+/// Wants this time of a text, and all three fields of a signature kept by an empty snapshot.
+fn assert_kept(
+    rt: &impl Abort,
+    alloc: Global,
+    time: &str,
+    read: Option<(i64, i32)>,
+) -> Result<(), AllocError> {
+    let snapshot = Snapshot::empty(alloc);
+    let signature = SignatureRef {
+        name: b"Bob",
+        email: b"b@x",
+        time,
+    };
+    let found = signature.time().map(|time| (time.seconds, time.offset));
+    assert_eq!(rt; found, read, "{time}");
+    let (seconds, offset) = read.unwrap_or((0, 0));
+    let resolved = snapshot.resolve(alloc, signature)?;
+    assert_eq!(rt; resolved.name.as_slice(), b"Bob".as_slice());
+    assert_eq!(rt; resolved.email.as_slice(), b"b@x".as_slice());
+    assert_eq!(rt; resolved.time, Time { seconds, offset }, "{time}");
+    assert_eq!(rt; snapshot.try_resolve(alloc, signature)?, None);
+    Ok(())
+}
+
 #[test]
 fn an_empty_snapshot_copies_the_texts_and_reads_the_time(rt: HostRuntime) -> Result<(), Fail> {
-    let snapshot = Snapshot::empty(rt.alloc());
-    let table = [
-        ("1 +0130", Some((1, 5400))),
-        ("soon", None),
-        ("9223372036854775808 +0000", None),
-        ("1 +130", None),
-        ("+1 +0000", None),
-        ("1  +0000", None),
-    ];
-    for (time, read) in table {
-        let signature = SignatureRef {
-            name: b"Bob",
-            email: b"b@x",
-            time,
-        };
-        let found = signature.time().map(|time| (time.seconds, time.offset));
-        assert_eq!(rt; found, read, "{time}");
-        let (seconds, offset) = read.unwrap_or((0, 0));
-        let resolved = snapshot.resolve(rt.alloc(), signature)?;
-        assert_eq!(rt; resolved.name.as_slice(), b"Bob".as_slice());
-        assert_eq!(rt; resolved.email.as_slice(), b"b@x".as_slice());
-        assert_eq!(rt; resolved.time, Time { seconds, offset }, "{time}");
-        assert_eq!(rt; snapshot.try_resolve(rt.alloc(), signature)?, None);
-    }
+    let alloc = rt.alloc();
+    assert_kept(&rt, alloc, "1 +0130", Some((1, 5400)))?;
+    assert_kept(&rt, alloc, "soon", None)?;
+    assert_kept(&rt, alloc, "9223372036854775808 +0000", None)?;
+    assert_kept(&rt, alloc, "1 +130", None)?;
+    assert_kept(&rt, alloc, "+1 +0000", None)?;
+    assert_kept(&rt, alloc, "1  +0000", None)?;
     Ok(())
 }
