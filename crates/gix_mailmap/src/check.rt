@@ -7,8 +7,6 @@ ghost use Rattle.gix_mailmap.specs.Lines.{good};
 
 mod compaction;
 mod parts;
-#[cfg(test)]
-mod tests;
 
 use crate::actor::SignatureRef;
 use crate::lines::{Half, parse_ignore_errors, parse_name_and_email, trim};

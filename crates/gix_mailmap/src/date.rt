@@ -5,9 +5,6 @@ ghost use Rattle.std.specs.Char.{IsAsciiDigit};
 ghost use Rattle.gix_mailmap.specs.Times.{AreDigits, number, SpellsSeconds, SpellsOffset, Reads};
 
 mod order;
-#[cfg(test)]
-mod tests;
-
 /// A moment, and how far from UTC the clock was set that showed it.
 ///
 /// Times are ordered by `seconds`, and where these are equal by `offset`. The default is zero in both.

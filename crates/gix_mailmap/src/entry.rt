@@ -14,9 +14,6 @@
 ghost use Rattle.std.specs.Prelude.{◌≡◌, IsSome};
 
 mod derived;
-#[cfg(test)]
-mod tests;
-
 /// A mapping of names and emails, which borrows its texts: from the buffer that was parsed, or from whoever made it.
 ///
 /// The old email, and the old name where there is one, are looked for without regard to the case of ASCII letters; the

@@ -117,6 +117,3 @@ impl Steps {
         cmp_ignore_ascii_case(a, b)
     }
 }
-
-#[cfg(test)]
-mod tests;

@@ -23,9 +23,6 @@ ghost use Rattle.gix_mailmap.specs.Entries.{mapping_of};
 ghost use Rattle.gix_mailmap.specs.Trimming.{trim as spec_trim};
 ghost use Rattle.gix_mailmap.specs.Lines.{half_of, trimmed_half, reading_of, reading_by, line_reader, cut, non_empty as spec_non_empty, by_both, readings, readings_from, strict_readings, pieces, fault_lines, good};
 
-#[cfg(test)]
-mod tests;
-
 use crate::entry::Entry;
 use bstr::ByteSlice;
 use std::marker::Model;

@@ -11,8 +11,6 @@ mod resolved;
 mod signature;
 mod sources;
 mod tables;
-#[cfg(test)]
-mod tests;
 mod text;
 
 pub use listing::Iter;

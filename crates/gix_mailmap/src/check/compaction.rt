@@ -2,9 +2,6 @@
 ghost use Rattle.std.specs.Prelude.{IfOk, map};
 ghost use Rattle.gix_mailmap.specs.Writing.{IsCompacted};
 
-#[cfg(test)]
-mod tests;
-
 use crate::parse_ignore_errors;
 use crate::snapshot::{Snapshot, WriteError};
 use std::alloc::{AllocError, Global};

@@ -5,9 +5,6 @@ ghost use Rattle.gix_mailmap.specs.Entries.{Mapping};
 ghost use Rattle.gix_mailmap.specs.Histories.{IsNormal};
 ghost use Rattle.gix_mailmap.specs.Signatures.{shown};
 
-#[cfg(test)]
-mod tests;
-
 use crate::actor;
 use crate::actor::SignatureRef;
 use crate::snapshot::{ResolvedSignature, Signature, Snapshot};

@@ -4,8 +4,6 @@ ghost use Rattle.std.specs.Cow.{cow_slice_items, IsOwnedSlice, IsBorrowedSlice};
 ghost use Rattle.gix_mailmap.specs.Answers.{owned_fields, cow_fields, empty_fields, BorrowsBoth, IsTakenFrom, IsHeldAs};
 
 mod derived;
-#[cfg(test)]
-mod tests;
 
 use crate::actor;
 use crate::actor::SignatureRef;

@@ -4,9 +4,6 @@ ghost use Rattle.gix_mailmap.specs.Histories.{IsNormal, accepted};
 ghost use Rattle.gix_mailmap.specs.Sources.{history, said_by};
 ghost use Rattle.gix_mailmap.specs.declared.snapshot.sources.Source.{Source as Said};
 
-#[cfg(test)]
-mod tests;
-
 use crate::snapshot::Snapshot;
 use crate::{Entry, parse_ignore_errors};
 use std::alloc::AllocError;

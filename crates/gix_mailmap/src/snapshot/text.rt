@@ -8,9 +8,6 @@ ghost use Rattle.gix_mailmap.specs.Lines.{HoldsNo};
 ghost use Rattle.gix_mailmap.specs.Trimming.{trim as spec_trim};
 ghost use Rattle.gix_mailmap.specs.Writing.{IsFirstUnwritable, IsUnwrittenBy};
 
-#[cfg(test)]
-mod tests;
-
 use crate::Entry;
 use crate::lines::trim;
 use crate::snapshot::Snapshot;

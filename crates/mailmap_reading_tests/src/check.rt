@@ -1,4 +1,4 @@
-use super::*;
+use gix_mailmap::check::{check, split};
 use std::test::Fail;
 
 /// Two mappings of one email: for everybody, and for one name.

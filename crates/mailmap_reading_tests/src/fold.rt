@@ -2,7 +2,8 @@
 ghost use Rattle.std.specs.Prelude.{◌≡◌, ◌≤◌, length};
 ghost use Rattle.gix_mailmap.specs.Search.{IsParted};
 
-use super::*;
+use gix_mailmap::fold::{Probe, Steps, cmp_ignore_ascii_case, search};
+use std::cmp::Ordering;
 use std::process::Abort;
 
 // Answers that are written out, and how often they were asked for.
@@ -38,7 +39,7 @@ fn finds<R: Abort>(rt: &R, answers: &[Ordering], want: Result<usize, usize>, at_
 }
 
 #[test]
-#[tactic(auto, unfolding(crate::specs::Search::IsParted))]
+#[tactic(auto, unfolding(gix_mailmap::specs::Search::IsParted))]
 fn search_finds_or_places_within_the_digits_of_the_length(rt: HostRuntime) {
     use std::cmp::Ordering::{Equal, Greater, Less};
     finds(&rt, &[], Err(0), 0);
@@ -48,19 +49,19 @@ fn search_finds_or_places_within_the_digits_of_the_length(rt: HostRuntime) {
     finds(&rt, &[Less, Less, Greater, Greater], Err(2), 3);
 }
 
+// Wants this order of two texts, counted and not.
+fn assert_order<R: Abort>(rt: &R, a: &[u8], b: &[u8], want: Ordering) {
+    assert_eq!(rt; cmp_ignore_ascii_case(a, b), want, "{a:?} and {b:?}");
+    let mut steps = Steps::new();
+    assert_eq!(rt; steps.compare(a, b), want, "{a:?} and {b:?}, counted");
+    assert_eq!(rt; steps.count(), 1);
+}
+
 #[test]
 fn order_folds_the_letters_of_ascii_alone(rt: HostRuntime) {
-    let rows: [(&[u8], &[u8], Ordering); 5] = [
-        (b"FooBar", b"foobar", Ordering::Equal),
-        (b"Masse", b"Ma\xc3\x9fe", Ordering::Less),
-        (b"FOO\xff", b"foo\xff", Ordering::Equal),
-        (b"A", b"B\xff", Ordering::Less),
-        (b"a", b"B\xff", Ordering::Less),
-    ];
-    for (a, b, want) in rows {
-        assert_eq!(rt; cmp_ignore_ascii_case(a, b), want, "{a:?} and {b:?}");
-        let mut steps = Steps::new();
-        assert_eq!(rt; steps.compare(a, b), want, "{a:?} and {b:?}, counted");
-        assert_eq!(rt; steps.count(), 1);
-    }
+    assert_order(&rt, b"FooBar", b"foobar", Ordering::Equal);
+    assert_order(&rt, b"Masse", b"Ma\xc3\x9fe", Ordering::Less);
+    assert_order(&rt, b"FOO\xff", b"foo\xff", Ordering::Equal);
+    assert_order(&rt, b"A", b"B\xff", Ordering::Less);
+    assert_order(&rt, b"a", b"B\xff", Ordering::Less);
 }

@@ -1,5 +1,6 @@
-use super::*;
+use gix_mailmap::Entry;
 use std::cmp::Ordering;
+use std::process::Abort;
 
 /// The fields in the order that entries are compared by.
 fn fields<'a>(
@@ -54,25 +55,54 @@ fn each_constructor_sets_just_its_fields(rt: HostRuntime) {
     }
 }
 
+/// Wants the first entry to come before the second.
+fn assert_ascends(rt: &impl Abort, less: Entry<'_>, greater: Entry<'_>) {
+    assert_eq!(rt; less.cmp(&greater), Ordering::Less, "{less:?}");
+    assert_eq!(rt; greater.cmp(&less), Ordering::Greater, "{less:?}");
+    assert!(rt; less != greater);
+}
+
+/// An entry with all four texts.
+fn full<'a>(
+    new_name: &'a [u8],
+    new_email: &'a [u8],
+    old_name: &'a [u8],
+    old_email: &'a [u8],
+) -> Entry<'a> {
+    Entry::change_name_and_email_by_name_and_email(new_name, new_email, old_name, old_email)
+}
+
 #[test]
 fn the_order_takes_the_fields_in_turn_a_missing_one_first_and_folds_no_case(rt: HostRuntime) {
     let empty = Entry::default();
     let email = Entry::change_email_by_email(b"e", b"a");
     let name = Entry::change_name_by_email(b"A", b"a");
-    let full = Entry::change_name_and_email_by_name_and_email;
-    let table = [
-        (empty, email),
-        (empty, name),
-        (email, name),
-        (full(b"A", b"z", b"z", b"z"), full(b"B", b"a", b"a", b"a")),
-        (full(b"A", b"a", b"z", b"z"), full(b"A", b"b", b"a", b"a")),
-        (full(b"A", b"a", b"a", b"z"), full(b"A", b"a", b"b", b"a")),
-        (full(b"A", b"a", b"a", b"a"), full(b"A", b"a", b"a", b"aa")),
-        (full(b"Z", b"a", b"a", b"a"), full(b"a", b"a", b"a", b"a")),
-    ];
-    for (less, greater) in table {
-        assert_eq!(rt; less.cmp(&greater), Ordering::Less, "{less:?}");
-        assert_eq!(rt; greater.cmp(&less), Ordering::Greater, "{less:?}");
-        assert!(rt; less != greater);
-    }
+    assert_ascends(&rt, empty, email);
+    assert_ascends(&rt, empty, name);
+    assert_ascends(&rt, email, name);
+    assert_ascends(
+        &rt,
+        full(b"A", b"z", b"z", b"z"),
+        full(b"B", b"a", b"a", b"a"),
+    );
+    assert_ascends(
+        &rt,
+        full(b"A", b"a", b"z", b"z"),
+        full(b"A", b"b", b"a", b"a"),
+    );
+    assert_ascends(
+        &rt,
+        full(b"A", b"a", b"a", b"z"),
+        full(b"A", b"a", b"b", b"a"),
+    );
+    assert_ascends(
+        &rt,
+        full(b"A", b"a", b"a", b"a"),
+        full(b"A", b"a", b"a", b"aa"),
+    );
+    assert_ascends(
+        &rt,
+        full(b"Z", b"a", b"a", b"a"),
+        full(b"a", b"a", b"a", b"a"),
+    );
 }

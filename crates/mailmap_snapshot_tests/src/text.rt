@@ -1,11 +1,9 @@
-use super::*;
+use crate::entries::snapshot_of;
+use gix_mailmap::snapshot::WriteError;
+use gix_mailmap::{Entry, Snapshot};
+use std::alloc::{AllocError, Global};
 use std::process::Abort;
 use std::test::Fail;
-
-/// The snapshot of these entries.
-fn snapshot_of(alloc: Global, entries: &[Entry<'_>]) -> Result<Snapshot, AllocError> {
-    Snapshot::new(alloc, entries.iter().copied())
-}
 
 /// Wants the snapshot of `buf` to be written as `want`, and that to be read and written as the same.
 fn assert_written(rt: &impl Abort, alloc: Global, buf: &[u8], want: &[u8]) -> Result<(), Fail> {

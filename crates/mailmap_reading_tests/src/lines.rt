@@ -1,4 +1,5 @@
-use super::*;
+use gix_mailmap::lines::Error;
+use gix_mailmap::{Entry, parse, parse_ignore_errors, parse_strict};
 use std::alloc::Global;
 use std::process::Abort;
 use std::test::Fail;
@@ -175,30 +176,37 @@ fn one_byte_alone_is_blank_a_comment_or_a_fault(rt: HostRuntime) -> Result<(), F
     Ok(())
 }
 
+/// Wants what a front of `Jane <a@x> Bob <b@x>` is read as.
+fn assert_front(rt: &impl Abort, alloc: Global, front: &[u8]) -> Result<(), Fail> {
+    match front.len() {
+        0 => assert_parsed_alike(rt, alloc, front, &[]),
+        1..=4 => assert_parsed_alike(rt, alloc, front, &[no_email(1, front)]),
+        5 => assert_parsed_alike(rt, alloc, front, &[no_email(1, b"Jane")]),
+        6..=9 => assert_parsed_alike(rt, alloc, front, &[missing_closing_bracket(1, front)]),
+        10..=15 => assert_parsed_alike(rt, alloc, front, &[name(b"Jane", b"a@x")]),
+        16..=19 => {
+            assert_parsed(rt, alloc, front, &[name(b"Jane", b"a@x")])?;
+            assert_parsed_strictly(rt, alloc, front, &[unclosed_second(1, &front[10..])])
+        }
+        _ => {
+            let both = Entry::change_name_and_email_by_name_and_email;
+            assert_parsed_alike(
+                rt,
+                alloc,
+                front,
+                &[Ok(both(b"Jane", b"a@x", b"Bob", b"b@x"))],
+            )
+        }
+    }
+}
+
 #[test]
 fn each_front_of_a_line_with_two_halves(rt: HostRuntime) -> Result<(), Fail> {
-    let alloc = rt.alloc();
     let line = b"Jane <a@x> Bob <b@x>".as_slice();
-    let both = Entry::change_name_and_email_by_name_and_email(b"Jane", b"a@x", b"Bob", b"b@x");
-    assert_parsed_alike(&rt, alloc, b"", &[])?;
-    for end in 1..=4 {
-        let front = &line[..end];
-        assert_parsed_alike(&rt, alloc, front, &[no_email(1, front)])?;
+    for end in 0..=20 {
+        assert_front(&rt, rt.alloc(), &line[..end])?;
     }
-    assert_parsed_alike(&rt, alloc, &line[..5], &[no_email(1, b"Jane")])?;
-    for end in 6..=9 {
-        let front = &line[..end];
-        assert_parsed_alike(&rt, alloc, front, &[missing_closing_bracket(1, front)])?;
-    }
-    for end in 10..=15 {
-        assert_parsed_alike(&rt, alloc, &line[..end], &[name(b"Jane", b"a@x")])?;
-    }
-    for end in 16..=19 {
-        let front = &line[..end];
-        assert_parsed(&rt, alloc, front, &[name(b"Jane", b"a@x")])?;
-        assert_parsed_strictly(&rt, alloc, front, &[unclosed_second(1, &line[10..end])])?;
-    }
-    assert_parsed_alike(&rt, alloc, line, &[Ok(both)])
+    Ok(())
 }
 
 #[test]

@@ -1,7 +1,7 @@
-use crate::actor;
-use crate::actor::SignatureRef;
-use crate::date::Time;
-use crate::snapshot::Signature;
+use gix_mailmap::actor;
+use gix_mailmap::actor::SignatureRef;
+use gix_mailmap::date::Time;
+use gix_mailmap::snapshot::Signature;
 use std::alloc::{AllocError, Global};
 use std::borrow::CowSlice;
 use std::hash::{DefaultHasher, Hash, Hasher};

@@ -1,4 +1,4 @@
-use super::*;
+use gix_mailmap::check::compact;
 use std::test::Fail;
 
 #[test]

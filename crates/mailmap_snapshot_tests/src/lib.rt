@@ -1,0 +1,17 @@
+//! Tests of the snapshots of [`gix_mailmap`]: what they list and write, what they answer, and how they merge.
+#![tactic(auto)]
+
+#[cfg(test)]
+mod entries;
+#[cfg(test)]
+mod listings;
+#[cfg(test)]
+mod lookups;
+#[cfg(test)]
+mod resolve;
+#[cfg(test)]
+mod signature;
+#[cfg(test)]
+mod sources;
+#[cfg(test)]
+mod text;

@@ -1,0 +1,41 @@
+use gix_mailmap::snapshot::Source;
+use gix_mailmap::{Entry, Snapshot};
+use std::alloc::{AllocError, Global};
+use std::process::Abort;
+use std::test::Fail;
+
+/// Wants the one name `M` of these three sources.
+fn assert_merged(
+    rt: &impl Abort,
+    alloc: Global,
+    first: &[u8],
+    entries: &[Entry<'_>],
+    last: &[u8],
+) -> Result<(), AllocError> {
+    let sources = [
+        Source::Buffer(first),
+        Source::Entries(entries),
+        Source::Buffer(last),
+    ];
+    let mut snapshot = Snapshot::empty(alloc);
+    let mut made = [false; 3];
+    snapshot.merge_sources(&sources, &mut made);
+    assert_eq!(rt; made, [true, true, true]);
+    let entries = snapshot.entries(alloc)?;
+    assert_eq!(rt;
+        entries.as_slice(),
+        [Entry::change_name_by_email(b"M", b"a@x")].as_slice()
+    );
+    Ok(())
+}
+
+/// With ample memory all sources are made, also an empty one, and later ones count.
+#[test]
+fn each_source_is_merged_behind_the_ones_before_it(rt: HostRuntime) -> Result<(), Fail> {
+    let alloc = rt.alloc();
+    let n = Entry::change_name_by_email(b"N", b"a@x");
+    assert_merged(&rt, alloc, b"N <a@x>", &[], b"M <a@x>")?;
+    assert_merged(&rt, alloc, b"", &[n], b"M <A@x>")?;
+    assert_merged(&rt, alloc, b"M <a@x>", &[], b"plain")?;
+    Ok(())
+}
