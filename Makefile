@@ -15,6 +15,7 @@ test:
 	$(MAKE) build
 	tests/original/compare.py $(PROGRAM)
 	tests/not_compiling/run.sh
+	tests/refused_memory.sh
 
 edits:
 	tests/more_must_fail.sh
