@@ -19,7 +19,7 @@ fail() {
 
 # try CRATE REFUSED FOLDER FLAGS..: runs the program of a crate for each case of a folder
 try() {
-    (cd "$1" && rt try --fail-alloc "$2" --cases "$3" "${@:4}" > "$printed" 2> "$said") || fail "$1: a run has no answer"
+    (cd "$1" && rt try --fail-alloc "$2" --cases "$3" "${@:4}" > "$printed" 2> "$said") || fail "$1: a run broke off"
 }
 
 # how many lines of a file match
