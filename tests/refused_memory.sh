@@ -69,7 +69,7 @@ calls="$(grep '^refused' "$printed" | grep -cvx 'refused: nothing')"
 
 # The program: each file without a byte more among its arguments is one request more. The numbers of files are those
 # between which no list of them grows.
-refused=66
+refused=65
 mkdir "$work/runs"
 : > "$work/empty"
 printf 'Joe R. Developer <joe@example.com> <bugs@example.com>\n' > "$work/mailmap"
