@@ -85,10 +85,14 @@ fn each_key_is_listed_once_with_the_spellings_that_came_first(rt: HostRuntime) -
 
 #[test]
 fn emails_and_their_names_are_listed_in_folded_order(rt: HostRuntime) -> Result<(), Fail> {
-    let table: [Row<'_>; 3] = [
+    let table: [Row<'_>; 4] = [
         (
             &[name(b"1", b"Z@x"), name(b"2", b"_@x"), name(b"3", b"a@x")],
             &[name(b"2", b"_@x"), name(b"3", b"a@x"), name(b"1", b"Z@x")],
+        ),
+        (
+            &[name(b"P", b"x@y"), email_of_name(b"n@y", b"", b"x@y")],
+            &[name(b"P", b"x@y"), email_of_name(b"n@y", b"", b"x@y")],
         ),
         (
             &[email_of_name(b"n@y", b"", b"x@y"), name(b"P", b"x@y")],
