@@ -12,8 +12,10 @@ printed="$work/printed"
 said="$work/said"
 
 fail() {
-    echo "refused memory: $1"
-    cat "$printed" "$said"
+    {
+        echo "refused memory: $1"
+        cat "$printed" "$said"
+    } >&2
     exit 1
 }
 
@@ -67,24 +69,35 @@ untold="$(sed -n '/^refused/p' "$printed" | sed '1,/^refused: [^n]/d' | grep -cx
 [ "$untold" = 2 ] || fail "$untold refusals that no call told of"
 calls="$(grep '^refused' "$printed" | grep -cvx 'refused: nothing')"
 
-# The program: each file without a byte more among its arguments is one request more. The numbers of files are those
-# between which no list of them grows.
+# The program, either way to run it: each file without a byte more among its arguments is one request more. The numbers
+# of files are those between which no list of them grows.
 refused=65
 mkdir "$work/runs"
 : > "$work/empty"
 printf 'Joe R. Developer <joe@example.com> <bugs@example.com>\n' > "$work/mailmap"
 for ((files = 34; files <= 62; files++)); do
-    printf 'bob <BUGS@example.com>\nnot a contact\n' > "$work/runs/$files"
-    { for ((file = 0; file < files; file++)); do echo empty; done; echo mailmap; } > "$work/runs/$files.args"
+    for mode in check compact; do
+        printf 'bob <BUGS@example.com>\nnot a contact\n' > "$work/runs/$mode$files"
+        {
+            if [ "$mode" = compact ]; then echo --compact; fi
+            for ((file = 0; file < files; file++)); do echo empty; done
+            echo mailmap
+        } > "$work/runs/$mode$files.args"
+    done
 done
 try mailmap_check "$refused" "$work/runs" --data "empty=$work/empty" --data "mailmap=$work/mailmap"
+for mode in check compact; do
+    grep -q "^case=${mode}34 run=ended status=0 " "$said" || fail "mailmap_check: it makes more requests"
+done
 
-# What has to be printed: the answers at status 0, and at status 2 nothing, with one line on standard error.
+# What has to be printed: at status 0 all, and at status 2 nothing, with one line on standard error.
 while read -r run; do
-    echo "== ${run:5:2}"
+    name="${run%% *}"
+    echo "== ${name#case=}"
     case "$run" in
-    *'run=ended status=0 '*) printf 'Joe R. Developer <joe@example.com>\nnot a contact\n' ;;
-    *'run=ended status=2 '*) ;;
+    case=check*' run=ended status=0 '*) printf 'Joe R. Developer <joe@example.com>\nnot a contact\n' ;;
+    case=compact*' run=ended status=0 '*) printf ' Joe R. Developer <joe@example.com> <bugs@example.com>\n' ;;
+    *' run=ended status=2 '*) ;;
     *) fail "mailmap_check: another status" ;;
     esac
 done < <(grep '^case=' "$said") > "$work/expected"
@@ -92,6 +105,5 @@ diff "$work/expected" "$printed" || fail "mailmap_check: other output"
 runs="$(count 'run=ended status=2 ' "$said")"
 [ "$(count '^mailmap_check: out of memory$' "$said")" = "$runs" ] || fail "mailmap_check: another line for a failure"
 [ "$(count '^mailmap_check' "$said")" = "$runs" ] || fail "mailmap_check: more than one line for a failure"
-[ "$(grep '^case=' "$said" | sed -n 1p | cut -d' ' -f3)" = status=0 ] || fail "mailmap_check: it makes more requests"
 
 echo "refused memory: $calls requests of the library's calls and $runs of mailmap_check, each refused, end as they must"
