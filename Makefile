@@ -2,6 +2,7 @@
 # gate leaves out for its time. make install: the program, under PREFIX.
 PREFIX ?= /usr/local
 PROGRAM = crates/mailmap_check/out/mailmap_check
+DUMP = crates/mailmap_dump/out/mailmap_dump
 
 .PHONY: build run test edits install
 build:
@@ -13,8 +14,10 @@ run: build
 test:
 	rt ci
 	$(MAKE) build
-	tests/original/compare.py $(PROGRAM)
+	cd crates/mailmap_dump && rt run > /dev/null
+	tests/original/compare.py $(PROGRAM) $(DUMP)
 	tests/not_compiling/run.sh
+	tests/refused_memory.sh
 
 edits:
 	tests/more_must_fail.sh

@@ -1,39 +1,54 @@
 #!/usr/bin/env python3
-"""Runs mailmap_check on buffers and contacts, hostile ones among them, and wants the answers of the Rust original.
+"""Runs mailmap_check and mailmap_dump on buffers, hostile ones among them, and wants the answers of the Rust original.
 
-    compare.py PROGRAM
+    compare.py MAILMAP_CHECK MAILMAP_DUMP
 
 A line of cases.jsonl is one case: its mode, the buffers, the standard input, and the status and the output of the
-original; the texts are in hex.
+original; the texts are in hex. The buffers were made by a seeded generator, hostile and realistic ones. The answers are
+those of a program over the unchanged Rust crate, which prints dumps as mailmap_dump does; in the text of a fault it
+puts the number of the line where the original has `{line_number}`.
 """
 import json
 import subprocess
 import sys
 import tempfile
+from collections import Counter
 from pathlib import Path
 
 
-def run(program, case, folder):
+def command(programs, mode, paths):
+    check, dump = programs
+    if mode == "check":
+        return [check, *paths]
+    if mode == "compact":
+        return [check, "--compact", *paths]
+    return [dump, mode, *paths]
+
+
+def run(programs, case, folder):
     paths = []
     for number, file in enumerate(case["files"]):
         path = folder / str(number)
         path.write_bytes(bytes.fromhex(file))
         paths.append(str(path))
-    words = [program] + (["--compact"] if case["mode"] == "compact" else []) + paths
+    words = command(programs, case["mode"], paths)
     return subprocess.run(words, input=bytes.fromhex(case["input"]), capture_output=True)
 
 
 def main():
-    program = str(Path(sys.argv[1]).resolve())
+    programs = [str(Path(word).resolve()) for word in sys.argv[1:3]]
     cases = [json.loads(line) for line in open(Path(__file__).with_name("cases.jsonl"), encoding="ascii")]
-    failed = 0
+    agreed = Counter()
     with tempfile.TemporaryDirectory() as folder:
         for number, case in enumerate(cases, 1):
-            done = run(program, case, Path(folder))
-            if (done.returncode, done.stdout.hex(), done.stderr) != (case["status"], case["answer"], b""):
-                failed += 1
+            done = run(programs, case, Path(folder))
+            if (done.returncode, done.stdout.hex(), done.stderr) == (case["status"], case["answer"], b""):
+                agreed[case["mode"]] += 1
+            else:
                 print(f"case {number}, {case['mode']}: {done.stdout.hex()} and not {case['answer']}")
-    print(f"beside the original: {len(cases) - failed} cases agree, {failed} differ")
+    modes = ", ".join(f"{count} of {mode}" for mode, count in agreed.items())
+    failed = len(cases) - agreed.total()
+    print(f"beside the original: {agreed.total()} cases agree, {failed} differ ({modes})")
     sys.exit(1 if failed else 0)
 
 

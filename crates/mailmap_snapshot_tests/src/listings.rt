@@ -90,6 +90,12 @@ fn emails_and_their_names_are_listed_in_folded_order(rt: HostRuntime) -> Result<
     assert_listed(
         &rt,
         alloc,
+        &[name(b"P", b"x@y"), email_of_name(b"n@y", b"", b"x@y")],
+        &[name(b"P", b"x@y"), email_of_name(b"n@y", b"", b"x@y")],
+    )?;
+    assert_listed(
+        &rt,
+        alloc,
         &[email_of_name(b"n@y", b"", b"x@y"), name(b"P", b"x@y")],
         &[name(b"P", b"x@y"), email_of_name(b"n@y", b"", b"x@y")],
     )?;

@@ -1,0 +1,120 @@
+//! Shows who wrote the lines of a file, as a blame view does.
+//!
+//! Standard input has a mailmap, a line `--`, and the author of each line of the file, as in
+//! `Jane <bugs@example.com> 1711398853 +0800`.
+//!
+//! The three calls that resolve a signature differ in what they copy. Here each does what it suits: `resolve_cow` shows
+//! authors, `resolve` keeps one for later, and `try_resolve` tells whom the mailmap changes.
+#![tactic(auto)]
+
+use anyhow::{Context, Result};
+use bstr::ByteSlice;
+use gix_mailmap::actor::{self, SignatureRef};
+use gix_mailmap::check::split;
+use gix_mailmap::{Snapshot, snapshot};
+use std::alloc::{AllocError, Global};
+use std::borrow::CowSlice;
+use std::io::Read;
+
+fn main(rt: HostRuntime) -> Result<()> {
+    let mut input = Vec::new(rt.alloc());
+    rt.stdin().read_to_end(&mut input)?;
+    let (mailmap, lines) = split(&input);
+    let mailmap = Snapshot::from_bytes(rt.alloc(), mailmap)?;
+    let mut authors = Vec::new(rt.alloc());
+    for line in lines.lines() {
+        authors.push(author(line).context("a line without an author")?)?;
+    }
+    show_all(&rt, &mailmap, &authors)?;
+    show_newest(&rt, &mailmap, &authors)?;
+    show_changed(&rt, &mailmap, &authors)
+}
+
+// The author of a line, as it was recorded.
+fn author(line: &[u8]) -> Option<SignatureRef<'_>> {
+    let (name, behind) = line.split_once_str(b" <")?;
+    let (email, time) = behind.split_once_str(b"> ")?;
+    Some(SignatureRef {
+        name,
+        email,
+        time: str::from_utf8(time).ok()?,
+    })
+}
+
+// Shows each author. `resolve_cow` copies what the mailmap changes, and borrows the rest of what was recorded.
+fn show_all<R: Print + AllocGlobal>(
+    rt: &R,
+    mailmap: &Snapshot,
+    authors: &[SignatureRef<'_>],
+) -> Result<()> {
+    for author in authors {
+        show(rt, &shown(rt.alloc(), mailmap, *author))?;
+    }
+    Ok(())
+}
+
+fn show(rt: &impl Print, author: &snapshot::Signature<'_>) -> Result<()> {
+    let name = author.name.as_slice().as_bstr();
+    let email = author.email.as_slice().as_bstr();
+    let (name_is, email_is) = (origin(&author.name), origin(&author.email));
+    println!(rt; "{name} <{email}>: name {name_is}, email {email_is}")?;
+    Ok(())
+}
+
+// An author as the view shows it. Without memory for a copy the line is shown all the same, as it was recorded.
+fn shown<'a>(
+    alloc: Global,
+    mailmap: &Snapshot,
+    author: SignatureRef<'a>,
+) -> snapshot::Signature<'a> {
+    match mailmap.resolve_cow(alloc, author) {
+        Ok(shown) => shown,
+        Err(AllocError) => author.into(),
+    }
+}
+
+fn origin(text: &CowSlice<'_, u8>) -> &'static str {
+    match text {
+        CowSlice::Owned(_) => "mapped",
+        CowSlice::Borrowed(_) => "recorded",
+    }
+}
+
+// Shows the author of the newest line. `resolve` copies both texts, so the answer may outlive all that it came from.
+fn show_newest<R: Print + AllocGlobal>(
+    rt: &R,
+    mailmap: &Snapshot,
+    authors: &[SignatureRef<'_>],
+) -> Result<()> {
+    let mut newest: Option<actor::Signature> = None;
+    for author in authors {
+        let author = mailmap.resolve(rt.alloc(), *author)?;
+        if newest
+            .as_ref()
+            .is_none_or(|newest| newest.time.seconds < author.time.seconds)
+        {
+            newest = Some(author);
+        }
+    }
+    let newest = newest.context("no line")?;
+    let name = newest.name.as_slice().as_bstr();
+    let email = newest.email.as_slice().as_bstr();
+    println!(rt; "newest: {name} <{email}>")?;
+    Ok(())
+}
+
+// Shows the authors that the mailmap changes. `try_resolve` is `None` for the others, and copies nothing then.
+fn show_changed<R: Print + AllocGlobal>(
+    rt: &R,
+    mailmap: &Snapshot,
+    authors: &[SignatureRef<'_>],
+) -> Result<()> {
+    for author in authors {
+        if let Some(proper) = mailmap.try_resolve(rt.alloc(), *author)? {
+            let recorded = author.name.as_bstr();
+            let name = proper.name.as_slice().as_bstr();
+            println!(rt; "changed: {recorded} is {name}")?;
+        }
+    }
+    Ok(())
+}

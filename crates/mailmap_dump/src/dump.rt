@@ -1,0 +1,81 @@
+//! The dumps, a line for each item.
+
+use crate::shown::Hex;
+use anyhow::{Context, Result};
+use bstr::ByteSlice;
+use gix_mailmap::actor::SignatureRef;
+use gix_mailmap::{Entry, Snapshot, parse};
+use std::alloc::{AllocError, Global};
+
+/// What each line of the files says.
+pub fn items(out: &mut String, files: &[Vec<u8>]) -> Result<(), AllocError> {
+    for file in files {
+        lines(out, file)?;
+    }
+    Ok(())
+}
+
+fn lines(out: &mut String, file: &[u8]) -> Result<(), AllocError> {
+    for item in parse(file) {
+        match item {
+            Ok(entry) => put_entry(out, &entry)?,
+            Err(fault) => writeln!(out, "F {fault} {}", Hex(Some(fault.input())))?,
+        }
+    }
+    Ok(())
+}
+
+/// What a snapshot lists.
+pub fn entries(out: &mut String, snapshot: &Snapshot) -> Result<(), AllocError> {
+    for entry in snapshot.iter() {
+        put_entry(out, &entry)?;
+    }
+    Ok(())
+}
+
+fn put_entry(out: &mut String, entry: &Entry<'_>) -> Result<(), AllocError> {
+    writeln!(
+        out,
+        "E {} {} {} {}",
+        Hex(entry.new_name()),
+        Hex(entry.new_email()),
+        Hex(entry.old_name()),
+        Hex(Some(entry.old_email()))
+    )
+}
+
+/// What a snapshot finds for the name and the email of each line.
+pub fn answers(out: &mut String, alloc: Global, snapshot: &Snapshot, pairs: &[u8]) -> Result<()> {
+    for line in pairs.lines() {
+        let mut fields = line.fields();
+        let name = text(alloc, fields.next())?;
+        let email = text(alloc, fields.next())?;
+        put_answer(out, snapshot, name.as_slice(), email.as_slice())?;
+    }
+    Ok(())
+}
+
+fn put_answer(
+    out: &mut String,
+    snapshot: &Snapshot,
+    name: &[u8],
+    email: &[u8],
+) -> Result<(), AllocError> {
+    let signature = SignatureRef {
+        name,
+        email,
+        time: "",
+    };
+    match snapshot.try_resolve_ref(signature) {
+        Some(found) => writeln!(out, "{} {}", Hex(found.name), Hex(found.email)),
+        None => writeln!(out, "- -"),
+    }
+}
+
+// The text that a field has in hex.
+fn text(alloc: Global, field: Option<&[u8]>) -> Result<Vec<u8>> {
+    match field.context("a name and an email are wanted")? {
+        b"." => Ok(Vec::new(alloc)),
+        digits => Ok(hex::decode(alloc, digits)?),
+    }
+}

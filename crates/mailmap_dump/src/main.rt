@@ -1,0 +1,61 @@
+//! Prints what the library makes of mailmaps, in hex, so that it can be compared with what the original makes of them.
+#![tactic(auto)]
+
+mod dump;
+mod shown;
+
+use anyhow::{Context, Result, bail};
+use gix_mailmap::{Snapshot, parse_ignore_errors};
+use std::alloc::{AllocError, Global};
+use std::io::Read;
+use std::rt::Files;
+use std::{env, fs};
+
+const USAGE: &str = "\
+usage: mailmap_dump MODE FILE..
+    parse FILE..     the entries and faults of each FILE, line by line
+    entries FILE..   the entries of the snapshot of all FILEs
+    resolve FILE..   what that snapshot finds for each line NAME EMAIL of standard input
+An entry is E NEW_NAME NEW_EMAIL OLD_NAME OLD_EMAIL, a fault is F, its text and its line, and what is found is
+NAME EMAIL. Names, emails and lines are in hex, . is an empty one and - is none.
+";
+
+fn main(rt: HostRuntime) -> Result<()> {
+    let words: Vec<String> = env::args(&rt)?.collect(rt.alloc())?;
+    let [_, mode, paths @ ..] = words.as_slice() else {
+        print!(rt; "{USAGE}")?;
+        return Ok(());
+    };
+    let files = read_files(&rt, paths)?;
+    let mut out = String::new(rt.alloc());
+    match mode.as_str() {
+        "parse" => dump::items(&mut out, &files)?,
+        "entries" => dump::entries(&mut out, &merged(rt.alloc(), &files)?)?,
+        "resolve" => {
+            let mut pairs = Vec::new(rt.alloc());
+            rt.stdin().read_to_end(&mut pairs)?;
+            dump::answers(&mut out, rt.alloc(), &merged(rt.alloc(), &files)?, &pairs)?
+        }
+        _ => bail!("unknown mode {mode}"),
+    }
+    print!(rt; "{out}")?;
+    Ok(())
+}
+
+// The bytes of the files.
+fn read_files<R: Files + AllocGlobal>(rt: &R, paths: &[String]) -> Result<Vec<Vec<u8>>> {
+    let mut files = Vec::new(rt.alloc());
+    for path in paths {
+        files.push(fs::read(rt, path).context(format_args!("{path}"))?)?;
+    }
+    Ok(files)
+}
+
+// The snapshot of the files, later ones behind earlier ones.
+fn merged(alloc: Global, files: &[Vec<u8>]) -> Result<Snapshot, AllocError> {
+    let mut snapshot = Snapshot::empty(alloc);
+    for file in files {
+        snapshot.merge(parse_ignore_errors(file))?;
+    }
+    Ok(snapshot)
+}

@@ -1,0 +1,62 @@
+//! Whose requests for memory are refused.
+
+use std::fmt;
+
+/// A call, or another one that asks for memory.
+#[derive(Clone, Copy, Debug)]
+pub enum Call {
+    New,
+    FromBytes,
+    Entries,
+    TryClone,
+    Write,
+    Merge,
+    /// A merge that gives up texts out of use, and so builds the snapshot once more.
+    MergeAnew,
+    MergeSources,
+    /// The merge of the first source, or of the third.
+    FirstSource,
+    ThirdSource,
+    TryResolve,
+    Resolve,
+    /// Where nothing is mapped.
+    ResolveNothing,
+    ResolveCow,
+    SignatureTryClone,
+    FromCow,
+    Check,
+    Compact,
+    /// The calls that take no memory.
+    Unrefusable,
+    /// A request before all calls, or right behind those that take no memory.
+    Before,
+    Behind,
+}
+
+impl fmt::Display for Call {
+    fn fmt<W: fmt::Write>(&self, f: &mut fmt::Formatter<W>) -> fmt::Result {
+        f.write_str(match self {
+            Call::New => "Snapshot::new",
+            Call::FromBytes => "Snapshot::from_bytes",
+            Call::Entries => "Snapshot::entries",
+            Call::TryClone => "Snapshot::try_clone",
+            Call::Write => "Snapshot::write",
+            Call::Merge => "Snapshot::merge",
+            Call::MergeAnew => "Snapshot::merge, texts given up",
+            Call::MergeSources => "Snapshot::merge_sources",
+            Call::FirstSource => "Snapshot::merge_sources, first source",
+            Call::ThirdSource => "Snapshot::merge_sources, third source",
+            Call::TryResolve => "Snapshot::try_resolve",
+            Call::Resolve => "Snapshot::resolve",
+            Call::ResolveNothing => "Snapshot::resolve, nothing mapped",
+            Call::ResolveCow => "Snapshot::resolve_cow",
+            Call::SignatureTryClone => "snapshot::Signature::try_clone",
+            Call::FromCow => "actor::Signature::from_cow",
+            Call::Check => "check::check",
+            Call::Compact => "check::compact",
+            Call::Unrefusable => "a call that takes no memory",
+            Call::Before => "a request before all calls",
+            Call::Behind => "the request behind the calls that take none",
+        })
+    }
+}

@@ -1,0 +1,139 @@
+//! The calls that take memory, one after the other.
+
+use crate::call::Call;
+use crate::run::{Run, Wrong, lists, wants};
+use crate::samples::{
+    ANSWERS, CONTACTS, JANE, NOBODY, TEAM, WRITTEN, all, is_jane, is_nobody, later, owns_jane, team,
+};
+use gix_mailmap::snapshot::{Source, WriteError};
+use gix_mailmap::{Entry, Snapshot, actor, check};
+use std::alloc::{AllocError, Global};
+
+/// The snapshot of the team, which is listed, copied and written as well.
+pub fn build(run: &mut Run, alloc: Global) -> Result<Snapshot, Wrong> {
+    let snapshot = run.judge(
+        Call::New,
+        || Snapshot::new(alloc, team().into_iter()),
+        |made| lists(made, &team()),
+    )?;
+    run.judge(
+        Call::FromBytes,
+        || Snapshot::from_bytes(alloc, TEAM),
+        |made| *made == snapshot,
+    )?;
+    run.judge(
+        Call::Entries,
+        || snapshot.entries(alloc),
+        |entries| entries.as_slice() == team().as_slice(),
+    )?;
+    run.judge(
+        Call::TryClone,
+        || snapshot.try_clone(alloc),
+        |copy| *copy == snapshot,
+    )?;
+    let _text = run.judge(
+        Call::Write,
+        || write(&snapshot, alloc),
+        |text| text.as_ref().is_ok_and(|text| text.as_slice() == WRITTEN),
+    )?;
+    Ok(snapshot)
+}
+
+/// The text of a snapshot, or the place of the entry that no line can hold.
+pub fn write(snapshot: &Snapshot, alloc: Global) -> Result<Result<Vec<u8>, usize>, AllocError> {
+    match snapshot.write(alloc) {
+        Ok(text) => Ok(Ok(text)),
+        Err(WriteError::Unwritable { place }) => Ok(Err(place)),
+        Err(WriteError::Memory(error)) => Err(error),
+    }
+}
+
+/// Merges: one into the team, and one that gives replaced texts up, which builds the snapshot once more.
+pub fn merge(run: &mut Run, alloc: Global, team: &Snapshot) -> Result<(), Wrong> {
+    let mut copy = clone(run, alloc, team)?;
+    run.judge_merge(Call::Merge, team, &mut copy, &later(), &all())?;
+
+    let long = [Entry::change_name_by_email(b"A long name", b"a")];
+    let short = [Entry::change_name_by_email(b"N", b"a")];
+    let worn = run.judge(
+        Call::New,
+        || Snapshot::new(alloc, long.into_iter()),
+        |made| lists(made, &long),
+    )?;
+    let mut copy = clone(run, alloc, &worn)?;
+    run.judge_merge(Call::MergeAnew, &worn, &mut copy, &short, &short)
+}
+
+/// A copy of a snapshot.
+pub fn clone(run: &mut Run, alloc: Global, snapshot: &Snapshot) -> Result<Snapshot, Wrong> {
+    run.judge(
+        Call::TryClone,
+        || snapshot.try_clone(alloc),
+        |copy| *copy == *snapshot,
+    )
+}
+
+/// Three sources, of which the one in the middle has no entry, so that it is always made. What the others say is there
+/// exactly where they are marked as made.
+pub fn merge_sources(run: &mut Run, alloc: Global) -> Result<(), Wrong> {
+    let sources = [
+        Source::Buffer(b"N <a@x>"),
+        Source::Buffer(b""),
+        Source::Buffer(b"M <a@x>"),
+    ];
+    let mut snapshot = Snapshot::empty(alloc);
+    let mut made = [false; 3];
+    snapshot.merge_sources(&sources, &mut made);
+    let n = Entry::change_name_by_email(b"N", b"a@x");
+    let m = Entry::change_name_by_email(b"M", b"a@x");
+    let (call, left) = match made {
+        [true, true, true] => return wants(Call::MergeSources, lists(&snapshot, &[m])),
+        [false, true, true] => (Call::FirstSource, m),
+        [true, true, false] => (Call::ThirdSource, n),
+        _ => return wants(Call::MergeSources, false),
+    };
+    run.refuse(call)?;
+    wants(call, lists(&snapshot, &[left]))
+}
+
+/// Signatures that are mapped, or copied as they are.
+pub fn resolve(run: &mut Run, alloc: Global, team: &Snapshot) -> Result<(), Wrong> {
+    run.judge(
+        Call::TryResolve,
+        || team.try_resolve(alloc, JANE),
+        |answer| answer.as_ref().is_some_and(is_jane),
+    )?;
+    run.judge(Call::Resolve, || team.resolve(alloc, JANE), is_jane)?;
+    run.judge(
+        Call::ResolveNothing,
+        || team.resolve(alloc, NOBODY),
+        is_nobody,
+    )?;
+    let jane = run.judge(
+        Call::ResolveCow,
+        || team.resolve_cow(alloc, JANE),
+        owns_jane,
+    )?;
+    run.judge(Call::SignatureTryClone, || jane.try_clone(alloc), owns_jane)?;
+    run.judge(
+        Call::FromCow,
+        || actor::Signature::from_cow(alloc, NOBODY.into()),
+        is_nobody,
+    )?;
+    Ok(())
+}
+
+/// Answers to contact lines, and a mailmap written anew.
+pub fn check_and_compact(run: &mut Run, alloc: Global) -> Result<(), Wrong> {
+    run.judge(
+        Call::Check,
+        || check::check(alloc, &[TEAM], CONTACTS),
+        |answers| answers.as_slice() == ANSWERS,
+    )?;
+    run.judge(
+        Call::Compact,
+        || check::compact(alloc, &[TEAM]),
+        |text| text.as_slice() == WRITTEN,
+    )?;
+    Ok(())
+}

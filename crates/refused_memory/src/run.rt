@@ -1,0 +1,107 @@
+//! What a run has met so far, and what no call may do in it: at most one request for memory of a run is refused.
+
+use crate::call::Call;
+use gix_mailmap::{Entry, Snapshot};
+use std::alloc::AllocError;
+use std::fmt;
+use thiserror::Error;
+
+/// What a call did wrong.
+#[derive(Debug, Drop, Error)]
+pub enum Wrong {
+    /// It answered neither as with ample memory nor by want of memory.
+    #[error("{0}: not the answer with ample memory")]
+    Answer(Call),
+    /// It answered want of memory, and no request of it was refused.
+    #[error("{0}: want of memory, but no request was refused")]
+    Want(Call),
+    /// It was refused, and left another snapshot than it found.
+    #[error("{0}: refused, but the snapshot was changed")]
+    Change(Call),
+}
+
+/// Wants an answer of a call to be right.
+pub fn wants(call: Call, is_right: bool) -> Result<(), Wrong> {
+    if is_right {
+        Ok(())
+    } else {
+        Err(Wrong::Answer(call))
+    }
+}
+
+/// Whether a snapshot lists these entries.
+pub fn lists(snapshot: &Snapshot, entries: &[Entry<'_>]) -> bool {
+    snapshot.iter().eq(entries.iter().copied())
+}
+
+/// The call that was refused, if one was.
+#[derive(Drop)]
+pub struct Run {
+    refused: Option<Call>,
+}
+
+impl Run {
+    /// Nothing was refused yet.
+    pub fn new() -> Run {
+        Run { refused: None }
+    }
+
+    /// Notes a call that answered want of memory. Behind the one refusal of a run that is wrong.
+    pub fn refuse(&mut self, call: Call) -> Result<(), Wrong> {
+        match self.refused.replace(call) {
+            None => Ok(()),
+            Some(_) => Err(Wrong::Want(call)),
+        }
+    }
+
+    /// Makes a call, and once more where memory was refused: then it must answer, and as with ample memory.
+    pub fn judge<T: Drop, F: FnMut() -> Result<T, AllocError>, P: FnOnce(&T) -> bool>(
+        &mut self,
+        call: Call,
+        mut make: F,
+        is_right: P,
+    ) -> Result<T, Wrong>
+        requires makes { F.IsAlwaysCallable make }
+        requires judges { P.IsAlwaysCallable is_right }
+    {
+        let mut answer = make();
+        if answer.is_err() {
+            self.refuse(call)?;
+            answer = make();
+        }
+        let Ok(answer) = answer else {
+            return Err(Wrong::Want(call));
+        };
+        wants(call, is_right(&answer))?;
+        Ok(answer)
+    }
+
+    /// Merges into a copy of `before`, and once more where memory was refused: then the copy must not have changed.
+    pub fn judge_merge(
+        &mut self,
+        call: Call,
+        before: &Snapshot,
+        copy: &mut Snapshot,
+        entries: &[Entry<'_>],
+        want: &[Entry<'_>],
+    ) -> Result<(), Wrong> {
+        if copy.merge(entries.iter().copied()).is_err() {
+            self.refuse(call)?;
+            if *copy != *before {
+                return Err(Wrong::Change(call));
+            }
+            let again = copy.merge(entries.iter().copied());
+            again.map_err(|_| Wrong::Want(call))?;
+        }
+        wants(call, lists(copy, want))
+    }
+}
+
+impl fmt::Display for Run {
+    fn fmt<W: fmt::Write>(&self, f: &mut fmt::Formatter<W>) -> fmt::Result {
+        match self.refused {
+            Some(call) => write!(f, "refused: {call}"),
+            None => write!(f, "refused: nothing"),
+        }
+    }
+}
