@@ -1,5 +1,5 @@
 -- The numbers of the first bytes of two texts order the texts, where they differ.
-use Rattle.std.proofs.Common.{◌≡◌, ◌≢◌, ◌<◌, ◌≤◌, ◌+◌, ◌-◌, ◌*◌, ◌^◌, ℕ, zero, suc, [], ◌∷◌, drop, get_or, Ordering, Less, Equal, Greater, refl, sym, ap, ◌∙◌, arith, true, false, cond}
+use Rattle.std.proofs.Common.{◌≡◌, ◌≢◌, ◌<◌, ◌≤◌, ◌+◌, ◌-◌, ◌*◌, ◌^◌, ℕ, zero, suc, [], ◌∷◌, drop, length, get_or, Ordering, Less, Equal, Greater, refl, sym, ap, ◌∙◌, arith, true, false, cond}
 use Rattle.std.specs.Cmp.Lexicographic.{slice_cmp, nat_list_cmp_total}
 use Rattle.std.specs.Ordering.{nat_cmp, ordering_then, ordering_reverse}
 use Rattle.std.proofs.Math.Nat.{pow-succ', suc-mul, add-mul, mul_assoc, mul-le-mul_right, le-mul_of_pos_right}
@@ -45,6 +45,20 @@ pub front_settles : (n : ℕ) (xs ys : Text) → AreBytes xs → AreBytes ys →
 front_settles n xs ys ps qs Less e other = front_less n xs ys ps qs (ranked _ _ Less e)
 front_settles n xs ys ps qs Equal e other = absurd (other refl)
 front_settles n xs ys ps qs Greater e other = nat_list_cmp_total.antisymm xs ys ∙ ap ordering_reverse (front_less n ys xs qs ps (ranked _ _ Greater e))
+
+-- where the numbers are alike, what stands behind those bytes answers
+pub front_alike : (n : ℕ) (xs ys : Text) → AreBytes xs → AreBytes ys → n ≤ length xs → n ≤ length ys → front_number n xs ≡ front_number n ys → text_cmp xs ys ≡ text_cmp (drop n xs) (drop n ys)
+front_alike zero xs ys ps qs lx ly e = refl
+front_alike (suc n) [] ys ps qs lx ly e = absurd (omega arith)
+front_alike (suc n) (x ∷ xs) [] ps qs lx ly e = absurd (omega arith)
+front_alike (suc n) (x ∷ xs) (y ∷ ys) ps qs lx ly e =
+    elim (nat_cmp x y) as (λ r. nat_cmp x y ≡ r → ordering_then r (slice_cmp nat_cmp xs ys) ≡ text_cmp (drop n xs) (drop n ys)) [
+      | Less ↦ λ c. let below : x < y = ranked x y Less (sym c) in absurd (omega (arith, e, outweighed n x y xs ys ps.1 below))
+      | Equal ↦ λ c.
+          let same : x ≡ y = ranked x y Equal (sym c) in
+          front_alike n xs ys ps.1 qs.1 (omega arith) (omega arith) (omega (arith, e, ap (λ z. z * 256 ^ n) same))
+      | Greater ↦ λ c. let above : y < x = ranked x y Greater (sym c) in absurd (omega (arith, e, outweighed n y x ys xs qs.1 above))
+    ] refl
 
 pub then_settled : (r o : Ordering) → r ≢ Equal → ordering_then r o ≡ r
 then_settled Less o other = refl

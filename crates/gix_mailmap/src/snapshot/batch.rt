@@ -6,7 +6,7 @@ ghost use Rattle.std.specs.List.{AllByRecursion, enumerate_from, fold};
 ghost use Rattle.gix_mailmap.specs.Entries.{mapping_of};
 ghost use Rattle.gix_mailmap.specs.Folding.{folded, text_cmp};
 ghost use Rattle.gix_mailmap.specs.Histories.{accepted, is_accepted, key, key_cmp, no_fields};
-ghost use Rattle.gix_mailmap.specs.Fronts.{IsFront};
+ghost use Rattle.gix_mailmap.specs.Fronts.{IsFront, front_number};
 ghost use Rattle.gix_mailmap.specs.Merging.{IsSorted, IsAscending, mapping_at, placed_at, email_text, name_text};
 ghost use Rattle.gix_mailmap.specs.declared.snapshot.batch.Placed.{Placed as At};
 ghost use Rattle.gix_mailmap.specs.declared.entry.Entry.{Entry as Item};
@@ -146,14 +146,27 @@ fn compare(a: &Fronted, b: &Fronted) -> Ordering
     }
 }
 
-// By old email, then without an old name first, then by old name, in the order in which case doesn't count.
+// By old email, then without an old name first, then by old name, in the order in which case doesn't count. The old
+// emails are alike in their first bytes.
 fn compare_keys(a: &Entry, b: &Entry) -> Ordering
+    requires { front_number 16 (email_text (mapping_of a.now)) ≡ front_number 16 (email_text (mapping_of b.now)) }
     ensures { result ≡ key_cmp (key (mapping_of a.now)) (key (mapping_of b.now)) }
 {
-    match cmp_ignore_ascii_case(a.old_email(), b.old_email()) {
+    match compare_rests(a.old_email(), b.old_email()) {
         Ordering::Equal => compare_names(a.old_name(), b.old_name()),
         unequal => unequal,
     }
+}
+
+// Behind their first sixteen bytes, which are alike.
+fn compare_rests(a: &[u8], b: &[u8]) -> Ordering
+    requires { front_number 16 (folded a.now) ≡ front_number 16 (folded b.now) }
+    ensures { result ≡ text_cmp (folded a.now) (folded b.now) }
+{
+    if a.len() < 16 || b.len() < 16 {
+        return cmp_ignore_ascii_case(a, b);
+    }
+    cmp_ignore_ascii_case(&a[16..], &b[16..])
 }
 
 fn compare_names(a: Option<&[u8]>, b: Option<&[u8]>) -> Ordering
