@@ -16,6 +16,7 @@ test:
 	$(MAKE) build
 	cd crates/mailmap_dump && rt run > /dev/null
 	tests/original/compare.py $(PROGRAM) $(DUMP)
+	tests/failures.sh $(PROGRAM)
 	tests/not_compiling/run.sh
 	tests/refused_memory.sh
 
