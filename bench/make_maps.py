@@ -13,6 +13,7 @@ For each number of lines it writes into FOLDER three maps and two lists of conta
 
 At most 100,000 contacts are written. The generator has a seed, so the same call writes the same bytes everywhere.
 """
+import itertools
 import random
 import sys
 from pathlib import Path
@@ -94,31 +95,35 @@ def other_line(rng):
     return rng.choice(["", "", "# people who moved", "#", "plain words", "Jane <jane@example.com", "<x@example.com>", "A <> <b@example.com>"])
 
 
+def people(rng):
+    """One person after another, without end."""
+    for number in itertools.count(1):
+        yield Person(rng, number)
+
+
 def mixed(rng, lines):
     """Entries as (old email, old name, line), one to three an email, and the people behind them."""
-    made, number = [], 0
-    while len(made) < lines:
-        number += 1
-        person = Person(rng, number)
+    made = []
+    for person in people(rng):
         email = person.email()
         for place in range(min(rng.choice([1, 1, 1, 2, 3]), lines - len(made))):
             spelling = email if rng.random() < 0.9 else in_other_letters(rng, email)
             name = f"{person.first} {place}" if rng.random() < 0.3 else None
             made.append((email, name or person.name(), dressed(rng, entry(rng, person, spelling, name))))
-    return made
+        if len(made) == lines:
+            return made
 
 
 def hundred(rng, lines):
     """Entries of which a hundred stand for each email."""
-    made, number = [], 0
-    while len(made) < lines:
-        number += 1
-        person = Person(rng, number)
+    made = []
+    for person in people(rng):
         email = person.email()
         for place in range(min(100, lines - len(made))):
             name = f"{rng.choice(FIRST)} {person.last} {place}"
             made.append((email, name, dressed(rng, entry(rng, person, email, name))))
-    return made
+        if len(made) == lines:
+            return made
 
 
 def written(rng, path, entries, others):
