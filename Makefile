@@ -12,13 +12,13 @@ run: build
 	$(PROGRAM) sample/mailmap < sample/contacts
 
 test:
+	tests/refused_memory.sh
 	rt ci
 	$(MAKE) build
 	cd crates/mailmap_dump && rt run > /dev/null
 	tests/original/compare.py $(PROGRAM) $(DUMP)
 	tests/failures.sh $(PROGRAM)
 	tests/not_compiling/run.sh
-	tests/refused_memory.sh
 
 edits:
 	tests/more_must_fail.sh
