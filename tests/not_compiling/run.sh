@@ -7,12 +7,15 @@ top="$(cd "$here/../.." && pwd)"
 work="$(mktemp -d)"
 trap 'rm -rf "$work"' EXIT
 
-mkdir -p "$work/crates/gix_mailmap" "$work/crates/case/src"
-cp -r "$top/crates/gix_mailmap/"{src,specs,proofs} "$work/crates/gix_mailmap"
-# what earlier runs proved need not be proved again
-[ ! -d "$top/crates/gix_mailmap/out" ] || cp -r "$top/crates/gix_mailmap/out" "$work/crates/gix_mailmap"
+mkdir -p "$work/crates/case/src"
 cp "$top/HANDLES" "$work"
-grep '^gix_mailmap:' "$top/crates.txt" > "$work/crates.txt"
+for crate in mailmap_grammar mailmap_tables gix_mailmap; do
+    mkdir "$work/crates/$crate"
+    cp -r "$top/crates/$crate/"{src,specs,proofs} "$work/crates/$crate"
+    # what earlier runs proved need not be proved again
+    [ ! -d "$top/crates/$crate/out" ] || cp -r "$top/crates/$crate/out" "$work/crates/$crate"
+    grep "^$crate:" "$top/crates.txt" >> "$work/crates.txt"
+done
 echo 'case: gix_mailmap' >> "$work/crates.txt"
 
 failed=0

@@ -4,10 +4,10 @@ use Rattle.std.specs.Iterator.{Yields, YieldsFirstBy}
 use Rattle.std.specs.List.{AllByRecursion}
 use Rattle.std.specs.Result.{IfOk, OnErr}
 use Rattle.std.proofs.lemmas.List.Elements.{filter-append, filter_passes, recursion_from_All}
-use Rattle.gix_mailmap.specs.Entries.{Mapping}
-use Rattle.gix_mailmap.specs.Histories.{IsNormal, accepted, is_accepted}
-use Rattle.gix_mailmap.proofs.Alike.{same_normal, alike_accepted}
-use Rattle.gix_mailmap.proofs.Parts.{filter_all}
+use Rattle.mailmap_grammar.specs.Entries.{Mapping}
+use Rattle.mailmap_tables.specs.Histories.{IsNormal, accepted, is_accepted}
+use Rattle.mailmap_tables.proofs.Alike.{same_normal, alike_accepted}
+use Rattle.mailmap_tables.proofs.Parts.{filter_all}
 
 accepted_twice : (xs : List Mapping) → accepted (accepted xs) ≡ accepted xs
 accepted_twice xs = filter_all is_accepted (accepted xs) (recursion_from_All _ (accepted xs) (filter_passes is_accepted xs))

@@ -1,7 +1,7 @@
 -- Tables that are a snapshot's.
 use Rattle.std.proofs.Common.{[], refl}
 use Rattle.std.specs.List.Sorted.{IsStrictlySortedBy}
-use Rattle.gix_mailmap.specs.Groups.{AreGroups, IsComplete}
+use Rattle.mailmap_tables.specs.Groups.{AreGroups, IsComplete}
 
 pub no_groups : AreGroups []
 unfolding IsStrictlySortedBy

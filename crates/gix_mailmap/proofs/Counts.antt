@@ -8,13 +8,13 @@ use Rattle.std.specs.Ordering.{eq_by_cmp, ordering_reverse}
 use Rattle.std.proofs.lemmas.List.{length-map}
 use Rattle.std.proofs.lemmas.List.Sums.{sum_by-append}
 use Rattle.std.proofs.lemmas.Map.Lookups.{exact_bytes}
-use Rattle.gix_mailmap.specs.Entries.{Mapping}
-use Rattle.gix_mailmap.specs.Folding.{Text, folded, text_cmp}
-use Rattle.gix_mailmap.specs.Groups.{EmailGroup, IsGroup, email_key, name_row, own_rows, rows, listing}
-use Rattle.gix_mailmap.specs.Histories.{made}
+use Rattle.mailmap_grammar.specs.Entries.{Mapping}
+use Rattle.mailmap_grammar.specs.Folding.{Text, folded, text_cmp}
+use Rattle.mailmap_tables.specs.Groups.{EmailGroup, IsGroup, email_key, name_row, own_rows, rows, listing}
+use Rattle.mailmap_tables.specs.Histories.{made}
 use Rattle.gix_mailmap.specs.Signatures.{has_email, email_count, name_count}
-use Rattle.gix_mailmap.proofs.Grouped.{all_weaker, all_rows, rows_spelled, listing_all}
-use Rattle.gix_mailmap.proofs.Parts.{all_map}
+use Rattle.mailmap_tables.proofs.Grouped.{all_weaker, all_rows, rows_spelled, listing_all}
+use Rattle.mailmap_tables.proofs.Parts.{all_map}
 
 -- ---- what all or none of a list pass
 

@@ -2,7 +2,7 @@
 use Rattle.std.proofs.Common.{◌≡◌, ◌≢◌, ℕ, ◌==◌, List, [], ◌∷◌, ◌++◌, refl, ap, ◌∙◌}
 use Rattle.std.specs.List.{AllByRecursion}
 use Rattle.std.proofs.lemmas.Bool.{cond-false, cond_both, ne_eqb, eqb-false}
-use Rattle.gix_mailmap.specs.Lines.{HoldsNo, pieces, with_first}
+use Rattle.mailmap_grammar.specs.Lines.{HoldsNo, pieces, with_first}
 
 -- a line and its line feed are one piece
 pub pieces-line : (l rest : List ℕ) → HoldsNo 10 l → pieces (l ++ 10 ∷ rest) ≡ l ∷ pieces rest

@@ -5,12 +5,12 @@ use Rattle.std.specs.Prelude.{nat_eq}
 use Rattle.std.proofs.lemmas.Bool.{eqb-true}
 use Rattle.std.proofs.lemmas.List.{drop_more, drop_all}
 use Rattle.std.proofs.lemmas.Option.{get_or_from_slice_get, slice_get_within}
-use Rattle.gix_mailmap.specs.Folding.{Text}
-use Rattle.gix_mailmap.specs.Groups.{Contents, EmailGroup, name_row, own_rows, listing}
+use Rattle.mailmap_grammar.specs.Folding.{Text}
+use Rattle.mailmap_tables.specs.Groups.{Contents, EmailGroup, name_row, own_rows, listing}
 use Rattle.gix_mailmap.specs.Listings.{left_to_list}
-use Rattle.gix_mailmap.specs.Pool.{spelled, group_of}
-use Rattle.gix_mailmap.specs.declared.snapshot.tables.EmailRow.{EmailRow}
-use Rattle.gix_mailmap.specs.declared.snapshot.tables.NameRow.{NameRow}
+use Rattle.mailmap_tables.specs.Pool.{spelled, group_of}
+use Rattle.mailmap_tables.specs.declared.tables.EmailRow.{EmailRow}
+use Rattle.mailmap_tables.specs.declared.tables.NameRow.{NameRow}
 
 module _ (t : Contents) (email : Text) (ns : List NameRow) (i : ℕ) (none : ns ≡ []) where
   -- where no name is left, the next email begins

@@ -4,16 +4,16 @@ use Rattle.std.specs.List.{slice_get}
 use Rattle.std.specs.List.Sorted.{IsStrictlySortedBy}
 use Rattle.std.proofs.lemmas.List.{get_or-map, length-map}
 use Rattle.std.proofs.lemmas.Option.{slice_get-map, slice_get-get_or, get_or_from_slice_get}
-use Rattle.gix_mailmap.specs.Folding.{Text, folded, text_cmp}
-use Rattle.gix_mailmap.specs.Groups.{EmailGroup, IsGroup, AreGroups, email_key, name_key, listing}
-use Rattle.gix_mailmap.specs.Histories.{answered, scan}
-use Rattle.gix_mailmap.specs.Places.{IsFound, IsMissing}
-use Rattle.gix_mailmap.specs.Pool.{spelled, name_group, group_of}
+use Rattle.mailmap_grammar.specs.Folding.{Text, folded, text_cmp}
+use Rattle.mailmap_tables.specs.Groups.{EmailGroup, IsGroup, AreGroups, email_key, name_key, listing}
+use Rattle.mailmap_tables.specs.Histories.{answered, scan}
+use Rattle.mailmap_tables.specs.Places.{IsFound, IsMissing}
+use Rattle.mailmap_tables.specs.Pool.{spelled, name_group, group_of}
 use Rattle.gix_mailmap.specs.Signatures.{name_count}
-use Rattle.gix_mailmap.specs.declared.snapshot.tables.EmailRow.{EmailRow}
-use Rattle.gix_mailmap.specs.declared.snapshot.tables.NameRow.{NameRow}
+use Rattle.mailmap_tables.specs.declared.tables.EmailRow.{EmailRow}
+use Rattle.mailmap_tables.specs.declared.tables.NameRow.{NameRow}
 use Rattle.gix_mailmap.proofs.Counts.{all_slice, name_count-none, name_count-at}
-use Rattle.gix_mailmap.proofs.Grouped.{none_has, scan_missing, scan_name_at, scan_own_at}
+use Rattle.mailmap_tables.proofs.Grouped.{none_has, scan_missing, scan_name_at, scan_own_at}
 
 -- ---- an email that is missing
 

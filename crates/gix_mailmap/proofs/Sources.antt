@@ -9,15 +9,15 @@ use Rattle.std.proofs.lemmas.Bool.{cases_eq}
 use Rattle.std.proofs.lemmas.List.{take_more, take_more_set, take-map, map-id, map_push, flat_map_more, get_or-set_same, get_or-set_other}
 use Rattle.std.proofs.lemmas.Option.{slice_get_read, get_or_from_slice_get}
 use Rattle.std.proofs.lemmas.List.Elements.{filter-append}
-use Rattle.gix_mailmap.specs.Entries.{Mapping, mapping_of}
-use Rattle.gix_mailmap.specs.Histories.{IsNormal, accepted, is_accepted}
-use Rattle.gix_mailmap.specs.Folding.{Text}
-use Rattle.gix_mailmap.specs.Lines.{good}
+use Rattle.mailmap_grammar.specs.Entries.{Mapping, mapping_of}
+use Rattle.mailmap_tables.specs.Histories.{IsNormal, accepted, is_accepted}
+use Rattle.mailmap_grammar.specs.Folding.{Text}
+use Rattle.mailmap_grammar.specs.Lines.{good}
 use Rattle.gix_mailmap.specs.Sources.{history, said_by}
-use Rattle.gix_mailmap.specs.declared.entry.Entry.{Entry}
+use Rattle.mailmap_grammar.specs.declared.entry.Entry.{Entry}
 use Rattle.gix_mailmap.specs.declared.snapshot.sources.Source.{Source}
-use Rattle.gix_mailmap.proofs.Exists.{normal, is_normal}
-use Rattle.gix_mailmap.proofs.Normal.{normal_then, normal_nothing}
+use Rattle.mailmap_tables.proofs.Exists.{normal, is_normal}
+use Rattle.mailmap_tables.proofs.Normal.{normal_then, normal_nothing}
 
 -- the entries that an iterator gives say this list
 pub record Gives {S : Type 0} (steps : S → Option Entry → S → Type 0) (s : S) (said : List Mapping) : Type 0 where

@@ -4,10 +4,10 @@ use Rattle.std.specs.List.{AllByRecursion}
 use Rattle.std.specs.Char.{is_whitespace, encode_utf8}
 use Rattle.std.specs.Str.{encode_utf8_all}
 use Rattle.std.proofs.lemmas.Bool.{cases_lt, cond-true, cond-false, lt-ltb, le-ltb}
-use Rattle.gix_mailmap.specs.Lines.{HoldsNo}
-use Rattle.gix_mailmap.specs.Trimming.{trim, BeginsWhite, EndsWhite}
-use Rattle.gix_mailmap.proofs.Parts.{all_front, all_back}
-use Rattle.gix_mailmap.proofs.Trimmed.{trimmed-same, trimmed-made, trim-white_start, trim-white_end}
+use Rattle.mailmap_grammar.specs.Lines.{HoldsNo}
+use Rattle.mailmap_grammar.specs.Trimming.{trim, BeginsWhite, EndsWhite}
+use Rattle.mailmap_tables.proofs.Parts.{all_front, all_back}
+use Rattle.mailmap_grammar.proofs.Trimmed.{trimmed-same, trimmed-made, trim-white_start, trim-white_end}
 
 -- ---- the bytes of white space
 

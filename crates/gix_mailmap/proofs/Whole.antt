@@ -1,9 +1,9 @@
 -- Texts that trimming leaves whole.
 use Rattle.std.proofs.Common.{◌≡◌, [], ◌∷◌, ◌++◌, length, length-append, append-nil, refl, sym, ap, ◌∙◌, arith}
 use Rattle.std.specs.Str.{encode_utf8_all}
-use Rattle.gix_mailmap.specs.Folding.{Text}
-use Rattle.gix_mailmap.specs.Trimming.{trim, IsTrimmed}
-use Rattle.gix_mailmap.proofs.Trimmed.{trimmed-made}
+use Rattle.mailmap_grammar.specs.Folding.{Text}
+use Rattle.mailmap_grammar.specs.Trimming.{trim, IsTrimmed}
+use Rattle.mailmap_grammar.proofs.Trimmed.{trimmed-made}
 
 -- no bytes before or behind a text of the same length
 nothing_round : (a b t : Text) → length ((a ++ (t ++ b))) ≡ length t → a ++ (t ++ b) ≡ t

@@ -2,12 +2,12 @@
 use Rattle.std.proofs.Common.{◌≡◌, ◌≢◌, ◌+◌, ℕ, true, false, cond, List, [], ◌∷◌, ◌++◌, flat_map, Option, Some, None, IsSome, IfSome, OnSome, option_to_list, Ok, Err, IfOk, refl, sym, subst}
 use Rattle.std.specs.List.{AllByRecursion}
 use Rattle.gix_mailmap.specs.CanonicalText.{IsWritableName, IsWritableEmail, IsWritable}
-use Rattle.gix_mailmap.specs.Folding.{Text}
-use Rattle.gix_mailmap.specs.Lines.{Reading, Half, Absent, Unclosed, Closed, HoldsNo, cut, trimmed_half, non_empty, two_halves, first_half, line_reading, is_comment, unless_blank, reading, readings_from, pieces, good_of, good}
-use Rattle.gix_mailmap.specs.Trimming.{trim}
-use Rattle.gix_mailmap.proofs.Cut.{closed-cut}
+use Rattle.mailmap_grammar.specs.Folding.{Text}
+use Rattle.mailmap_grammar.specs.Lines.{Reading, Half, Absent, Unclosed, Closed, HoldsNo, cut, trimmed_half, non_empty, two_halves, first_half, line_reading, is_comment, unless_blank, reading, readings_from, pieces, good_of, good}
+use Rattle.mailmap_grammar.specs.Trimming.{trim}
+use Rattle.mailmap_grammar.proofs.Cut.{closed-cut}
 use Rattle.gix_mailmap.proofs.LineFeeds.{pieces-hold_no}
-use Rattle.gix_mailmap.proofs.Parts.{all_front, all_back, all_append}
+use Rattle.mailmap_tables.proofs.Parts.{all_front, all_back, all_append}
 use Rattle.gix_mailmap.proofs.WhiteEnds.{trim-trim, HoldsNo-trim}
 
 -- ---- what a line says

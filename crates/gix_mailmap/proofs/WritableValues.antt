@@ -6,14 +6,14 @@ use Rattle.std.specs.Ordering.{eq_by_cmp}
 use Rattle.std.specs.Cmp.{Equal-is}
 use Rattle.std.proofs.lemmas.List.Elements.{recursion_from_All, All-from_recursion, All-filter, filter_passes}
 use Rattle.gix_mailmap.specs.CanonicalText.{IsWritableName, IsWritableEmail, IsWritable}
-use Rattle.gix_mailmap.specs.Entries.{Mapping}
-use Rattle.gix_mailmap.specs.Folding.{Text, folded, text_cmp}
-use Rattle.gix_mailmap.specs.Histories.{Key, key, key_cmp, first, last, is_accepted, accepted, of_email, of_key, has_key, new_fields, no_fields, last_given, spelling, made, value, IsNormal}
-use Rattle.gix_mailmap.proofs.Ascending.{each_key}
-use Rattle.gix_mailmap.proofs.Exists.{speller}
-use Rattle.gix_mailmap.proofs.Keys.{keys_total, keys_exact}
-use Rattle.gix_mailmap.proofs.Normal.{known}
-use Rattle.gix_mailmap.proofs.Parts.{all_apply, all_last, is_some-option_map}
+use Rattle.mailmap_grammar.specs.Entries.{Mapping}
+use Rattle.mailmap_grammar.specs.Folding.{Text, folded, text_cmp}
+use Rattle.mailmap_tables.specs.Histories.{Key, key, key_cmp, first, last, is_accepted, accepted, of_email, of_key, has_key, new_fields, no_fields, last_given, spelling, made, value, IsNormal}
+use Rattle.mailmap_tables.proofs.Ascending.{each_key}
+use Rattle.mailmap_tables.proofs.Exists.{speller}
+use Rattle.mailmap_tables.proofs.Keys.{keys_total, keys_exact}
+use Rattle.mailmap_tables.proofs.Normal.{known}
+use Rattle.mailmap_tables.proofs.Parts.{all_apply, all_last, is_some-option_map}
 
 -- ---- the last field that is given, and the first entry
 

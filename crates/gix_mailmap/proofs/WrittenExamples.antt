@@ -4,11 +4,11 @@ use Rattle.std.proofs.lemmas.List.Elements.{All-from_recursion}
 use Rattle.std.specs.Char.{encode_utf8}
 use Rattle.std.specs.List.Sorted.{IsStrictlySortedBy}
 use Rattle.gix_mailmap.specs.CanonicalText.{IsWritable, text}
-use Rattle.gix_mailmap.specs.Entries.{Mapping}
-use Rattle.gix_mailmap.specs.Folding.{Text}
-use Rattle.gix_mailmap.specs.Histories.{IsNormal, key, value}
-use Rattle.gix_mailmap.specs.Lines.{good}
-use Rattle.gix_mailmap.specs.Trimming.{trim}
+use Rattle.mailmap_grammar.specs.Entries.{Mapping}
+use Rattle.mailmap_grammar.specs.Folding.{Text}
+use Rattle.mailmap_tables.specs.Histories.{IsNormal, key, value}
+use Rattle.mailmap_grammar.specs.Lines.{good}
+use Rattle.mailmap_grammar.specs.Trimming.{trim}
 use Rattle.gix_mailmap.proofs.WhiteEnds.{BeginsWhite-trimmed, EndsWhite-trimmed, trim-stays, trim-nil, BeginsWhite-ascii, EndsWhite-ascii}
 use Rattle.gix_mailmap.proofs.WrittenText.{good-text}
 

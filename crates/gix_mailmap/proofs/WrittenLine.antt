@@ -1,13 +1,13 @@
 -- What a written line reads as.
 use Rattle.std.proofs.Common.{◌≡◌, ◌≢◌, ℕ, true, [], ◌∷◌, ◌++◌, Option, Some, None, IfSome, unwrap_or, Ok, append_assoc, append-nil, arith, refl, sym, ap, subst, ◌∙◌}
 use Rattle.gix_mailmap.specs.CanonicalText.{IsWritableName, IsWritableEmail, IsWritable, name_part, bracketed_email, email_part, line}
-use Rattle.gix_mailmap.specs.Entries.{Mapping}
-use Rattle.gix_mailmap.specs.Folding.{Text}
-use Rattle.gix_mailmap.specs.Histories.{is_accepted}
-use Rattle.gix_mailmap.specs.Lines.{HoldsNo, Reading, Half, Absent, Unclosed, Closed, cut, trimmed_half, non_empty, two_halves, strict_halves, first_half, line_reading, strict_line_reading, unless_blank, reading_by, reading, strict_reading}
-use Rattle.gix_mailmap.specs.Trimming.{trim, BeginsWhite, EndsWhite}
-use Rattle.gix_mailmap.proofs.Cut.{cut-absent, cut-closed}
-use Rattle.gix_mailmap.proofs.Parts.{all_append}
+use Rattle.mailmap_grammar.specs.Entries.{Mapping}
+use Rattle.mailmap_grammar.specs.Folding.{Text}
+use Rattle.mailmap_tables.specs.Histories.{is_accepted}
+use Rattle.mailmap_grammar.specs.Lines.{HoldsNo, Reading, Half, Absent, Unclosed, Closed, cut, trimmed_half, non_empty, two_halves, strict_halves, first_half, line_reading, strict_line_reading, unless_blank, reading_by, reading, strict_reading}
+use Rattle.mailmap_grammar.specs.Trimming.{trim, BeginsWhite, EndsWhite}
+use Rattle.mailmap_grammar.proofs.Cut.{cut-absent, cut-closed}
+use Rattle.mailmap_tables.proofs.Parts.{all_append}
 use Rattle.gix_mailmap.proofs.WhiteEnds.{BeginsWhite-ascii, BeginsWhite-before, EndsWhite-ascii, trim-stays, trim-nil, trim-blank_start, trim-blank_end, BeginsWhite-trimmed}
 
 -- ---- the parts of a line

@@ -3,12 +3,12 @@ use Rattle.std.proofs.Common.{◌≡◌, ◌+◌, ℕ, true, List, [], ◌∷◌
 use Rattle.std.specs.List.{AllByRecursion}
 use Rattle.std.proofs.lemmas.List.Elements.{recursion_from_All}
 use Rattle.gix_mailmap.specs.CanonicalText.{IsWritable, text}
-use Rattle.gix_mailmap.specs.Entries.{Mapping}
-use Rattle.gix_mailmap.specs.Folding.{Text}
-use Rattle.gix_mailmap.specs.Histories.{IsNormal, is_accepted}
-use Rattle.gix_mailmap.specs.Lines.{Reading, reading, strict_reading, readings_from, pieces, readings, strict_readings, good, good_of}
+use Rattle.mailmap_grammar.specs.Entries.{Mapping}
+use Rattle.mailmap_grammar.specs.Folding.{Text}
+use Rattle.mailmap_tables.specs.Histories.{IsNormal, is_accepted}
+use Rattle.mailmap_grammar.specs.Lines.{Reading, reading, strict_reading, readings_from, pieces, readings, strict_readings, good, good_of}
 use Rattle.gix_mailmap.proofs.LineFeeds.{pieces-line}
-use Rattle.gix_mailmap.proofs.Normal.{all_good}
+use Rattle.mailmap_tables.proofs.Normal.{all_good}
 use Rattle.gix_mailmap.proofs.WrittenLine.{body, line-then, one_line, reading-line, strict_reading-line}
 
 -- a reader that reads each written line as its entry reads a written text as its entries

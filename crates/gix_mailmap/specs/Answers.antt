@@ -6,13 +6,13 @@ use Rattle.std.specs.Ordering.{ordering_then}
 use Rattle.std.specs.declared.alloc.Global.{Global}
 use Rattle.std.specs.declared.borrow.CowSlice.{CowSlice}
 use Rattle.std.specs.declared.cmp.Ordering.{Ordering}
-use Rattle.gix_mailmap.specs.Entries.{Mapping}
-use Rattle.gix_mailmap.specs.Folding.{Text, text_cmp}
-use Rattle.gix_mailmap.specs.Histories.{Fields, no_fields, scan}
-use Rattle.gix_mailmap.specs.Times.{IsTimeOf, epoch, time_cmp}
+use Rattle.mailmap_grammar.specs.Entries.{Mapping}
+use Rattle.mailmap_grammar.specs.Folding.{Text, text_cmp}
+use Rattle.mailmap_tables.specs.Histories.{Fields, no_fields, scan}
+use Rattle.mailmap_grammar.specs.Times.{IsTimeOf, epoch, time_cmp}
 use Rattle.gix_mailmap.specs.declared.actor.Signature as owned
 use Rattle.gix_mailmap.specs.declared.actor.SignatureRef.{SignatureRef}
-use Rattle.gix_mailmap.specs.declared.date.Time.{Time}
+use Rattle.mailmap_grammar.specs.declared.date.Time.{Time}
 use Rattle.gix_mailmap.specs.declared.snapshot.signature.Signature.{Signature}
 
 -- ---- signatures

@@ -1,10 +1,10 @@
 -- What a snapshot is written as, and which entries a line of a mailmap can hold.
 use Rattle.std.specs.Prelude.{◌≡◌, ◌≢◌, List, [], ◌∷◌, ◌++◌, Option, Some, None, IsSome, IfSome, IfNone, OnSome}
 use Rattle.std.specs.List.{flat_map}
-use Rattle.gix_mailmap.specs.Entries.{Mapping}
-use Rattle.gix_mailmap.specs.Folding.{Text}
-use Rattle.gix_mailmap.specs.Lines.{HoldsNo}
-use Rattle.gix_mailmap.specs.Trimming.{trim}
+use Rattle.mailmap_grammar.specs.Entries.{Mapping}
+use Rattle.mailmap_grammar.specs.Folding.{Text}
+use Rattle.mailmap_grammar.specs.Lines.{HoldsNo}
+use Rattle.mailmap_grammar.specs.Trimming.{trim}
 
 -- an email that stays as it is between brackets: trimmed, without `>` and without a line feed
 pub record IsWritableEmail (email : Text) : Type 0 where

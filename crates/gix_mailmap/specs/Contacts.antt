@@ -1,11 +1,11 @@
 -- What contact lines are answered.
 use Rattle.std.specs.Prelude.{◌==◌, Bool, false, ◌&&◌, if◌then◌else◌, List, [], ◌∷◌, ◌++◌, unwrap_or}
 use Rattle.std.specs.List.{flat_map}
-use Rattle.gix_mailmap.specs.Entries.{Mapping}
-use Rattle.gix_mailmap.specs.Folding.{Text}
-use Rattle.gix_mailmap.specs.Histories.{Fields, no_fields, scan}
-use Rattle.gix_mailmap.specs.Lines.{Half, Absent, Unclosed, Closed, cut, good, trimmed_half, with_first}
-use Rattle.gix_mailmap.specs.Trimming.{trim}
+use Rattle.mailmap_grammar.specs.Entries.{Mapping}
+use Rattle.mailmap_grammar.specs.Folding.{Text}
+use Rattle.mailmap_tables.specs.Histories.{Fields, no_fields, scan}
+use Rattle.mailmap_grammar.specs.Lines.{Half, Absent, Unclosed, Closed, cut, good, trimmed_half, with_first}
+use Rattle.mailmap_grammar.specs.Trimming.{trim}
 
 -- a line feed comes next
 abbrev pub feeds : Text → Bool

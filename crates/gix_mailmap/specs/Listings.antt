@@ -4,11 +4,11 @@ use lib.Pointwise.{pointwise}
 use Rattle.std.specs.Hash as fed
 use Rattle.std.specs.List.{flat_map}
 use Rattle.std.specs.Option.{option_eq}
-use Rattle.gix_mailmap.specs.Entries.{Mapping}
-use Rattle.gix_mailmap.specs.Folding.{Text}
-use Rattle.gix_mailmap.specs.Groups.{Contents, name_row, listing}
-use Rattle.gix_mailmap.specs.Pool.{name_group}
-use Rattle.gix_mailmap.specs.declared.snapshot.tables.NameRow.{NameRow}
+use Rattle.mailmap_grammar.specs.Entries.{Mapping}
+use Rattle.mailmap_grammar.specs.Folding.{Text}
+use Rattle.mailmap_tables.specs.Groups.{Contents, name_row, listing}
+use Rattle.mailmap_tables.specs.Pool.{name_group}
+use Rattle.mailmap_tables.specs.declared.tables.NameRow.{NameRow}
 
 -- some names of an email, and then all from a place in the table of emails on
 abbrev pub left_to_list : Contents → Text → List NameRow → ℕ → List Mapping

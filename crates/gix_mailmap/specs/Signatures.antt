@@ -3,9 +3,9 @@ use Rattle.std.specs.Prelude.{◌+◌, ℕ, Bool, ◌&&◌, if◌then◌else◌,
 use Rattle.std.specs.List.{list_any}
 use Rattle.std.specs.Option.{option_copied}
 use Rattle.std.specs.Ordering.{eq_by_cmp}
-use Rattle.gix_mailmap.specs.Entries.{Mapping}
-use Rattle.gix_mailmap.specs.Folding.{Text, folded, text_cmp}
-use Rattle.gix_mailmap.specs.Histories.{Fields}
+use Rattle.mailmap_grammar.specs.Entries.{Mapping}
+use Rattle.mailmap_grammar.specs.Folding.{Text, folded, text_cmp}
+use Rattle.mailmap_tables.specs.Histories.{Fields}
 use Rattle.gix_mailmap.specs.declared.snapshot.resolved.ResolvedSignature.{ResolvedSignature}
 
 -- the name and the email of an answer, wherever they lie in memory

@@ -1,7 +1,7 @@
 -- What sources of entries say, one after another.
 use Rattle.std.specs.Prelude.{Bool, if◌then◌else◌, List, [], ◌∷◌, ◌++◌, map}
-use Rattle.gix_mailmap.specs.Entries.{Mapping, mapping_of}
-use Rattle.gix_mailmap.specs.Lines.{good}
+use Rattle.mailmap_grammar.specs.Entries.{Mapping, mapping_of}
+use Rattle.mailmap_grammar.specs.Lines.{good}
 use Rattle.gix_mailmap.specs.declared.snapshot.sources.Source.{Source}
 use Rattle.gix_mailmap.specs.declared.snapshot.sources.Source.TheVariants.{Buffer, Entries}
 

@@ -4,10 +4,10 @@ use Rattle.std.specs.List.{All, flat_map}
 use Rattle.gix_mailmap.specs.declared.snapshot.text.WriteError.{WriteError}
 use Rattle.gix_mailmap.specs.declared.snapshot.text.WriteError.TheVariants.{Unwritable, Memory}
 use Rattle.gix_mailmap.specs.CanonicalText.{IsWritable, text}
-use Rattle.gix_mailmap.specs.Entries.{Mapping}
-use Rattle.gix_mailmap.specs.Folding.{Text}
-use Rattle.gix_mailmap.specs.Histories.{IsNormal}
-use Rattle.gix_mailmap.specs.Lines.{good}
+use Rattle.mailmap_grammar.specs.Entries.{Mapping}
+use Rattle.mailmap_grammar.specs.Folding.{Text}
+use Rattle.mailmap_tables.specs.Histories.{IsNormal}
+use Rattle.mailmap_grammar.specs.Lines.{good}
 
 -- a line can hold each entry before this place, and not the one at it
 pub record IsFirstUnwritable (es : List Mapping) (place : ℕ) : Type 0 where

@@ -1,9 +1,9 @@
 //! Who signed a commit, and when.
-ghost use Rattle.gix_mailmap.specs.Times.{IsTimeOf, Reads};
+ghost use Rattle.mailmap_grammar.specs.Times.{IsTimeOf, Reads};
 
 mod derived;
 
-use crate::date::Time;
+use mailmap_grammar::date::Time;
 
 /// The author or committer of a commit, as its three texts stand in the commit.
 ///

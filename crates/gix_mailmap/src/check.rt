@@ -2,17 +2,18 @@
 ghost use Rattle.std.specs.Prelude.{◌≡◌, ◌++◌, map, unwrap_or, IfOk, OnOk};
 ghost use Rattle.std.specs.List.{flat_map};
 ghost use Rattle.gix_mailmap.specs.Contacts.{answer, answers, answers_by, contact, fields_for};
-ghost use Rattle.gix_mailmap.specs.Histories.{IsNormal};
-ghost use Rattle.gix_mailmap.specs.Lines.{good};
+ghost use Rattle.mailmap_tables.specs.Histories.{IsNormal};
+ghost use Rattle.mailmap_grammar.specs.Lines.{good};
 
 mod compaction;
 mod parts;
 
 use crate::actor::SignatureRef;
-use crate::lines::{Half, parse_ignore_errors, parse_name_and_email, trim};
 use crate::snapshot::Snapshot;
 use bstr::ByteSlice;
 pub use compaction::compact;
+use mailmap_grammar::halves::{Half, parse_name_and_email, trim};
+use mailmap_grammar::parse_ignore_errors;
 pub use parts::split;
 use std::alloc::{AllocError, Global};
 

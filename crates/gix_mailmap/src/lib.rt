@@ -17,13 +17,10 @@
 
 pub mod actor;
 pub mod check;
-pub mod date;
-mod entry;
-pub mod fold;
 pub mod laws;
-pub mod lines;
 pub mod snapshot;
 
-pub use entry::Entry;
-pub use lines::{parse, parse_ignore_errors, parse_strict};
+pub use mailmap_grammar::{
+    Entry, date as date, fold as fold, lines as lines, parse, parse_ignore_errors, parse_strict,
+};
 pub use snapshot::Snapshot;

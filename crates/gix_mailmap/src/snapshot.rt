@@ -1,25 +1,22 @@
 //! What a history of entries maps, ready to be looked up, and the names and emails that it gives to signatures.
 ghost use Rattle.std.specs.Prelude.{◌≡◌, []};
 
-mod batch;
 mod build;
 mod listing;
 mod lookup;
-mod merge;
 mod resolve;
 mod resolved;
 mod signature;
 mod sources;
-mod tables;
 mod text;
 
 pub use listing::Iter;
+use mailmap_tables::tables::Tables;
 pub use resolved::ResolvedSignature;
 pub use signature::Signature;
 pub use sources::Source;
 use std::alloc::Global;
 use std::marker::Model;
-use tables::Tables;
 pub use text::WriteError;
 
 /// What a history of entries maps: for each old email, and for each old name of it, the name and the email that stand
@@ -34,11 +31,11 @@ pub struct Snapshot {
 
 impl Model for Snapshot {
     ghost use Rattle.std.specs.Prelude.{List};
-    ghost use Rattle.gix_mailmap.specs.Entries.{Mapping};
+    ghost use Rattle.mailmap_grammar.specs.Entries.{Mapping};
 
     ghost Value = { List Mapping };
 
-    ghost use Rattle.gix_mailmap.specs.Groups.{listing, IsComplete};
+    ghost use Rattle.mailmap_tables.specs.Groups.{listing, IsComplete};
 
     ghost view = { λ s. listing s.tables.groups };
 

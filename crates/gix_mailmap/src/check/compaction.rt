@@ -2,8 +2,8 @@
 ghost use Rattle.std.specs.Prelude.{IfOk, map};
 ghost use Rattle.gix_mailmap.specs.Writing.{IsCompacted};
 
-use crate::parse_ignore_errors;
 use crate::snapshot::{Snapshot, WriteError};
+use mailmap_grammar::parse_ignore_errors;
 use std::alloc::{AllocError, Global};
 
 /// The mailmap that maps as the buffers do, one after another: each key has one line, and the lines are in the order of

@@ -1,16 +1,16 @@
 //! Making snapshots, and merging entries into them.
 ghost use Rattle.std.specs.Prelude.{◌≡◌, ◌≢◌, [], ◌++◌, List, map, IfOk, OnOk, OnErr};
 ghost use Rattle.std.specs.Iterator.{IsFinite, Drains, Yields};
-ghost use Rattle.gix_mailmap.specs.Entries.{mapping_of};
-ghost use Rattle.gix_mailmap.specs.Histories.{IsNormal, accepted};
-ghost use Rattle.gix_mailmap.specs.Lines.{good};
-ghost use Rattle.gix_mailmap.specs.declared.entry.Entry.{Entry as Item};
+ghost use Rattle.mailmap_grammar.specs.Entries.{mapping_of};
+ghost use Rattle.mailmap_tables.specs.Histories.{IsNormal, accepted};
+ghost use Rattle.mailmap_grammar.specs.Lines.{good};
+ghost use Rattle.mailmap_grammar.specs.declared.entry.Entry.{Entry as Item};
 
 use crate::snapshot::Snapshot;
-use crate::snapshot::batch::accepted_of;
-use crate::snapshot::merge::joined;
-use crate::snapshot::tables::Tables;
-use crate::{Entry, parse_ignore_errors};
+use mailmap_grammar::{Entry, parse_ignore_errors};
+use mailmap_tables::batch::accepted_of;
+use mailmap_tables::merge::joined;
+use mailmap_tables::tables::Tables;
 use std::alloc::{AllocError, Global};
 
 impl Snapshot {

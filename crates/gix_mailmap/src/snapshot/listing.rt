@@ -3,14 +3,14 @@ ghost use Rattle.std.specs.Prelude.{◌≡◌, ◌↔◌, List, [], length, map,
 ghost use Rattle.std.specs.Iterator.{YieldsFirstBy, item_count};
 ghost use Rattle.std.specs.List.{AllByRecursion};
 ghost use Rattle.std.specs.Option.{option_to_list};
-ghost use Rattle.gix_mailmap.specs.Entries.{mapping_of};
-ghost use Rattle.gix_mailmap.specs.Groups.{listing, name_row, own_rows};
+ghost use Rattle.mailmap_grammar.specs.Entries.{mapping_of};
+ghost use Rattle.mailmap_tables.specs.Groups.{listing, name_row, own_rows};
 ghost use Rattle.gix_mailmap.specs.Listings.{left_to_list};
-ghost use Rattle.gix_mailmap.specs.Pool.{EmailLies, NameLies, group_of, name_group};
+ghost use Rattle.mailmap_tables.specs.Pool.{EmailLies, NameLies, group_of, name_group};
 
-use crate::Entry;
 use crate::snapshot::Snapshot;
-use crate::snapshot::tables::{EmailRow, NameRow, Tables};
+use mailmap_grammar::Entry;
+use mailmap_tables::tables::{EmailRow, NameRow, Tables};
 use std::alloc::{AllocError, Global};
 use std::fmt;
 use std::hash::{Hash, Hasher};
@@ -31,12 +31,12 @@ pub struct Iter<'a> {
 impl<'a> Model for Iter<'a> {
     ghost use Rattle.std.specs.Prelude.{List, length};
     ghost use Rattle.std.specs.List.{AllByRecursion};
-    ghost use Rattle.gix_mailmap.specs.Entries.{Mapping};
+    ghost use Rattle.mailmap_grammar.specs.Entries.{Mapping};
 
     ghost Value = { List Mapping };
 
     ghost use Rattle.gix_mailmap.specs.Listings.{left_to_list};
-    ghost use Rattle.gix_mailmap.specs.Pool.{NameLies};
+    ghost use Rattle.mailmap_tables.specs.Pool.{NameLies};
 
     ghost view = { λ s. left_to_list s.tables.now s.old_email.now s.names.now s.reached };
 

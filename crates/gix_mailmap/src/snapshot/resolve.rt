@@ -1,8 +1,8 @@
 //! Signatures with their mapped names and emails in place, owned or copied on write.
 ghost use Rattle.std.specs.Prelude.{◌≡◌, ◌↔◌, ◌||◌, List, is_some, IsTrue, IsSome, IfOk, IfSome, OnErr};
 ghost use Rattle.gix_mailmap.specs.Answers.{owned_fields, cow_fields, mapped, IsAnswer, OwnsMapped, IsEnriched, OwnsJust};
-ghost use Rattle.gix_mailmap.specs.Entries.{Mapping};
-ghost use Rattle.gix_mailmap.specs.Histories.{IsNormal};
+ghost use Rattle.mailmap_grammar.specs.Entries.{Mapping};
+ghost use Rattle.mailmap_tables.specs.Histories.{IsNormal};
 ghost use Rattle.gix_mailmap.specs.Signatures.{shown};
 
 use crate::actor;

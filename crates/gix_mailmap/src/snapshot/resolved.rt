@@ -2,8 +2,8 @@
 ghost use Rattle.std.specs.Prelude.{◌≡◌, ◌||◌, is_some, IsTrue, IfSome, option_map};
 ghost use Rattle.std.specs.Option.{option_copied};
 ghost use Rattle.std.specs.Ordering.{eq_by_cmp};
-ghost use Rattle.gix_mailmap.specs.Folding.{text_cmp};
-ghost use Rattle.gix_mailmap.specs.Histories.{answered};
+ghost use Rattle.mailmap_grammar.specs.Folding.{text_cmp};
+ghost use Rattle.mailmap_tables.specs.Histories.{answered};
 ghost use Rattle.gix_mailmap.specs.Signatures.{shown};
 
 /// A name and an email that stand in the place of those of a signature. They are lent by the snapshot that answered, so

@@ -7,7 +7,7 @@ mod derived;
 
 use crate::actor;
 use crate::actor::SignatureRef;
-use crate::date::Time;
+use mailmap_grammar::date::Time;
 use std::alloc::{AllocError, Global};
 use std::borrow::CowSlice;
 

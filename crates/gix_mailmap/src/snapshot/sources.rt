@@ -1,11 +1,11 @@
 //! Merging from several sources, where want of memory skips a source and is told.
 ghost use Rattle.std.specs.Prelude.{◌≡◌, ◌≢◌, ℕ, [], ◌++◌, Some, true, length, slice_get, OnOk, OnErr};
-ghost use Rattle.gix_mailmap.specs.Histories.{IsNormal, accepted};
+ghost use Rattle.mailmap_tables.specs.Histories.{IsNormal, accepted};
 ghost use Rattle.gix_mailmap.specs.Sources.{history, said_by};
 ghost use Rattle.gix_mailmap.specs.declared.snapshot.sources.Source.{Source as Said};
 
 use crate::snapshot::Snapshot;
-use crate::{Entry, parse_ignore_errors};
+use mailmap_grammar::{Entry, parse_ignore_errors};
 use std::alloc::AllocError;
 
 /// Where entries come from.

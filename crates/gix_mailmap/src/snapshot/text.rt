@@ -3,15 +3,15 @@ ghost use Rattle.std.specs.Prelude.{◌≡◌, ◌≢◌, ◌++◌, ◌+◌, ◌
 ghost use Rattle.std.specs.List.{All};
 ghost use Rattle.std.specs.Option.{option_copied};
 ghost use Rattle.gix_mailmap.specs.CanonicalText.{IsWritable, IsWritableName, IsWritableEmail, name_part, bracketed_email, email_part, line, text};
-ghost use Rattle.gix_mailmap.specs.Entries.{mapping_of};
-ghost use Rattle.gix_mailmap.specs.Lines.{HoldsNo};
-ghost use Rattle.gix_mailmap.specs.Trimming.{trim as spec_trim};
+ghost use Rattle.mailmap_grammar.specs.Entries.{mapping_of};
+ghost use Rattle.mailmap_grammar.specs.Lines.{HoldsNo};
+ghost use Rattle.mailmap_grammar.specs.Trimming.{trim as spec_trim};
 ghost use Rattle.gix_mailmap.specs.Writing.{IsFirstUnwritable, IsUnwrittenBy};
 
-use crate::Entry;
-use crate::lines::trim;
 use crate::snapshot::Snapshot;
 use bstr::ByteSlice;
+use mailmap_grammar::Entry;
+use mailmap_grammar::halves::trim;
 use std::alloc::{AllocError, Global};
 use thiserror::Error;
 

@@ -1,6 +1,6 @@
 use Rattle.std.proofs.Common.{◌≡◌, IfOk, map, subst}
 use Rattle.std.specs.List.{flat_map}
-use Rattle.gix_mailmap.specs.Lines.{good}
+use Rattle.mailmap_grammar.specs.Lines.{good}
 use Rattle.gix_mailmap.proofs.Contacts.{same_answers}
 use Rattle.gix_mailmap.proofs.check.check.Goals as goal
 

@@ -1,10 +1,10 @@
 use Rattle.std.proofs.Common.{[], map, take, get_or, sym, subst}
 use Rattle.std.specs.List.{flat_map}
 use Rattle.std.proofs.lemmas.Iterator.Consumers.{YieldsList-from_first}
-use Rattle.gix_mailmap.specs.Entries.{mapping_of}
-use Rattle.gix_mailmap.specs.Histories.{IsNormal}
-use Rattle.gix_mailmap.specs.Lines.{good}
-use Rattle.gix_mailmap.proofs.Normal.{normal_then}
+use Rattle.mailmap_grammar.specs.Entries.{mapping_of}
+use Rattle.mailmap_tables.specs.Histories.{IsNormal}
+use Rattle.mailmap_grammar.specs.Lines.{good}
+use Rattle.mailmap_tables.proofs.Normal.{normal_then}
 use Rattle.gix_mailmap.proofs.Sources.{normal_none, gives_said, merged_whole, buffers_more}
 use Rattle.gix_mailmap.proofs.check.merged.Goals as goal
 

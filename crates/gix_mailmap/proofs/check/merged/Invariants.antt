@@ -1,7 +1,7 @@
 use Rattle.std.proofs.Common.{map, take}
 use Rattle.std.specs.List.{flat_map}
-use Rattle.gix_mailmap.specs.Histories.{IsNormal}
-use Rattle.gix_mailmap.specs.Lines.{good}
+use Rattle.mailmap_tables.specs.Histories.{IsNormal}
+use Rattle.mailmap_grammar.specs.Lines.{good}
 use Rattle.gix_mailmap.proofs.check.merged.Given as goal
 
 abbrev pub invariant-loop-buf : goal.invariant-loop-buf

@@ -1,6 +1,6 @@
 use Rattle.std.proofs.Common.{[], map, take, subst, sym, ◌∙◌, arith}
-use Rattle.gix_mailmap.specs.Entries.{mapping_of}
-use Rattle.gix_mailmap.specs.Histories.{IsNormal}
+use Rattle.mailmap_grammar.specs.Entries.{mapping_of}
+use Rattle.mailmap_tables.specs.Histories.{IsNormal}
 use Rattle.gix_mailmap.specs.Writing.{IsFirstUnwritable, IsUnwrittenBy}
 use Rattle.gix_mailmap.proofs.Compacted.{nothing_normal, next_merged, never_unwritable}
 use Rattle.gix_mailmap.proofs.Drained.{drained_all}

@@ -1,5 +1,5 @@
 use Rattle.std.proofs.Common.{flat_map}
-use Rattle.gix_mailmap.specs.Lines.{good}
+use Rattle.mailmap_grammar.specs.Lines.{good}
 use Rattle.gix_mailmap.proofs.WrittenText.{good-text}
 use Rattle.gix_mailmap.proofs.WritableLines.{all_read}
 use Rattle.gix_mailmap.proofs.WritableValues.{normal_fits}

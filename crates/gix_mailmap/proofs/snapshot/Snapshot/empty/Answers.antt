@@ -1,5 +1,5 @@
 use Rattle.std.proofs.Common.{sym, subst}
-use Rattle.gix_mailmap.specs.Groups.{Contents, IsComplete}
+use Rattle.mailmap_tables.specs.Groups.{Contents, IsComplete}
 use Rattle.gix_mailmap.proofs.Complete.{complete_empty}
 use Rattle.gix_mailmap.proofs.snapshot.Snapshot.empty.Goals as goal
 

@@ -1,7 +1,7 @@
 use Rattle.std.proofs.Common.{◌≡◌, true, ◌∙◌}
 use Rattle.std.proofs.lemmas.List.Elements.{All-from_recursion}
 use Rattle.gix_mailmap.specs.CanonicalText.{IsWritable}
-use Rattle.gix_mailmap.specs.Entries.{mapping_of}
+use Rattle.mailmap_grammar.specs.Entries.{mapping_of}
 use Rattle.gix_mailmap.proofs.Left.{first_left, next_left, one_more, none_left}
 use Rattle.gix_mailmap.proofs.snapshot.Snapshot.first_unwritable.Goals as goal
 

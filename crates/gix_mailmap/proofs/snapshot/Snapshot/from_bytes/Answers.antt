@@ -1,7 +1,7 @@
 use Rattle.std.proofs.Common.{◌≡◌, ◌≢◌, ◌∙◌, [], ◌++◌, map, append-nil, sym, ap, subst}
-use Rattle.gix_mailmap.specs.Entries.{mapping_of}
-use Rattle.gix_mailmap.specs.Histories.{IsNormal, accepted}
-use Rattle.gix_mailmap.specs.Lines.{good}
+use Rattle.mailmap_grammar.specs.Entries.{mapping_of}
+use Rattle.mailmap_tables.specs.Histories.{IsNormal, accepted}
+use Rattle.mailmap_grammar.specs.Lines.{good}
 use Rattle.gix_mailmap.proofs.Built.{yields_front, accepted_front, if_ok_map, on_err_map}
 use Rattle.gix_mailmap.proofs.snapshot.Snapshot.from_bytes.Goals as goal
 

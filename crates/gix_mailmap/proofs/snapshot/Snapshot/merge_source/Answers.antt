@@ -1,7 +1,7 @@
 use Rattle.std.proofs.lemmas.Iterator.{YieldsList-from_slice}
 use Rattle.std.proofs.lemmas.Iterator.Consumers.{YieldsList-from_first, YieldsList-from_copied}
-use Rattle.gix_mailmap.specs.Entries.{mapping_of}
-use Rattle.gix_mailmap.specs.Lines.{good}
+use Rattle.mailmap_grammar.specs.Entries.{mapping_of}
+use Rattle.mailmap_grammar.specs.Lines.{good}
 use Rattle.gix_mailmap.proofs.Sources.{gives_said, gives_entries, merged_all, refused_some}
 use Rattle.gix_mailmap.proofs.snapshot.Snapshot.merge_source.Goals as goal
 

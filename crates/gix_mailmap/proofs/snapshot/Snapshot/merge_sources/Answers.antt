@@ -1,7 +1,7 @@
 use Rattle.std.proofs.Common.{◌<◌, length, length-set, subst, sym, ◌∙◌, arith}
 use Rattle.std.proofs.lemmas.Option.{slice_get_within}
-use Rattle.gix_mailmap.specs.Histories.{IsNormal}
-use Rattle.gix_mailmap.proofs.Grouped.{groups_normal}
+use Rattle.mailmap_tables.specs.Histories.{IsNormal}
+use Rattle.mailmap_tables.proofs.Grouped.{groups_normal}
 use Rattle.gix_mailmap.proofs.Sources.{normal_start, normal_more, marks_more}
 use Rattle.gix_mailmap.proofs.snapshot.Snapshot.merge_sources.Goals as goal
 

@@ -1,5 +1,5 @@
 use Rattle.std.proofs.Common.{◌≡◌, ◌++◌, length, take}
-use Rattle.gix_mailmap.specs.Histories.{IsNormal}
+use Rattle.mailmap_tables.specs.Histories.{IsNormal}
 use Rattle.gix_mailmap.specs.Sources.{history}
 use Rattle.gix_mailmap.proofs.Sources.{MarksIdle}
 use Rattle.gix_mailmap.proofs.snapshot.Snapshot.merge_sources.Given as goal

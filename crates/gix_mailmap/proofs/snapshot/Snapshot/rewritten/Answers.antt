@@ -1,11 +1,11 @@
 use Rattle.std.proofs.Common.{◌≡◌, ◌∙◌, ◌++◌, true, map, sym, ap, subst}
 use Rattle.std.specs.List.{AllByRecursion}
-use Rattle.gix_mailmap.specs.Entries.{mapping_of}
-use Rattle.gix_mailmap.specs.Groups.{AreGroups, Contents, listing}
-use Rattle.gix_mailmap.specs.Histories.{IsNormal, is_accepted}
+use Rattle.mailmap_grammar.specs.Entries.{mapping_of}
+use Rattle.mailmap_tables.specs.Groups.{AreGroups, Contents, listing}
+use Rattle.mailmap_tables.specs.Histories.{IsNormal, is_accepted}
 use Rattle.gix_mailmap.proofs.Complete.{no_groups}
-use Rattle.gix_mailmap.proofs.Grouped.{groups_accepted, groups_normal}
-use Rattle.gix_mailmap.proofs.Unique.{normal_unique}
+use Rattle.mailmap_tables.proofs.Grouped.{groups_accepted, groups_normal}
+use Rattle.mailmap_tables.proofs.Unique.{normal_unique}
 use Rattle.gix_mailmap.proofs.snapshot.Snapshot.rewritten.Goals as goal
 
 pub joined-requires-clause-standing : goal.joined-requires-clause-standing

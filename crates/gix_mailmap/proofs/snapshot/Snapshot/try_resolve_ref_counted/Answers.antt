@@ -1,11 +1,11 @@
 use Rattle.std.proofs.Common.{◌≡◌, length, sym, ap, ◌∙◌, arith}
-use Rattle.gix_mailmap.specs.Groups.{listing}
-use Rattle.gix_mailmap.specs.Search.{digits}
+use Rattle.mailmap_tables.specs.Groups.{listing}
+use Rattle.mailmap_grammar.specs.Search.{digits}
 use Rattle.gix_mailmap.specs.Signatures.{email_count, name_count}
-use Rattle.gix_mailmap.specs.Histories.{scan}
-use Rattle.gix_mailmap.proofs.Alike.{same_scan}
+use Rattle.mailmap_tables.specs.Histories.{scan}
+use Rattle.mailmap_tables.proofs.Alike.{same_scan}
 use Rattle.gix_mailmap.proofs.Counts.{email_count-listing}
-use Rattle.gix_mailmap.proofs.Normal.{alike_normal}
+use Rattle.mailmap_tables.proofs.Normal.{alike_normal}
 use Rattle.gix_mailmap.proofs.snapshot.Snapshot.try_resolve_ref_counted.Goals as goal
 
 pub returns-clause-history : goal.returns-clause-history

@@ -1,8 +1,8 @@
 use Rattle.std.proofs.Common.{rules, ◌+◌, ◌++◌, ◌∷◌, length, sym, ap, ap₂, ◌∙◌}
-use Rattle.gix_mailmap.specs.Entries.{mapping_of}
-use Rattle.gix_mailmap.specs.Groups.{Contents}
+use Rattle.mailmap_grammar.specs.Entries.{mapping_of}
+use Rattle.mailmap_tables.specs.Groups.{Contents}
 use Rattle.gix_mailmap.specs.Listings.{left_to_list}
-use Rattle.gix_mailmap.specs.Pool.{spelled}
+use Rattle.mailmap_tables.specs.Pool.{spelled}
 use Rattle.gix_mailmap.proofs.Listed.{next_email, empty}
 use Rattle.gix_mailmap.proofs.snapshot.listing.IterIterator.next.Goals as goal
 

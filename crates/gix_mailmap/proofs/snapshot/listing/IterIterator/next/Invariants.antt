@@ -1,7 +1,7 @@
 use Rattle.std.proofs.Common.{◌≡◌, ◌-◌, length}
 use Rattle.std.specs.List.{AllByRecursion}
 use Rattle.gix_mailmap.specs.Listings.{left_to_list}
-use Rattle.gix_mailmap.specs.Pool.{NameLies}
+use Rattle.mailmap_tables.specs.Pool.{NameLies}
 use Rattle.gix_mailmap.proofs.snapshot.listing.IterIterator.next.Given as goal
 
 abbrev pub invariant-loop-row : goal.invariant-loop-row

@@ -1,7 +1,7 @@
 use Rattle.std.proofs.Common.{◌++◌, fold, sym, ap, ◌∙◌}
 use Rattle.std.specs.Hash as fed
 use Rattle.std.proofs.lemmas.List.Sums.{fold-append}
-use Rattle.gix_mailmap.specs.Entries.{mapping_of}
+use Rattle.mailmap_grammar.specs.Entries.{mapping_of}
 use Rattle.gix_mailmap.specs.Listings.{entry_hashed, entries_hashed}
 use Rattle.gix_mailmap.proofs.Compared.{hashed_fields}
 use Rattle.gix_mailmap.proofs.snapshot.listing.SnapshotHash.hash.Goals as goal

@@ -1,6 +1,0 @@
-use Rattle.gix_mailmap.proofs.Alike.{same_normal}
-use Rattle.gix_mailmap.proofs.Normal.{alike_normal}
-use Rattle.gix_mailmap.proofs.laws.law_self.Goals as goal
-
-pub returns : goal.returns
-returns c h n d = same_normal h n n (alike_normal h n d) d

@@ -1,5 +1,0 @@
-use Rattle.gix_mailmap.proofs.Trimmed.{trimmed-same, trimmed-made}
-use Rattle.gix_mailmap.proofs.laws.law_trim.Goals as goal
-
-pub returns : goal.returns
-returns c = λ s t. (trimmed-same s t, trimmed-made s t)

@@ -1,6 +1,0 @@
-use Rattle.std.proofs.Common.{arith}
-use Rattle.gix_mailmap.proofs.Good.{length-good_of}
-use Rattle.gix_mailmap.proofs.lines.parse_ignore_errors.Goals as goal
-
-pub returns-clause-countable : goal.returns-clause-countable
-returns-clause-countable c = omega (arith, length-good_of c.parse.result, c.parse.ensures.countable)

@@ -1,8 +1,0 @@
-use Rattle.std.proofs.Common.{◌≡◌, take}
-use Rattle.std.specs.List.{AllByRecursion}
-use Rattle.gix_mailmap.specs.Folding.{folded}
-use Rattle.gix_mailmap.specs.Merging.{mapping_at, email_text}
-use Rattle.gix_mailmap.proofs.snapshot.merge.email_run.Given as goal
-
-abbrev pub invariant-loop-i : goal.invariant-loop-i
-invariant-loop-i l = AllByRecursion (λ p. email_text (mapping_at p) ≡ folded l.email) (take l.i l.batch)

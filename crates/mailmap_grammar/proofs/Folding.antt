@@ -1,0 +1,57 @@
+-- What the order of two lists of numbers says.
+use Rattle.std.proofs.Common.{◌+◌, length, ◌⊎◌, ◌↔◌, ◌≡◌, ◌<◌, ℕ, List, [], ◌∷◌, refl, sym, ap, ◌∙◌, arith, inl, inr, ⊎_elim, Ordering, Less, Equal, Greater}
+use Rattle.std.proofs.lemmas.Bool.{cases_lt, cases_eq}
+use Rattle.std.specs.Ordering.{nat_cmp, ordering_then}
+use Rattle.std.specs.Cmp.{nat_cmp_is}
+use Rattle.std.specs.Cmp.Lexicographic.{slice_cmp}
+use Rattle.std.specs.FinMap.{slice_cmp-IsAntisymmetric, nat_cmp-IsAntisymmetric}
+use Rattle.mailmap_grammar.specs.Folding.{Text, folded, text_cmp, IsSmaller, IsBelow}
+
+-- the first numbers decide, unless they are equal
+pub less-smaller : (xs ys : List ℕ) → slice_cmp nat_cmp xs ys ≡ Less → IsSmaller xs ys
+less-smaller [] [] e = absurd (cc)
+less-smaller [] (y ∷ ys) e = tt
+less-smaller (x ∷ xs) [] e = absurd (cc)
+less-smaller (x ∷ xs) (y ∷ ys) e =
+    let rest = λ (r : Ordering) (is : r ≡ nat_cmp x y). ap (λ o. ordering_then o (slice_cmp nat_cmp xs ys)) is ∙ e in
+    ⊎_elim inl
+    (λ le. ⊎_elim (λ same. inr (same, less-smaller xs ys (rest Equal (nat_cmp_is x y Equal same))))
+    (λ other.
+    let above : y < x = omega arith in
+    let wrong : Greater ≡ Less = rest Greater (nat_cmp_is x y Greater above) in absurd (cc))
+    (cases_eq x y))
+    (cases_lt x y)
+
+-- and the other way round
+pub smaller-less : (xs ys : List ℕ) → IsSmaller xs ys → slice_cmp nat_cmp xs ys ≡ Less
+smaller-less [] [] h = absurd h
+smaller-less [] (y ∷ ys) h = refl
+smaller-less (x ∷ xs) [] h = absurd h
+smaller-less (x ∷ xs) (y ∷ ys) h = ⊎_elim
+    (λ lt. ap (λ o. ordering_then o (slice_cmp nat_cmp xs ys)) (sym (nat_cmp_is x y Less lt)))
+    (λ same. ap (λ o. ordering_then o (slice_cmp nat_cmp xs ys)) (sym (nat_cmp_is x y Equal same.0)) ∙ smaller-less xs ys same.1)
+    h
+
+-- only one text is told equal
+pub equal-same : (xs ys : List ℕ) → slice_cmp nat_cmp xs ys ≡ Equal → xs ≡ ys
+equal-same xs ys e = slice_cmp-IsAntisymmetric nat_cmp-IsAntisymmetric xs ys e
+
+-- and each is told equal to itself
+pub same-equal : (xs : List ℕ) → slice_cmp nat_cmp xs xs ≡ Equal
+same-equal [] = refl
+same-equal (x ∷ xs) = ap (λ o. ordering_then o (slice_cmp nat_cmp xs xs)) (sym (nat_cmp_is x x Equal refl)) ∙ same-equal xs
+
+-- where nothing is left of one of two texts of k and l bytes, the lengths decide
+pub text_cmp-end : (s t : Text) (k l : ℕ) → k + length t ≡ l + length s → (length s ≡ 0) ⊎ (length t ≡ 0) → text_cmp (folded s) (folded t) ≡ nat_cmp k l
+text_cmp-end [] [] k l long empty = nat_cmp_is k l Equal (omega arith)
+text_cmp-end [] (y ∷ t) k l long empty = nat_cmp_is k l Less (omega arith)
+text_cmp-end (x ∷ s) [] k l long empty = nat_cmp_is k l Greater (omega arith)
+text_cmp-end (x ∷ s) (y ∷ t) k l long empty = absurd (omega arith)
+
+-- `Less` is below
+pub less-below : (a b : Text) (o : Ordering) → o ≡ text_cmp (folded a) (folded b) → (o ≡ Less) ↔ IsBelow a b
+less-below a b o is = (λ e. less-smaller _ _ (sym is ∙ e), λ h. is ∙ smaller-less _ _ h)
+
+-- `Equal` is folded alike
+pub equal-folded : (a b : Text) (o : Ordering) → o ≡ text_cmp (folded a) (folded b) → (o ≡ Equal) ↔ (folded a ≡ folded b)
+equal-folded a b o is = (λ e. equal-same _ _ (sym is ∙ e), λ h. is ∙ ap (λ t. text_cmp t (folded b)) h ∙ same-equal (folded b))

@@ -1,0 +1,182 @@
+-- A reading is the relation by cases.
+use Rattle.std.proofs.Common.{◌≡◌, ◌≢◌, ◌⊎◌, ℕ, true, false, Option, Some, Ok, [], ◌∷◌, refl, sym, ap, subst, ◌∙◌, inl, inr, ⊎_elim}
+use Rattle.std.proofs.lemmas.Bool.{cond-true, cond-false, eqb-true, cases_Bool}
+use Rattle.mailmap_grammar.specs.Folding.{Text}
+use Rattle.mailmap_grammar.specs.Trimming.{trim, IsTrimmed}
+use Rattle.mailmap_grammar.specs.Lines.{Reading, Half, Absent, Unclosed, Closed, cut, trimmed_half, fault, nothing_to_map, by_both, by_name, two_halves, strict_halves, first_half, is_comment, unless_blank, reading_by, line_reading, strict_line_reading, reading, strict_reading, HoldsNo, IsUnclosed, IsHalf, NoHalf, IsSecondRead, second, name_alone, neither, IsSecondReadStrictly, open_second, as_ever, IsFirstRead, no_bracket, open_first, blank_email, first, IsComment, IsReadBy, comment, blank, said, IsRead, IsReadStrictly}
+use Rattle.mailmap_grammar.proofs.Cut.{kind, absent_kind, unclosed_kind, closed_kind, cut-absent, cut-unclosed, cut-closed}
+use Rattle.mailmap_grammar.proofs.Trimmed.{trimmed-same, trimmed-made}
+
+half-cut : (s name email rest : Text) → IsHalf s name email rest → trimmed_half (cut s) ≡ Closed name email rest
+half-cut s name email rest h =
+    let is_name : name ≡ trim h.before = trimmed-same _ _ h.is_name in
+    let is_email : email ≡ trim h.between = trimmed-same _ _ h.is_email in
+    ap trimmed_half (cut-closed _ _ _ _ h.is_cut) ∙ rw (← is_name, ← is_email) refl
+
+-- each text has no `<`, no `>` behind it, or a half
+data HalfKind (s : Text) : Type 0 where
+  absent_half : HoldsNo 60 s → trimmed_half (cut s) ≡ Absent → HalfKind s
+  unclosed_half : IsUnclosed s → trimmed_half (cut s) ≡ Unclosed → HalfKind s
+  closed_half : (name email rest : Text) → IsHalf s name email rest → trimmed_half (cut s) ≡ Closed name email rest → HalfKind s
+
+half_kind : (s : Text) → HalfKind s
+half_kind s = elim (kind s) [
+  | absent_kind h e ↦ absent_half h (ap trimmed_half e)
+  | unclosed_kind h e ↦ unclosed_half h (ap trimmed_half e)
+  | closed_kind a b c h e ↦ closed_half (trim a) (trim b) c
+      (record { before = a; between = b; is_cut = h; is_name = trimmed-made a (trim a) refl; is_email = trimmed-made b (trim b) refl })
+      (ap trimmed_half e)
+]
+
+no_half : (s : Text) → NoHalf s → (trimmed_half (cut s) ≡ Absent) ⊎ (trimmed_half (cut s) ≡ Unclosed)
+no_half s h = ⊎_elim (λ a. inl (ap trimmed_half (cut-absent s a))) (λ u. inr (ap trimmed_half (cut-unclosed s u))) h
+
+some : (b : ℕ) (s : Text) → (b ∷ s) ≢ []
+some b s e = cc
+
+-- ---- the second half
+
+both-closed : (n : ℕ) (t name email a b c : Text) → two_halves n t name email (Closed a b c) ≡ Ok (by_both name email a b)
+both-closed n t [] email a b c = refl
+both-closed n t (x ∷ name) email a b c = refl
+
+second-none : (n : ℕ) (t name email rest : Text) → NoHalf rest → (h : Half) → (h ≡ Absent) ⊎ (h ≡ Unclosed) → IsSecondRead n t name email rest (two_halves n t name email h)
+second-none n t [] email rest none Absent is = neither none refl refl
+second-none n t [] email rest none Unclosed is = neither none refl refl
+second-none n t (x ∷ name) email rest none Absent is = name_alone none (some x name) refl
+second-none n t (x ∷ name) email rest none Unclosed is = name_alone none (some x name) refl
+second-none n t name email rest none (Closed a b c) is = absurd (⊎_elim (λ e. cc) (λ e. cc) is)
+
+second-made : (n : ℕ) (t name email rest : Text) → IsSecondRead n t name email rest (two_halves n t name email (trimmed_half (cut rest)))
+second-made n t name email rest = elim (half_kind rest) [
+  | absent_half h e ↦ second-none n t name email rest (inl h) (trimmed_half (cut rest)) (inl e)
+  | unclosed_half h e ↦ second-none n t name email rest (inr h) (trimmed_half (cut rest)) (inr e)
+  | closed_half a b c h e ↦ second a b c h (ap (two_halves n t name email) e ∙ both-closed n t name email a b c)
+]
+
+alone-none : (n : ℕ) (t name email : Text) (h : Half) → (h ≡ Absent) ⊎ (h ≡ Unclosed) → name ≢ [] → two_halves n t name email h ≡ Ok (by_name name email)
+alone-none n t [] email h is other = absurd (other refl)
+alone-none n t (x ∷ name) email Absent is other = refl
+alone-none n t (x ∷ name) email Unclosed is other = refl
+alone-none n t (x ∷ name) email (Closed a b c) is other = absurd (⊎_elim (λ e. cc) (λ e. cc) is)
+
+neither-none : (n : ℕ) (t name email : Text) (h : Half) → (h ≡ Absent) ⊎ (h ≡ Unclosed) → name ≡ [] → two_halves n t name email h ≡ fault nothing_to_map n t
+neither-none n t [] email Absent is same = refl
+neither-none n t [] email Unclosed is same = refl
+neither-none n t [] email (Closed a b c) is same = absurd (⊎_elim (λ e. cc) (λ e. cc) is)
+neither-none n t (x ∷ name) email h is same = absurd (some x name same)
+
+second-same : (n : ℕ) (t name email rest : Text) (r : Reading) → IsSecondRead n t name email rest r → two_halves n t name email (trimmed_half (cut rest)) ≡ r
+second-same n t name email rest r h = elim h [
+  | second a b c half is ↦ ap (two_halves n t name email) (half-cut rest a b c half) ∙ both-closed n t name email a b c ∙ sym is
+  | name_alone none other is ↦ alone-none n t name email (trimmed_half (cut rest)) (no_half rest none) other ∙ sym is
+  | neither none same is ↦ neither-none n t name email (trimmed_half (cut rest)) (no_half rest none) same ∙ sym is
+]
+
+-- where the rest is closed or has no `<`, strict reading is the other one
+strict-other : (n : ℕ) (t name email rest : Text) (h : Half) → h ≢ Unclosed → strict_halves n t name email rest h ≡ two_halves n t name email h
+strict-other n t name email rest Absent other = refl
+strict-other n t name email rest Unclosed other = absurd (other refl)
+strict-other n t name email rest (Closed a b c) other = refl
+
+not_unclosed : (s : Text) → trimmed_half (cut s) ≢ Unclosed → IsUnclosed s → ⊥
+not_unclosed s other h = other (ap trimmed_half (cut-unclosed s h))
+
+strict-second-made : (n : ℕ) (t name email rest : Text) → IsSecondReadStrictly n t name email rest (strict_halves n t name email rest (trimmed_half (cut rest)))
+strict-second-made n t name email rest = elim (half_kind rest) [
+  | absent_half h e ↦
+      let other : trimmed_half (cut rest) ≢ Unclosed = λ u. let w : Absent ≡ Unclosed = sym e ∙ u in absurd (cc) in
+      as_ever (not_unclosed rest other) (subst (IsSecondRead n t name email rest) (sym (strict-other n t name email rest _ other)) (second-made n t name email rest))
+  | unclosed_half h e ↦ open_second h (ap (strict_halves n t name email rest) e)
+  | closed_half a b c h e ↦
+      let other : trimmed_half (cut rest) ≢ Unclosed = λ u. let w : Closed a b c ≡ Unclosed = sym e ∙ u in absurd (cc) in
+      as_ever (not_unclosed rest other) (subst (IsSecondRead n t name email rest) (sym (strict-other n t name email rest _ other)) (second-made n t name email rest))
+]
+
+strict-second-same : (n : ℕ) (t name email rest : Text) (r : Reading) → IsSecondReadStrictly n t name email rest r → strict_halves n t name email rest (trimmed_half (cut rest)) ≡ r
+strict-second-same n t name email rest r h = elim h [
+  | open_second u is ↦ ap (λ k. strict_halves n t name email rest (trimmed_half k)) (cut-unclosed rest u) ∙ sym is
+  | as_ever not s ↦ elim (half_kind rest) [
+    | absent_half a e ↦ ap (strict_halves n t name email rest) e ∙ sym (ap (two_halves n t name email) e) ∙ second-same n t name email rest r s
+    | unclosed_half u e ↦ absurd (not u)
+    | closed_half a b c k e ↦ ap (strict_halves n t name email rest) e ∙ sym (ap (two_halves n t name email) e) ∙ second-same n t name email rest r s
+  ]
+]
+
+-- ---- the first half
+
+module _ (both : Text → Text → Text → Reading) (Second : Text → Text → Text → Reading → Type 0) (n : ℕ) (t : Text) where
+  first-closed : ((name email rest : Text) → Second name email rest (both name email rest)) → (name email rest : Text) → IsHalf t name email rest → IsFirstRead Second n t (first_half both n t (Closed name email rest))
+  first-closed made name [] rest h = blank_email name rest h refl
+  first-closed made name (x ∷ email) rest h = first name (x ∷ email) rest h (some x email) (made name (x ∷ email) rest)
+
+  first-made : ((name email rest : Text) → Second name email rest (both name email rest)) → IsFirstRead Second n t (first_half both n t (trimmed_half (cut t)))
+  first-made made =
+      let P : Half → Type 0 = λ h. IsFirstRead Second n t (first_half both n t h) in
+      elim (half_kind t) [
+        | absent_half h e ↦ subst P (sym e) (no_bracket h refl)
+        | unclosed_half h e ↦ subst P (sym e) (open_first h refl)
+        | closed_half a b c h e ↦ subst P (sym e) (first-closed made a b c h)
+      ]
+
+  first-email : (name email rest : Text) (r : Reading) → email ≢ [] → both name email rest ≡ r → first_half both n t (Closed name email rest) ≡ r
+  first-email name [] rest r other e = absurd (other refl)
+  first-email name (x ∷ email) rest r other e = e
+
+  first-same : ((name email rest : Text) (r : Reading) → Second name email rest r → both name email rest ≡ r) → (r : Reading) → IsFirstRead Second n t r → first_half both n t (trimmed_half (cut t)) ≡ r
+  first-same same r h = elim h [
+    | no_bracket a is ↦ ap (λ k. first_half both n t (trimmed_half k)) (cut-absent t a) ∙ sym is
+    | open_first u is ↦ ap (λ k. first_half both n t (trimmed_half k)) (cut-unclosed t u) ∙ sym is
+    | blank_email name rest half is ↦ ap (first_half both n t) (half-cut t name [] rest half) ∙ sym is
+    | first name email rest half other s ↦ ap (first_half both n t) (half-cut t name email rest half) ∙ first-email name email rest r other (same name email rest r s)
+  ]
+
+-- ---- the line
+
+commented : (line : Text) → is_comment line ≡ true → IsComment line
+commented [] e = cc
+commented (b ∷ s) e = (s, ap (λ x. x ∷ s) (eqb-true b 35 e))
+
+comment-test : (line : Text) → IsComment line → is_comment line ≡ true
+comment-test line h = ap is_comment h.1
+
+module _ (says : ℕ → Text → Reading) (Says : Text → Reading → Type 0) (n : ℕ) (line : Text) where
+  line-none : ((t : Text) → Says t (says n t)) → (IsComment line → ⊥) → (t : Text) → IsTrimmed line t → IsReadBy Says line (unless_blank says n t)
+  line-none made plain [] is = blank plain is refl
+  line-none made plain (b ∷ t) is = said (b ∷ t) (says n (b ∷ t)) plain is (some b t) (made (b ∷ t)) refl
+
+  line-made : ((t : Text) → Says t (says n t)) → (o : Option Reading) → reading_by says n line ≡ o → IsReadBy Says line o
+  line-made made o e =
+      let P : Option Reading → Type 0 = IsReadBy Says line in
+      ⊎_elim
+      (λ yes. comment (commented line yes) (sym e ∙ cond-true _ _ _ yes))
+      (λ not.
+      let none : IsComment line → ⊥ = λ h. let w : true ≡ false = sym (comment-test line h) ∙ not in absurd (cc) in
+      subst P (sym (cond-false _ _ _ not) ∙ e) (line-none made none (trim line) (trimmed-made line (trim line) refl)))
+      (cases_Bool (is_comment line))
+
+  not_comment : (IsComment line → ⊥) → is_comment line ≡ false
+  not_comment plain = ⊎_elim (λ yes. absurd (plain (commented line yes))) (λ e. e) (cases_Bool (is_comment line))
+
+  some_said : (t : Text) → t ≢ [] → unless_blank says n t ≡ Some (says n t)
+  some_said [] other = absurd (other refl)
+  some_said (b ∷ t) other = refl
+
+  line-same : ((t : Text) (r : Reading) → Says t r → says n t ≡ r) → (o : Option Reading) → IsReadBy Says line o → reading_by says n line ≡ o
+  line-same same o h = elim h [
+    | comment is e ↦ cond-true _ _ _ (comment-test line is) ∙ sym e
+    | blank plain is e ↦ cond-false _ _ _ (not_comment plain) ∙ ap (unless_blank says n) (sym (trimmed-same line [] is)) ∙ sym e
+    | said t r plain is other s e ↦ cond-false _ _ _ (not_comment plain) ∙ ap (unless_blank says n) (sym (trimmed-same line t is)) ∙ some_said t other ∙ ap (λ x. Some x) (same t r s) ∙ sym e
+  ]
+
+pub reading-made : (n : ℕ) (line : Text) (o : Option Reading) → reading n line ≡ o → IsRead n line o
+reading-made n line o = line-made line_reading _ n line (λ t. first-made _ (IsSecondRead n t) n t (λ name email rest. second-made n t name email rest)) o
+
+pub reading-same : (n : ℕ) (line : Text) (o : Option Reading) → IsRead n line o → reading n line ≡ o
+reading-same n line o = line-same line_reading _ n line (λ t r. first-same _ (IsSecondRead n t) n t (λ name email rest r. second-same n t name email rest r) r) o
+
+pub strict_reading-made : (n : ℕ) (line : Text) (o : Option Reading) → strict_reading n line ≡ o → IsReadStrictly n line o
+strict_reading-made n line o = line-made strict_line_reading _ n line (λ t. first-made _ (IsSecondReadStrictly n t) n t (λ name email rest. strict-second-made n t name email rest)) o
+
+pub strict_reading-same : (n : ℕ) (line : Text) (o : Option Reading) → IsReadStrictly n line o → strict_reading n line ≡ o
+strict_reading-same n line o = line-same strict_line_reading _ n line (λ t r. first-same _ (IsSecondReadStrictly n t) n t (λ name email rest r. strict-second-same n t name email rest r) r) o

@@ -1,0 +1,11 @@
+pub mod Cut
+pub mod Good
+pub mod Grammar
+pub mod Pieces
+pub mod Readings
+pub mod Rising
+pub mod SplitOnce
+pub mod Trimmed
+pub mod Folding
+pub mod Search
+pub mod Times

@@ -1,0 +1,93 @@
+-- The lines of faults rise, and a line gives at most one item.
+use Rattle.std.proofs.Common.{◌≡◌, ◌+◌, ◌<◌, ◌≤◌, ℕ, suc, true, false, cond, Option, Some, None, option_to_list, Ok, Err, List, [], ◌∷◌, ◌++◌, length, refl, sym, arith, Less}
+use Rattle.std.specs.List.{AllByRecursion}
+use Rattle.std.specs.List.Sorted.{IsStrictlySortedBy}
+use Rattle.std.specs.Ordering.{nat_cmp}
+use Rattle.std.specs.Cmp.{nat_cmp_is}
+use Rattle.mailmap_grammar.specs.declared.lines.Strictness.{Strictness}
+use Rattle.mailmap_grammar.specs.declared.lines.Strictness.TheVariants.{Lenient, Strict}
+use Rattle.mailmap_grammar.specs.Folding.{Text}
+use Rattle.mailmap_grammar.specs.Trimming.{trim}
+use Rattle.mailmap_grammar.specs.Lines.{Reading, Half, Absent, Unclosed, Closed, cut, trimmed_half, two_halves, strict_halves, first_half, line_reader, is_comment, unless_blank, reading_by, readings_from, fault_lines}
+
+abbrev pub LineIs : ℕ → Reading → Type 0
+LineIs n (Ok m) = Unit {0}
+LineIs n (Err f) = f.line ≡ n
+
+abbrev pub IfLine : ℕ → Option Reading → Type 0
+IfLine n None = Unit {0}
+IfLine n (Some r) = LineIs n r
+
+two-line : (n : ℕ) (t name email : Text) (h : Half) → LineIs n (two_halves n t name email h)
+two-line n t [] email Absent = refl
+two-line n t [] email Unclosed = refl
+two-line n t [] email (Closed a b c) = tt
+two-line n t (x ∷ name) email Absent = tt
+two-line n t (x ∷ name) email Unclosed = tt
+two-line n t (x ∷ name) email (Closed a b c) = tt
+
+strict-line : (n : ℕ) (t name email rest : Text) (h : Half) → LineIs n (strict_halves n t name email rest h)
+strict-line n t name email rest Absent = two-line n t name email Absent
+strict-line n t name email rest Unclosed = refl
+strict-line n t name email rest (Closed a b c) = two-line n t name email (Closed a b c)
+
+first-line : (both : Text → Text → Text → Reading) (n : ℕ) (t : Text) → ((name email rest : Text) → LineIs n (both name email rest)) → (h : Half) → LineIs n (first_half both n t h)
+first-line both n t is Absent = refl
+first-line both n t is Unclosed = refl
+first-line both n t is (Closed name [] rest) = refl
+first-line both n t is (Closed name (x ∷ email) rest) = is name (x ∷ email) rest
+
+-- a fault stands on the line that is read, under either strictness
+line_reader-line : (s : Strictness) (n : ℕ) (t : Text) → LineIs n (line_reader s n t)
+line_reader-line Lenient n t = first-line _ n t (λ name email rest. two-line n t name email (trimmed_half (cut rest))) (trimmed_half (cut t))
+line_reader-line Strict n t = first-line _ n t (λ name email rest. strict-line n t name email rest (trimmed_half (cut rest))) (trimmed_half (cut t))
+
+blank-line : (says : ℕ → Text → Reading) (n : ℕ) (t : Text) → ((m : ℕ) (s : Text) → LineIs m (says m s)) → IfLine n (unless_blank says n t)
+blank-line says n [] is = tt
+blank-line says n (x ∷ t) is = is n (x ∷ t)
+
+reading_by-line : (says : ℕ → Text → Reading) (n : ℕ) (l : Text) → ((m : ℕ) (s : Text) → LineIs m (says m s)) → IfLine n (reading_by says n l)
+reading_by-line says n l is = elim (is_comment l) as (λ b. IfLine n (cond b None (unless_blank says n (trim l)))) [ true ↦ tt | false ↦ blank-line says n (trim l) is ]
+
+-- the reader of a walk
+pub walk-line : (s : Strictness) (n : ℕ) (l : Text) → IfLine n (reading_by (line_reader s) n l)
+walk-line s n l = reading_by-line (line_reader s) n l (line_reader-line s)
+
+abbrev Above : ℕ → List ℕ → Type 0
+Above n ks = AllByRecursion (λ k. n ≤ k) ks × IsStrictlySortedBy nat_cmp ks
+
+weaker : (m n : ℕ) (ks : List ℕ) → m ≤ n → AllByRecursion (λ k. n ≤ k) ks → AllByRecursion (λ k. m ≤ k) ks
+weaker m n [] le all = tt
+weaker m n (k ∷ ks) le all = (omega (arith, all.0), weaker m n ks le all.1)
+
+below : (m n : ℕ) (ks : List ℕ) → m < n → AllByRecursion (λ k. n ≤ k) ks → AllByRecursion (λ k. nat_cmp m k ≡ Less) ks
+below m n [] le all = tt
+below m n (k ∷ ks) le all = (sym (nat_cmp_is m k Less (omega (arith, all.0))), below m n ks le all.1)
+
+step : (n : ℕ) (o : Option Reading) (rs : List Reading) → IfLine n o → Above (n + 1) (fault_lines rs) → Above n (fault_lines (option_to_list o ++ rs))
+unfolding fault_lines IsStrictlySortedBy
+step n None rs is all = (weaker n (n + 1) (fault_lines rs) (omega arith) all.0, all.1)
+step n (Some (Ok m)) rs is all = (weaker n (n + 1) (fault_lines rs) (omega arith) all.0, all.1)
+step n (Some (Err f)) rs is all = (
+  (omega (arith, is), weaker n (n + 1) (fault_lines rs) (omega arith) all.0),
+  (below f.line (n + 1) (fault_lines rs) (omega (arith, is)) all.0, all.1),
+)
+
+at_most_one : (o : Option Reading) (rs : List Reading) → length (option_to_list o ++ rs) ≤ suc (length rs)
+at_most_one None rs = omega arith
+at_most_one (Some r) rs = omega arith
+
+-- a reader whose faults stand on the line that is read
+module _ (read : ℕ → Text → Option Reading) (line : (n : ℕ) (l : Text) → IfLine n (read n l)) where
+  above : (n : ℕ) (ls : List Text) → Above n (fault_lines (readings_from read n ls))
+  unfolding readings_from fault_lines IsStrictlySortedBy
+  above n [] = (tt, tt)
+  above n (l ∷ ls) = step n (read n l) (readings_from read (n + 1) ls) (line n l) (above (n + 1) ls)
+
+  pub fault_lines-rise : (n : ℕ) (ls : List Text) → IsStrictlySortedBy nat_cmp (fault_lines (readings_from read n ls))
+  fault_lines-rise n ls = (above n ls).1
+
+pub length-readings_from : (read : ℕ → Text → Option Reading) (n : ℕ) (ls : List Text) → length (readings_from read n ls) ≤ length ls
+unfolding readings_from
+length-readings_from read n [] = omega arith
+length-readings_from read n (l ∷ ls) = omega (arith, at_most_one (read n l) (readings_from read (n + 1) ls), length-readings_from read (n + 1) ls)

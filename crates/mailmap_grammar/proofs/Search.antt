@@ -1,0 +1,75 @@
+-- What one answer of a parted list says of the others, and the digits of a half.
+use Rattle.std.proofs.Common.{◌≡◌, ℕ, zero, suc, ◌+◌, ◌/◌, ◌^◌, ◌<◌, ◌≤◌, List, [], ◌∷◌, length, get_or, Some, Ordering, Less, Equal, Greater, refl, subst, arith}
+use Rattle.std.specs.List.{slice_get, AllByRecursion}
+use Rattle.std.specs.Int.Digits.{digits_of}
+use Rattle.std.proofs.lemmas.Int.Digits.{length-digits_of_step, length-digits_of-le, number_lt, number_digits_of, all_below_base_digits_of}
+use Rattle.mailmap_grammar.specs.Search.{IsParted, digits}
+
+-- ---- digits
+
+-- a number below 2 ^ k has at most k digits
+pub digits-le : (k n : ℕ) → n < 2 ^ k → digits n ≤ k
+unfolding digits
+digits-le k n h = length-digits_of-le 2 k n (omega arith) h
+
+-- a number of k digits is below 2 ^ k
+pub below_digits : (n : ℕ) → n < 2 ^ digits n
+unfolding digits
+below_digits n =
+    let P : ℕ → Type 0 = λ m. m < 2 ^ length (digits_of 2 n) in
+    subst P (number_digits_of 2 n (omega arith)) (number_lt 2 (digits_of 2 n) (all_below_base_digits_of 2 n (omega arith)))
+
+-- a larger number has no fewer digits
+pub digits-rise : (m n : ℕ) → m ≤ n → digits m ≤ digits n
+digits-rise m n le = digits-le (digits n) m (omega (arith, below_digits n))
+
+-- a half has one digit less
+pub digits-half : (n : ℕ) → 0 < n → digits n ≡ digits (n / 2) + 1
+unfolding digits
+digits-half n above = length-digits_of_step 2 n (omega arith) above
+
+-- what is at most half of n, together with one digit more, has no more digits than n
+pub digits-part : (m n : ℕ) → 0 < n → m + m ≤ n → digits m + 1 ≤ digits n
+digits-part m n above half =
+    let le : m ≤ n / 2 = omega arith in
+    omega (arith, digits-half n above, digits-rise m (n / 2) le)
+
+-- ---- parted lists
+
+abbrev AreGreater : List Ordering → Type 0
+AreGreater = AllByRecursion (λ a. a ≡ Greater)
+
+greater_at : (xs : List Ordering) (k : ℕ) (a : Ordering) → AreGreater xs → slice_get xs k ≡ Some a → a ≡ Greater
+greater_at [] k a all e = absurd (cc)
+greater_at (x ∷ xs) zero a all e = cc
+greater_at (x ∷ xs) (suc k) a all e = greater_at xs k a all.1 e
+
+greater_or : (xs : List Ordering) (k : ℕ) (d : Ordering) → AreGreater xs → k < length xs → get_or xs k d ≡ Greater
+greater_or [] k d all h = absurd (omega arith)
+greater_or (x ∷ xs) zero d all h = all.0
+greater_or (x ∷ xs) (suc k) d all h = greater_or xs k d all.1 (omega arith)
+
+-- before a `Less` stand `Less` alone
+pub less_before : (xs : List Ordering) (k j : ℕ) (d : Ordering) → IsParted xs → slice_get xs k ≡ Some Less → j ≤ k → get_or xs j d ≡ Less
+unfolding IsParted
+less_before [] k j d parted e le = absurd (cc)
+less_before (Less ∷ xs) k zero d parted e le = refl
+less_before (Less ∷ xs) zero (suc j) d parted e le = absurd (omega arith)
+less_before (Less ∷ xs) (suc k) (suc j) d parted e le = less_before xs k j d parted e (omega arith)
+less_before (Equal ∷ xs) zero j d parted e le = absurd (cc)
+less_before (Equal ∷ xs) (suc k) j d parted e le = let wrong = greater_at xs k Less parted e in absurd (cc)
+less_before (Greater ∷ xs) zero j d parted e le = absurd (cc)
+less_before (Greater ∷ xs) (suc k) j d parted e le = let wrong = greater_at xs k Less parted e in absurd (cc)
+
+-- from a `Greater` on stand `Greater` alone
+pub greater_from : (xs : List Ordering) (k j : ℕ) (d : Ordering) → IsParted xs → slice_get xs k ≡ Some Greater → k ≤ j → j < length xs → get_or xs j d ≡ Greater
+unfolding IsParted
+greater_from [] k j d parted e le h = absurd (cc)
+greater_from (Less ∷ xs) zero j d parted e le h = absurd (cc)
+greater_from (Less ∷ xs) (suc k) zero d parted e le h = absurd (omega arith)
+greater_from (Less ∷ xs) (suc k) (suc j) d parted e le h = greater_from xs k j d parted e (omega arith) (omega arith)
+greater_from (Equal ∷ xs) zero j d parted e le h = absurd (cc)
+greater_from (Equal ∷ xs) (suc k) zero d parted e le h = absurd (omega arith)
+greater_from (Equal ∷ xs) (suc k) (suc j) d parted e le h = greater_or xs j d parted (omega arith)
+greater_from (Greater ∷ xs) k zero d parted e le h = refl
+greater_from (Greater ∷ xs) k (suc j) d parted e le h = greater_or xs j d parted (omega arith)

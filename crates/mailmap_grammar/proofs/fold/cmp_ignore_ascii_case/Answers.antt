@@ -1,0 +1,23 @@
+use Rattle.std.proofs.Common.{◌∙◌, sym, inl, inr, ⊎_elim, rules}
+use Rattle.mailmap_grammar.proofs.Folding.{text_cmp-end, less-below, equal-folded}
+use Rattle.mailmap_grammar.proofs.fold.cmp_ignore_ascii_case.Goals as goal
+
+pub returns-then-is_ne-clause-value : goal.returns-then-is_ne-clause-value
+returns-then-is_ne-clause-value c = search rules
+
+pub returns-then-is_ne-clause-less : goal.returns-then-is_ne-clause-less
+returns-then-is_ne-clause-less c = less-below _ _ _ (returns-then-is_ne-clause-value c)
+
+pub returns-then-is_ne-clause-equal : goal.returns-then-is_ne-clause-equal
+returns-then-is_ne-clause-equal c = equal-folded _ _ _ (returns-then-is_ne-clause-value c)
+
+pub returns-clause-value : goal.returns-clause-value
+returns-clause-value c =
+    let some_empty = ⊎_elim (λ a_at_end. inl a_at_end.1.0) (λ b_at_end. inr b_at_end.1.0) c.in-None.ensures.steps in
+    c.cmp.ensures ∙ sym (c.loop-x.invariant.decides ∙ text_cmp-end _ _ _ _ c.loop-x.invariant.long some_empty)
+
+pub returns-clause-less : goal.returns-clause-less
+returns-clause-less c = less-below _ _ _ (returns-clause-value c)
+
+pub returns-clause-equal : goal.returns-clause-equal
+returns-clause-equal c = equal-folded _ _ _ (returns-clause-value c)

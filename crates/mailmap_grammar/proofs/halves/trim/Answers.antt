@@ -1,0 +1,6 @@
+use Rattle.mailmap_grammar.specs.Trimming.{trim as spec_trim}
+use Rattle.mailmap_grammar.proofs.halves.trim.Goals as goal
+
+pub returns : goal.returns
+unfolding spec_trim
+returns c = c.trim.ensures

@@ -1,0 +1,25 @@
+use Rattle.std.proofs.Common.{rules, arith, ◌∙◌, ap, sym, length}
+use Rattle.mailmap_grammar.specs.Lines.{readings_from}
+use Rattle.mailmap_grammar.proofs.Readings.{readings_from-some, readings_from-none, readings_from-nil}
+use Rattle.mailmap_grammar.proofs.lines.WalkIterator.next.Goals as goal
+
+pub loop-line-preserved : goal.loop-line-preserved
+loop-line-preserved c = (
+  omega (arith, ap length c.in-Some.ensures.steps),
+  readings_from-none _ _ _ _ _ _ c.loop-line.invariant.1 c.in-Some.ensures.steps c.in_default-read_line.ensures,
+)
+
+pub returns-in-Some-read_line-clause-steps : goal.returns-in-Some-read_line-clause-steps
+returns-in-Some-read_line-clause-steps c =
+    readings_from-some _ _ _ _ _ _ c.loop-line.invariant.1 c.in-Some.ensures.steps _ c.in-Some-read_line.ensures
+
+pub returns-in-Some-read_line-clause-goes : goal.returns-in-Some-read_line-clause-goes
+returns-in-Some-read_line-clause-goes c =
+    let e = ap length (readings_from-some _ _ _ _ _ _ c.loop-line.invariant.1 c.in-Some.ensures.steps _ c.in-Some-read_line.ensures) in
+    search rules
+
+pub returns-clause-steps : goal.returns-clause-steps
+returns-clause-steps c = (
+  sym c.loop-line.invariant.1 ∙ ap (readings_from _ _) c.in_default.ensures.steps.0 ∙ readings_from-nil _ _,
+  ap (readings_from _ _) c.in_default.ensures.steps.1 ∙ readings_from-nil _ _,
+)

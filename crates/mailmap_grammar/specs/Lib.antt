@@ -1,0 +1,6 @@
+pub mod Folding
+pub mod Trimming
+pub mod Entries
+pub mod Lines
+pub mod Search
+pub mod Times

@@ -1,0 +1,262 @@
+-- What the lines of a mailmap say.
+use Rattle.std.specs.List.{AllByRecursion}
+use Rattle.std.specs.Prelude.{◌≡◌, ◌≢◌, ◌⊎◌, ◌+◌, ◌==◌, ℕ, if◌then◌else◌, Bool, false, Option, Some, None, option_map, option_to_list, Result, Ok, Err, List, [], ◌∷◌, ◌++◌}
+use Rattle.mailmap_grammar.specs.declared.entry.Entry.{Entry}
+use Rattle.mailmap_grammar.specs.declared.lines.Error.{Error}
+use Rattle.mailmap_grammar.specs.declared.lines.Error.TheVariants.{NoEmail, MissingClosingBracket, EmptyEmail, NothingToMap, UnclosedSecond}
+use Rattle.mailmap_grammar.specs.declared.halves.Half as the_half
+use Rattle.mailmap_grammar.specs.declared.halves.Half.TheVariants as variant
+use Rattle.mailmap_grammar.specs.declared.lines.Strictness.{Strictness}
+use Rattle.mailmap_grammar.specs.declared.lines.Strictness.TheVariants.{Lenient, Strict}
+use Rattle.mailmap_grammar.specs.Folding.{Text}
+use Rattle.mailmap_grammar.specs.Entries.{Mapping, mapping_of}
+use Rattle.mailmap_grammar.specs.Trimming.{trim, IsTrimmed}
+
+-- the five faults; the last one comes of strict reading alone
+pub data Kind : Type 0 where
+  no_email : Kind
+  missing_closing_bracket : Kind
+  empty_email : Kind
+  nothing_to_map : Kind
+  unclosed_second : Kind
+
+-- a fault, the number of its line, and that line trimmed; of an unclosed second half the rest behind the first `>`
+pub record Fault : Type 0 where
+  pub kind : Kind
+  pub line : ℕ
+  pub input : Text
+
+-- the code's fault
+abbrev pub fault_of : Error → Fault
+fault_of (NoEmail line input) = record { kind = no_email; line = line; input = input.now }
+fault_of (MissingClosingBracket line input) = record { kind = missing_closing_bracket; line = line; input = input.now }
+fault_of (EmptyEmail line input) = record { kind = empty_email; line = line; input = input.now }
+fault_of (NothingToMap line input) = record { kind = nothing_to_map; line = line; input = input.now }
+fault_of (UnclosedSecond line input) = record { kind = unclosed_second; line = line; input = input.now }
+
+-- what a line says: a mapping or a fault
+abbrev pub Reading : Type 0
+Reading = Result Mapping Fault
+
+-- the code's item
+abbrev pub reading_of : Result Entry Error → Reading
+reading_of (Ok e) = Ok (mapping_of e)
+reading_of (Err e) = Err (fault_of e)
+
+-- what stands before the first byte b and what after it, or None where there is no b
+unfoldable pub split_once : ℕ → Text → Option (Text × Text)
+split_once b [] = None
+split_once b (c ∷ s) = if c == b then Some ([], s) else option_map (λ p. (c ∷ p.0, p.1)) (split_once b s)
+
+-- a text by its first `<` and the first `>` behind it: what stands before, between and behind
+pub data Half : Type 0 where
+  Absent : Half
+  Unclosed : Half
+  Closed : Text → Text → Text → Half
+
+-- the two cuts of `cut`: at `>` behind the `<`, and at `<`
+abbrev pub closed : Text → Option (Text × Text) → Half
+closed a None = Unclosed
+closed a (Some p) = Closed a p.0 p.1
+
+abbrev pub opened : Option (Text × Text) → Half
+opened None = Absent
+opened (Some p) = closed p.0 (split_once 62 p.1)
+
+-- a text cut at the first `<` and the first `>` behind it; IsCut, IsUnclosed and HoldsNo say which half it is
+abbrev pub cut : Text → Half
+cut s = opened (split_once 60 s)
+
+-- a text, or None where it is empty
+abbrev pub non_empty : Text → Option Text
+non_empty [] = None
+non_empty (b ∷ s) = Some (b ∷ s)
+
+-- the half with its name and its email trimmed
+abbrev pub trimmed_half : Half → Half
+trimmed_half Absent = Absent
+trimmed_half Unclosed = Unclosed
+trimmed_half (Closed a b c) = Closed (trim a) (trim b) c
+
+-- the code's half
+abbrev pub half_of : the_half.Half → Half
+half_of variant.Absent = Absent
+half_of variant.Unclosed = Unclosed
+half_of (variant.Closed name email rest) = Closed name.now email.now rest.now
+
+-- the fault of this kind on this line
+abbrev pub fault : Kind → ℕ → Text → Reading
+fault kind line input = Err (record { kind = kind; line = line; input = input })
+
+-- what a line with two halves maps: their names and emails, where an empty name is none
+abbrev pub by_both : Text → Text → Text → Text → Mapping
+by_both name email old_name old_email = record { new_name = non_empty name; new_email = Some email; old_name = non_empty old_name; old_email = old_email }
+
+-- what a name and an email alone map: the name stands in for that of the email
+abbrev pub by_name : Text → Text → Mapping
+by_name name email = record { new_name = Some name; new_email = None; old_name = None; old_email = email }
+
+-- a line whose first half is a name and an email, and what its second half is
+abbrev pub two_halves : ℕ → Text → Text → Text → Half → Reading
+two_halves n t [] email Absent = fault nothing_to_map n t
+two_halves n t [] email Unclosed = fault nothing_to_map n t
+two_halves n t (b ∷ name) email Absent = Ok (by_name (b ∷ name) email)
+two_halves n t (b ∷ name) email Unclosed = Ok (by_name (b ∷ name) email)
+two_halves n t name email (Closed old_name old_email rest) = Ok (by_both name email old_name old_email)
+
+-- the same, but a second half that has its `<` and not its `>` is a fault, and the rest is shown
+abbrev pub strict_halves : ℕ → Text → Text → Text → Text → Half → Reading
+strict_halves n t name email rest Absent = two_halves n t name email Absent
+strict_halves n t name email rest Unclosed = fault unclosed_second n rest
+strict_halves n t name email rest (Closed a b c) = two_halves n t name email (Closed a b c)
+
+-- what a line says by its first half; where that has an email, `both` says it by name, email and rest
+abbrev pub first_half : (Text → Text → Text → Reading) → ℕ → Text → Half → Reading
+first_half both n t Absent = fault no_email n t
+first_half both n t Unclosed = fault missing_closing_bracket n t
+first_half both n t (Closed name [] rest) = fault empty_email n t
+first_half both n t (Closed name (b ∷ email) rest) = both name (b ∷ email) rest
+
+-- what the trimmed line t says, as line n
+abbrev pub line_reading : ℕ → Text → Reading
+line_reading n t = first_half (λ name email rest. two_halves n t name email (trimmed_half (cut rest))) n t (trimmed_half (cut t))
+
+-- the same, read strictly
+abbrev pub strict_line_reading : ℕ → Text → Reading
+strict_line_reading n t = first_half (λ name email rest. strict_halves n t name email rest (trimmed_half (cut rest))) n t (trimmed_half (cut t))
+
+-- a comment begins with `#`
+abbrev pub is_comment : Text → Bool
+is_comment [] = false
+is_comment (b ∷ s) = b == 35
+
+-- what `says` says of a trimmed line, None where that is empty
+abbrev pub unless_blank : (ℕ → Text → Reading) → ℕ → Text → Option Reading
+unless_blank says n [] = None
+unless_blank says n (b ∷ t) = Some (says n (b ∷ t))
+
+-- what a line says, where `says` reads trimmed lines; None for a comment and for a blank line
+abbrev pub reading_by : (ℕ → Text → Reading) → ℕ → Text → Option Reading
+reading_by says n line = if is_comment line then None else unless_blank says n (trim line)
+
+-- what a line says, as line n
+abbrev pub reading : ℕ → Text → Option Reading
+reading = reading_by line_reading
+
+-- the same, read strictly
+abbrev pub strict_reading : ℕ → Text → Option Reading
+strict_reading = reading_by strict_line_reading
+
+-- the reader of trimmed lines that the code's choice stands for
+abbrev pub line_reader : Strictness → ℕ → Text → Reading
+line_reader Lenient = line_reading
+line_reader Strict = strict_line_reading
+
+-- what the lines say by the reader `read` of one line, the first of them being line n
+unfoldable pub readings_from : (ℕ → Text → Option Reading) → ℕ → List Text → List Reading
+readings_from read n [] = []
+readings_from read n (l ∷ ls) = option_to_list (read n l) ++ readings_from read (n + 1) ls
+
+-- the pieces with one more byte at the front of the first
+abbrev pub with_first : ℕ → List Text → List Text
+with_first b [] = (b ∷ []) ∷ []
+with_first b (p ∷ ps) = (b ∷ p) ∷ ps
+
+-- the lines of a buffer: the texts between its line feeds, without a last one that is empty
+unfoldable pub pieces : Text → List Text
+pieces [] = []
+pieces (b ∷ s) = if b == 10 then [] ∷ pieces s else with_first b (pieces s)
+
+-- what a buffer says: its lines are numbered from 1, comments and blank lines too
+abbrev pub readings : Text → List Reading
+readings buf = readings_from reading 1 (pieces buf)
+
+-- the same, read strictly
+abbrev pub strict_readings : Text → List Reading
+strict_readings buf = readings_from strict_reading 1 (pieces buf)
+
+-- the mapping, if the line has no fault
+abbrev pub is_good : Reading → Option Mapping
+is_good (Ok m) = Some m
+is_good (Err f) = None
+
+-- the mappings alone
+unfoldable pub good_of : List Reading → List Mapping
+good_of [] = []
+good_of (r ∷ rs) = option_to_list (is_good r) ++ good_of rs
+
+-- what a buffer maps: the mappings of its lines, in order, without the faults
+abbrev pub good : Text → List Mapping
+good buf = good_of (readings buf)
+
+-- no number of the text is b
+abbrev pub HoldsNo : ℕ → Text → Type 0
+HoldsNo b = AllByRecursion (λ x. x ≢ b)
+
+-- s is a, `<`, b, `>` and c, where the `<` is the first one, and the `>` the first one behind it
+pub record IsCut (s a b c : Text) : Type 0 where
+  pub whole : s ≡ a ++ 60 ∷ (b ++ 62 ∷ c)
+  pub no_opening : HoldsNo 60 a
+  pub no_closing : HoldsNo 62 b
+
+-- s has a first `<` and no `>` behind it
+pub record IsUnclosed (s : Text) : Type 0 where
+  pub before : Text
+  pub behind : Text
+  pub whole : s ≡ before ++ 60 ∷ behind
+  pub no_opening : HoldsNo 60 before
+  pub no_closing : HoldsNo 62 behind
+
+-- s begins with a name and an email in brackets, trimmed here, and rest stands behind the `>`
+pub record IsHalf (s name email rest : Text) : Type 0 where
+  pub before : Text
+  pub between : Text
+  pub is_cut : IsCut s before between rest
+  pub is_name : IsTrimmed before name
+  pub is_email : IsTrimmed between email
+
+-- s has no such half: no `<`, or one with no `>` behind it
+abbrev pub NoHalf : Text → Type 0
+NoHalf s = HoldsNo 60 s ⊎ IsUnclosed s
+
+-- what line n, trimmed t, says whose first half is this name and this email: a second half, a name alone, or nothing
+pub data IsSecondRead (n : ℕ) (t name email rest : Text) (r : Reading) : Type 0 where
+  second : (old_name old_email tail : Text) → IsHalf rest old_name old_email tail → r ≡ Ok (by_both name email old_name old_email) → IsSecondRead n t name email rest r
+  name_alone : NoHalf rest → name ≢ [] → r ≡ Ok (by_name name email) → IsSecondRead n t name email rest r
+  neither : NoHalf rest → name ≡ [] → r ≡ fault nothing_to_map n t → IsSecondRead n t name email rest r
+
+-- the same, read strictly: a second half that isn't closed is a fault, whose input is the rest
+pub data IsSecondReadStrictly (n : ℕ) (t name email rest : Text) (r : Reading) : Type 0 where
+  open_second : IsUnclosed rest → r ≡ fault unclosed_second n rest → IsSecondReadStrictly n t name email rest r
+  as_ever : (IsUnclosed rest → ⊥) → IsSecondRead n t name email rest r → IsSecondReadStrictly n t name email rest r
+
+-- what line n, trimmed t, says, where Second tells how it goes on behind a first half with an email
+pub data IsFirstRead (Second : Text → Text → Text → Reading → Type 0) (n : ℕ) (t : Text) (r : Reading) : Type 0 where
+  no_bracket : HoldsNo 60 t → r ≡ fault no_email n t → IsFirstRead Second n t r
+  open_first : IsUnclosed t → r ≡ fault missing_closing_bracket n t → IsFirstRead Second n t r
+  blank_email : (name rest : Text) → IsHalf t name [] rest → r ≡ fault empty_email n t → IsFirstRead Second n t r
+  first : (name email rest : Text) → IsHalf t name email rest → email ≢ [] → Second name email rest r → IsFirstRead Second n t r
+
+-- the line begins with `#`
+abbrev pub IsComment : Text → Type 0
+IsComment line = (behind : Text) × (line ≡ 35 ∷ behind)
+
+-- what a line says, or None, where Says tells what its trimmed text says
+pub data IsReadBy (Says : Text → Reading → Type 0) (line : Text) (o : Option Reading) : Type 0 where
+  comment : IsComment line → o ≡ None → IsReadBy Says line o
+  blank : (IsComment line → ⊥) → IsTrimmed line [] → o ≡ None → IsReadBy Says line o
+  said : (t : Text) (r : Reading) → (IsComment line → ⊥) → IsTrimmed line t → t ≢ [] → Says t r → o ≡ Some r → IsReadBy Says line o
+
+-- what the line says as line n, by cases of which each line meets one
+abbrev pub IsRead : ℕ → Text → Option Reading → Type 0
+IsRead n = IsReadBy (λ t. IsFirstRead (IsSecondRead n t) n t)
+
+-- the same, read strictly
+abbrev pub IsReadStrictly : ℕ → Text → Option Reading → Type 0
+IsReadStrictly n = IsReadBy (λ t. IsFirstRead (IsSecondReadStrictly n t) n t)
+
+-- the lines that faults stand on
+unfoldable pub fault_lines : List Reading → List ℕ
+fault_lines [] = []
+fault_lines (Ok m ∷ rs) = fault_lines rs
+fault_lines (Err f ∷ rs) = f.line ∷ fault_lines rs

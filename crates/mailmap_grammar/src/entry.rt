@@ -1,0 +1,165 @@
+//! What one line of a mailmap maps.
+//!
+//! A commit names its author and its committer by a name and an email. An [`Entry`] says what stands in the place of
+//! these: its old fields say which commits it is for, its new fields what they are to show. Which of the fields can be
+//! there together is git's mailmap format, and each combination has its constructor.
+//!
+//! | line | new name | new email | old name | old email |
+//! |---|---|---|---|---|
+//! | `Proper <commit@x>` | `Proper` | | | `commit@x` |
+//! | `<proper@x> <commit@x>` | | `proper@x` | | `commit@x` |
+//! | `<proper@x> Commit <commit@x>` | | `proper@x` | `Commit` | `commit@x` |
+//! | `Proper <proper@x> <commit@x>` | `Proper` | `proper@x` | | `commit@x` |
+//! | `Proper <proper@x> Commit <commit@x>` | `Proper` | `proper@x` | `Commit` | `commit@x` |
+ghost use Rattle.std.specs.Prelude.{◌≡◌, IsSome};
+
+mod derived;
+/// A mapping of names and emails, which borrows its texts: from the buffer that was parsed, or from whoever made it.
+///
+/// The old email, and the old name where there is one, are looked for without regard to the case of ASCII letters; the
+/// new name and the new email, each where there is one, stand in the place of what the commit has. An entry with an old
+/// name always has a new email. Texts are bytes and need not be UTF-8.
+///
+/// Entries come from [`parse`](crate::parse()) and from a snapshot's listing, or are made by the constructors below. The
+/// constructors take texts as they are: an empty one, or one with white space or brackets that no line could hold, too.
+///
+/// Entries are ordered by new name, new email, old name and old email, in this sequence, byte by byte and without
+/// folding case; a missing field comes before each one that is there. The default has no field but an empty old email;
+/// it maps nothing, and merging it changes nothing.
+#[derive(Clone, Copy, Debug, PartialEq, Eq, PartialOrd, Ord, Hash)]
+pub struct Entry<'a> {
+    new_name: Option<&'a [u8]>,
+    new_email: Option<&'a [u8]>,
+    old_name: Option<&'a [u8]>,
+    old_email: &'a [u8],
+    ghost paired: { IsSome old_name → IsSome new_email },
+}
+
+impl<'a> Default for Entry<'a> {
+    ghost use Rattle.std.specs.Prelude.{◌≡◌};
+    ghost use Rattle.mailmap_grammar.specs.Entries.{mapping_of, nothing};
+
+    ghost is_default = { λ e. mapping_of e ≡ nothing };
+
+    fn default() -> Self {
+        Entry {
+            new_name: None,
+            new_email: None,
+            old_name: None,
+            old_email: &[],
+        }
+    }
+}
+
+/// Constructors, one for each combination of fields that a line of a mailmap can have.
+impl<'a> Entry<'a> {
+    ghost use Rattle.mailmap_grammar.specs.Entries.{mapping_of};
+
+    /// An entry that changes the name by an email, as the line `Proper <commit@x>` does.
+    pub fn change_name_by_email(proper_name: &'a [u8], commit_email: &'a [u8]) -> Self
+        ensures { mapping_of result ≡ record { new_name = Some proper_name.now; new_email = None; old_name = None; old_email = commit_email.now } }
+    {
+        Entry {
+            new_name: Some(proper_name),
+            old_email: commit_email,
+            new_email: None,
+            old_name: None,
+        }
+    }
+
+    /// An entry that changes the email by an email, as the line `<proper@x> <commit@x>` does.
+    pub fn change_email_by_email(proper_email: &'a [u8], commit_email: &'a [u8]) -> Self
+        ensures { mapping_of result ≡ record { new_name = None; new_email = Some proper_email.now; old_name = None; old_email = commit_email.now } }
+    {
+        Entry {
+            new_email: Some(proper_email),
+            old_email: commit_email,
+            new_name: None,
+            old_name: None,
+        }
+    }
+
+    /// An entry that changes the email by a name and an email, as the line `<proper@x> Commit <commit@x>` does.
+    pub fn change_email_by_name_and_email(
+        proper_email: &'a [u8],
+        commit_name: &'a [u8],
+        commit_email: &'a [u8],
+    ) -> Self
+        ensures { mapping_of result ≡ record { new_name = None; new_email = Some proper_email.now; old_name = Some commit_name.now; old_email = commit_email.now } }
+    {
+        Entry {
+            new_email: Some(proper_email),
+            old_name: Some(commit_name),
+            old_email: commit_email,
+            new_name: None,
+        }
+    }
+
+    /// An entry that changes the name and the email by an email, as the line `Proper <proper@x> <commit@x>` does.
+    pub fn change_name_and_email_by_email(
+        proper_name: &'a [u8],
+        proper_email: &'a [u8],
+        commit_email: &'a [u8],
+    ) -> Self
+        ensures { mapping_of result ≡ record { new_name = Some proper_name.now; new_email = Some proper_email.now; old_name = None; old_email = commit_email.now } }
+    {
+        Entry {
+            new_name: Some(proper_name),
+            new_email: Some(proper_email),
+            old_email: commit_email,
+            old_name: None,
+        }
+    }
+
+    /// An entry that changes the name and the email by a name and an email, as the line
+    /// `Proper <proper@x> Commit <commit@x>` does.
+    pub fn change_name_and_email_by_name_and_email(
+        proper_name: &'a [u8],
+        proper_email: &'a [u8],
+        commit_name: &'a [u8],
+        commit_email: &'a [u8],
+    ) -> Self
+        ensures { mapping_of result ≡ record { new_name = Some proper_name.now; new_email = Some proper_email.now; old_name = Some commit_name.now; old_email = commit_email.now } }
+    {
+        Entry {
+            new_name: Some(proper_name),
+            new_email: Some(proper_email),
+            old_name: Some(commit_name),
+            old_email: commit_email,
+        }
+    }
+}
+
+/// Access. What is lent lives as long as the texts do, also where the entry, or the iterator that gave it, is gone.
+impl<'a> Entry<'a> {
+    ghost use Rattle.std.specs.Option.{option_copied};
+    ghost use Rattle.mailmap_grammar.specs.Entries.{mapping_of};
+
+    /// The name to map to, `None` where the commit keeps its name.
+    pub fn new_name(&self) -> Option<&'a [u8]>
+        ensures { option_copied result ≡ (mapping_of self.now).new_name }
+    {
+        self.new_name
+    }
+
+    /// The email to map to, `None` where the commit keeps its email.
+    pub fn new_email(&self) -> Option<&'a [u8]>
+        ensures { option_copied result ≡ (mapping_of self.now).new_email }
+    {
+        self.new_email
+    }
+
+    /// The name to look for and replace, `None` where the entry is for all names of its old email.
+    pub fn old_name(&self) -> Option<&'a [u8]>
+        ensures { option_copied result ≡ (mapping_of self.now).old_name }
+    {
+        self.old_name
+    }
+
+    /// The email to look for and replace.
+    pub fn old_email(&self) -> &'a [u8]
+        ensures { result.now ≡ (mapping_of self.now).old_email }
+    {
+        self.old_email
+    }
+}

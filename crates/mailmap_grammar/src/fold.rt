@@ -1,0 +1,119 @@
+//! The order in which the case of ASCII letters does not count, and a search by it that is counted.
+ghost use Rattle.std.specs.Prelude.{◌≡◌, ◌↔◌, ◌+◌, ◌-◌, ◌<◌, ◌≤◌, ℕ, List, length, slice_get, IfOk, IfErr};
+ghost use Rattle.std.specs.List.Sorted.{IsSearchInRange, IsPartitionPoint};
+ghost use Rattle.std.specs.declared.cmp.Ordering.{Ordering as Answer};
+ghost use Rattle.mailmap_grammar.specs.Folding.{folded, text_cmp, IsBelow};
+ghost use Rattle.mailmap_grammar.specs.Search.{IsParted, digits};
+
+use std::cmp::Ordering;
+use std::marker::Model;
+
+/// Compares two texts byte by byte, where the bytes `A` to `Z` count as `a` to `z`.
+///
+/// No other byte is changed, so letters past ASCII keep their case. A proper prefix is smaller:
+/// `a` is smaller than `B`, and `foo` than `FOO1`. `FooBar` and `foobar` are equal.
+pub fn cmp_ignore_ascii_case(a: &[u8], b: &[u8]) -> Ordering
+    ensures value { result ≡ text_cmp (folded a.now) (folded b.now) }
+    ensures less { (result ≡ Ordering.Less) ↔ IsBelow a.now b.now }
+    ensures equal { (result ≡ Ordering.Equal) ↔ (folded a.now ≡ folded b.now) }
+{
+    // Only bytes that differ need folding.
+    for (x, y) in a.iter().zip(b) {
+        if x != y {
+            let order = x.to_ascii_lowercase().cmp(&y.to_ascii_lowercase());
+            if order.is_ne() {
+                return order;
+            }
+        }
+    }
+    a.len().cmp(&b.len())
+}
+
+/// A list of answers that is asked for one place at a time, and counts how often.
+///
+/// An answer says how what stands at the place compares to what is sought: `Less` before it,
+/// `Equal` at it and `Greater` behind it.
+pub trait Probe {
+    ghost answers: { Self → List Answer };
+
+    ghost asked: { Self → ℕ };
+
+    /// Answers for a place of the list, and counts it.
+    fn ask(&mut self, place: usize) -> Ordering
+        requires within { place < length (answers self.old) }
+        requires countable { asked self.old < usize.MAX }
+        ensures answer { slice_get (answers self.old) place ≡ Some result }
+        ensures same { answers self.new ≡ answers self.old }
+        ensures counted { asked self.new ≡ asked self.old + 1 };
+}
+
+/// Finds the `Equal` of a list of answers, or the place where it would stand.
+///
+/// `Ok` has the place of the `Equal`. `Err` has the number of the `Less`, where no answer is
+/// `Equal`. It asks at one place and parts the rest in two halves, so it asks at most as often as
+/// the length has binary digits: once for one place, ten times for 1,023 places, and never for none.
+pub fn search<P: Probe>(len: usize, p: &mut P) -> Result<usize, usize>
+    requires whole { len ≡ length (P.answers p.old) }
+    requires parted { IsParted (P.answers p.old) }
+    requires countable { P.asked p.old ≤ usize.MAX - 64 }
+    ensures within { IsSearchInRange result len }
+    ensures found { IfOk result (λ i. slice_get (P.answers p.old) i ≡ Some Ordering.Equal) }
+    // `Less` before the place, and `Greater` from it on
+    ensures missing { IfErr result (λ i. IsPartitionPoint (λ a. a ≡ Ordering.Less) (λ a. a ≡ Ordering.Greater) (P.answers p.old) i) }
+    ensures same { P.answers p.new ≡ P.answers p.old }
+    ensures at_most { P.asked p.new ≤ P.asked p.old + digits len }
+    ensures at_least { 0 < len → P.asked p.old < P.asked p.new }
+    ensures no_fewer { P.asked p.old ≤ P.asked p.new }
+{
+    let mut low = 0;
+    let mut high = len;
+    while low < high {
+        let middle = low + (high - low) / 2;
+        match p.ask(middle) {
+            Ordering::Less => low = middle + 1,
+            Ordering::Equal => return Ok(middle),
+            Ordering::Greater => high = middle,
+        }
+    }
+    Err(low)
+}
+
+/// How many comparisons were made.
+#[derive(Drop)]
+pub struct Steps {
+    count: usize,
+}
+
+impl Model for Steps {
+    ghost Value = { ℕ };
+
+    ghost view = { λ s. s.count };
+}
+
+impl Steps {
+    /// No comparison yet.
+    pub fn new() -> Steps
+        ensures { result ≡ 0 }
+    {
+        Steps { count: 0 }
+    }
+
+    /// How many comparisons were made so far.
+    pub fn count(&self) -> usize
+        ensures { result ≡ self.now }
+    {
+        self.count
+    }
+
+    /// Compares as [`cmp_ignore_ascii_case`] does, and counts it.
+    pub fn compare(&mut self, a: &[u8], b: &[u8]) -> Ordering
+        requires { self.old < usize.MAX }
+        ensures value { result ≡ text_cmp (folded a.now) (folded b.now) }
+        ensures less { (result ≡ Ordering.Less) ↔ IsBelow a.now b.now }
+        ensures equal { (result ≡ Ordering.Equal) ↔ (folded a.now ≡ folded b.now) }
+        ensures counted { self.new ≡ self.old + 1 }
+    {
+        self.count += 1;
+        cmp_ignore_ascii_case(a, b)
+    }
+}

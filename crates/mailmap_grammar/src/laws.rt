@@ -1,0 +1,36 @@
+//! Laws of the definitions. Each function runs nothing: its contract is the law.
+ghost use Rattle.std.specs.Prelude.{◌≡◌, ◌↔◌, ℕ, Option};
+ghost use Rattle.mailmap_grammar.specs.Folding.{Text};
+ghost use Rattle.mailmap_grammar.specs.Lines.{cut, Closed, Unclosed, Absent, IsCut, IsUnclosed, HoldsNo, Reading, reading, strict_reading, IsRead, IsReadStrictly};
+ghost use Rattle.mailmap_grammar.specs.Times.{Spells, IsTimeOf};
+ghost use Rattle.mailmap_grammar.specs.Trimming.{IsTrimmed, trim};
+ghost use Rattle.mailmap_grammar.specs.declared.date.Time.{Time};
+
+/// Trimming takes the longest front and then the longest end of white space away, and that is one text.
+pub fn law_trim()
+    ensures { (s t : Text) → IsTrimmed s t ↔ (t ≡ trim s) }
+{}
+
+/// A text is cut at the first `<` and the first `>` behind it.
+pub fn law_cut()
+    ensures closed { (s a b c : Text) → (cut s ≡ Closed a b c) ↔ IsCut s a b c }
+    ensures unclosed { (s : Text) → (cut s ≡ Unclosed) ↔ IsUnclosed s }
+    ensures absent { (s : Text) → (cut s ≡ Absent) ↔ HoldsNo 60 s }
+{}
+
+/// What a line says is told by cases of which each line meets one: a comment, a blank line, no `<`, a `<` without its
+/// `>`, a blank email, a second half, a name alone, or nothing to map.
+pub fn law_reading()
+    ensures { (n : ℕ) (line : Text) (o : Option Reading) → (reading n line ≡ o) ↔ IsRead n line o }
+{}
+
+/// Strict reading has one case more: a second half whose `<` has no `>`.
+pub fn law_strict_reading()
+    ensures { (n : ℕ) (line : Text) (o : Option Reading) → (strict_reading n line ≡ o) ↔ IsReadStrictly n line o }
+{}
+
+/// A text spells one time at most, so the time of a signature follows from its text.
+pub fn law_time()
+    ensures spelled { (text : Text) (a b : Time) → Spells text a → Spells text b → a ≡ b }
+    ensures time_of { (text : Text) (a b : Time) → IsTimeOf text a → IsTimeOf text b → a ≡ b }
+{}

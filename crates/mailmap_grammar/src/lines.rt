@@ -1,0 +1,362 @@
+//! The lines of a mailmap: how a buffer is cut into lines, what each line says, and why one says nothing that can be
+//! used. The grammar is that of git's `.mailmap` files as the crate gix-mailmap reads it.
+//!
+//! A buffer is cut after each line feed. A line whose first byte is `#` is a comment, also where white space would have
+//! to go before the `#` to hide it: ` # c` is none. A line of white space alone is blank. Both give nothing, but they
+//! are counted: lines are numbered from 1.
+//!
+//! Any other line is trimmed of Unicode's white space and read as one half or two, each a name and an email in
+//! brackets: `Proper <proper@x> Commit <commit@x>`.
+//!
+//! - The first `<` opens the email and the first `>` behind it closes it; name and email are trimmed, too. So a `>` may
+//!   stand in a name and a `<` in an email.
+//! - Either name may be missing, and the second half as well. The second email may be empty, the first one not.
+//! - What stands behind the second half is ignored. So is a second half without its `<`, and one without its `>`,
+//!   unless lines are read strictly, by [`parse_strict`].
+//! - One email alone maps nothing.
+ghost use Rattle.std.specs.Prelude.{◌≡◌, ◌≤◌, option_map, length};
+ghost use Rattle.std.specs.Option.{option_copied};
+ghost use Rattle.std.specs.Iterator.{YieldsFirstBy, item_count};
+ghost use Rattle.std.specs.List.Sorted.{IsStrictlySortedBy};
+ghost use Rattle.std.specs.Ordering.{nat_cmp};
+ghost use Rattle.mailmap_grammar.specs.Entries.{mapping_of};
+ghost use Rattle.mailmap_grammar.specs.Lines.{reading_of, reading_by, line_reader, non_empty as spec_non_empty, by_both, readings, readings_from, strict_readings, pieces, fault_lines, good};
+
+use crate::entry::Entry;
+use crate::halves::{Half, parse_name_and_email, trim};
+use bstr::ByteSlice;
+use std::marker::Model;
+use thiserror::Error;
+
+/// Parses `buf` line by line: an item for each line that is neither blank nor a comment, in their order.
+///
+/// A fault stands for its own line alone, and the lines behind it are read all the same; whether to stop at a fault is
+/// up to the caller. Nothing is allocated, and the entries borrow from `buf`: they outlive the iterator.
+///
+/// The buffer `# team\nJane <j@x>\nplain\n` gives the entry of `Jane` by `j@x`, and a fault on line 3.
+pub fn parse(buf: &[u8]) -> Lines<'_>
+    ensures value { result ≡ readings buf.now }
+
+    // A line gives at most one item, and the lines of the faults rise.
+    ensures at_most_one { length result ≤ length (pieces buf.now) }
+    ensures rising { IsStrictlySortedBy nat_cmp (fault_lines result) }
+
+    // The items can be counted.
+    ensures countable { length result ≤ length buf.now }
+{
+    Lines {
+        walk: Walk::new(buf, Strictness::Lenient),
+    }
+}
+
+/// Parses `buf` as [`parse`] does, but takes a second half that has its `<` and not its `>` for a fault,
+/// [`Error::UnclosedSecond`].
+///
+/// Of `Jane <a@x> <b` this makes a fault, where [`parse`] gives the entry of `Jane` by `a@x`. Text behind a closed email,
+/// as in `Jane <a@x> tail`, is no fault here, either. A line that has another fault in its first half keeps that one.
+pub fn parse_strict(buf: &[u8]) -> StrictLines<'_>
+    ensures value { result ≡ strict_readings buf.now }
+
+    // A line gives at most one item, and the lines of the faults rise.
+    ensures at_most_one { length result ≤ length (pieces buf.now) }
+    ensures rising { IsStrictlySortedBy nat_cmp (fault_lines result) }
+
+    // The items can be counted.
+    ensures countable { length result ≤ length buf.now }
+{
+    StrictLines {
+        walk: Walk::new(buf, Strictness::Strict),
+    }
+}
+
+/// Parses `buf` as [`parse`] does and leaves out the lines that don't parse, as git does.
+///
+/// The buffer `<a@x>\nJane <j@x>\nplain` gives the entry of `Jane` by `j@x` alone.
+pub fn parse_ignore_errors(buf: &[u8]) -> GoodLines<'_>
+    ensures value { result ≡ good buf.now }
+
+    // The items can be counted.
+    ensures countable { length result ≤ length buf.now }
+{
+    GoodLines { lines: parse(buf) }
+}
+
+/// The lines of a mailmap, parsed on demand: the iterator that [`parse`] makes.
+///
+/// To a contract it is the list of the items that are left.
+#[derive(Drop)]
+pub struct Lines<'a> {
+    walk: Walk<'a>,
+}
+
+impl<'a> Model for Lines<'a> {
+    ghost use Rattle.std.specs.Prelude.{List};
+    ghost use Rattle.mailmap_grammar.specs.Lines.{Reading};
+
+    ghost Value = { List Reading };
+
+    ghost view = { λ s. s.walk };
+}
+
+impl<'a> Iterator for Lines<'a> {
+    type Item = Result<Entry<'a>, Error<'a>>;
+
+    ghost next_gives = { YieldsFirstBy reading_of (λ s. s) };
+
+    ghost remaining = { item_count (λ s. s) };
+
+    fn next(&mut self) -> Option<Result<Entry<'a>, Error<'a>>> {
+        self.walk.next()
+    }
+}
+
+/// The lines of a mailmap, parsed strictly and on demand: the iterator that [`parse_strict`] makes.
+///
+/// To a contract it is the list of the items that are left.
+#[derive(Drop)]
+pub struct StrictLines<'a> {
+    walk: Walk<'a>,
+}
+
+impl<'a> Model for StrictLines<'a> {
+    ghost use Rattle.std.specs.Prelude.{List};
+    ghost use Rattle.mailmap_grammar.specs.Lines.{Reading};
+
+    ghost Value = { List Reading };
+
+    ghost view = { λ s. s.walk };
+}
+
+impl<'a> Iterator for StrictLines<'a> {
+    type Item = Result<Entry<'a>, Error<'a>>;
+
+    ghost next_gives = { YieldsFirstBy reading_of (λ s. s) };
+
+    ghost remaining = { item_count (λ s. s) };
+
+    fn next(&mut self) -> Option<Result<Entry<'a>, Error<'a>>> {
+        self.walk.next()
+    }
+}
+
+/// The entries of a mailmap, without its faults: the iterator that [`parse_ignore_errors`] makes.
+///
+/// To a contract it is the list of the mappings that are left.
+#[derive(Drop)]
+pub struct GoodLines<'a> {
+    lines: Lines<'a>,
+}
+
+impl<'a> Model for GoodLines<'a> {
+    ghost use Rattle.std.specs.Prelude.{List};
+    ghost use Rattle.mailmap_grammar.specs.Entries.{Mapping};
+    ghost use Rattle.mailmap_grammar.specs.Lines.{good_of};
+
+    ghost Value = { List Mapping };
+
+    ghost view = { λ s. good_of s.lines };
+}
+
+impl<'a> Iterator for GoodLines<'a> {
+    type Item = Entry<'a>;
+
+    ghost next_gives = { YieldsFirstBy mapping_of (λ s. s) };
+
+    ghost remaining = { item_count (λ s. s) };
+
+    fn next(&mut self) -> Option<Entry<'a>> {
+        while let Some(item) = self.lines.next() {
+            if let Ok(entry) = item {
+                return Some(entry);
+            }
+        }
+        None
+    }
+}
+
+/// Why a line maps nothing.
+///
+/// Each fault has the number of its line, from 1, and as `input` the whole line without the white space at its ends;
+/// [`Error::UnclosedSecond`] has the rest of the line. Its text names the line and the defect, and doesn't show `input`,
+/// which need not be UTF-8.
+#[derive(Debug, PartialEq, Eq, Drop, Error)]
+pub enum Error<'a> {
+    /// The line has no `<`, as `plain`.
+    #[error("Line {line} does not contain an email")]
+    NoEmail { line: usize, input: &'a [u8] },
+    /// The first `<` has no `>` behind it, as in `Jane <a@x`.
+    #[error("{line}: Missing closing bracket '>' in email")]
+    MissingClosingBracket { line: usize, input: &'a [u8] },
+    /// The first email is empty or white space, as in `Jane < > <b@x>`.
+    #[error("{line}: Email must not be empty")]
+    EmptyEmail { line: usize, input: &'a [u8] },
+    /// An email stands alone, as in `<a@x>`: there is nothing that it could be mapped to.
+    #[error("{line}: Emails without a name or email to map to are invalid")]
+    NothingToMap { line: usize, input: &'a [u8] },
+    /// The second `<` has no `>` behind it, as in `Jane <a@x> <b`. `input` is what stands behind the `>` that closes the
+    /// first half, with its white space. Of the calls here [`parse_strict`] alone makes this fault.
+    #[error("{line}: Missing closing bracket '>' in second email")]
+    UnclosedSecond { line: usize, input: &'a [u8] },
+}
+
+impl<'a> Error<'a> {
+    ghost use Rattle.mailmap_grammar.specs.Lines.{fault_of};
+
+    /// The number of the line that the fault stands on. The first line of a buffer is 1.
+    pub fn line(&self) -> usize
+        ensures { result ≡ (fault_of self.now).line }
+    {
+        match *self {
+            Error::NoEmail { line, .. }
+            | Error::MissingClosingBracket { line, .. }
+            | Error::EmptyEmail { line, .. }
+            | Error::NothingToMap { line, .. }
+            | Error::UnclosedSecond { line, .. } => line,
+        }
+    }
+
+    /// The trimmed line, or the rest of it for [`Error::UnclosedSecond`]. It is lent for as long as the buffer lives.
+    pub fn input(&self) -> &'a [u8]
+        ensures { result.now ≡ (fault_of self.now).input }
+    {
+        match *self {
+            Error::NoEmail { input, .. }
+            | Error::MissingClosingBracket { input, .. }
+            | Error::EmptyEmail { input, .. }
+            | Error::NothingToMap { input, .. }
+            | Error::UnclosedSecond { input, .. } => input,
+        }
+    }
+}
+
+/// The items of either kind of reading, which [`Lines`] and [`StrictLines`] wrap.
+#[derive(Drop)]
+struct Walk<'a> {
+    lines: bstr::Lines<'a>,
+    line_no: usize,
+    strictness: Strictness,
+}
+
+/// Whether a second half that has its `<` and not its `>` is a fault.
+#[derive(Clone, Copy)]
+enum Strictness {
+    Lenient,
+    Strict,
+}
+
+impl<'a> Model for Walk<'a> {
+    ghost use Rattle.std.specs.Prelude.{List, length, ◌+◌, ◌^◌, ◌<◌};
+    ghost use Rattle.mailmap_grammar.specs.Lines.{Reading, readings_from, reading_by, line_reader};
+
+    ghost Value = { List Reading };
+
+    ghost view = { λ s. readings_from (reading_by (line_reader s.strictness)) (s.line_no + 1) s.lines };
+
+    ghost invariant = { λ s. s.line_no + length s.lines < 2 ^ 64 };
+}
+
+impl<'a> Walk<'a> {
+    fn new(buf: &'a [u8], strictness: Strictness) -> Self
+        ensures value { result ≡ readings_from (reading_by (line_reader strictness)) 1 (pieces buf.now) }
+        ensures at_most_one { length result ≤ length (pieces buf.now) }
+        ensures rising { IsStrictlySortedBy nat_cmp (fault_lines result) }
+        ensures countable { length result ≤ length buf.now }
+    {
+        Walk {
+            lines: buf.lines(),
+            line_no: 0,
+            strictness,
+        }
+    }
+}
+
+impl<'a> Iterator for Walk<'a> {
+    type Item = Result<Entry<'a>, Error<'a>>;
+
+    ghost next_gives = { YieldsFirstBy reading_of (λ s. s) };
+
+    ghost remaining = { item_count (λ s. s) };
+
+    fn next(&mut self) -> Option<Result<Entry<'a>, Error<'a>>> {
+        while let Some(line) = self.lines.next() {
+            self.line_no += 1;
+            if let Some(item) = read_line(line, self.line_no, self.strictness) {
+                return Some(item);
+            }
+        }
+        None
+    }
+}
+
+/// What the line `text` says, as it stands in its buffer; `None` for a comment and for a blank line.
+fn read_line(
+    text: &[u8],
+    line: usize,
+    strictness: Strictness,
+) -> Option<Result<Entry<'_>, Error<'_>>>
+    ensures { option_map reading_of result ≡ reading_by (line_reader strictness) line text.now }
+{
+    if let Some(b'#') = text.first() {
+        return None;
+    }
+    let input = trim(text);
+    if input.is_empty() {
+        return None;
+    }
+    Some(parse_line(input, line, strictness))
+}
+
+/// What the trimmed line `input` says. A fault shows it as its input, under the number `line`.
+fn parse_line(input: &[u8], line: usize, strictness: Strictness) -> Result<Entry<'_>, Error<'_>>
+    ensures { reading_of result ≡ line_reader strictness line input.now }
+{
+    let (name, email, rest) = match parse_name_and_email(input) {
+        Half::Absent => return Err(Error::NoEmail { line, input }),
+        Half::Unclosed => return Err(Error::MissingClosingBracket { line, input }),
+        Half::Closed { name, email, rest } => (name, email, rest),
+    };
+    if email.is_empty() {
+        return Err(Error::EmptyEmail { line, input });
+    }
+    match (parse_name_and_email(rest), strictness) {
+        (
+            Half::Closed {
+                name: old_name,
+                email: old_email,
+                ..
+            },
+            _,
+        ) => Ok(change_by_both(name, email, old_name, old_email)),
+        (Half::Unclosed, Strictness::Strict) => Err(Error::UnclosedSecond { line, input: rest }),
+        _ => match non_empty(name) {
+            Some(name) => Ok(Entry::change_name_by_email(name, email)),
+            None => Err(Error::NothingToMap { line, input }),
+        },
+    }
+}
+
+/// The entry of a line with two halves, where either name may be empty and then is none.
+fn change_by_both<'a>(
+    name: &'a [u8],
+    email: &'a [u8],
+    old_name: &'a [u8],
+    old_email: &'a [u8],
+) -> Entry<'a>
+    ensures { mapping_of result ≡ by_both name.now email.now old_name.now old_email.now }
+{
+    match (non_empty(name), non_empty(old_name)) {
+        (None, None) => Entry::change_email_by_email(email, old_email),
+        (None, Some(old_name)) => Entry::change_email_by_name_and_email(email, old_name, old_email),
+        (Some(name), None) => Entry::change_name_and_email_by_email(name, email, old_email),
+        (Some(name), Some(old_name)) => {
+            Entry::change_name_and_email_by_name_and_email(name, email, old_name, old_email)
+        }
+    }
+}
+
+/// The text, or `None` where it is empty.
+fn non_empty(text: &[u8]) -> Option<&[u8]>
+    ensures { option_copied result ≡ spec_non_empty text.now }
+{
+    if text.is_empty() { None } else { Some(text) }
+}

@@ -1,0 +1,229 @@
+-- A batch that is sorted by key, its emails as they are spelled first.
+use Rattle.std.proofs.Common.{◌≡◌, ◌≤◌, ◌<◌, ◌+◌, ℕ, zero, suc, Bool, true, false, cond, ◌&&◌, not, List, [], ◌∷◌, ◌++◌, map, filter, length, get_or, All, Contains, Option, Some, None, option_map, is_some, unwrap_or, Ordering, Less, Equal, Greater, is_eq, refl, sym, ap, subst, ◌∙◌, arith}
+use Rattle.std.specs.Cmp.{Equal-is, tied_itself}
+use Rattle.std.specs.Cmp.Lexicographic.{nat_list_cmp_total}
+use Rattle.std.specs.List.{AllByRecursion, enumerate_from, list_any}
+use Rattle.std.specs.List.Sorted.{IsPermutation, IsStableBy, ties}
+use Rattle.std.specs.Option.{option_or}
+use Rattle.std.specs.Ordering.{eq_by_cmp, is_lt, ordering_reverse}
+use Rattle.std.proofs.Math.Bool.{and_comm}
+use Rattle.std.proofs.lemmas.Bool.{or_right, false_from_ne_true}
+use Rattle.std.proofs.lemmas.List.{map-append}
+use Rattle.std.proofs.lemmas.List.Elements.{All-contains, All-from_recursion, All-head, filter_agree, filter_passes, recursion_from_All}
+use Rattle.std.proofs.lemmas.List.Sorted.{All-permutation, Contains-permutation, IsPermutation-sym}
+use Rattle.std.proofs.lemmas.Map.Lookups.{exact_bytes}
+use Rattle.mailmap_grammar.specs.Entries.{Mapping}
+use Rattle.mailmap_grammar.specs.Folding.{Text, folded, text_cmp}
+use Rattle.mailmap_tables.specs.Histories.{Key, key, key_cmp, first, is_accepted, accepted, of_key, has_key, spelling, value}
+use Rattle.mailmap_tables.proofs.Alike.{Alike, picked-append, first_parts, key_parts}
+use Rattle.mailmap_tables.proofs.Ascending.{each_key, same_any}
+use Rattle.mailmap_tables.proofs.Exists.{speller}
+use Rattle.mailmap_tables.proofs.Grouped.{all_mapped, all_weaker}
+use Rattle.mailmap_tables.proofs.Joined.{alike_by_keys, stripped}
+use Rattle.mailmap_tables.proofs.Keys.{keys_total, keys_exact}
+use Rattle.mailmap_tables.proofs.Normal.{known}
+use Rattle.mailmap_tables.proofs.Parts.{filter-filter, first_alike, first_found, is_some-option_map, list_any-map, some_again}
+
+filter-map : {X Y : Type 0} (p : Y → Bool) (f : X → Y) (xs : List X) → filter p (map f xs) ≡ map f (filter (λ x. p (f x)) xs)
+filter-map p f [] = refl
+filter-map p f (x ∷ xs) =
+    elim (p (f x)) as (λ b. cond b (f x ∷ filter p (map f xs)) (filter p (map f xs)) ≡ map f (cond b (x ∷ filter (λ x. p (f x)) xs) (filter (λ x. p (f x)) xs))) [
+      | true ↦ ap (λ l. f x ∷ l) (filter-map p f xs)
+      | false ↦ filter-map p f xs
+    ]
+
+-- tests that say the same of each
+filter_alike : {X : Type 0} (p q : X → Bool) (xs : List X) → AllByRecursion (λ x. p x ≡ q x) xs → filter p xs ≡ filter q xs
+filter_alike p q [] a = refl
+filter_alike p q (x ∷ xs) a = λ i. cond (a.0 i) (x ∷ filter_alike p q xs a.1 i) (filter_alike p q xs a.1 i)
+
+map_alike : {X Y : Type 0} (f g : X → Y) (xs : List X) → AllByRecursion (λ x. f x ≡ g x) xs → map f xs ≡ map g xs
+map_alike f g [] a = refl
+map_alike f g (x ∷ xs) a = λ i. a.0 i ∷ map_alike f g xs a.1 i
+
+map-map : {X Y Z : Type 0} (f : Y → Z) (g : X → Y) (xs : List X) → map f (map g xs) ≡ map (λ x. f (g x)) xs
+map-map f g [] = refl
+map-map f g (x ∷ xs) = ap (λ l. f (g x) ∷ l) (map-map f g xs)
+
+-- ---- the batch as its emails are spelled
+
+-- the entry with its email as h spells it
+abbrev pub respelled : List Mapping → Mapping → Mapping
+respelled h e = record e { old_email = unwrap_or (spelling h (folded e.old_email)) [] }
+
+module _ (a xs us : List Mapping) (keyed : (k : Key) → of_key xs k ≡ of_key us k) where
+  abbrev h : List Mapping
+  h = a ++ xs
+
+  abbrev respell : Mapping → Mapping
+  respell = respelled h
+
+  has_same : (k : Key) → has_key (accepted us) k ≡ has_key (accepted xs) k
+  has_same k = known us k ∙ ap (λ l. is_some (first l)) (sym (keyed k)) ∙ sym (known xs k)
+
+  -- an email that the batch has keeps its folded form
+  folded_kept : (k : Key) → has_key (accepted us) k ≡ true → folded (unwrap_or (spelling h k.0) []) ≡ k.0
+  folded_kept k has =
+      let w = speller h k (key_parts k a xs ∙ or_right (has_key (accepted a) k) (has_key (accepted xs) k) (sym (has_same k) ∙ has)) in
+      ap (λ o. folded (unwrap_or o [])) w.1 ∙ w.2
+
+  kept : AllByRecursion (λ e. folded (respell e).old_email ≡ folded e.old_email) (accepted us)
+  kept = each_key keys_total keys_exact key (value h) (λ k. folded (unwrap_or (spelling h k.0) []) ≡ k.0) (accepted us) folded_kept
+
+  key_kept : (e : Mapping) → folded (respell e).old_email ≡ folded e.old_email → key (respell e) ≡ key e
+  key_kept e same = λ i. (same i, option_map folded e.old_name)
+
+  accepted_kept : accepted (map respell us) ≡ map respell (accepted us)
+  accepted_kept = filter-map is_accepted respell us
+
+  of_key_kept : (k : Key) → of_key (map respell us) k ≡ map respell (of_key us k)
+  of_key_kept k =
+      let t : Mapping → Bool = λ e. eq_by_cmp key_cmp k (key e) in
+      ap (filter t) accepted_kept ∙ filter-map t respell (accepted us) ∙ ap (map respell) (filter_alike (λ e. t (respell e)) t (accepted us) (all_weaker (accepted us) (λ e same. ap (eq_by_cmp key_cmp k) (key_kept e same)) kept))
+
+  keyed_alike : (k : Key) → map stripped (of_key h k) ≡ map stripped (of_key (a ++ map respell us) k)
+  keyed_alike k =
+      let t : Mapping → Bool = λ e. eq_by_cmp key_cmp k (key e) in
+      let parts : (l : List Mapping) → map stripped (of_key (a ++ l) k) ≡ map stripped (of_key a k) ++ map stripped (of_key l k) = λ l. ap (map stripped) (picked-append t a l) ∙ map-append stripped (of_key a k) (of_key l k) in
+      parts xs
+      ∙ ap (λ l. map stripped (of_key a k) ++ l) (ap (map stripped) (keyed k) ∙ sym (ap (map stripped) (of_key_kept k) ∙ map-map stripped respell (of_key us k)))
+      ∙ sym (parts (map respell us))
+
+  -- the batch spells an email as the whole does
+  spelling_kept : (email : Text) → spelling (map respell us) email ≡ cond (is_some (spelling xs email)) (Some (unwrap_or (spelling h email) [])) None
+  spelling_kept email =
+      let p : Key → Bool = λ k. eq_by_cmp text_cmp email k.0 in
+      let s : Text = unwrap_or (spelling h email) [] in
+      let all_s : AllByRecursion (λ e. p (key e) ≡ true → e.old_email ≡ s) (map respell (accepted us)) =
+      all_mapped respell (λ e. p (key e) ≡ true → e.old_email ≡ s) (accepted us)
+      (all_weaker (accepted us) (λ e same is. ap (λ t. unwrap_or (spelling h t) []) (sym (exact_bytes email (folded (respell e).old_email) ((Equal-is (text_cmp email (folded (respell e).old_email))).0 is) ∙ same))) kept) in
+      let keys : map key (map respell (accepted us)) ≡ map key (accepted us) = map-map key respell (accepted us) ∙ map_alike (λ e. key (respell e)) key (accepted us) (all_weaker (accepted us) key_kept kept) in
+      let any : list_any (λ e. p (key e)) (map respell (accepted us)) ≡ is_some (spelling xs email) =
+      sym (list_any-map p key (map respell (accepted us))) ∙ ap (list_any p) keys ∙ same_any keys_total keys_exact p (map key (accepted us)) (map key (accepted xs)) has_same
+      ∙ list_any-map p key (accepted xs) ∙ first_found (λ e. p (key e)) (accepted xs) ∙ is_some-option_map (λ e. e.old_email) (first (filter (λ e. p (key e)) (accepted xs))) in
+      ap (λ l. option_map (λ e. e.old_email) (first (filter (λ e. p (key e)) l))) accepted_kept
+      ∙ first_alike (λ e. e.old_email) (λ e. p (key e)) s (map respell (accepted us)) all_s
+      ∙ ap (λ b. cond b (Some s) None) any
+
+  spelled_alike : (email : Text) → spelling h email ≡ spelling (a ++ map respell us) email
+  spelled_alike email =
+      let parts : (l : List Mapping) → spelling (a ++ l) email ≡ option_or (spelling a email) (spelling l email) = λ l. first_parts (λ e. e.old_email) (λ e. eq_by_cmp text_cmp email (folded e.old_email)) a l in
+      by (spelling a email) (spelling xs email) (spelling h email) (parts xs) ∙ ap (option_or (spelling a email)) (sym (spelling_kept email)) ∙ sym (parts (map respell us))
+    where
+      by : (o p s : Option Text) → s ≡ option_or o p → s ≡ option_or o (cond (is_some p) (Some (unwrap_or s [])) None)
+      by None p s e = e ∙ sym (some_again p []) ∙ ap (λ z. cond (is_some p) (Some (unwrap_or z [])) None) (sym e)
+      by (Some z) p s e = e
+
+  -- a batch may stand in another order of its keys, each email as the whole spells it
+  pub alike_respelled : Alike (a ++ xs) (a ++ map (respelled (a ++ xs)) us)
+  alike_respelled = alike_by_keys h (a ++ map respell us) keyed_alike spelled_alike
+
+-- ---- who spells an email
+
+spelling_skips : (email : Text) (y : Mapping) (ys : List Mapping) → eq_by_cmp text_cmp email (folded y.old_email) ≡ false → spelling (y ∷ ys) email ≡ spelling ys email
+spelling_skips email y ys other =
+    let t : Mapping → Bool = λ e. eq_by_cmp text_cmp email (folded e.old_email) in
+    elim (is_accepted y) as (λ b. option_map (λ e. e.old_email) (first (filter t (cond b (y ∷ accepted ys) (accepted ys)))) ≡ spelling ys email) [
+      | true ↦ ap (λ b. option_map (λ e. e.old_email) (first (cond b (y ∷ filter t (accepted ys)) (filter t (accepted ys))))) other
+      | false ↦ refl
+    ]
+
+spelling_first : (y : Mapping) (ys : List Mapping) → is_accepted y ≡ true → spelling (y ∷ ys) (folded y.old_email) ≡ Some y.old_email
+spelling_first y ys good =
+    let t : Mapping → Bool = λ e. eq_by_cmp text_cmp (folded y.old_email) (folded e.old_email) in
+    ap (λ b. option_map (λ e. e.old_email) (first (filter t (cond b (y ∷ accepted ys) (accepted ys))))) good
+    ∙ ap (λ o. option_map (λ e. e.old_email) (first (cond (is_eq o) (y ∷ filter t (accepted ys)) (filter t (accepted ys))))) (tied_itself nat_list_cmp_total (folded y.old_email))
+
+module _ {X : Type 0} (f : X → Mapping) where
+  abbrev IsLeast : ℕ × X → ℕ × X → Type 0
+  IsLeast p q = folded (f q.1).old_email ≡ folded (f p.1).old_email → p.0 ≤ q.0
+
+  numbered : (n : ℕ) (xs : List X) → AllByRecursion (λ q. n ≤ q.0) (enumerate_from n xs)
+  numbered n [] = tt
+  numbered n (x ∷ xs) = (omega arith, all_weaker (enumerate_from (n + 1) xs) (λ q le. omega (arith, le)) (numbered (n + 1) xs))
+
+  spells_from : (n : ℕ) (xs : List X) (p : ℕ × X) (k : ℕ) → AllByRecursion (λ e. is_accepted (f e) ≡ true) xs → k < length (enumerate_from n xs) → get_or (enumerate_from n xs) k p ≡ p
+      → AllByRecursion (IsLeast p) (enumerate_from n xs) → spelling (map f xs) (folded (f p.1).old_email) ≡ Some (f p.1).old_email
+  spells_from n [] p k good lt is least = absurd (omega arith)
+  spells_from n (x ∷ xs) p zero good lt is least = ap (λ q. spelling (map f (x ∷ xs)) (folded (f q.1).old_email)) (sym is) ∙ spelling_first (f x) (map f xs) good.0 ∙ ap (λ q. Some (f q.1).old_email) is
+  spells_from n (x ∷ xs) p (suc k) good lt is least =
+      let rest : List (ℕ × X) = enumerate_from (n + 1) xs in
+      let more : n + 1 ≤ p.0 = All-contains (λ q. n + 1 ≤ q.0) rest p (All-from_recursion _ rest (numbered (n + 1) xs)) (k, omega arith, is) in
+      let email : Text = folded (f p.1).old_email in
+      spelling_skips email (f x) (map f xs) (false_from_ne_true (eq_by_cmp text_cmp email (folded (f x).old_email)) (λ same. absurd (let le : p.0 ≤ n = least.0 (sym (exact_bytes email (folded (f x).old_email) ((Equal-is (text_cmp email (folded (f x).old_email))).0 same))) in omega arith)))
+      ∙ spells_from (n + 1) xs p k good.1 (omega arith) is least.1
+
+  -- of the items of an email the one with the least place spells it
+  pub least_spells_by : (xs : List X) (ps : List (ℕ × X)) (p : ℕ × X) → AllByRecursion (λ e. is_accepted (f e) ≡ true) xs → IsPermutation (enumerate_from 0 xs) ps → Contains ps p
+      → All (λ q. folded (f q.1).old_email ≡ folded (f p.1).old_email → p.0 ≤ q.0) ps → spelling (map f xs) (folded (f p.1).old_email) ≡ Some (f p.1).old_email
+  least_spells_by xs ps p good moved among least =
+      let all : List (ℕ × X) = enumerate_from 0 xs in
+      let back : IsPermutation ps all = IsPermutation-sym all ps moved in
+      let here = Contains-permutation ps all p back among in
+      spells_from 0 xs p here.0 good here.1 here.2 (recursion_from_All (IsLeast p) all (All-permutation (IsLeast p) ps all back least))
+
+map-itself : {X : Type 0} (xs : List X) → map (λ x. x) xs ≡ xs
+map-itself [] = refl
+map-itself (x ∷ xs) = ap (λ l. x ∷ l) (map-itself xs)
+
+-- the same of entries
+pub least_spells : (xs : List Mapping) (ps : List (ℕ × Mapping)) (p : ℕ × Mapping) → AllByRecursion (λ e. is_accepted e ≡ true) xs → IsPermutation (enumerate_from 0 xs) ps → Contains ps p
+    → All (λ q. folded q.1.old_email ≡ folded p.1.old_email → p.0 ≤ q.0) ps → spelling xs (folded p.1.old_email) ≡ Some p.1.old_email
+least_spells xs ps p good moved among least = ap (λ l. spelling l (folded p.1.old_email)) (sym (map-itself xs)) ∙ least_spells_by (λ e. e) xs ps p good moved among least
+
+-- ---- a stable sort by key
+
+-- what neither stands below nor above
+neither : (o : Ordering) → (not (is_lt o) && not (is_lt (ordering_reverse o))) ≡ is_eq o
+neither Less = refl
+neither Equal = refl
+neither Greater = refl
+
+-- a stable sort by key keeps the entries of each key
+pub keyed_from_stable : {X : Type 0} (f : X → Mapping) (qs ps : List X) → IsStableBy (λ p q. is_lt (key_cmp (key (f p)) (key (f q)))) qs ps → (k : Key) → of_key (map f qs) k ≡ of_key (map f ps) k
+keyed_from_stable {X} f qs ps stable k = keyed qs ∙ ap (λ l. accepted (map f l)) (by (filter (has k) qs) (filter (has k) ps) refl refl) ∙ sym (keyed ps)
+  where
+    has : Key → X → Bool
+    has j x = eq_by_cmp key_cmp j (key (f x))
+
+    lt : X → X → Bool
+    lt p q = is_lt (key_cmp (key (f p)) (key (f q)))
+
+    keyed : (l : List X) → of_key (map f l) k ≡ accepted (map f (filter (has k) l))
+    keyed l =
+        let t : Mapping → Bool = λ e. eq_by_cmp key_cmp k (key e) in
+        filter-filter t is_accepted (map f l)
+        ∙ filter_agree (λ e. is_accepted e && t e) (λ e. t e && is_accepted e) (λ e. and_comm (is_accepted e) (t e)) (map f l)
+        ∙ sym (filter-filter is_accepted t (map f l))
+        ∙ ap accepted (filter-map t f l)
+
+    tie : (x y : X) → ties lt x y ≡ has (key (f x)) y
+    tie x y = ap (λ o. not (lt x y) && not (is_lt o)) (keys_total.antisymm (key (f y)) (key (f x))) ∙ neither (key_cmp (key (f x)) (key (f y)))
+
+    -- the entries of a key that an entry has
+    from : (x : X) → has k x ≡ true → filter (has k) qs ≡ filter (has k) ps
+    from x is =
+        let same : k ≡ key (f x) = keys_exact k (key (f x)) ((Equal-is (key_cmp k (key (f x)))).0 is) in
+        ap (λ j. filter (has j) qs) same
+        ∙ sym (filter_agree (ties lt x) (has (key (f x))) (tie x) qs) ∙ sym (stable x) ∙ filter_agree (ties lt x) (has (key (f x))) (tie x) ps
+        ∙ ap (λ j. filter (has j) ps) (sym same)
+
+    passes : (l : List X) (x : X) (m : List X) → filter (has k) l ≡ x ∷ m → has k x ≡ true
+    passes l x m e = All-head (λ y. has k y ≡ true) x m (subst (All (λ y. has k y ≡ true)) e (filter_passes (has k) l))
+
+    by : (l m : List X) → filter (has k) qs ≡ l → filter (has k) ps ≡ m → filter (has k) qs ≡ filter (has k) ps
+    by [] [] e d = e ∙ sym d
+    by (x ∷ l) m e d = from x (passes qs x l e)
+    by [] (y ∷ m) e d = from y (passes ps y m d)
+
+map-enumerate_from : {X Y : Type 0} (f : X → Y) (n : ℕ) (xs : List X) → map (λ p. f p.1) (enumerate_from n xs) ≡ map f xs
+map-enumerate_from f n [] = refl
+map-enumerate_from f n (x ∷ xs) = ap (λ l. f x ∷ l) (map-enumerate_from f (n + 1) xs)
+
+-- the same of items with their places
+pub keyed_from_sort_by : {X : Type 0} (f : X → Mapping) (xs : List X) (ps : List (ℕ × X)) → IsStableBy (λ p q. is_lt (key_cmp (key (f p.1)) (key (f q.1)))) (enumerate_from 0 xs) ps → (k : Key) → of_key (map f xs) k ≡ of_key (map (λ p. f p.1) ps) k
+keyed_from_sort_by f xs ps stable k = ap (λ l. of_key l k) (sym (map-enumerate_from f 0 xs)) ∙ keyed_from_stable (λ p. f p.1) (enumerate_from 0 xs) ps stable k
+
+-- the same of entries with their places
+pub keyed_from_sort : (xs : List Mapping) (ps : List (ℕ × Mapping)) → IsStableBy (λ p q. is_lt (key_cmp (key p.1) (key q.1))) (enumerate_from 0 xs) ps → (k : Key) → of_key xs k ≡ of_key (map (λ p. p.1) ps) k
+keyed_from_sort xs ps stable k = ap (λ l. of_key l k) (sym (map-itself xs)) ∙ keyed_from_sort_by (λ e. e) xs ps stable k

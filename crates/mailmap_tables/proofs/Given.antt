@@ -1,0 +1,29 @@
+-- Fields that are given one after another.
+use Rattle.std.proofs.Common.{◌≡◌, List, [], ◌∷◌, map, Option, Some, None, Bor, refl, sym, ap, ◌∙◌}
+use Rattle.std.specs.Option.{option_or, option_copied}
+use Rattle.std.specs.List.{fold}
+use Rattle.mailmap_grammar.specs.Entries.{Mapping}
+use Rattle.mailmap_grammar.specs.Folding.{Text}
+use Rattle.mailmap_tables.specs.Histories.{Fields}
+use Rattle.mailmap_tables.specs.Merging.{give, with_email}
+
+pub copied-or : (a b : Option (Bor Text)) → option_copied (option_or a b) ≡ option_or (option_copied a) (option_copied b)
+copied-or None b = refl
+copied-or (Some x) b = refl
+
+or-assoc : {X : Type 0} (a b c : Option X) → option_or (option_or a b) c ≡ option_or a (option_or b c)
+or-assoc None b c = refl
+or-assoc (Some x) b c = refl
+
+-- what is given on top of fields is what is given alone, and else those
+pub fold-give : (f g : Fields) (ms : List Mapping) → fold give (record { name = option_or g.name f.name; email = option_or g.email f.email }) ms
+    ≡ record { name = option_or (fold give g ms).name f.name; email = option_or (fold give g ms).email f.email }
+fold-give f g [] = refl
+fold-give f g (m ∷ ms) =
+    ap (λ h. fold give h ms) (λ i. record { name = sym (or-assoc m.new_name g.name f.name) i; email = sym (or-assoc m.new_email g.email f.email) i })
+    ∙ fold-give f (give g m) ms
+
+-- how an entry spells its email doesn't matter
+pub fold-give-with_email : (e : Text) (f : Fields) (ms : List Mapping) → fold give f (map (with_email e) ms) ≡ fold give f ms
+fold-give-with_email e f [] = refl
+fold-give-with_email e f (m ∷ ms) = fold-give-with_email e (give f m) ms

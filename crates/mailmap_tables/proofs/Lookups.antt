@@ -1,0 +1,96 @@
+-- What a search by a key says of a table whose keys strictly ascend.
+use Rattle.std.proofs.Common.{◌≡◌, ◌≢◌, ℕ, ◌<◌, ◌≤◌, List, [], ◌∷◌, length, map, get_or, All, Some, true, false, Ordering, Less, Equal, Greater, refl, sym, ap, ◌∙◌, arith, ⊎_elim}
+use Rattle.std.specs.List.{slice_get, AllByRecursion, AllWithin, HoldsAt, list_any}
+use Rattle.std.specs.List.Sorted.{IsStrictlySortedBy, IsPartitionPoint}
+use Rattle.std.specs.Ordering.{ordering_reverse, eq_by_cmp, is_eq}
+use Rattle.std.specs.Cmp.{IsTotalOrder}
+use Rattle.std.specs.FinMap.{IsAntisymmetric}
+use Rattle.std.proofs.lemmas.Bool.{cases_lt}
+use Rattle.std.proofs.lemmas.Cmp.{tied_back, tied_itself}
+use Rattle.std.proofs.lemmas.List.{get_or-map, length-map}
+use Rattle.std.proofs.lemmas.List.Folds.{list_any_none, list_any_at}
+use Rattle.std.proofs.lemmas.Option.{slice_get_within, get_or_from_slice_get}
+use Rattle.mailmap_grammar.specs.Search.{IsParted}
+
+module _ {K : Type 0} {R : K → K → Ordering} (o : IsTotalOrder R) where
+  -- what is above q, is above it also when asked the other way
+  above : (y q : K) → R q y ≡ Less → R y q ≡ Greater
+  above y q e = o.antisymm y q ∙ ap ordering_reverse e
+
+  -- what is above a k that is not below q, is above q
+  above_other : (k y q : K) (a : Ordering) → R k q ≡ a → a ≢ Less → R k y ≡ Less → R y q ≡ Greater
+  above_other k y q Less is other up = absurd (other refl)
+  above_other k y q Equal is other up = above y q (sym (o.congr k q y is) ∙ up)
+  above_other k y q Greater is other up = above y q (o.trans q k y (o.antisymm q k ∙ ap ordering_reverse is) up)
+
+  module _ {X : Type 0} (key : X → K) (q : K) where
+    -- behind a key that is not below q stand keys above q alone
+    greater_behind : (k : K) (a : Ordering) → R k q ≡ a → a ≢ Less → (xs : List X) → AllByRecursion (λ y. R k y ≡ Less) (map key xs) → AllByRecursion (λ a. a ≡ Greater) (map (λ x. R (key x) q) xs)
+    greater_behind k a is other [] all = tt
+    greater_behind k a is other (x ∷ xs) all = (above_other k (key x) q a is other all.0, greater_behind k a is other xs all.1)
+
+    -- how the first key compares, before a parted list or before `Greater` alone
+    parted_on : (k : K) (a : Ordering) → R k q ≡ a → (xs : List X) → AllByRecursion (λ y. R k y ≡ Less) (map key xs) → IsParted (map (λ x. R (key x) q) xs) → IsParted (a ∷ map (λ x. R (key x) q) xs)
+    unfolding IsParted
+    parted_on k Less is xs all parted = parted
+    parted_on k Equal is xs all parted = greater_behind k Equal is (λ e. cc) xs all
+    parted_on k Greater is xs all parted = greater_behind k Greater is (λ e. cc) xs all
+
+    -- strictly ascending keys are parted by any q
+    pub IsParted-from_ascending : (xs : List X) → IsStrictlySortedBy R (map key xs) → IsParted (map (λ x. R (key x) q) xs)
+    unfolding IsParted IsStrictlySortedBy
+    IsParted-from_ascending [] up = tt
+    IsParted-from_ascending (x ∷ xs) up = parted_on (key x) (R (key x) q) refl xs up.0 (IsParted-from_ascending xs up.1)
+
+module _ {X K : Type 0} (R : K → K → Ordering) (key : X → K) (q : K) where
+  -- the place that a search finds is one of the table, and the key there compares as equal
+  pub found-at : (xs : List X) (i : ℕ) → slice_get (map (λ x. R (key x) q) xs) i ≡ Some Equal → (i < length xs) × HoldsAt (λ x. R (key x) q ≡ Equal) xs i
+  found-at xs i found =
+      let compare : X → Ordering = λ x. R (key x) q in
+      let within : i < length (map compare xs) = slice_get_within (map compare xs) i Equal found in
+      let inside : i < length xs = omega (arith, length-map xs compare) in
+      (inside, λ d. sym (get_or-map compare xs i d Equal inside) ∙ get_or_from_slice_get (map compare xs) i Equal Equal found)
+
+  -- where only equal keys tie, it is the key that was sought
+  pub found-key : IsAntisymmetric R → (xs : List X) (i : ℕ) → slice_get (map (λ x. R (key x) q) xs) i ≡ Some Equal → (i < length xs) × HoldsAt (λ x. key x ≡ q) xs i
+  found-key same xs i found = let at = found-at xs i found in (at.0, λ d. same (key (get_or xs i d)) q (at.1 d))
+
+  -- before the place where nothing is found stand the lower keys
+  pub missing-below : (xs : List X) (i : ℕ) → i ≤ length xs → IsPartitionPoint (λ a. a ≡ Less) (λ a. a ≡ Greater) (map (λ x. R (key x) q) xs) i → AllWithin (λ x. R (key x) q ≡ Less) xs 0 i
+  missing-below xs i le missing = λ k d low high.
+      sym (get_or-map (λ x. R (key x) q) xs k d Less (omega arith)) ∙ missing.0 k Less low high
+
+  -- and from it on the higher ones
+  pub missing-above : (xs : List X) (i : ℕ) → IsPartitionPoint (λ a. a ≡ Less) (λ a. a ≡ Greater) (map (λ x. R (key x) q) xs) i → AllWithin (λ x. R (key x) q ≡ Greater) xs i (length xs)
+  missing-above xs i missing = λ k d low high.
+      sym (get_or-map (λ x. R (key x) q) xs k d Less high) ∙ missing.1 k Less low (omega (arith, length-map xs (λ x. R (key x) q)))
+
+  -- so no key of the table compares as equal
+  pub missing-all : (xs : List X) (i : ℕ) → i ≤ length xs → IsPartitionPoint (λ a. a ≡ Less) (λ a. a ≡ Greater) (map (λ x. R (key x) q) xs) i → All (λ x. R (key x) q ≢ Equal) xs
+  missing-all xs i le missing = λ k d high e. ⊎_elim
+      (λ low. let is = missing-below xs i le missing k d (omega arith) low in absurd (cc))
+      (λ from. let is = missing-above xs i missing k d from high in absurd (cc))
+      (cases_lt k i)
+
+module _ {X K : Type 0} {R : K → K → Ordering} (o : IsTotalOrder R) (key : X → K) (q : K) where
+  -- keys that do not tie are not told equal
+  untied : (k : K) (a : Ordering) → R q k ≡ a → R k q ≢ Equal → eq_by_cmp R q k ≡ false
+  untied k Less is other = ap is_eq is
+  untied k Equal is other = absurd (other (tied_back o q k is))
+  untied k Greater is other = ap is_eq is
+
+  -- a table where q is found has the key q
+  pub found-any : (xs : List X) (i : ℕ) → slice_get (map (λ x. R (key x) q) xs) i ≡ Some Equal → list_any (λ x. eq_by_cmp R q (key x)) xs ≡ true
+  found-any [] i found = absurd (cc)
+  found-any (x ∷ xs) i found =
+      let at = found-at R key q (x ∷ xs) i found in
+      list_any_at (λ x. eq_by_cmp R q (key x)) (x ∷ xs) i x at.0 (ap is_eq (tied_back o (key (get_or (x ∷ xs) i x)) q (at.1 x)))
+
+  -- and one where q is missing has not
+  pub missing-none : (xs : List X) (i : ℕ) → i ≤ length xs → IsPartitionPoint (λ a. a ≡ Less) (λ a. a ≡ Greater) (map (λ x. R (key x) q) xs) i → list_any (λ x. eq_by_cmp R q (key x)) xs ≡ false
+  missing-none xs i le missing = list_any_none (λ x. eq_by_cmp R q (key x)) xs
+      (λ k d high. untied (key (get_or xs k d)) (R q (key (get_or xs k d))) refl (missing-all R key q xs i le missing k d high))
+
+  -- nor is any key of it q itself
+  pub missing-key : (xs : List X) (i : ℕ) → i ≤ length xs → IsPartitionPoint (λ a. a ≡ Less) (λ a. a ≡ Greater) (map (λ x. R (key x) q) xs) i → All (λ x. key x ≢ q) xs
+  missing-key xs i le missing = λ k d high e. missing-all R key q xs i le missing k d high (ap (λ j. R j q) e ∙ tied_itself o q)

@@ -1,0 +1,66 @@
+-- Standing emails that are passed on.
+use Rattle.std.proofs.Common.{◌≡◌, ◌+◌, ◌-◌, ◌≤◌, ◌<◌, ℕ, suc, List, [], ◌∷◌, ◌++◌, take, drop, get_or, length, map, Some, length-drop, sym, ap, subst, ◌∙◌, arith}
+use Rattle.std.specs.List.{slice_get, flat_map}
+use Rattle.std.proofs.Math.Seq.{drop-cons, take-append_seam, drop-append_seam}
+use Rattle.std.proofs.lemmas.List.{take_more, get_or-drop, length-map}
+use Rattle.std.proofs.lemmas.Option.{slice_get_within, get_or_from_slice_get}
+use Rattle.mailmap_grammar.specs.Folding.{Text}
+use Rattle.mailmap_tables.specs.Groups.{EmailGroup, NameGroup}
+use Rattle.mailmap_tables.specs.Merging.{Extends}
+use Rattle.mailmap_tables.specs.Pool.{RowsLie, EmailLies, group_of, name_group}
+use Rattle.mailmap_tables.specs.declared.tables.EmailRow.{EmailRow}
+use Rattle.mailmap_tables.specs.declared.tables.NameRow.{NameRow}
+use Rattle.mailmap_tables.proofs.Pooled.{spelled-append, options-append, name_groups-append, lies_more}
+
+-- a row spells the same in a pool that has grown
+pub group_on : (a b : Text) → Extends a b → (row : EmailRow) (names : List NameRow) → RowsLie a row names → group_of b row names ≡ group_of a row names
+group_on a b e row names lie = ap (λ p. group_of p row names) e.1 ∙ (λ i. record {
+  old_email = spelled-append a e.0 row.old_email lie.email_lies.old_email i;
+  own = record { name = options-append a e.0 row.new_name lie.email_lies.new_name i; email = options-append a e.0 row.new_email lie.email_lies.new_email i };
+  names = name_groups-append a e.0 names lie.names_lie i;
+})
+
+-- one more of a part
+pub passed_more : (gs : List EmailGroup) (from place : ℕ) (g : EmailGroup) → from ≤ place → slice_get gs place ≡ Some g → take (place + 1 - from) (drop from gs) ≡ take (place - from) (drop from gs) ++ g ∷ []
+passed_more gs from place g le read =
+    let within : place < length gs = slice_get_within gs place g read in
+    let n : place + 1 - from ≡ place - from + 1 = omega arith in
+    let at : from + (place - from) ≡ place = omega arith in
+    let there : get_or (drop from gs) (place - from) g ≡ g = get_or-drop from gs (place - from) g ∙ ap (λ k. get_or gs k g) at ∙ get_or_from_slice_get gs place g g read in
+    ap (λ k. take k (drop from gs)) n ∙ take_more (drop from gs) (place - from) g (omega (arith, length-drop from gs)) ∙ ap (λ x. take (place - from) (drop from gs) ++ x ∷ []) there
+
+-- the names of several emails
+abbrev pub names_of_all : List EmailGroup → List NameGroup
+names_of_all gs = flat_map (λ g. g.names) gs
+
+-- the names of the next email lie in front of the others'
+pub names_ahead : (gs : List EmailGroup) (place to : ℕ) (g : EmailGroup) → place < to → slice_get gs place ≡ Some g → names_of_all (take (to - place) (drop place gs)) ≡ g.names ++ names_of_all (take (to - (place + 1)) (drop (place + 1) gs))
+names_ahead gs place to g lt read =
+    let count : to - place ≡ suc (to - (place + 1)) = omega (arith, lt) in
+    ap names_of_all (ap (λ k. take k (drop place gs)) count ∙ ap (take (suc (to - (place + 1)))) (drop_at_some gs place g read))
+  where
+    drop_at_some : (xs : List EmailGroup) (k : ℕ) (x : EmailGroup) → slice_get xs k ≡ Some x → drop k xs ≡ x ∷ drop (k + 1) xs
+    drop_at_some xs k x e =
+        let next : suc k ≡ k + 1 = omega arith in
+        drop-cons xs k x (slice_get_within xs k x e) ∙ (λ i. get_or_from_slice_get xs k x x e i ∷ drop (next i) xs)
+
+-- an email that stood takes its own names again
+pub passed_group : (a b : Text) → Extends a b → (row : EmailRow) (names : List NameRow) (more : List NameGroup) (count : ℕ) → RowsLie a row names → count ≡ length names
+    → record (group_of b row []) { names = take count ((group_of a row names).names ++ more) } ≡ group_of a row names
+passed_group a b e row names more count lie is =
+    let gs = map (name_group a) names in
+    let same : count ≡ length gs = is ∙ sym (length-map names (name_group a)) in
+    (λ i. record (group_of b row []) { names = (ap (λ k. take k (gs ++ more)) same ∙ take-append_seam gs more) i })
+    ∙ (λ i. record (group_on a b e row names lie i) { names = gs })
+
+pub left_behind : (a : Text) (row : EmailRow) (names : List NameRow) (more : List NameGroup) (count : ℕ) → count ≡ length names → drop count ((group_of a row names).names ++ more) ≡ more
+left_behind a row names more count is =
+    let gs = map (name_group a) names in
+    ap (λ k. drop k (gs ++ more)) (is ∙ sym (length-map names (name_group a))) ∙ drop-append_seam gs more
+
+pub email_lies_on : (a b : Text) → Extends a b → (r : EmailRow) → EmailLies (length a) r → EmailLies (length b) r
+email_lies_on a b e r lies = subst (λ p. EmailLies (length p) r) (sym e.1) (record {
+  old_email = lies_more a e.0 r.old_email lies.old_email;
+  new_name = λ s q. lies_more a e.0 s (lies.new_name s q);
+  new_email = λ s q. lies_more a e.0 s (lies.new_email s q);
+})

@@ -1,0 +1,219 @@
+-- What tables denote when the pool, the names or the emails grow.
+use Rattle.std.proofs.Common.{◌≡◌, ◌+◌, ◌-◌, ◌≤◌, ◌<◌, get_or, ℕ, zero, suc, List, [], ◌∷◌, ◌++◌, map, take, drop, length, Option, Some, None, option_map, length-append, length-drop, refl, sym, ap, ◌∙◌, arith, subst}
+use Rattle.std.specs.Option.{ForSome, option_map_or}
+use Rattle.std.specs.List.{slice_get}
+use Rattle.std.specs.List.{AllByRecursion}
+use Rattle.std.proofs.lemmas.List.{take-append-le, drop-append-le, map-append, take-map, drop-map, drop-drop, length-map}
+use Rattle.mailmap_grammar.specs.Folding.{Text}
+use Rattle.mailmap_tables.specs.Pool.{RowsLie, names_of, spelled, LiesIn, name_group, email_group, NameLies, EmailLies, Follow, end_of, AreTables, contents}
+use Rattle.mailmap_tables.specs.declared.tables.Span.{Span}
+use Rattle.mailmap_tables.specs.declared.tables.NameRow.{NameRow}
+use Rattle.mailmap_tables.specs.declared.tables.EmailRow.{EmailRow}
+use Rattle.mailmap_tables.proofs.Parts.{all_append}
+
+-- ---- a pool that grows
+
+module _ (pool more : Text) where
+  grown : length pool ≤ length (pool ++ more)
+  grown = omega (arith, length-append pool more)
+
+  pub spelled-append : (s : Span) → LiesIn (length pool) s → spelled (pool ++ more) s ≡ spelled pool s
+  spelled-append s lies =
+      let start : s.start ≤ length pool = omega (arith, lies) in
+      let rest = length-drop s.start pool in
+      ap (take s.len) (drop-append-le s.start pool more start) ∙ take-append-le s.len (drop s.start pool) more (omega (arith, lies))
+
+  pub options-append : (o : Option Span) → ForSome o (LiesIn (length pool)) → option_map (spelled (pool ++ more)) o ≡ option_map (spelled pool) o
+  options-append None lies = refl
+  options-append (Some s) lies = ap (λ t. Some t) (spelled-append s (lies s refl))
+
+  pub name_group-append : (r : NameRow) → NameLies (length pool) r → name_group (pool ++ more) r ≡ name_group pool r
+  name_group-append r lies i =
+      record {
+        old_name = spelled-append r.old_name lies.old_name i;
+        new_name = options-append r.new_name lies.new_name i;
+        new_email = spelled-append r.new_email lies.new_email i;
+      }
+
+  pub name_groups-append : (rs : List NameRow) → AllByRecursion (NameLies (length pool)) rs → map (name_group (pool ++ more)) rs ≡ map (name_group pool) rs
+  name_groups-append [] all = refl
+  name_groups-append (r ∷ rs) all = λ i. name_group-append r all.0 i ∷ name_groups-append rs all.1 i
+
+  pub lies_more : (s : Span) → LiesIn (length pool) s → LiesIn (length (pool ++ more)) s
+  lies_more s lies = omega (arith, lies, grown)
+
+  name_lies_more : (r : NameRow) → NameLies (length pool) r → NameLies (length (pool ++ more)) r
+  name_lies_more r lies = record { old_name = lies_more r.old_name lies.old_name; new_name = λ s e. lies_more s (lies.new_name s e); new_email = lies_more r.new_email lies.new_email }
+
+  pub names_lie_more : (rs : List NameRow) → AllByRecursion (NameLies (length pool)) rs → AllByRecursion (NameLies (length (pool ++ more))) rs
+  names_lie_more [] all = tt
+  names_lie_more (r ∷ rs) all = (name_lies_more r all.0, names_lie_more rs all.1)
+
+-- ---- parts of a table of names
+
+all_drop : {X : Type 0} (P : X → Type 0) (n : ℕ) (xs : List X) → AllByRecursion P xs → AllByRecursion P (drop n xs)
+all_drop P zero xs all = all
+all_drop P (suc n) [] all = tt
+all_drop P (suc n) (x ∷ xs) all = all_drop P n xs all.1
+
+all_take : {X : Type 0} (P : X → Type 0) (n : ℕ) (xs : List X) → AllByRecursion P xs → AllByRecursion P (take n xs)
+all_take P zero xs all = tt
+all_take P (suc n) [] all = tt
+all_take P (suc n) (x ∷ xs) all = (all.0, all_take P n xs all.1)
+
+pub end_above : (k n : ℕ) (es : List EmailRow) → Follow k n es → k ≤ end_of k es
+end_above k n [] h = omega arith
+end_above k n (r ∷ es) h = omega (arith, h.1, end_above r.names_end n es h.2)
+
+pub end_within : (k n : ℕ) (es : List EmailRow) → Follow k n es → end_of k es ≤ n
+end_within k n [] h = h
+end_within k n (r ∷ es) h = end_within r.names_end n es h.2
+
+pub follow_more : (k m n : ℕ) (es : List EmailRow) → m ≤ n → Follow k m es → Follow k n es
+follow_more k m n [] le h = omega (arith, h)
+follow_more k m n (r ∷ es) le h = (h.0, h.1, follow_more r.names_end m n es le h.2)
+
+follow_push : (k n : ℕ) (es : List EmailRow) (r : EmailRow) → Follow k n es → r.names_start ≡ end_of k es → r.names_start ≤ r.names_end → r.names_end ≤ n → Follow k n (es ++ r ∷ [])
+follow_push k n [] r h from up to = (from, omega (arith, from, up), to)
+follow_push k n (e ∷ es) r h from up to = (h.0, h.1, follow_push e.names_end n es r h.2 from up to)
+
+end_of-push : (k : ℕ) (es : List EmailRow) (r : EmailRow) → end_of k (es ++ r ∷ []) ≡ r.names_end
+end_of-push k [] r = refl
+end_of-push k (e ∷ es) r = end_of-push e.names_end es r
+
+-- an email's group does not see names behind its range
+email_group-names : (pool : Text) (names more : List NameRow) (r : EmailRow) → r.names_start ≤ r.names_end → r.names_end ≤ length names → email_group pool (names ++ more) r ≡ email_group pool names r
+email_group-names pool names more r low high =
+    let rest = length-drop r.names_start names in
+    let same : take (r.names_end - r.names_start) (drop r.names_start (names ++ more)) ≡ take (r.names_end - r.names_start) (drop r.names_start names) =
+    ap (take (r.names_end - r.names_start)) (drop-append-le r.names_start names more (omega (arith, low, high)))
+    ∙ take-append-le (r.names_end - r.names_start) (drop r.names_start names) more (omega (arith, low, high)) in
+    λ i. record { old_email = spelled pool r.old_email; own = record { name = option_map (spelled pool) r.new_name; email = option_map (spelled pool) r.new_email }; names = map (name_group pool) (same i) }
+
+groups-names : (pool : Text) (names more : List NameRow) (k : ℕ) (es : List EmailRow) → Follow k (length names) es → map (email_group pool (names ++ more)) es ≡ map (email_group pool names) es
+groups-names pool names more k [] h = refl
+groups-names pool names more k (r ∷ es) h = λ i.
+    email_group-names pool names more r (omega (arith, h.0, h.1)) (omega (arith, end_within r.names_end (length names) es h.2, end_above r.names_end (length names) es h.2)) i
+    ∷ groups-names pool names more r.names_end es h.2 i
+
+email_group-append : (pool more : Text) (names : List NameRow) (r : EmailRow) → AllByRecursion (NameLies (length pool)) names → EmailLies (length pool) r → email_group (pool ++ more) names r ≡ email_group pool names r
+email_group-append pool more names r all lies i =
+    record {
+      old_email = spelled-append pool more r.old_email lies.old_email i;
+      own = record { name = options-append pool more r.new_name lies.new_name i; email = options-append pool more r.new_email lies.new_email i };
+      names = name_groups-append pool more (take (r.names_end - r.names_start) (drop r.names_start names)) (all_take _ (r.names_end - r.names_start) _ (all_drop _ r.names_start names all)) i;
+    }
+
+groups-append : (pool more : Text) (names : List NameRow) (es : List EmailRow) → AllByRecursion (NameLies (length pool)) names → AllByRecursion (EmailLies (length pool)) es → map (email_group (pool ++ more) names) es ≡ map (email_group pool names) es
+groups-append pool more names [] all lie = refl
+groups-append pool more names (r ∷ es) all lie = λ i. email_group-append pool more names r all lie.0 i ∷ groups-append pool more names es all lie.1 i
+
+-- ---- what the tables hold then
+
+module _ (pool : Text) (names : List NameRow) (emails : List EmailRow) (h : AreTables pool names emails) where
+  pub contents-text : (more : Text) → contents (pool ++ more) names emails ≡ record (contents pool names emails) { pool = pool ++ more }
+  contents-text more i =
+      record {
+        pool = pool ++ more;
+        groups = groups-append pool more names emails h.names_lie h.emails_lie i;
+        loose = name_groups-append pool more (drop (end_of 0 emails) names) (all_drop _ (end_of 0 emails) names h.names_lie) i;
+      }
+
+  end : end_of 0 emails ≤ length names
+  end = end_within 0 (length names) emails h.ranges
+
+  pub contents-names : (more : List NameRow) → contents pool (names ++ more) emails ≡ record (contents pool names emails) { loose = (contents pool names emails).loose ++ map (name_group pool) more }
+  contents-names more i =
+      record {
+        pool = pool;
+        groups = groups-names pool names more 0 emails h.ranges i;
+        loose = (ap (map (name_group pool)) (drop-append-le (end_of 0 emails) names more end) ∙ map-append (name_group pool) (drop (end_of 0 emails) names) more) i;
+      }
+
+  pub tables-names : (more : List NameRow) → AllByRecursion (NameLies (length pool)) more → AreTables pool (names ++ more) emails
+  tables-names more all =
+      record {
+        names_lie = all_append _ names more h.names_lie all;
+        emails_lie = h.emails_lie;
+        ranges = follow_more 0 (length names) (length (names ++ more)) emails (omega (arith, length-append names more)) h.ranges;
+      }
+
+  module _ (r : EmailRow) (from : r.names_start ≡ end_of 0 emails) (up : r.names_start ≤ r.names_end) where
+    pub tables-email : r.names_end ≤ length names → EmailLies (length pool) r → AreTables pool names (emails ++ r ∷ [])
+    tables-email to lies =
+        record {
+          names_lie = h.names_lie;
+          emails_lie = all_append _ emails (r ∷ []) h.emails_lie (lies, tt);
+          ranges = follow_push 0 (length names) emails r h.ranges from up to;
+        }
+
+    abbrev count : ℕ
+    count = r.names_end - r.names_start
+
+    -- the names of an email that takes so many of those that were left
+    taken : map (name_group pool) (names_of names r) ≡ take count (contents pool names emails).loose
+    taken = ap (λ k. map (name_group pool) (take count (drop k names))) from ∙ sym (take-map (name_group pool) count (drop (end_of 0 emails) names))
+
+    left : map (name_group pool) (drop (end_of 0 (emails ++ r ∷ [])) names) ≡ drop count (contents pool names emails).loose
+    left =
+        let there : r.names_end ≡ end_of 0 emails + count = omega (arith, from, up) in
+        ap (λ k. map (name_group pool) (drop k names)) (end_of-push 0 emails r ∙ there)
+        ∙ ap (map (name_group pool)) (sym (drop-drop count (end_of 0 emails) names))
+        ∙ sym (drop-map (name_group pool) count (drop (end_of 0 emails) names))
+
+    pub contents-email : contents pool names (emails ++ r ∷ []) ≡ record {
+      pool = pool;
+      groups = (contents pool names emails).groups ++ record {
+        old_email = spelled pool r.old_email;
+        own = record { name = option_map (spelled pool) r.new_name; email = option_map (spelled pool) r.new_email };
+        names = take count (contents pool names emails).loose;
+      } ∷ [];
+      loose = drop count (contents pool names emails).loose;
+    }
+    contents-email i =
+        record {
+          pool = pool;
+          groups = (map-append (email_group pool names) emails (r ∷ []) ∙ ap (λ ns. map (email_group pool names) emails ++ record {
+            old_email = spelled pool r.old_email;
+            own = record { name = option_map (spelled pool) r.new_name; email = option_map (spelled pool) r.new_email };
+            names = ns;
+          } ∷ []) taken) i;
+          loose = left i;
+        }
+
+    -- none are left where the email takes all
+    pub takes_all : r.names_end ≡ length names → length (contents pool names emails).loose ≤ count
+    takes_all to = omega (arith, to, from, end, length-map (drop (end_of 0 emails) names) (name_group pool), length-drop (end_of 0 emails) names)
+
+-- the last row of a table
+pub end_of-last : (k : ℕ) (es : List EmailRow) (r : EmailRow) → slice_get es (length es - 1) ≡ Some r → end_of k es ≡ r.names_end
+end_of-last k [] r e = absurd (cc)
+end_of-last k (x ∷ []) r e = ap (λ o. option_map_or (λ y. y.names_end) o k) e
+end_of-last k (x ∷ y ∷ es) r e =
+    let place : length (x ∷ y ∷ es) - 1 ≡ suc (length (y ∷ es) - 1) = omega arith in
+    end_of-last x.names_end (y ∷ es) r (ap (slice_get (x ∷ y ∷ es)) (sym place) ∙ e)
+
+-- ---- a place in the table of emails
+
+-- the range of an email's names lies in the table of names
+pub range_at : (k n : ℕ) (es : List EmailRow) (i : ℕ) (d : EmailRow) → Follow k n es → i < length es → ((get_or es i d).names_start ≤ (get_or es i d).names_end) × ((get_or es i d).names_end ≤ n)
+range_at k n [] i d h lt = absurd (omega arith)
+range_at k n (r ∷ es) zero d h lt = (omega (arith, h.0, h.1), omega (arith, end_within r.names_end n es h.2, end_above r.names_end n es h.2))
+range_at k n (r ∷ es) (suc i) d h lt = range_at r.names_end n es i d h.2 (omega arith)
+
+pub all_at : {X : Type 0} (P : X → Type 0) (xs : List X) (i : ℕ) (d : X) → AllByRecursion P xs → i < length xs → P (get_or xs i d)
+all_at P [] i d all lt = absurd (omega arith)
+all_at P (x ∷ xs) zero d all lt = all.0
+all_at P (x ∷ xs) (suc i) d all lt = all_at P xs i d all.1 (omega arith)
+
+pub slice_get-map_at : {X Y : Type 0} (f : X → Y) (xs : List X) (i : ℕ) (d : X) → i < length xs → slice_get (map f xs) i ≡ Some (f (get_or xs i d))
+slice_get-map_at f [] i d lt = absurd (omega arith)
+slice_get-map_at f (x ∷ xs) zero d lt = refl
+slice_get-map_at f (x ∷ xs) (suc i) d lt = slice_get-map_at f xs i d (omega arith)
+
+pub rows_lie_at : (pool : Text) (names : List NameRow) (emails : List EmailRow) → AreTables pool names emails → (i : ℕ) (r : EmailRow) → i < length emails → r ≡ get_or emails i r → RowsLie pool r (names_of names r)
+rows_lie_at pool names emails h i r lt read =
+    record {
+      email_lies = subst (EmailLies (length pool)) (sym read) (all_at (EmailLies (length pool)) emails i r h.emails_lie lt);
+      names_lie = all_take _ (r.names_end - r.names_start) _ (all_drop _ r.names_start names h.names_lie);
+    }

@@ -1,0 +1,40 @@
+-- How many entries the tables of a snapshot list at most.
+use Rattle.std.proofs.Common.{◌+◌, ◌-◌, ◌≤◌, ◌||◌, if◌then◌else◌, Bool, true, false, is_some, ℕ, List, [], ◌∷◌, map, take, drop, length, length-append, arith, None}
+use Rattle.std.proofs.lemmas.List.{length-map, length-take}
+use Rattle.mailmap_grammar.specs.Folding.{Text}
+use Rattle.mailmap_tables.specs.Groups.{EmailGroup, listing, rows, own_rows, name_row}
+use Rattle.mailmap_grammar.specs.Entries.{Mapping}
+use Rattle.mailmap_tables.specs.Histories.{made}
+use Rattle.mailmap_tables.specs.Pool.{names_of, name_group, email_group, Follow}
+use Rattle.mailmap_tables.specs.declared.tables.NameRow.{NameRow}
+use Rattle.mailmap_tables.specs.declared.tables.EmailRow.{EmailRow}
+
+-- one, where there is any
+one : (b : Bool) (m : Mapping) → length (if b then m ∷ [] else []) ≤ 1
+one true m = omega arith
+one false m = omega arith
+
+-- an email has one entry of its own at most
+own_one : (g : EmailGroup) → length (own_rows g) ≤ 1
+own_one g = one (is_some g.own.name || is_some g.own.email) (made g.own None g.old_email)
+
+-- the entries of an email: its own one, and those of its names
+rows_most : (g : EmailGroup) → length (rows g) ≤ 1 + length g.names
+rows_most g = omega (arith, own_one g, length-append (own_rows g) (map (name_row g.old_email) g.names), length-map g.names (name_row g.old_email))
+
+-- no more entries than emails and names
+pub listed_most : (pool : Text) (names : List NameRow) (k : ℕ) (emails : List EmailRow) → Follow k (length names) emails
+    → k + length (listing (map (email_group pool names) emails)) ≤ length emails + length names
+listed_most pool names k [] follow = omega (arith, follow)
+listed_most pool names k (r ∷ rs) follow =
+    let own : List NameRow = names_of names r in
+    let here = rows_most (email_group pool names r) in
+    let count = length-map own (name_group pool) in
+    let few : length own ≤ r.names_end - r.names_start = omega (arith, most (r.names_end - r.names_start) (drop r.names_start names)) in
+    let rest = listed_most pool names r.names_end rs follow.2 in
+    let both = length-append (rows (email_group pool names r)) (listing (map (email_group pool names) rs)) in
+    omega (arith, here, count, few, rest, both, follow.0, follow.1)
+  where
+    -- n elements at most are taken
+    most : {X : Type 0} (n : ℕ) (xs : List X) → length (take n xs) ≤ n
+    most n xs = omega (arith, length-take n xs)

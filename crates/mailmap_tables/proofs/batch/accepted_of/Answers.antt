@@ -1,0 +1,50 @@
+use Rattle.std.proofs.Common.{◌≢◌, List, [], ◌∷◌, ◌++◌, map, subst, sym, ap, ◌∙◌, rules}
+use Rattle.std.specs.Iterator.{Yields}
+use Rattle.std.proofs.iter.Next.{Yields-more}
+use Rattle.std.proofs.lemmas.List.{map_push}
+use Rattle.mailmap_grammar.specs.Entries.{mapping_of}
+use Rattle.mailmap_tables.specs.Histories.{accepted}
+use Rattle.mailmap_grammar.specs.declared.entry.Entry.{Entry as Item}
+use Rattle.mailmap_tables.proofs.Collected.{accepted-taken, accepted-ignored, some_taken, on_err}
+use Rattle.mailmap_tables.proofs.batch.accepted_of.Goals as goal
+
+pub loop-entry-init : goal.loop-entry-init
+loop-entry-init g c = record { can = search rules; finite = search rules; kept = ap (map mapping_of) c.new-batch.ensures.items }
+
+pub loop-entry-preserved-in-Continue-1 : goal.loop-entry-preserved-in-Continue-1
+loop-entry-preserved-in-Continue-1 g c =
+    let x = c.in-Some.entry in
+    let xs = c.loop-entry.yielded in
+    record {
+      can = search rules;
+      finite = search rules;
+      kept = ap (map mapping_of) c.in_ok-push.ensures.items ∙ map_push mapping_of c.loop-entry.batch.items x
+          ∙ ap (λ l. l ++ mapping_of x ∷ []) c.loop-entry.invariant.kept
+          ∙ sym (accepted-taken (map mapping_of xs) (mapping_of x) (sym c.maps.ensures ∙ c.if-maps.true))
+          ∙ ap accepted (sym (map_push mapping_of xs x));
+    }
+
+pub returns-in_err-push-clause-refused : goal.returns-in_err-push-clause-refused
+returns-in_err-push-clause-refused g c =
+    let xs = c.loop-entry.yielded in
+    let x = c.in-Some.entry in
+    let more = Yields-more g.I.Iterator.next_gives c.into_iter-entry-iterator.result xs c.loop-entry.entry-iterator x c.next.new.self c.loop-entry.yielded_by c.in-Some.ensures.steps in
+    let why : (ys : List Item) × (rest : _) × Yields g.I.Iterator.next_gives c.args.entries ys rest × (accepted (map mapping_of ys) ≢ []) = (
+      xs ++ x ∷ [],
+      c.next.new.self,
+      subst (λ s. Yields g.I.Iterator.next_gives s (xs ++ x ∷ []) c.next.new.self) c.into_iter-entry-iterator.ensures.into_iter_gives more,
+      λ e. some_taken (map mapping_of xs) (mapping_of x) (sym c.maps.ensures ∙ c.if-maps.true) (ap accepted (sym (map_push mapping_of xs x)) ∙ e),
+    ) in
+    on_err _ _ why
+
+pub loop-entry-preserved : goal.loop-entry-preserved
+loop-entry-preserved g c =
+    let x = c.in-Some.entry in
+    let xs = c.loop-entry.yielded in
+    record {
+      can = search rules;
+      finite = search rules;
+      kept = c.loop-entry.invariant.kept
+          ∙ sym (accepted-ignored (map mapping_of xs) (mapping_of x) (sym c.maps.ensures ∙ c.if-maps.false))
+          ∙ ap accepted (sym (map_push mapping_of xs x));
+    }

@@ -1,0 +1,19 @@
+use Rattle.std.proofs.Common.{◌≡◌, sym, ap, ap₂, ◌∙◌}
+use Rattle.std.specs.Option.{option_cmp}
+use Rattle.std.specs.Ordering.{nat_cmp, ordering_then}
+use Rattle.mailmap_grammar.specs.Folding.{text_cmp}
+use Rattle.mailmap_tables.specs.Histories.{key, key_cmp}
+use Rattle.mailmap_tables.specs.Merging.{mapping_at, email_text}
+use Rattle.mailmap_tables.proofs.Fronts.{front_settles, then_settled}
+use Rattle.mailmap_tables.proofs.batch.compare.Goals as goal
+
+pub returns-in_default : goal.returns-in_default
+returns-in_default c =
+    let a = mapping_at c.a.inside.placed in
+    let b = mapping_at c.b.inside.placed in
+    let r = c.cmp.result in
+    let fronts = c.cmp.ensures ∙ ap₂ nat_cmp c.a.invariant.is c.b.invariant.is in
+    let emails : text_cmp (email_text a) (email_text b) ≡ r = front_settles 16 (email_text a) (email_text b) c.a.invariant.bytes c.b.invariant.bytes r fronts c.in_default.not-Equal in
+    let names = option_cmp text_cmp (key a).1 (key b).1 in
+    sym (then_settled r names c.in_default.not-Equal) ∙ sym (ap (λ o. ordering_then o names) emails)
+    ∙ ap₂ (λ p q. key_cmp (key (mapping_at p)) (key (mapping_at q))) c.a.view_is c.b.view_is

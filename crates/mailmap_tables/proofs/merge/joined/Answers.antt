@@ -1,0 +1,33 @@
+use Rattle.std.proofs.Common.{◌≡◌, ◌∙◌, List, true, map, sym, subst}
+use Rattle.std.specs.List.{AllByRecursion}
+use Rattle.mailmap_grammar.specs.Entries.{mapping_of}
+use Rattle.mailmap_tables.specs.Groups.{Contents}
+use Rattle.mailmap_tables.specs.Histories.{is_accepted, key, key_cmp}
+use Rattle.mailmap_tables.specs.Merging.{IsAscending, AllJoined, mapping_at, placed_at}
+use Rattle.mailmap_tables.specs.declared.batch.Placed.{Placed}
+use Rattle.mailmap_tables.proofs.Collected.{mapped_twice, if_ok_then}
+use Rattle.mailmap_tables.proofs.WholeMerge.{sorted_all, joined_normal, of_placed}
+use Rattle.mailmap_tables.proofs.merge.joined.Goals as goal
+
+pub join_sorted-requires-clause-accepted : goal.join_sorted-requires-clause-accepted
+join_sorted-requires-clause-accepted c =
+    let items = c.in_ok-batch.batch.items in
+    subst (λ (l : List Placed). AllByRecursion (λ m. is_accepted m ≡ true) (map mapping_at l)) (sym c.deref.ensures.value)
+    (of_placed (λ m. is_accepted m ≡ true) items (sorted_all (λ m. is_accepted m ≡ true) (map mapping_of c.args.entries.now) (map placed_at items) c.in_ok-batch.ensures c.requires.accepted))
+
+pub join_sorted-requires-clause-ascending : goal.join_sorted-requires-clause-ascending
+join_sorted-requires-clause-ascending c =
+    let items = c.in_ok-batch.batch.items in
+    subst (λ (l : List Placed). IsAscending key_cmp (map key (map mapping_at l))) (sym c.deref.ensures.value)
+    (subst (IsAscending key_cmp) (mapped_twice placed_at (λ p. key p.1) items ∙ sym (mapped_twice mapping_at key items)) c.in_ok-batch.ensures.ascending)
+
+pub returns : goal.returns
+returns c =
+    let items = c.in_ok-batch.batch.items in
+    let gs = c.args.standing.now.groups in
+    let xs = map mapping_of c.args.entries.now in
+    if_ok_then c.join_sorted.result _ _ _ (λ (made : Contents) j none. (
+      record { groups = j.groups; no_loose = none },
+      joined_normal gs c.requires.standing xs c.requires.accepted (map placed_at items) c.in_ok-batch.ensures made.groups
+          (subst (λ (l : List Placed). AllJoined gs (map placed_at l) made.groups) c.deref.ensures.value j),
+    )) c.join_sorted.ensures.joined c.join_sorted.ensures.no_loose

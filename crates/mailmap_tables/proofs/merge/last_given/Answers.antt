@@ -1,0 +1,24 @@
+use Rattle.std.proofs.Common.{◌≡◌, ◌∷◌, [], ◌++◌, map, take, sym, ap, ◌∙◌, arith}
+use Rattle.std.specs.List.{fold}
+use Rattle.std.specs.Option.{option_or, option_copied}
+use Rattle.std.proofs.lemmas.List.{map_more}
+use Rattle.std.proofs.lemmas.List.Sums.{fold-append}
+use Rattle.mailmap_tables.specs.Histories.{no_fields}
+use Rattle.mailmap_tables.specs.Merging.{give, mapping_at}
+use Rattle.mailmap_tables.specs.Named.{fields_given}
+use Rattle.mailmap_tables.proofs.Given.{copied-or}
+use Rattle.mailmap_tables.proofs.merge.last_given.Goals as goal
+
+pub loop-placed-preserved : goal.loop-placed-preserved
+loop-placed-preserved c =
+    let xs = c.args.own.now in
+    let i = c.loop-placed.placed-index in
+    let x = c.placed-item.result in
+    let grown = map_more mapping_at xs i x (omega arith) ∙ ap (λ m. map mapping_at (take i xs) ++ mapping_at m ∷ []) (sym c.placed-item.is) in
+    let given = c.loop-placed.given in
+    let parts : fields_given (record { new_name = c.or.result; new_email = c.or-in-loop-placed.result }) ≡ give (fields_given given) (mapping_at x) = λ k. record {
+      name = (ap option_copied c.or.ensures ∙ copied-or c.new_name.result given.new_name ∙ ap (λ o. option_or o (option_copied given.new_name)) c.new_name.ensures) k;
+      email = (ap option_copied c.or-in-loop-placed.ensures ∙ copied-or c.new_email.result given.new_email ∙ ap (λ o. option_or o (option_copied given.new_email)) c.new_email.ensures) k;
+    } in
+    parts ∙ ap (λ f. give f (mapping_at x)) c.loop-placed.invariant
+    ∙ sym (ap (fold give no_fields) grown ∙ fold-append give no_fields (map mapping_at (take i xs)) (mapping_at x ∷ []))

@@ -1,0 +1,22 @@
+use Rattle.std.proofs.Common.{◌<◌, length, map, sym, ap, ◌∙◌, arith, Some}
+use Rattle.std.proofs.lemmas.List.{length-map, get_or-map}
+use Rattle.std.specs.List.{slice_get}
+use Rattle.mailmap_tables.specs.Groups.{Contents, EmailGroup}
+use Rattle.mailmap_tables.specs.Pool.{spelled, email_group}
+use Rattle.mailmap_tables.proofs.Pooled.{slice_get-map_at}
+use Rattle.mailmap_tables.proofs.tables.Tables.email_text.Goals as goal
+
+pub returns : goal.returns
+returns c =
+    let pool = c.self.inside.pool.items in
+    let emails = c.self.inside.emails.items in
+    let group = email_group pool c.self.inside.names.items in
+    let row = c.index-row.result.now in
+    let lt : c.args.place < length emails = omega (arith, c.requires, ap (λ (v : Contents). length v.groups) c.self.view_is, length-map emails group) in
+    let lt_group : c.args.place < length (map group emails) = omega (arith, length-map emails group) in
+    ap (λ (v : Contents). slice_get (map (λ (g : EmailGroup). g.old_email) v.groups) c.args.place) (sym c.self.view_is)
+    ∙ slice_get-map_at (λ (g : EmailGroup). g.old_email) (map group emails) c.args.place (group row) lt_group
+    ∙ ap (λ (g : EmailGroup). Some g.old_email) (get_or-map group emails c.args.place row (group row) lt)
+    ∙ ap (λ r. Some (group r).old_email) (sym c.index-row.ensures)
+    ∙ ap (λ (v : Contents). Some (spelled v.pool row.old_email)) c.self.view_is
+    ∙ ap (λ t. Some t) (sym c.text.ensures)

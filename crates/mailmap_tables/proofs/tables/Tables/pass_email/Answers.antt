@@ -1,0 +1,46 @@
+use Rattle.std.proofs.Common.{◌≡◌, ◌≤◌, ◌+◌, ◌-◌, arith, ◌∙◌, ap, ◌++◌, ◌∷◌, [], sym, subst, length, take, drop}
+use Rattle.std.proofs.lemmas.List.{length-map, length-drop}
+use Rattle.mailmap_tables.specs.Pool.{contents, EmailLies, end_of, name_group, group_of}
+use Rattle.mailmap_tables.specs.Groups.{Contents}
+use Rattle.mailmap_tables.proofs.Pooled.{contents-email, tables-email, end_within}
+use Rattle.mailmap_tables.proofs.tables.Tables.pass_email.Goals as goal
+
+pub invariant_of-self-2 : goal.invariant_of-self-2
+invariant_of-self-2 c =
+    let names = c.self.inside.names.items in
+    let emails = c.self.inside.emails.items in
+    let row = c.args.row in
+    let lies : EmailLies (length c.self.inside.pool.items) row = subst (λ (v : Contents). EmailLies (length v.pool) row) (sym c.self.view_is) c.requires.lies in
+    let from : c.last_end-names_start.result ≡ end_of 0 emails = c.last_end-names_start.ensures ∙ ap (end_of 0) c.deref.ensures.value in
+    let to : c.last_end-names_start.result + (row.names_end - row.names_start) ≤ length names = omega (
+      arith,
+      from,
+      c.requires.loose,
+      ap (λ (v : Contents). length v.loose) c.self.view_is,
+      end_within 0 (length names) emails c.self.invariant.ranges,
+      length-map (drop (end_of 0 emails) names) (name_group c.self.inside.pool.items),
+      length-drop (end_of 0 emails) names,
+    ) in
+    rw c.in_ok-push.ensures.items (tables-email _ _ _ c.self.invariant _ from (omega arith) to (record { old_email = lies.old_email; new_name = lies.new_name; new_email = lies.new_email }))
+
+pub returns : goal.returns
+returns c =
+    let pool = c.self.inside.pool.items in
+    let names = c.self.inside.names.items in
+    let emails = c.self.inside.emails.items in
+    let row = c.args.row in
+    let from : c.last_end-names_start.result ≡ end_of 0 emails = c.last_end-names_start.ensures ∙ ap (end_of 0) c.deref.ensures.value in
+    let count : c.last_end-names_start.result + (row.names_end - row.names_start) - c.last_end-names_start.result ≡ row.names_end - row.names_start = omega arith in
+    let loose = (contents pool names emails).loose in
+    ap (λ es. contents pool names es) c.in_ok-push.ensures.items
+    ∙ contents-email pool names emails c.self.invariant _ from (omega arith)
+    ∙ (λ i. record {
+      pool = pool;
+      groups = (contents pool names emails).groups ++ record (group_of pool row []) { names = take (count i) loose } ∷ [];
+      loose = drop (count i) loose;
+    })
+    ∙ ap (λ (v : Contents). record {
+      pool = v.pool;
+      groups = v.groups ++ record (group_of v.pool row []) { names = take (row.names_end - row.names_start) v.loose } ∷ [];
+      loose = drop (row.names_end - row.names_start) v.loose;
+    }) c.self.view_is

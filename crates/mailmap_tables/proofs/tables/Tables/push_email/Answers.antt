@@ -1,0 +1,55 @@
+use Rattle.std.proofs.Common.{◌≡◌, ◌≤◌, arith, ◌∙◌, ap, ◌++◌, ◌∷◌, [], sym, subst, length, option_map}
+use Rattle.std.specs.Option.{ForSome}
+use Rattle.std.proofs.lemmas.List.{take_all, drop_all}
+use Rattle.mailmap_tables.specs.Pool.{contents, spelled, LiesIn, end_of}
+use Rattle.mailmap_tables.specs.Groups.{Contents}
+use Rattle.mailmap_tables.specs.declared.tables.EmailRow.{EmailRow}
+use Rattle.mailmap_tables.proofs.Pooled.{contents-email, tables-email, takes_all, end_within}
+use Rattle.mailmap_tables.proofs.tables.Tables.push_email.Goals as goal
+
+pub invariant_of-self-2 : goal.invariant_of-self-2
+invariant_of-self-2 c =
+    let back = sym c.self.view_is in
+    let names = c.self.inside.names.items in
+    let emails = c.self.inside.emails.items in
+    let to : c.len.result ≡ length names = omega (arith, c.len.ensures, c.self.inside.names.ok.0) in
+    let from : c.last_end-names_start.result ≡ end_of 0 emails = c.last_end-names_start.ensures ∙ ap (end_of 0) c.deref.ensures.value in
+    let within : end_of 0 emails ≤ length names = end_within 0 (length names) emails c.self.invariant.ranges in
+    rw c.in_ok-push.ensures.items (tables-email _ _ _ c.self.invariant _ from (omega (arith, from, to, within)) (omega (arith, to)) (record {
+      old_email = subst (λ (v : Contents). LiesIn (length v.pool) c.args.old_email) back c.requires.old_email_lies;
+      new_name = subst (λ (v : Contents). ForSome c.args.new_name (LiesIn (length v.pool))) back c.requires.new_name_lies;
+      new_email = subst (λ (v : Contents). ForSome c.args.new_email (LiesIn (length v.pool))) back c.requires.new_email_lies;
+    }))
+
+pub returns : goal.returns
+returns c =
+    let pool = c.self.inside.pool.items in
+    let names = c.self.inside.names.items in
+    let emails = c.self.inside.emails.items in
+    let to : c.len.result ≡ length names = omega (arith, c.len.ensures, c.self.inside.names.ok.0) in
+    let from : c.last_end-names_start.result ≡ end_of 0 emails = c.last_end-names_start.ensures ∙ ap (end_of 0) c.deref.ensures.value in
+    let within : end_of 0 emails ≤ length names = end_within 0 (length names) emails c.self.invariant.ranges in
+    let up : c.last_end-names_start.result ≤ c.len.result = omega (arith, from, to, within) in
+    let row : EmailRow = record { old_email = c.args.old_email; new_name = c.args.new_name; new_email = c.args.new_email; names_start = c.last_end-names_start.result; names_end = c.len.result } in
+    let all = takes_all pool names emails c.self.invariant row from up to in
+    let loose = (contents pool names emails).loose in
+    ap (λ es. contents pool names es) c.in_ok-push.ensures.items
+    ∙ contents-email pool names emails c.self.invariant _ from up
+    ∙ (λ i. record {
+      pool = pool;
+      groups = (contents pool names emails).groups ++ record {
+        old_email = spelled pool c.args.old_email;
+        own = record { name = option_map (spelled pool) c.args.new_name; email = option_map (spelled pool) c.args.new_email };
+        names = take_all _ loose all i;
+      } ∷ [];
+      loose = drop_all _ loose all i;
+    })
+    ∙ ap (λ (v : Contents). record {
+      pool = v.pool;
+      groups = v.groups ++ record {
+        old_email = spelled v.pool c.args.old_email;
+        own = record { name = option_map (spelled v.pool) c.args.new_name; email = option_map (spelled v.pool) c.args.new_email };
+        names = v.loose;
+      } ∷ [];
+      loose = [];
+    }) c.self.view_is

@@ -1,0 +1,63 @@
+-- A normal list by emails: what the tables of a snapshot denote.
+use Rattle.std.specs.Prelude.{◌≡◌, ◌≢◌, ◌||◌, ◌++◌, if◌then◌else◌, is_some, Option, Some, None, List, [], ◌∷◌, map}
+use Rattle.std.specs.List.{AllByRecursion, flat_map}
+use Rattle.std.specs.List.Sorted.{IsStrictlySortedBy}
+use Rattle.mailmap_grammar.specs.Entries.{Mapping}
+use Rattle.mailmap_grammar.specs.Folding.{Text, folded, text_cmp}
+use Rattle.mailmap_tables.specs.Histories.{Fields, made}
+
+-- an old name as it is kept, and the fields that stand for it
+pub record NameGroup : Type 0 where
+  pub old_name : Text
+  pub new_name : Option Text
+  pub new_email : Text
+
+-- an old email as it is kept, the fields that were given without an old name, and the old names of the email
+pub record EmailGroup : Type 0 where
+  pub old_email : Text
+  pub own : Fields
+  pub names : List NameGroup
+
+abbrev pub email_key : EmailGroup → Text
+email_key g = folded g.old_email
+
+abbrev pub name_key : NameGroup → Text
+name_key n = folded n.old_name
+
+abbrev pub name_fields : NameGroup → Fields
+name_fields n = record { name = n.new_name; email = Some n.new_email }
+
+abbrev pub name_row : Text → NameGroup → Mapping
+name_row email n = made (name_fields n) (Some n.old_name) email
+
+-- an email's own entry, if a field was given without an old name
+abbrev pub own_rows : EmailGroup → List Mapping
+own_rows g = if is_some g.own.name || is_some g.own.email then made g.own None g.old_email ∷ [] else []
+
+-- the entries of an email
+abbrev pub rows : EmailGroup → List Mapping
+rows g = own_rows g ++ map (name_row g.old_email) g.names
+
+abbrev pub listing : List EmailGroup → List Mapping
+listing gs = flat_map rows gs
+
+-- an email that says something, its names strictly ascending
+pub record IsGroup (g : EmailGroup) : Type 0 where
+  pub ascending : IsStrictlySortedBy text_cmp (map name_key g.names)
+  pub says : rows g ≢ []
+
+-- such emails, strictly ascending
+pub record AreGroups (gs : List EmailGroup) : Type 0 where
+  pub ascending : IsStrictlySortedBy text_cmp (map email_key gs)
+  pub each : AllByRecursion IsGroup gs
+
+-- what tables hold: the bytes of their texts, the emails, and names that no email has taken yet
+pub record Contents : Type 0 where
+  pub pool : Text
+  pub groups : List EmailGroup
+  pub loose : List NameGroup
+
+-- the tables of a snapshot: each name has been taken by an email, and the emails are groups
+pub record IsComplete (t : Contents) : Type 0 where
+  pub groups : AreGroups t.groups
+  pub no_loose : t.loose ≡ []

@@ -1,0 +1,14 @@
+pub use Rattle.mailmap_grammar.specs.Folding
+pub use Rattle.mailmap_grammar.specs.Trimming
+pub use Rattle.mailmap_grammar.specs.Entries
+pub use Rattle.mailmap_grammar.specs.Lines
+pub use Rattle.mailmap_grammar.specs.Search
+pub use Rattle.mailmap_grammar.specs.Times
+pub mod Fronts
+pub mod Histories
+pub mod Groups
+pub mod Pool
+pub mod Places
+pub mod Alike
+pub mod Merging
+pub mod Named

@@ -1,0 +1,188 @@
+-- How a sorted batch is joined with standing groups.
+use Rattle.std.specs.Prelude.{◌≡◌, ◌≤◌, ◌++◌, ℕ, true, false, IsSome, Some, List, [], ◌∷◌, All, Contains, map, unwrap_or}
+use Rattle.std.specs.List.{AllByRecursion, enumerate_from}
+use Rattle.std.specs.List.Sorted.{IsPermutation, IsStrictlySortedBy}
+use Rattle.std.specs.Option.{option_cmp, option_map, option_or}
+use Rattle.std.specs.Ordering.{is_lt}
+use Rattle.std.specs.declared.cmp.Ordering.{Ordering}
+use Rattle.std.specs.declared.cmp.Ordering.TheVariants.{Less}
+use Rattle.mailmap_tables.specs.Alike.{Alike}
+use Rattle.mailmap_grammar.specs.Entries.{Mapping, mapping_of}
+use Rattle.mailmap_grammar.specs.Folding.{Text, folded, text_cmp}
+use Rattle.mailmap_tables.specs.Groups.{NameGroup, EmailGroup, AreGroups, Contents, email_key, name_key, name_row, rows, listing}
+use Rattle.mailmap_tables.specs.Histories.{Key, Fields, key, key_cmp, is_accepted, of_key, no_fields, last}
+use Rattle.mailmap_tables.specs.declared.batch.Placed.{Placed}
+
+-- no key is below one that stands before it
+abbrev pub IsAscending : {K : Type 0} → (K → K → Ordering) → List K → Type 0
+IsAscending cmp [] = Unit {0}
+IsAscending cmp (x ∷ xs) = AllByRecursion (λ y. is_lt (cmp y x) ≡ false) xs × IsAscending cmp xs
+
+-- each of these texts is below each of those
+abbrev pub AreBelowAll : List Text → List Text → Type 0
+AreBelowAll xs ys = AllByRecursion (λ x. AllByRecursion (λ y. text_cmp x y ≡ Less) ys) xs
+
+-- the keys that have come out of two ascending lists lie below what is left of them,
+-- and so do the keys that were taken from the second below what is left of the first
+pub record InOrder (out standing batch taken : List Text) : Type 0 where
+  pub out_ascends : IsStrictlySortedBy text_cmp out
+  pub standing_ascends : IsStrictlySortedBy text_cmp standing
+  pub batch_ascends : IsAscending text_cmp batch
+  pub out_standing : AreBelowAll out standing
+  pub out_batch : AreBelowAll out batch
+  pub taken_standing : AreBelowAll taken standing
+  pub taken_batch : AreBelowAll taken batch
+
+-- ---- a batch
+
+-- what an entry of a batch says
+abbrev pub mapping_at : Placed → Mapping
+mapping_at p = mapping_of p.entry.now
+
+abbrev pub placed_at : Placed → ℕ × Mapping
+placed_at p = (p.index, mapping_at p)
+
+abbrev pub email_text : Mapping → Text
+email_text m = folded m.old_email
+
+-- the old email of the first entry, without its case
+abbrev pub first_email : List Mapping → Text
+first_email [] = []
+first_email (m ∷ ms) = email_text m
+
+abbrev pub name_text : Mapping → Text
+name_text m = folded (unwrap_or m.old_name [])
+
+-- the entries of a batch in ascending order of their keys, those of one key as they came
+pub record IsSorted (xs : List Mapping) (ps : List (ℕ × Mapping)) : Type 0 where
+  pub moved : IsPermutation (enumerate_from 0 xs) ps
+  pub keyed : (k : Key) → of_key xs k ≡ of_key (map (λ p. p.1) ps) k
+  pub ascending : IsAscending key_cmp (map (λ p. key p.1) ps)
+
+-- ---- names
+
+-- the entry with its old email spelled so
+abbrev pub with_email : Text → Mapping → Mapping
+with_email e m = record m { old_email = e }
+
+-- an entry with an old name, and so with a new email
+pub record IsNamed (m : Mapping) : Type 0 where
+  pub old_name : IsSome m.old_name
+  pub new_email : IsSome m.new_email
+
+-- the pool has grown at its end
+abbrev pub Extends : Text → Text → Type 0
+Extends old new = (more : Text) × (new ≡ old ++ more)
+
+-- how a name comes out: as it stands, or as it comes first, in its place among the names that stand
+pub data NamePlaced (ks : List NameGroup) (passed : List NameGroup) (name : Text) (kept : Text) (left : List NameGroup) : Type 0 where
+  known : (k : NameGroup) → ks ≡ passed ++ k ∷ left → name_key k ≡ folded name → kept ≡ k.old_name → NamePlaced ks passed name kept left
+  unknown : ks ≡ passed ++ left → AllByRecursion (λ k. text_cmp (name_key k) (folded name) ≡ Less) passed → AllByRecursion (λ k. text_cmp (folded name) (name_key k) ≡ Less) left → kept ≡ name → NamePlaced ks passed name kept left
+
+-- one name came out, behind those that stand before it
+pub record NamePut (ks left : List NameGroup) (n : NameGroup) (old new : Contents) : Type 0 where
+  pub passed : List NameGroup
+  pub kept : Text
+  pub pool : Extends old.pool new.pool
+  pub groups : new.groups ≡ old.groups
+  pub loose : new.loose ≡ old.loose ++ (passed ++ record n { old_name = kept } ∷ [])
+  pub placed : NamePlaced ks passed n.old_name kept left
+
+-- the names that come out stand for the names that stood and the named entries of the batch
+pub record NamesJoined (ks : List NameGroup) (ms : List Mapping) (ns : List NameGroup) : Type 0 where
+  pub ascending : IsStrictlySortedBy text_cmp (map name_key ns)
+  pub alike : (e : Text) → Alike (map (name_row e) ks ++ map (with_email e) ms) (map (name_row e) ns)
+
+-- the names that came out behind those that were loose
+pub record NamesPut (ks : List NameGroup) (ms : List Mapping) (old new : Contents) : Type 0 where
+  pub names : List NameGroup
+  pub pool : Extends old.pool new.pool
+  pub groups : new.groups ≡ old.groups
+  pub loose : new.loose ≡ old.loose ++ names
+  pub joined : NamesJoined ks ms names
+
+-- ---- emails
+
+-- the email that comes out stands for the email that stood and the entries of the batch for it
+pub record EmailJoined (g : EmailGroup) (ms : List Mapping) (c : EmailGroup) : Type 0 where
+  pub old_email : c.old_email ≡ g.old_email
+  pub ascending : IsStrictlySortedBy text_cmp (map name_key c.names)
+  pub alike : Alike (rows g ++ map (with_email g.old_email) ms) (rows c)
+
+-- an email that came out, with no name left loose
+pub record EmailPut (g : EmailGroup) (ms : List Mapping) (old new : Contents) : Type 0 where
+  pub group : EmailGroup
+  pub pool : Extends old.pool new.pool
+  pub groups : new.groups ≡ old.groups ++ group ∷ []
+  pub no_loose : new.loose ≡ []
+  pub joined : EmailJoined g ms group
+
+-- each field as the entry gives it, and else as it was
+abbrev pub give : Fields → Mapping → Fields
+give f m = record { name = option_or m.new_name f.name; email = option_or m.new_email f.email }
+
+-- the accepted entries of one email, those without an old name in front, the others ascending by it
+pub record EmailRun (ms : List Mapping) : Type 0 where
+  pub accepted : AllByRecursion (λ m. is_accepted m ≡ true) ms
+  pub ascending : IsAscending (option_cmp text_cmp) (map (λ m. option_map folded m.old_name) ms)
+
+-- an email of which nothing is known but its spelling
+abbrev pub bare : Text → EmailGroup
+bare email = record { old_email = email; own = no_fields; names = [] }
+
+-- the earliest entry of a run
+pub record IsEarliest (ps : List (ℕ × Mapping)) (p : ℕ × Mapping) : Type 0 where
+  pub among : Contains ps p
+  pub least : All (λ q. p.0 ≤ q.0) ps
+
+-- how an email comes out: as it stands, or as its earliest entry spells it
+pub data EmailPlaced (gs : List EmailGroup) (passed : List EmailGroup) (ps : List (ℕ × Mapping)) (email : Text) (g : EmailGroup) (left : List EmailGroup) : Type 0 where
+  known : gs ≡ passed ++ g ∷ left → email_key g ≡ email → EmailPlaced gs passed ps email g left
+  unknown : gs ≡ passed ++ left → AllByRecursion (λ k. text_cmp (email_key k) email ≡ Less) passed → AllByRecursion (λ k. text_cmp email (email_key k) ≡ Less) left
+      → (p : ℕ × Mapping) → IsEarliest ps p → g ≡ bare p.1.old_email → EmailPlaced gs passed ps email g left
+
+-- one email came out for a run of the batch, behind those that stand before it
+pub record RunPut (gs left : List EmailGroup) (ps : List (ℕ × Mapping)) (email : Text) (old new : Contents) : Type 0 where
+  pub passed : List EmailGroup
+  pub stood : EmailGroup
+  pub group : EmailGroup
+  pub pool : Extends old.pool new.pool
+  pub groups : new.groups ≡ old.groups ++ (passed ++ group ∷ [])
+  pub no_loose : new.loose ≡ []
+  pub placed : EmailPlaced gs passed ps email stood left
+  pub joined : EmailJoined stood (map (λ p. p.1) ps) group
+
+-- ---- the whole
+
+-- s spells each email as the groups do, and any other as its earliest entry
+pub record IsSpelling (gs : List EmailGroup) (ps : List (ℕ × Mapping)) (s : Text → Text) : Type 0 where
+  pub same : AllByRecursion (λ p. folded (s (email_text p.1)) ≡ email_text p.1) ps
+  pub stood : AllByRecursion (λ g. s (email_key g) ≡ g.old_email) gs
+  pub new : (p : ℕ × Mapping) → AllByRecursion (λ g. email_key g ≡ email_text p.1 → ⊥) gs → Contains ps p → All (λ q. email_text q.1 ≡ email_text p.1 → p.0 ≤ q.0) ps → s (email_text p.1) ≡ p.1.old_email
+
+abbrev pub spelled_by : (Text → Text) → Mapping → Mapping
+spelled_by s m = with_email (s (email_text m)) m
+
+-- the emails that come out stand for those that stood and the batch, whose emails are spelled as they are kept
+pub record AllJoined (gs : List EmailGroup) (ps : List (ℕ × Mapping)) (cs : List EmailGroup) : Type 0 where
+  pub groups : AreGroups cs
+  pub alike : (s : Text → Text) → IsSpelling gs ps s → Alike (listing gs ++ map (λ p. spelled_by s p.1) ps) (listing cs)
+
+-- ---- runs of a batch
+
+-- the list is empty, or its first one fails
+abbrev pub StartsOther : {X : Type 0} → (X → Type 0) → List X → Type 0
+StartsOther P [] = Unit {0}
+StartsOther P (x ∷ xs) = ¬ P x
+
+-- the entries at the front of a batch that have one old name, and the name that stands for them:
+-- spelled as the first has it, with the fields of the last
+pub record NameRun (ms : List Mapping) (n : NameGroup) (later : List Mapping) : Type 0 where
+  pub front : Mapping
+  pub more : List Mapping
+  pub whole : ms ≡ front ∷ more ++ later
+  pub named : front.old_name ≡ Some n.old_name
+  pub same : AllByRecursion (λ m. name_text m ≡ folded n.old_name) more
+  pub new_name : (unwrap_or (last more) front).new_name ≡ n.new_name
+  pub new_email : (unwrap_or (last more) front).new_email ≡ Some n.new_email
+  pub other : StartsOther (λ m. name_text m ≡ folded n.old_name) later

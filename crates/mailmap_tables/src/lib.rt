@@ -1,0 +1,9 @@
+//! The tables of a snapshot, and how a batch of entries joins them. The crate `gix_mailmap` stands on these; they are no
+//! part of what it gives to users.
+#![tactic(auto)]
+
+pub mod batch;
+pub mod laws;
+pub mod merge;
+pub mod search;
+pub mod tables;

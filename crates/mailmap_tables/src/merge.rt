@@ -1,0 +1,425 @@
+//! Joining a sorted batch with the standing tables: email by email, and within an email name by name. The standing rows
+//! between two emails of the batch are passed on without a look at their texts.
+ghost use Rattle.std.specs.Prelude.{◌≡◌, ◌≢◌, ◌+◌, ◌-◌, ◌<◌, ◌≤◌, [], ◌++◌, ◌∷◌, List, None, true, OnOk, IfOk, IfSome, Some, IsSome, take, drop, map, length, ℕ};
+ghost use Rattle.std.specs.Option.{option_copied, option_map, option_or, ForSome};
+ghost use Rattle.std.specs.List.{AllByRecursion, HoldsAt, fold};
+ghost use Rattle.std.specs.List.Sorted.{IsStrictlySortedBy};
+ghost use Rattle.mailmap_grammar.specs.Entries.{mapping_of};
+ghost use Rattle.mailmap_grammar.specs.Folding.{folded, text_cmp};
+ghost use Rattle.mailmap_tables.specs.Groups.{Contents, AreGroups, IsComplete, name_key, email_key, listing};
+ghost use Rattle.mailmap_tables.specs.Histories.{IsNormal, is_accepted, key, key_cmp, no_fields};
+ghost use Rattle.mailmap_tables.specs.Merging.{IsAscending, first_email, IsNamed, mapping_at, placed_at, email_text, name_text, Extends, NamePut, NameRun, NamesPut, EmailRun, IsEarliest, give, EmailPut, RunPut, AllJoined};
+ghost use Rattle.mailmap_tables.specs.Pool.{spelled, LiesIn, NameLies, EmailLies, RowsLie, name_group, group_of};
+ghost use Rattle.mailmap_tables.specs.Named.{named_group, fields_given};
+
+use crate::batch::{Placed, sorted};
+use crate::search::{place_email, place_name};
+use crate::tables::{EmailRow, NameRow, Span, Tables};
+use mailmap_grammar::Entry;
+use mailmap_grammar::fold::cmp_ignore_ascii_case;
+use std::alloc::{AllocError, Global};
+
+// The texts that stand for an old name.
+#[derive(Clone, Copy)]
+struct Named<'a> {
+    old_name: &'a [u8],
+    new_name: Option<&'a [u8]>,
+    new_email: &'a [u8],
+}
+
+// The fields that entries without an old name give.
+#[derive(Clone, Copy)]
+struct Given<'a> {
+    new_name: Option<&'a [u8]>,
+    new_email: Option<&'a [u8]>,
+}
+
+// Puts a text that may be missing at the end of the pool.
+fn push_optional(out: &mut Tables, text: Option<&[u8]>) -> Result<Option<Span>, AllocError>
+    ensures grown { OnOk result ((more : List ℕ) × (out.new ≡ record out.old { pool = out.old.pool ++ more })) }
+    ensures lies { IfOk result (λ span. ForSome span (LiesIn (length out.new.pool))) }
+    ensures spells { IfOk result (λ span. option_map (spelled out.new.pool) span ≡ option_copied text.entry) }
+{
+    match text {
+        Some(text) => Ok(Some(out.push_text(text, 0)?)),
+        None => Ok(None),
+    }
+}
+
+// Puts a name out, its old name as `old_name` spells it, in the place of fields of so many bytes.
+fn push_named(
+    out: &mut Tables,
+    old_name: Span,
+    named: Named<'_>,
+    replaced: usize,
+) -> Result<(), AllocError>
+    requires { LiesIn (length out.old.pool) old_name }
+    ensures grown { OnOk result (Extends out.old.pool out.new.pool) }
+    ensures groups { OnOk result (out.new.groups ≡ out.old.groups) }
+    ensures loose { OnOk result (out.new.loose ≡ out.old.loose ++ record {
+      old_name = spelled out.old.pool old_name;
+      new_name = option_copied named.entry.new_name;
+      new_email = named.entry.new_email.now;
+    } ∷ []) }
+{
+    let new_name = push_optional(out, named.new_name)?;
+    let new_email = out.push_text(named.new_email, replaced)?;
+    out.push_name(NameRow {
+        old_name,
+        new_name,
+        new_email,
+    })
+}
+
+// Puts a name out, behind the kept names that stand before it, and gives those that are left.
+fn put_name<'k>(
+    out: &mut Tables,
+    kept: &'k [NameRow],
+    named: Named<'_>,
+) -> Result<&'k [NameRow], AllocError>
+    requires lie { AllByRecursion (NameLies (length out.old.pool)) kept.now }
+    requires ascending { IsStrictlySortedBy text_cmp (map name_key (map (name_group out.old.pool) kept.now)) }
+    ensures lie { IfOk result (λ left. AllByRecursion (NameLies (length out.new.pool)) left.now) }
+    ensures put { IfOk result (λ left. NamePut (map (name_group out.old.pool) kept.entry.now) (map (name_group out.new.pool) left.now) (named_group named.entry) out.old out.new) }
+{
+    match place_name(out, kept, named.old_name) {
+        Ok(place) => {
+            let row = kept[place];
+            out.push_names(front(kept, place))?;
+            push_named(out, row.old_name, named, fields_len(row))?;
+            Ok(rest(kept, place + 1))
+        }
+        Err(place) => {
+            out.push_names(front(kept, place))?;
+            let old_name = out.push_text(named.old_name, 0)?;
+            push_named(out, old_name, named, 0)?;
+            Ok(rest(kept, place))
+        }
+    }
+}
+
+// How many bytes the fields of a name have.
+fn fields_len(row: NameRow) -> usize {
+    span_len(row.new_name).saturating_add(row.new_email.len)
+}
+
+fn span_len(span: Option<Span>) -> usize {
+    match span {
+        Some(span) => span.len,
+        None => 0,
+    }
+}
+
+// The rows before a place.
+fn front(rows: &[NameRow], place: usize) -> &[NameRow]
+    requires { place ≤ length rows.now }
+    ensures { result.now ≡ take place rows.now }
+{
+    &rows[..place]
+}
+
+// The rows from a place on.
+fn rest(rows: &[NameRow], place: usize) -> &[NameRow]
+    requires { place ≤ length rows.now }
+    ensures { result.now ≡ drop place rows.now }
+{
+    &rows[place..]
+}
+
+// How many entries at the front have this old name.
+fn name_run(batch: &[Placed<'_, '_>], name: &[u8]) -> usize
+    ensures within { result ≤ length batch.now }
+    ensures same { AllByRecursion (λ p. name_text (mapping_at p) ≡ folded name.now) (take result batch.now) }
+    ensures other { result < length batch.now → HoldsAt (λ p. name_text (mapping_at p) ≢ folded name.now) batch.now result }
+{
+    for (i, placed) in batch.iter().enumerate() {
+        let other = placed.entry.old_name().unwrap_or(&[]);
+        if cmp_ignore_ascii_case(other, name).is_ne() {
+            return i;
+        }
+    }
+    batch.len()
+}
+
+// How many entries at the front have this old email.
+fn email_run(batch: &[Placed<'_, '_>], email: &[u8]) -> usize
+    ensures within { result ≤ length batch.now }
+    ensures same { AllByRecursion (λ p. email_text (mapping_at p) ≡ folded email.now) (take result batch.now) }
+    ensures other { result < length batch.now → HoldsAt (λ p. email_text (mapping_at p) ≢ folded email.now) batch.now result }
+{
+    for (i, placed) in batch.iter().enumerate() {
+        if cmp_ignore_ascii_case(placed.entry.old_email(), email).is_ne() {
+            return i;
+        }
+    }
+    batch.len()
+}
+
+// How many entries at the front have no old name.
+fn unnamed_run(batch: &[Placed<'_, '_>]) -> usize
+    ensures within { result ≤ length batch.now }
+    ensures none { AllByRecursion (λ p. (mapping_at p).old_name ≡ None) (take result batch.now) }
+    ensures other { result < length batch.now → HoldsAt (λ p. (mapping_at p).old_name ≢ None) batch.now result }
+{
+    for (i, placed) in batch.iter().enumerate() {
+        if placed.entry.old_name().is_some() {
+            return i;
+        }
+    }
+    batch.len()
+}
+
+// The name at the front of a batch of named entries, and how many entries it stands for.
+fn front_name<'a>(batch: &[Placed<'_, 'a>]) -> (Named<'a>, usize)
+    requires some { 0 < length batch.now }
+    requires named { AllByRecursion (λ p. IsNamed (mapping_at p)) batch.now }
+    ensures within { result.1 ≤ length batch.now }
+    ensures run { NameRun (map mapping_at batch.now) (named_group result.0) (map mapping_at (drop result.1 batch.now)) }
+{
+    let Some(old_name) = batch[0].entry.old_name() else {
+        unreachable!()
+    };
+    let len = name_run(batch, old_name);
+    let last = batch[len - 1].entry;
+    let Some(new_email) = last.new_email() else {
+        unreachable!()
+    };
+    let new_name = last.new_name();
+    (
+        Named {
+            old_name,
+            new_name,
+            new_email,
+        },
+        len,
+    )
+}
+
+// Puts out the kept names of an email and the named entries of a batch for it.
+fn join_names(
+    out: &mut Tables,
+    kept: &[NameRow],
+    named: &[Placed<'_, '_>],
+) -> Result<(), AllocError>
+    requires lie { AllByRecursion (NameLies (length out.old.pool)) kept.now }
+    requires kept_ascend { IsStrictlySortedBy text_cmp (map name_key (map (name_group out.old.pool) kept.now)) }
+    requires named { AllByRecursion (λ p. IsNamed (mapping_at p)) named.now }
+    requires named_ascend { IsAscending text_cmp (map name_text (map mapping_at named.now)) }
+    ensures { OnOk result (NamesPut (map (name_group out.old.pool) kept.now) (map mapping_at named.now) out.old out.new) }
+{
+    let mut standing = kept;
+    let mut left = named;
+    while !left.is_empty() {
+        let (name, len) = front_name(left);
+        standing = put_name(out, standing, name)?;
+        left = behind(left, len);
+    }
+    out.push_names(standing)
+}
+
+// The entries from a place on.
+fn behind<'s, 'e, 'a>(batch: &'s [Placed<'e, 'a>], place: usize) -> &'s [Placed<'e, 'a>]
+    requires { place ≤ length batch.now }
+    ensures { result.now ≡ drop place batch.now }
+{
+    &batch[place..]
+}
+
+// The fields that entries without an old name give last, each for itself.
+fn last_given<'a>(own: &[Placed<'_, 'a>]) -> Given<'a>
+    ensures { fields_given result ≡ fold give no_fields (map mapping_at own.now) }
+{
+    let mut given = Given {
+        new_name: None,
+        new_email: None,
+    };
+    for placed in own {
+        given = Given {
+            new_name: placed.entry.new_name().or(given.new_name),
+            new_email: placed.entry.new_email().or(given.new_email),
+        };
+    }
+    given
+}
+
+// Puts a text out if there is one, and else keeps that which stood.
+fn push_given(
+    out: &mut Tables,
+    given: Option<&[u8]>,
+    stood: Option<Span>,
+) -> Result<Option<Span>, AllocError>
+    requires { ForSome stood (LiesIn (length out.old.pool)) }
+    ensures grown { OnOk result ((more : List ℕ) × (out.new ≡ record out.old { pool = out.old.pool ++ more })) }
+    ensures lies { IfOk result (λ span. ForSome span (LiesIn (length out.new.pool))) }
+    ensures spells { IfOk result (λ span. option_map (spelled out.new.pool) span ≡ option_or (option_copied given.entry) (option_map (spelled out.old.pool) stood)) }
+{
+    match given {
+        Some(text) => Ok(Some(out.push_text(text, span_len(stood))?)),
+        None => Ok(stood),
+    }
+}
+
+// The entries before a place.
+fn before<'s, 'e, 'a>(batch: &'s [Placed<'e, 'a>], place: usize) -> &'s [Placed<'e, 'a>]
+    requires { place ≤ length batch.now }
+    ensures { result.now ≡ take place batch.now }
+{
+    &batch[..place]
+}
+
+// Puts an email out: what stood of it, and the entries of a batch for it.
+fn join_email(
+    out: &mut Tables,
+    row: EmailRow,
+    names: &[NameRow],
+    batch: &[Placed<'_, '_>],
+) -> Result<(), AllocError>
+    requires lie { RowsLie out.old.pool row names.now }
+    requires ascending { IsStrictlySortedBy text_cmp (map name_key (map (name_group out.old.pool) names.now)) }
+    requires no_loose { out.old.loose ≡ [] }
+    requires run { EmailRun (map mapping_at batch.now) }
+    ensures { OnOk result (EmailPut (group_of out.old.pool row names.now) (map mapping_at batch.now) out.old out.new) }
+{
+    let len = unnamed_run(batch);
+    join_names(out, names, behind(batch, len))?;
+    let given = last_given(before(batch, len));
+    let new_name = push_given(out, given.new_name, row.new_name)?;
+    let new_email = push_given(out, given.new_email, row.new_email)?;
+    out.push_email(row.old_email, new_name, new_email)
+}
+
+// The entry that came first.
+fn earliest<'e, 'a>(batch: &[Placed<'e, 'a>]) -> Placed<'e, 'a>
+    requires { 0 < length batch.now }
+    ensures { IsEarliest (map placed_at batch.now) (placed_at result) }
+{
+    let mut first = batch[0];
+    for placed in batch {
+        if placed.index < first.index {
+            first = *placed;
+        }
+    }
+    first
+}
+
+// Passes standing emails on, from one place up to another.
+fn pass_emails(
+    out: &mut Tables,
+    standing: &Tables,
+    from: usize,
+    to: usize,
+) -> Result<(), AllocError>
+    requires up { from ≤ to }
+    requires within { to ≤ length standing.now.groups }
+    requires pool { Extends standing.now.pool out.old.pool }
+    requires no_loose { out.old.loose ≡ [] }
+    ensures { OnOk result (out.new ≡ record out.old { groups = out.old.groups ++ take (to - from) (drop from standing.now.groups) }) }
+{
+    out.push_names(standing.names_between(from, to))?;
+    for place in from..to {
+        let (row, _) = standing.email(place);
+        out.pass_email(row)?;
+    }
+    Ok(())
+}
+
+// Puts the email of a run of the batch out, behind the standing emails before it, and gives the place of the next
+// standing email.
+fn join_run(
+    out: &mut Tables,
+    standing: &Tables,
+    from: usize,
+    run: &[Placed<'_, '_>],
+) -> Result<usize, AllocError>
+    requires within { from ≤ length standing.now.groups }
+    requires standing { AreGroups standing.now.groups }
+    requires pool { Extends standing.now.pool out.old.pool }
+    requires no_loose { out.old.loose ≡ [] }
+    requires some { 0 < length run.now }
+    requires run { EmailRun (map mapping_at run.now) }
+    ensures within { IfOk result (λ next. next ≤ length standing.now.groups) }
+    ensures put { IfOk result (λ next. RunPut (drop from standing.now.groups) (drop next standing.now.groups) (map placed_at run.now) (first_email (map mapping_at run.now)) out.old out.new) }
+{
+    match place_email(standing, from, run[0].entry.old_email()) {
+        Ok(place) => {
+            pass_emails(out, standing, from, place)?;
+            let (row, names) = standing.email(place);
+            join_email(out, row, names, run)?;
+            let count = standing.len();
+            prove!(place < count);
+            Ok(place + 1)
+        }
+        Err(place) => {
+            pass_emails(out, standing, from, place)?;
+            let old_email = out.push_text(earliest(run).entry.old_email(), 0)?;
+            join_email(out, bare_row(old_email), &[], run)?;
+            Ok(place)
+        }
+    }
+}
+
+// The row of an email of which nothing is known yet.
+fn bare_row(old_email: Span) -> EmailRow
+    ensures { result ≡ record { old_email = old_email; new_name = None; new_email = None; names_start = 0; names_end = 0 } }
+{
+    EmailRow {
+        old_email,
+        new_name: None,
+        new_email: None,
+        names_start: 0,
+        names_end: 0,
+    }
+}
+
+// The standing tables with a sorted batch behind them, whose texts have so many bytes.
+fn join_sorted(
+    alloc: Global,
+    standing: &Tables,
+    batch: &[Placed<'_, '_>],
+    bytes: usize,
+) -> Result<Tables, AllocError>
+    requires standing { AreGroups standing.now.groups }
+    requires accepted { AllByRecursion (λ m. is_accepted m ≡ true) (map mapping_at batch.now) }
+    requires ascending { IsAscending key_cmp (map key (map mapping_at batch.now)) }
+    ensures joined { IfOk result (λ made. AllJoined standing.now.groups (map placed_at batch.now) made.groups) }
+    ensures no_loose { IfOk result (λ made. made.loose ≡ []) }
+{
+    let mut out = Tables::over_pool(alloc, standing, batch.len(), bytes)?;
+    let mut from = 0;
+    let mut left = batch;
+    while !left.is_empty() {
+        let len = email_run(left, left[0].entry.old_email());
+        from = join_run(&mut out, standing, from, before(left, len))?;
+        left = behind(left, len);
+    }
+    pass_emails(&mut out, standing, from, standing.len())?;
+    Ok(out)
+}
+
+/// The standing tables with entries behind them.
+pub fn joined(alloc: Global, standing: &Tables, entries: &[Entry<'_>]) -> Result<Tables, AllocError>
+    requires standing { AreGroups standing.now.groups }
+    requires accepted { AllByRecursion (λ m. is_accepted m ≡ true) (map mapping_of entries.now) }
+    ensures { IfOk result (λ made. IsComplete made × IsNormal (listing standing.now.groups ++ map mapping_of entries.now) (listing made.groups)) }
+{
+    let batch = sorted(alloc, entries)?;
+    join_sorted(alloc, standing, &batch, texts_len(entries))
+}
+
+// How many bytes the texts of entries have, as far as they can be counted.
+fn texts_len(entries: &[Entry<'_>]) -> usize {
+    let mut len: usize = 0;
+    for entry in entries {
+        let fields = text_len(entry.new_name()).saturating_add(text_len(entry.new_email()));
+        let keys = text_len(entry.old_name()).saturating_add(entry.old_email().len());
+        len = len.saturating_add(fields).saturating_add(keys);
+    }
+    len
+}
+
+fn text_len(text: Option<&[u8]>) -> usize {
+    match text {
+        Some(text) => text.len(),
+        None => 0,
+    }
+}

@@ -1,0 +1,141 @@
+//! Where emails and names stand in tables, or where they would stand: each is a search that compares keys by [`Steps`]
+//! alone.
+ghost use Rattle.std.specs.Prelude.{◌≡◌, ◌<◌, ◌≤◌, ◌+◌, ◌-◌, ◌^◌, All, length, map, drop, min, IfOk, IfErr};
+ghost use Rattle.std.specs.List.{AllByRecursion};
+ghost use Rattle.std.specs.List.Sorted.{IsStrictlySortedBy};
+ghost use Rattle.mailmap_grammar.specs.Folding.{folded, text_cmp};
+ghost use Rattle.mailmap_grammar.specs.Search.{digits};
+ghost use Rattle.mailmap_tables.specs.Groups.{email_key, name_key};
+ghost use Rattle.mailmap_tables.specs.Places.{IsFound, IsMissing};
+ghost use Rattle.mailmap_tables.specs.Pool.{LiesIn, NameLies, name_group};
+
+use crate::tables::{NameRow, Tables};
+use mailmap_grammar::fold::{Probe, Steps, search};
+use std::cmp::Ordering;
+use std::mem;
+
+// How the emails of tables, from one place on, compare to an email.
+#[derive(Drop)]
+struct EmailProbe<'a> {
+    tables: &'a Tables,
+    start: usize,
+    email: &'a [u8],
+    steps: Steps,
+    ghost few: { length tables.now.groups < 2 ^ 64 },
+}
+
+impl Probe for EmailProbe<'_> {
+    ghost answers = { λ p. map (λ g. text_cmp (email_key g) (folded p.email.now)) (drop p.start p.tables.now.groups) };
+
+    ghost asked = { λ p. p.steps };
+
+    fn ask(&mut self, place: usize) -> Ordering {
+        let known = self.tables.email_text(self.start + place);
+        self.steps.compare(known, self.email)
+    }
+}
+
+// How the names of an email compare to a name.
+#[derive(Drop)]
+struct NameProbe<'a> {
+    tables: &'a Tables,
+    names: &'a [NameRow],
+    name: &'a [u8],
+    steps: Steps,
+    ghost lie: { All (λ r. LiesIn (length tables.now.pool) r.old_name) names.now },
+}
+
+impl Probe for NameProbe<'_> {
+    ghost answers = { λ p. map (λ n. text_cmp (name_key n) (folded p.name.now)) (map (name_group p.tables.now.pool) p.names.now) };
+
+    ghost asked = { λ p. p.steps };
+
+    fn ask(&mut self, place: usize) -> Ordering {
+        let row = self.names[place];
+        self.steps
+            .compare(self.tables.text(row.old_name), self.name)
+    }
+}
+
+/// Where an email stands among those of the tables from `start` on, or where it would stand.
+pub(crate) fn place_email(tables: &Tables, start: usize, email: &[u8]) -> Result<usize, usize>
+    requires start { start ≤ length tables.now.groups }
+    requires ascending { IsStrictlySortedBy text_cmp (map email_key tables.now.groups) }
+    ensures found { IfOk result (IsFound email_key (folded email.now) start tables.now.groups) }
+    ensures missing { IfErr result (IsMissing email_key (folded email.now) start tables.now.groups) }
+{
+    search_email(tables, start, email, &mut Steps::new())
+}
+
+/// Where a name stands among the names of an email, or where it would stand.
+pub(crate) fn place_name(tables: &Tables, names: &[NameRow], name: &[u8]) -> Result<usize, usize>
+    requires lie { AllByRecursion (NameLies (length tables.now.pool)) names.now }
+    requires ascending { IsStrictlySortedBy text_cmp
+        (map name_key (map (name_group tables.now.pool) names.now)) }
+    ensures found { IfOk result
+        (IsFound name_key (folded name.now) 0 (map (name_group tables.now.pool) names.now)) }
+    ensures missing { IfErr result
+        (IsMissing name_key (folded name.now) 0 (map (name_group tables.now.pool) names.now)) }
+{
+    search_name(tables, names, name, &mut Steps::new())
+}
+
+/// As [`place_email`], and counts the comparisons: at most as many as the emails that are searched have digits.
+pub fn search_email(
+    tables: &Tables,
+    start: usize,
+    email: &[u8],
+    steps: &mut Steps,
+) -> Result<usize, usize>
+    requires start { start ≤ length tables.now.groups }
+    requires ascending { IsStrictlySortedBy text_cmp (map email_key tables.now.groups) }
+    requires countable { steps.old ≤ usize.MAX - 64 }
+    ensures found { IfOk result (IsFound email_key (folded email.now) start tables.now.groups) }
+    ensures missing { IfErr result (IsMissing email_key (folded email.now) start tables.now.groups) }
+    ensures at_most { steps.new ≤ steps.old + digits (length tables.now.groups - start) }
+    ensures few { steps.new ≤ steps.old + 64 }
+    ensures at_least { steps.old + min 1 (length tables.now.groups - start) ≤ steps.new }
+{
+    let len = tables.len();
+    let mut probe = EmailProbe {
+        tables,
+        start,
+        email,
+        steps: mem::replace(steps, Steps::new()),
+    };
+    let found = search(len - start, &mut probe);
+    *steps = probe.steps;
+    match found {
+        Ok(i) => Ok(start + i),
+        Err(i) => Err(start + i),
+    }
+}
+
+/// As [`place_name`], and counts the comparisons: at most as many as the number of the names has digits.
+pub fn search_name(
+    tables: &Tables,
+    names: &[NameRow],
+    name: &[u8],
+    steps: &mut Steps,
+) -> Result<usize, usize>
+    requires lie { AllByRecursion (NameLies (length tables.now.pool)) names.now }
+    requires ascending { IsStrictlySortedBy text_cmp
+        (map name_key (map (name_group tables.now.pool) names.now)) }
+    requires countable { steps.old ≤ usize.MAX - 64 }
+    ensures found { IfOk result
+        (IsFound name_key (folded name.now) 0 (map (name_group tables.now.pool) names.now)) }
+    ensures missing { IfErr result
+        (IsMissing name_key (folded name.now) 0 (map (name_group tables.now.pool) names.now)) }
+    ensures at_most { steps.new ≤ steps.old + digits (length names.now) }
+    ensures at_least { steps.old + min 1 (length names.now) ≤ steps.new }
+{
+    let mut probe = NameProbe {
+        tables,
+        names,
+        name,
+        steps: mem::replace(steps, Steps::new()),
+    };
+    let found = search(names.len(), &mut probe);
+    *steps = probe.steps;
+    found
+}

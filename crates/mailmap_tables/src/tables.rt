@@ -1,0 +1,308 @@
+//! The tables of a snapshot: one pool of bytes that holds each text, a flat table of emails and a flat table of names,
+//! whose rows say where their texts stand in the pool.
+ghost use Rattle.std.specs.Prelude.{◌≡◌, ◌≤◌, ◌<◌, ◌++◌, [], ◌∷◌, length, OnOk, IfOk, map, Some, slice_get, take, drop, ◌-◌};
+ghost use Rattle.std.specs.Option.{option_map, option_copied, ForSome};
+ghost use Rattle.std.specs.List.{AllByRecursion, HoldsAt, flat_map};
+ghost use Rattle.mailmap_tables.specs.Pool.{end_of};
+
+use std::alloc::{AllocError, Global};
+use std::marker::Model;
+
+/// Where a text stands in the pool.
+#[derive(Clone, Copy)]
+pub struct Span {
+    pub start: usize,
+    pub len: usize,
+}
+
+/// An old name of an email, and the fields that stand for it.
+#[derive(Clone, Copy)]
+pub struct NameRow {
+    pub old_name: Span,
+    pub new_name: Option<Span>,
+    pub new_email: Span,
+}
+
+/// An old email, the fields that were given for it without an old name, and the range of its names in the table of
+/// names.
+#[derive(Clone, Copy)]
+pub struct EmailRow {
+    pub old_email: Span,
+    pub new_name: Option<Span>,
+    pub new_email: Option<Span>,
+    pub names_start: usize,
+    pub names_end: usize,
+}
+
+/// The pool and the two tables. While tables are built, names come before the email that takes them.
+#[derive(Drop)]
+pub struct Tables {
+    pool: Vec<u8>,
+    emails: Vec<EmailRow>,
+    names: Vec<NameRow>,
+    // how many bytes of the pool no row names any more
+    dead: usize,
+}
+
+impl Model for Tables {
+    ghost use Rattle.mailmap_tables.specs.Groups.{Contents};
+
+    ghost Value = { Contents };
+
+    ghost use Rattle.mailmap_tables.specs.Pool.{AreTables, contents};
+
+    ghost view = { λ t. contents t.pool.items t.names.items t.emails.items };
+
+    ghost invariant = { λ t. AreTables t.pool.items t.names.items t.emails.items };
+}
+
+impl Tables {
+    ghost use Rattle.mailmap_tables.specs.Groups.{Contents, EmailGroup, NameGroup};
+    ghost use Rattle.mailmap_tables.specs.Pool.{spelled, LiesIn, NameLies, EmailLies, name_group, group_of};
+
+    /// No email and no name, and no memory taken.
+    pub fn new(alloc: Global) -> Tables
+        ensures { result ≡ record { pool = []; groups = []; loose = [] } }
+    {
+        Tables {
+            pool: Vec::new(alloc),
+            emails: Vec::new(alloc),
+            names: Vec::new(alloc),
+            dead: 0,
+        }
+    }
+
+    /// The pool of `standing` with its texts where they are, and no email and no name. There is room for the rows of
+    /// `standing` and some more, and for so many bytes more in the pool.
+    pub fn over_pool(
+        alloc: Global,
+        standing: &Tables,
+        rows: usize,
+        bytes: usize,
+    ) -> Result<Tables, AllocError>
+        ensures { IfOk result (λ made. made ≡ record { pool = standing.now.pool; groups = []; loose = [] }) }
+    {
+        let len = standing.pool.len();
+        let mut pool = Vec::with_capacity(alloc, len.saturating_add(bytes))?;
+        pool.extend_from_slice(&standing.pool)?;
+        Ok(Tables {
+            pool,
+            emails: Vec::with_capacity(alloc, with_more(standing.emails.len(), rows))?,
+            names: Vec::with_capacity(alloc, with_more(standing.names.len(), rows))?,
+            dead: standing.dead,
+        })
+    }
+
+    /// Puts a text at the end of the pool. So many bytes that stood there are out of use then.
+    pub fn push_text(&mut self, text: &[u8], replaced: usize) -> Result<Span, AllocError>
+        ensures grown { OnOk result (self.new ≡ record self.old { pool = self.old.pool ++ text.now }) }
+        ensures lies { IfOk result (LiesIn (length self.new.pool)) }
+        ensures spells { IfOk result (λ span. spelled self.new.pool span ≡ text.now) }
+    {
+        let start = self.pool.len();
+        self.pool.extend_from_slice(text)?;
+        self.dead = self.dead.saturating_add(replaced);
+        Ok(Span {
+            start,
+            len: text.len(),
+        })
+    }
+
+    /// Puts a name behind those that no email has taken.
+    pub fn push_name(&mut self, row: NameRow) -> Result<(), AllocError>
+        requires { NameLies (length self.old.pool) row }
+        ensures { OnOk result (self.new ≡ record self.old { loose = self.old.loose ++ name_group self.old.pool row ∷ [] }) }
+    {
+        self.names.push(row)?;
+        Ok(())
+    }
+
+    /// Puts names behind those that no email has taken.
+    pub fn push_names(&mut self, rows: &[NameRow]) -> Result<(), AllocError>
+        requires { AllByRecursion (NameLies (length self.old.pool)) rows.now }
+        ensures { OnOk result (self.new ≡ record self.old { loose = self.old.loose ++ map (name_group self.old.pool) rows.now }) }
+    {
+        self.names.extend_from_slice(rows)?;
+        Ok(())
+    }
+
+    /// Puts an email behind the others, which takes the names that no email has taken yet.
+    pub fn push_email(
+        &mut self,
+        old_email: Span,
+        new_name: Option<Span>,
+        new_email: Option<Span>,
+    ) -> Result<(), AllocError>
+        requires old_email_lies { LiesIn (length self.old.pool) old_email }
+        requires new_name_lies { ForSome new_name (LiesIn (length self.old.pool)) }
+        requires new_email_lies { ForSome new_email (LiesIn (length self.old.pool)) }
+        ensures { OnOk result (self.new ≡ record {
+          pool = self.old.pool;
+          groups = self.old.groups ++ record {
+            old_email = spelled self.old.pool old_email;
+            own = record { name = option_map (spelled self.old.pool) new_name; email = option_map (spelled self.old.pool) new_email };
+            names = self.old.loose;
+          } ∷ [];
+          loose = [];
+        }) }
+    {
+        let names_start = last_end(&self.emails);
+        self.emails.push(EmailRow {
+            old_email,
+            new_name,
+            new_email,
+            names_start,
+            names_end: self.names.len(),
+        })?;
+        Ok(())
+    }
+
+    /// Puts an email behind the others, which takes as many of the names that no email has taken yet as the row has.
+    pub fn pass_email(&mut self, row: EmailRow) -> Result<(), AllocError>
+        requires lies { EmailLies (length self.old.pool) row }
+        requires up { row.names_start ≤ row.names_end }
+        requires loose { row.names_end - row.names_start ≤ length self.old.loose }
+        ensures { OnOk result (self.new ≡ record {
+          pool = self.old.pool;
+          groups = self.old.groups ++ record (group_of self.old.pool row []) { names = take (row.names_end - row.names_start) self.old.loose } ∷ [];
+          loose = drop (row.names_end - row.names_start) self.old.loose;
+        }) }
+    {
+        let names_start = last_end(&self.emails);
+        self.emails.push(EmailRow {
+            names_start,
+            names_end: names_start + (row.names_end - row.names_start),
+            ..row
+        })?;
+        Ok(())
+    }
+}
+
+// So many, and room for more, but not for more than twice as many and a few.
+fn with_more(len: usize, more: usize) -> usize {
+    len.saturating_add(more.min(len.saturating_add(64)))
+}
+
+impl Tables {
+    ghost use Rattle.mailmap_tables.specs.Groups.{Contents, EmailGroup, NameGroup};
+    ghost use Rattle.mailmap_tables.specs.Groups.{listing};
+    ghost use Rattle.mailmap_tables.specs.Pool.{spelled, LiesIn, NameLies, name_group, group_of, RowsLie};
+
+    /// The allocator that the tables keep.
+    pub fn allocator(&self) -> Global {
+        *self.pool.allocator()
+    }
+
+    /// The number of emails.
+    pub fn len(&self) -> usize
+        ensures { result ≡ length self.now.groups }
+    {
+        self.emails.len()
+    }
+
+    /// The number of rows in both tables. No listing is longer.
+    pub fn row_count(&self) -> usize
+        ensures { length (listing self.now.groups) ≤ result }
+    {
+        self.emails.len() + self.names.len()
+    }
+
+    /// The text that a span names.
+    pub fn text(&self, span: Span) -> &[u8]
+        requires { LiesIn (length self.now.pool) span }
+        ensures { result.now ≡ spelled self.now.pool span }
+    {
+        &self.pool[span.start..span.start + span.len]
+    }
+
+    /// The email at a place, with its names.
+    pub fn email(&self, place: usize) -> (EmailRow, &[NameRow])
+        requires { place < length self.now.groups }
+        ensures up { result.0.names_start ≤ result.0.names_end }
+        ensures count { result.0.names_end - result.0.names_start ≡ length result.1.now }
+        ensures group { slice_get self.now.groups place ≡ Some (group_of self.now.pool result.0 result.1.now) }
+        ensures lie { RowsLie self.now.pool result.0 result.1.now }
+    {
+        let row = self.emails[place];
+        (row, part(&self.names, row.names_start, row.names_end))
+    }
+
+    /// The names of the emails from one place up to another.
+    pub fn names_between(&self, from: usize, to: usize) -> &[NameRow]
+        requires up { from ≤ to }
+        requires within { to ≤ length self.now.groups }
+        ensures names { map (name_group self.now.pool) result.now ≡ flat_map (λ (g : EmailGroup). g.names) (take (to - from) (drop from self.now.groups)) }
+        ensures lie { AllByRecursion (NameLies (length self.now.pool)) result.now }
+    {
+        part(
+            &self.names,
+            last_end(&self.emails[..from]),
+            last_end(&self.emails[..to]),
+        )
+    }
+}
+
+// Where the range of the last email's names ends.
+fn last_end(emails: &[EmailRow]) -> usize
+    ensures { result ≡ end_of 0 emails.now }
+{
+    match emails.last() {
+        Some(row) => row.names_end,
+        None => 0,
+    }
+}
+
+// The rows from one place up to another.
+fn part(names: &[NameRow], from: usize, to: usize) -> &[NameRow]
+    requires up { from ≤ to }
+    requires within { to ≤ length names.now }
+    ensures { result.now ≡ take (to - from) (drop from names.now) }
+{
+    &names[from..to]
+}
+
+// What lookups and the listing read.
+impl Tables {
+    ghost use Rattle.mailmap_tables.specs.Groups.{Contents, EmailGroup};
+    ghost use Rattle.mailmap_tables.specs.Pool.{spelled, LiesIn};
+
+    /// The text of the email at a place.
+    pub fn email_text(&self, place: usize) -> &[u8]
+        requires { place < length self.now.groups }
+        ensures { slice_get (map (λ (g : EmailGroup). g.old_email) self.now.groups) place ≡ Some result.now }
+    {
+        let row = self.emails[place];
+        self.text(row.old_email)
+    }
+
+    /// The text that a span names, if there is one.
+    pub fn optional_text(&self, span: Option<Span>) -> Option<&[u8]>
+        requires { ForSome span (LiesIn (length self.now.pool)) }
+        ensures { option_copied result ≡ option_map (spelled self.now.pool) span }
+    {
+        match span {
+            Some(span) => Some(self.text(span)),
+            None => None,
+        }
+    }
+
+    /// The same tables in memory of their own.
+    pub fn try_clone(&self, alloc: Global) -> Result<Tables, AllocError>
+        ensures { IfOk result (λ copy. copy ≡ self.now) }
+    {
+        Ok(Tables {
+            pool: Vec::from_slice(alloc, &self.pool)?,
+            emails: Vec::from_slice(alloc, &self.emails)?,
+            names: Vec::from_slice(alloc, &self.names)?,
+            dead: self.dead,
+        })
+    }
+}
+
+// How much of the pool is in use.
+impl Tables {
+    /// Whether texts that no row names any more take half of the pool or more.
+    pub fn is_half_dead(&self) -> bool {
+        self.dead > 0 && self.dead >= self.pool.len().saturating_sub(self.dead)
+    }
+}
