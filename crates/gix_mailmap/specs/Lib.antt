@@ -3,7 +3,8 @@ pub use Rattle.mailmap_grammar.specs.Trimming
 pub use Rattle.mailmap_grammar.specs.Entries
 pub use Rattle.mailmap_grammar.specs.Lines
 pub use Rattle.mailmap_grammar.specs.Search
-pub use Rattle.mailmap_grammar.specs.Times
+pub use Rattle.mailmap_signatures.specs.Times
+pub use Rattle.mailmap_signatures.specs.SignatureFields
 pub use Rattle.mailmap_tables.specs.Fronts
 pub use Rattle.mailmap_tables.specs.Histories
 pub use Rattle.mailmap_tables.specs.Groups

@@ -5,7 +5,8 @@ ghost use Rattle.gix_mailmap.specs.Parts.{IsParted};
 
 mod text;
 
-pub use mailmap_grammar::laws::{law_cut, law_reading, law_strict_reading, law_time, law_trim};
+pub use mailmap_grammar::laws::{law_cut, law_reading, law_strict_reading, law_trim};
+pub use mailmap_signatures::laws::law_time;
 pub use mailmap_tables::laws::{
     law_condense, law_exists, law_reorder, law_scan, law_self, law_shortest, law_unique,
 };

@@ -15,12 +15,10 @@
 //! follows from them.
 #![tactic(auto)]
 
-pub mod actor;
 pub mod check;
 pub mod laws;
 pub mod snapshot;
 
-pub use mailmap_grammar::{
-    Entry, date as date, fold as fold, lines as lines, parse, parse_ignore_errors, parse_strict,
-};
+pub use mailmap_grammar::{Entry, fold, lines, parse, parse_ignore_errors, parse_strict};
+pub use mailmap_signatures::{actor, date};
 pub use snapshot::Snapshot;

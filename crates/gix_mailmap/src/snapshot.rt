@@ -6,14 +6,13 @@ mod listing;
 mod lookup;
 mod resolve;
 mod resolved;
-mod signature;
 mod sources;
 mod text;
 
 pub use listing::Iter;
+pub use mailmap_signatures::cow::Signature;
 use mailmap_tables::tables::Tables;
 pub use resolved::ResolvedSignature;
-pub use signature::Signature;
 pub use sources::Source;
 use std::alloc::Global;
 use std::marker::Model;

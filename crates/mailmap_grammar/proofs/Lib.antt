@@ -8,4 +8,3 @@ pub mod SplitOnce
 pub mod Trimmed
 pub mod Folding
 pub mod Search
-pub mod Times

@@ -3,4 +3,3 @@ pub mod Trimming
 pub mod Entries
 pub mod Lines
 pub mod Search
-pub mod Times

@@ -2,9 +2,7 @@
 ghost use Rattle.std.specs.Prelude.{◌≡◌, ◌↔◌, ℕ, Option};
 ghost use Rattle.mailmap_grammar.specs.Folding.{Text};
 ghost use Rattle.mailmap_grammar.specs.Lines.{cut, Closed, Unclosed, Absent, IsCut, IsUnclosed, HoldsNo, Reading, reading, strict_reading, IsRead, IsReadStrictly};
-ghost use Rattle.mailmap_grammar.specs.Times.{Spells, IsTimeOf};
 ghost use Rattle.mailmap_grammar.specs.Trimming.{IsTrimmed, trim};
-ghost use Rattle.mailmap_grammar.specs.declared.date.Time.{Time};
 
 /// Trimming takes the longest front and then the longest end of white space away, and that is one text.
 pub fn law_trim()
@@ -27,10 +25,4 @@ pub fn law_reading()
 /// Strict reading has one case more: a second half whose `<` has no `>`.
 pub fn law_strict_reading()
     ensures { (n : ℕ) (line : Text) (o : Option Reading) → (strict_reading n line ≡ o) ↔ IsReadStrictly n line o }
-{}
-
-/// A text spells one time at most, so the time of a signature follows from its text.
-pub fn law_time()
-    ensures spelled { (text : Text) (a b : Time) → Spells text a → Spells text b → a ≡ b }
-    ensures time_of { (text : Text) (a b : Time) → IsTimeOf text a → IsTimeOf text b → a ≡ b }
 {}

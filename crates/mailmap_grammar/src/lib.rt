@@ -1,8 +1,6 @@
-//! What mailmaps are written of: the lines of a buffer and the entries that they say, the order of keys, and the times of
-//! commit signatures. The crate `gix_mailmap` passes on what users need of this.
+//! What mailmaps are written of: the lines of a buffer and the entries that they say, and the order of keys. The crate `gix_mailmap` passes on what users need of this.
 #![tactic(auto)]
 
-pub mod date;
 mod entry;
 pub mod fold;
 pub mod halves;

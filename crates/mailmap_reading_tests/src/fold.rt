@@ -39,7 +39,7 @@ fn finds<R: Abort>(rt: &R, answers: &[Ordering], want: Result<usize, usize>, at_
 }
 
 #[test]
-#[tactic(auto, unfolding(gix_mailmap::specs::Search::IsParted))]
+#[tactic(auto, unfolding(mailmap_grammar::specs::Search::IsParted))]
 fn search_finds_or_places_within_the_digits_of_the_length(rt: HostRuntime) {
     use std::cmp::Ordering::{Equal, Greater, Less};
     finds(&rt, &[], Err(0), 0);

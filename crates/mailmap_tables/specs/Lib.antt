@@ -3,7 +3,6 @@ pub use Rattle.mailmap_grammar.specs.Trimming
 pub use Rattle.mailmap_grammar.specs.Entries
 pub use Rattle.mailmap_grammar.specs.Lines
 pub use Rattle.mailmap_grammar.specs.Search
-pub use Rattle.mailmap_grammar.specs.Times
 pub mod Fronts
 pub mod Histories
 pub mod Groups

@@ -8,10 +8,10 @@ ghost use Rattle.mailmap_tables.specs.Pool.{LiesIn, spelled};
 ghost use Rattle.mailmap_grammar.specs.Search.{digits};
 ghost use Rattle.gix_mailmap.specs.Signatures.{shown, email_count, name_count};
 
-use crate::actor::SignatureRef;
 use crate::snapshot::Snapshot;
 use crate::snapshot::resolved::ResolvedSignature;
 use mailmap_grammar::fold::Steps;
+use mailmap_signatures::actor::SignatureRef;
 use mailmap_tables::search::{search_email, search_name};
 use mailmap_tables::tables::{Span, Tables};
 

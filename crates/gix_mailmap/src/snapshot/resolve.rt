@@ -1,13 +1,14 @@
 //! Signatures with their mapped names and emails in place, owned or copied on write.
 ghost use Rattle.std.specs.Prelude.{◌≡◌, ◌↔◌, ◌||◌, List, is_some, IsTrue, IsSome, IfOk, IfSome, OnErr};
-ghost use Rattle.gix_mailmap.specs.Answers.{owned_fields, cow_fields, mapped, IsAnswer, OwnsMapped, IsEnriched, OwnsJust};
+ghost use Rattle.mailmap_signatures.specs.SignatureFields.{owned_fields, cow_fields};
+ghost use Rattle.gix_mailmap.specs.Answers.{mapped, IsAnswer, OwnsMapped, IsEnriched, OwnsJust};
 ghost use Rattle.mailmap_grammar.specs.Entries.{Mapping};
 ghost use Rattle.mailmap_tables.specs.Histories.{IsNormal};
 ghost use Rattle.gix_mailmap.specs.Signatures.{shown};
 
-use crate::actor;
-use crate::actor::SignatureRef;
 use crate::snapshot::{ResolvedSignature, Signature, Snapshot};
+use mailmap_signatures::actor;
+use mailmap_signatures::actor::SignatureRef;
 use std::alloc::{AllocError, Global};
 use std::borrow::CowSlice;
 
@@ -122,22 +123,20 @@ fn enriched_signature<'a>(
     ensures fields { IfOk result (λ s. IsEnriched (shown new.entry) signature.entry (cow_fields s)) }
     ensures owned { IfOk result (OwnsJust (shown new.entry)) }
 {
-    let time = signature.time_or_default();
+    let kept = Signature::from(signature);
     match (new.email, new.name) {
         (Some(new_email), Some(new_name)) => Ok(Signature {
             name: CowSlice::Owned(Vec::from_slice(alloc, new_name)?),
             email: CowSlice::Owned(Vec::from_slice(alloc, new_email)?),
-            time,
+            ..kept
         }),
         (Some(new_email), None) => Ok(Signature {
-            name: CowSlice::Borrowed(signature.name),
             email: CowSlice::Owned(Vec::from_slice(alloc, new_email)?),
-            time,
+            ..kept
         }),
         (None, Some(new_name)) => Ok(Signature {
             name: CowSlice::Owned(Vec::from_slice(alloc, new_name)?),
-            email: CowSlice::Borrowed(signature.email),
-            time,
+            ..kept
         }),
         (None, None) => unreachable!("a lookup finds a name or an email"),
     }

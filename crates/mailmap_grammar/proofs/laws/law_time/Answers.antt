@@ -1,9 +1,0 @@
--- Both are lemmas on times.
-use Rattle.mailmap_grammar.proofs.Times.{Spells-unique, IsTimeOf-unique}
-use Rattle.mailmap_grammar.proofs.laws.law_time.Goals as goal
-
-pub returns-clause-spelled : goal.returns-clause-spelled
-returns-clause-spelled c = Spells-unique
-
-pub returns-clause-time_of : goal.returns-clause-time_of
-returns-clause-time_of c = IsTimeOf-unique

@@ -1,0 +1,3 @@
+pub use Rattle.mailmap_grammar.specs.Folding
+pub mod Times
+pub mod SignatureFields

@@ -1,0 +1,69 @@
+-- The time that a text spells, as `1711398853 +0800`.
+use Rattle.std.specs.Prelude.{◌≡◌, ◌⊎◌, ◌+◌, ◌*◌, ◌-◌, ◌^◌, ◌<◌, ◌<ℤ◌, ℕ, ℤ, pos, neg_ℤ, Bool, if◌then◌else◌, Option, MatchOption, [], ◌∷◌, ◌++◌, length, FitsSigned}
+use Rattle.std.specs.Char.{IsAsciiDigit}
+use Rattle.std.specs.Int.{w64}
+use Rattle.std.specs.List.{AllByRecursion}
+use Rattle.std.specs.Ordering.{int_cmp, ordering_then}
+use Rattle.std.specs.declared.cmp.Ordering.{Ordering}
+use Rattle.mailmap_grammar.specs.Folding.{Text}
+use Rattle.mailmap_signatures.specs.declared.date.Time.{Time}
+
+-- decimal digits and nothing else
+abbrev pub AreDigits : Text → Type 0
+AreDigits = AllByRecursion IsAsciiDigit
+
+-- the number that decimal digits write: each counts by its place
+abbrev pub number : Text → ℕ
+number [] = 0
+number (d ∷ ds) = (d - 48) * 10 ^ length ds + number ds
+
+-- a number with its sign
+abbrev pub signed : Bool → ℕ → ℤ
+signed negative n = if negative then neg_ℤ (pos n) else pos n
+
+-- one digit or more, however many zeros lead them, with a `-` in front or nothing; the value fits 64 bits
+pub record SpellsSeconds (text : Text) (seconds : ℤ) : Type 0 where
+  pub negative : Bool
+  pub digits : Text
+  pub whole : text ≡ (if negative then 45 ∷ digits else digits)
+  pub are_digits : AreDigits digits × (0 < length digits)
+  pub value : seconds ≡ signed negative (number digits)
+  pub fits : FitsSigned w64 seconds
+
+-- a `-` or a `+`, two digits of hours and two digits of minutes, whatever they are
+pub record SpellsOffset (text : Text) (offset : ℤ) : Type 0 where
+  pub negative : Bool
+  pub hours : Text
+  pub minutes : Text
+  pub whole : text ≡ (if negative then 45 else 43) ∷ (hours ++ minutes)
+  pub are_hours : AreDigits hours × (length hours ≡ 2)
+  pub are_minutes : AreDigits minutes × (length minutes ≡ 2)
+  pub value : offset ≡ signed negative ((number hours * 60 + number minutes) * 60)
+
+-- seconds, one blank and an offset
+pub record Spells (text : Text) (time : Time) : Type 0 where
+  pub front : Text
+  pub back : Text
+  pub whole : text ≡ front ++ 32 ∷ back
+  pub seconds : SpellsSeconds front time.seconds
+  pub offset : SpellsOffset back time.offset
+
+-- what reading a text gives: the time that it spells, and None where it spells none
+abbrev pub Reads : Text → Option Time → Type 0
+Reads text read = MatchOption read ((time : Time) → ¬ Spells text time) (Spells text)
+
+-- zero in both fields: the beginning of 1970, by a clock set to UTC
+abbrev pub epoch : Time
+epoch = record { seconds = pos 0; offset = pos 0 }
+
+-- the time of a signature whose time text is this one: the time that it spells, and the epoch where it spells none
+abbrev pub IsTimeOf : Text → Time → Type 0
+IsTimeOf text time = Spells text time ⊎ (((other : Time) → ¬ Spells text other) × (time ≡ epoch))
+
+-- the seconds decide, and where they are equal the offsets
+abbrev pub IsEarlier : Time → Time → Type 0
+IsEarlier a b = (a.seconds <ℤ b.seconds) ⊎ ((a.seconds ≡ b.seconds) × (a.offset <ℤ b.offset))
+
+-- the same as an answer of `cmp`
+abbrev pub time_cmp : Time → Time → Ordering
+time_cmp a b = ordering_then (int_cmp a.seconds b.seconds) (int_cmp a.offset b.offset)
