@@ -4,13 +4,13 @@ use Rattle.std.specs.List.{All, flat_map}
 use Rattle.std.specs.List.Sorted.{IsStrictlySortedBy}
 use Rattle.std.proofs.lemmas.List.{flat_map_more, map_more}
 use Rattle.std.proofs.lemmas.List.Elements.{All-nil, recursion_from_All}
-use Rattle.gix_mailmap.specs.CanonicalText.{IsWritable}
+use Rattle.mailmap_snapshot.specs.CanonicalText.{IsWritable}
 use Rattle.mailmap_grammar.specs.Entries.{Mapping}
 use Rattle.mailmap_grammar.specs.Folding.{Text}
 use Rattle.mailmap_tables.specs.Histories.{IsNormal}
 use Rattle.mailmap_grammar.specs.Lines.{good}
-use Rattle.gix_mailmap.specs.Writing.{IsFirstUnwritable}
-use Rattle.gix_mailmap.proofs.Left.{held}
+use Rattle.mailmap_snapshot.specs.Writing.{IsFirstUnwritable}
+use Rattle.mailmap_snapshot.proofs.Left.{held}
 use Rattle.mailmap_tables.proofs.Normal.{normal_then}
 use Rattle.gix_mailmap.proofs.WritableLines.{all_read}
 use Rattle.gix_mailmap.proofs.WritableValues.{normal_fits}

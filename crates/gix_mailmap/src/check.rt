@@ -8,12 +8,12 @@ ghost use Rattle.mailmap_grammar.specs.Lines.{good};
 mod compaction;
 mod parts;
 
-use crate::snapshot::Snapshot;
 use bstr::ByteSlice;
 pub use compaction::compact;
 use mailmap_grammar::halves::{Half, parse_name_and_email, trim};
 use mailmap_grammar::parse_ignore_errors;
 use mailmap_signatures::actor::SignatureRef;
+use mailmap_snapshot::snapshot::Snapshot;
 pub use parts::split;
 use std::alloc::{AllocError, Global};
 

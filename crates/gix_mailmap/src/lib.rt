@@ -17,8 +17,7 @@
 
 pub mod check;
 pub mod laws;
-pub mod snapshot;
 
 pub use mailmap_grammar::{Entry, fold, lines, parse, parse_ignore_errors, parse_strict};
 pub use mailmap_signatures::{actor, date};
-pub use snapshot::Snapshot;
+pub use mailmap_snapshot::{Snapshot, snapshot};

@@ -1,4 +1,4 @@
-use gix_mailmap::date::Time;
+use mailmap_signatures::date::Time;
 use std::process::Abort;
 
 /// Wants these seconds and this offset of a text.

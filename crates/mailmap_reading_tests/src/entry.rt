@@ -1,4 +1,4 @@
-use gix_mailmap::Entry;
+use mailmap_grammar::Entry;
 use std::cmp::Ordering;
 use std::process::Abort;
 

@@ -1,8 +1,8 @@
 //! Worked rows of the order, of the search and of the count.
 ghost use Rattle.std.specs.Prelude.{◌≡◌, ◌≤◌, length};
-ghost use Rattle.gix_mailmap.specs.Search.{IsParted};
+ghost use Rattle.mailmap_grammar.specs.Search.{IsParted};
 
-use gix_mailmap::fold::{Probe, Steps, cmp_ignore_ascii_case, search};
+use mailmap_grammar::fold::{Probe, Steps, cmp_ignore_ascii_case, search};
 use std::cmp::Ordering;
 use std::process::Abort;
 

@@ -1,10 +1,6 @@
-//! Tests of how [`gix_mailmap`] reads: lines, entries, times, the order without case, and the input of contacts.
+//! Tests of what the library reads, of entries and signatures, and of the order without case.
 #![tactic(auto)]
 
-#[cfg(test)]
-mod check;
-#[cfg(test)]
-mod compaction;
 #[cfg(test)]
 mod date;
 #[cfg(test)]
@@ -13,3 +9,5 @@ mod entry;
 mod fold;
 #[cfg(test)]
 mod lines;
+#[cfg(test)]
+mod signature;

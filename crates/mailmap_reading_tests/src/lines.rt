@@ -1,5 +1,5 @@
-use gix_mailmap::lines::Error;
-use gix_mailmap::{Entry, parse, parse_ignore_errors, parse_strict};
+use mailmap_grammar::lines::Error;
+use mailmap_grammar::{Entry, parse, parse_ignore_errors, parse_strict};
 use std::alloc::Global;
 use std::process::Abort;
 use std::test::Fail;

@@ -1,9 +1,9 @@
 //! Buffers of mailmap lines, merged into one mailmap without what later lines replaced.
 ghost use Rattle.std.specs.Prelude.{IfOk, map};
-ghost use Rattle.gix_mailmap.specs.Writing.{IsCompacted};
+ghost use Rattle.mailmap_snapshot.specs.Writing.{IsCompacted};
 
-use crate::snapshot::{Snapshot, WriteError};
 use mailmap_grammar::parse_ignore_errors;
+use mailmap_snapshot::snapshot::{Snapshot, WriteError};
 use std::alloc::{AllocError, Global};
 
 /// The mailmap that maps as the buffers do, one after another: each key has one line, and the lines are in the order of

@@ -5,7 +5,7 @@ use Rattle.mailmap_grammar.specs.Entries.{mapping_of}
 use Rattle.mailmap_tables.specs.Histories.{IsNormal}
 use Rattle.mailmap_grammar.specs.Lines.{good}
 use Rattle.mailmap_tables.proofs.Normal.{normal_then}
-use Rattle.gix_mailmap.proofs.Sources.{normal_none, gives_said, merged_whole, buffers_more}
+use Rattle.mailmap_snapshot.proofs.Sources.{normal_none, gives_said, merged_whole, buffers_more}
 use Rattle.gix_mailmap.proofs.check.merged.Goals as goal
 
 pub loop-buf-init : goal.loop-buf-init

@@ -1,7 +1,7 @@
 use Rattle.std.proofs.Common.{[], map, take, subst, sym, ◌∙◌, arith}
 use Rattle.mailmap_grammar.specs.Entries.{mapping_of}
 use Rattle.mailmap_tables.specs.Histories.{IsNormal}
-use Rattle.gix_mailmap.specs.Writing.{IsFirstUnwritable, IsUnwrittenBy}
+use Rattle.mailmap_snapshot.specs.Writing.{IsFirstUnwritable, IsUnwrittenBy}
 use Rattle.gix_mailmap.proofs.Compacted.{nothing_normal, next_merged, never_unwritable}
 use Rattle.gix_mailmap.proofs.Drained.{drained_all}
 use Rattle.gix_mailmap.proofs.check.compaction.compact.Goals as goal

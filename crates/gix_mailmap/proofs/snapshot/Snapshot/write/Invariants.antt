@@ -1,6 +1,0 @@
-use Rattle.std.proofs.Common.{◌≡◌, ◌++◌}
-use Rattle.gix_mailmap.specs.CanonicalText.{text}
-use Rattle.gix_mailmap.proofs.snapshot.Snapshot.write.Given as goal
-
-abbrev pub invariant-loop-entry : goal.invariant-loop-entry
-invariant-loop-entry l = l.out.items ++ text l.entry-iterator ≡ text l.fn.self

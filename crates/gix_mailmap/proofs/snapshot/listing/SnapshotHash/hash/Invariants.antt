@@ -1,6 +1,0 @@
-use Rattle.std.proofs.Common.{◌≡◌, fold}
-use Rattle.gix_mailmap.specs.Listings.{entries_hashed}
-use Rattle.gix_mailmap.proofs.snapshot.listing.SnapshotHash.hash.Given as goal
-
-abbrev pub invariant-loop-entry : goal.invariant-loop-entry
-invariant-loop-entry g l = fold g.H.Hasher.write l.state (entries_hashed l.entry-iterator) ≡ fold g.H.Hasher.write l.fn.state (entries_hashed l.fn.self)

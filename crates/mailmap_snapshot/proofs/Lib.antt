@@ -1,0 +1,9 @@
+pub mod Complete
+pub mod Counts
+pub mod Resolved
+pub mod Listed
+pub mod Compared
+pub mod Whole
+pub mod Left
+pub mod Sources
+pub mod Built

@@ -1,0 +1,34 @@
+-- What is left of a listing, step by step.
+use Rattle.std.proofs.Common.{◌≡◌, ℕ, ◌+◌, ◌<◌, ◌≤◌, true, List, [], ◌∷◌, ◌++◌, map, drop, length, Some, refl, ap, ◌∙◌, append_assoc, arith}
+use Rattle.std.specs.List.{slice_get}
+use Rattle.std.specs.Prelude.{nat_eq}
+use Rattle.std.proofs.lemmas.Bool.{eqb-true}
+use Rattle.std.proofs.lemmas.List.{drop_more, drop_all}
+use Rattle.std.proofs.lemmas.Option.{get_or_from_slice_get, slice_get_within}
+use Rattle.mailmap_grammar.specs.Folding.{Text}
+use Rattle.mailmap_tables.specs.Groups.{Contents, EmailGroup, name_row, own_rows, listing}
+use Rattle.mailmap_snapshot.specs.Listings.{left_to_list}
+use Rattle.mailmap_tables.specs.Pool.{spelled, group_of}
+use Rattle.mailmap_tables.specs.declared.tables.EmailRow.{EmailRow}
+use Rattle.mailmap_tables.specs.declared.tables.NameRow.{NameRow}
+
+module _ (t : Contents) (email : Text) (ns : List NameRow) (i : ℕ) (none : ns ≡ []) where
+  -- where no name is left, the next email begins
+  pub next_email : (r : EmailRow) (rest : List NameRow) → slice_get t.groups i ≡ Some (group_of t.pool r rest)
+      → left_to_list t email ns i ≡ own_rows (group_of t.pool r []) ++ left_to_list t (spelled t.pool r.old_email) rest (i + 1)
+  next_email r rest read =
+      let g : EmailGroup = group_of t.pool r rest in
+      let lt : i < length t.groups = slice_get_within t.groups i g read in
+      ap (λ l. left_to_list t email l i) none
+      ∙ ap listing (drop_more t.groups i g lt)
+      ∙ ap (λ x. listing (x ∷ drop (i + 1) t.groups)) (get_or_from_slice_get t.groups i g g read)
+      ∙ append_assoc (own_rows g) (map (name_row g.old_email) g.names) (listing (drop (i + 1) t.groups))
+
+  -- and where no email is left, nothing is
+  pub nothing_left : length t.groups ≤ i → left_to_list t email ns i ≡ []
+  nothing_left past = ap (λ l. left_to_list t email l i) none ∙ ap listing (drop_all i t.groups past)
+
+-- a list of no length
+pub empty : {X : Type 0} (xs : List X) → nat_eq (length xs) 0 ≡ true → xs ≡ []
+empty [] e = refl
+empty (x ∷ xs) e = let none : length (x ∷ xs) ≡ 0 = eqb-true _ _ e in absurd (omega arith)

@@ -1,0 +1,128 @@
+-- What merging an iterator says where it is known which entries it gives, and the history of sources step by step.
+use Rattle.std.proofs.Common.{◌≡◌, ◌≢◌, ◌+◌, ◌<◌, ℕ, Bool, true, cond, Option, Some, List, [], ◌∷◌, ◌++◌, map, take, drop, length, get_or, Result, Ok, Err, OnOk, OnErr, is_ok, set, slice_get, Bor, ⊎_elim, append-nil, length-set, length-take-le, refl, sym, ap, subst, ◌∙◌, arith, append_assoc, take-append-drop}
+use Rattle.std.specs.List.{flat_map}
+use Rattle.std.specs.Iterator.{Drains, Yields}
+use Rattle.std.proofs.lemmas.Iterator.{YieldsList, items_from_drains}
+use Rattle.std.proofs.lemmas.Iterator.Consumers.{YieldsList-so_far}
+use Rattle.std.specs.declared.alloc.AllocError.{AllocError}
+use Rattle.std.proofs.lemmas.Bool.{cases_eq}
+use Rattle.std.proofs.lemmas.List.{take_more, take_more_set, take-map, map-id, map_push, flat_map_more, get_or-set_same, get_or-set_other}
+use Rattle.std.proofs.lemmas.Option.{slice_get_read, get_or_from_slice_get}
+use Rattle.std.proofs.lemmas.List.Elements.{filter-append}
+use Rattle.mailmap_grammar.specs.Entries.{Mapping, mapping_of}
+use Rattle.mailmap_tables.specs.Histories.{IsNormal, accepted, is_accepted}
+use Rattle.mailmap_grammar.specs.Folding.{Text}
+use Rattle.mailmap_grammar.specs.Lines.{good}
+use Rattle.mailmap_snapshot.specs.Sources.{history, said_by}
+use Rattle.mailmap_grammar.specs.declared.entry.Entry.{Entry}
+use Rattle.mailmap_snapshot.specs.declared.snapshot.sources.Source.{Source}
+use Rattle.mailmap_tables.proofs.Exists.{normal, is_normal}
+use Rattle.mailmap_tables.proofs.Normal.{normal_then, normal_nothing}
+
+-- the entries that an iterator gives say this list
+pub record Gives {S : Type 0} (steps : S → Option Entry → S → Type 0) (s : S) (said : List Mapping) : Type 0 where
+  pub whole : (xs : List Entry) → Drains steps s xs → map mapping_of xs ≡ said
+  pub front : (xs : List Entry) (t : S) → Yields steps s xs t → map mapping_of xs ≡ take (length xs) said
+
+-- an iterator whose list is read by what its entries say
+pub gives_said : {S : Type 0} {steps : S → Option Entry → S → Type 0} {s : S} {said : List Mapping} → YieldsList steps mapping_of s said → Gives steps s said
+gives_said e = record {
+  whole = λ xs d. items_from_drains xs (d.1.0, d.1.1, λ w. (d.0, d.1.2)) e;
+  front = λ xs t y. YieldsList-so_far e xs t y;
+}
+
+-- an iterator that gives just these entries
+pub gives_entries : {S : Type 0} {steps : S → Option Entry → S → Type 0} {s : S} {es : List Entry} → YieldsList steps (λ x. x) s es → Gives steps s (map mapping_of es)
+gives_entries {es = es} e = record {
+  whole = λ xs d. ap (map mapping_of) (sym (map-id xs) ∙ items_from_drains xs (d.1.0, d.1.1, λ w. (d.0, d.1.2)) e);
+  front = λ xs t y. ap (map mapping_of) (sym (map-id xs) ∙ YieldsList-so_far e xs t y) ∙ sym (take-map mapping_of (length xs) es);
+}
+
+front_none : (a b : List Mapping) → a ++ b ≡ [] → a ≡ []
+front_none [] b e = refl
+front_none (x ∷ a) b e = cc
+
+-- where nothing of a list is accepted, nothing of its front is
+front_ignored : (n : ℕ) (l : List Mapping) → accepted l ≡ [] → accepted (take n l) ≡ []
+front_ignored n l none = front_none _ _ (sym (filter-append is_accepted (take n l) (drop n l)) ∙ ap accepted (take-append-drop n l) ∙ none)
+
+module _ {S : Type 0} {steps : S → Option Entry → S → Type 0} {s : S} {said : List Mapping} (gives : Gives steps s said) where
+  pub merged_whole : (old new : List Mapping) → ((xs : List Entry) × Drains steps s xs × IsNormal (old ++ map mapping_of xs) new) → IsNormal (old ++ said) new
+  merged_whole old new m = subst (λ l. IsNormal (old ++ l) new) (gives.whole m.0 m.1) m.2
+
+module _ {S E : Type 0} {steps : S → Option Entry → S → Type 0} {s : S} {said : List Mapping} (gives : Gives steps s said) where
+  pub merged_all : (r : Result (Unit {0}) E) (old new : List Mapping) → OnOk r ((xs : List Entry) × Drains steps s xs × IsNormal (old ++ map mapping_of xs) new) → OnOk r (IsNormal (old ++ said) new)
+  merged_all (Ok u) old new m = merged_whole gives old new m
+  merged_all (Err e) old new m = tt
+
+  pub refused_some : (r : Result (Unit {0}) E) → OnErr r ((xs : List Entry) × (rest : S) × Yields steps s xs rest × (accepted (map mapping_of xs) ≢ [])) → OnErr r (accepted said ≢ [])
+  refused_some (Ok u) m = tt
+  refused_some (Err e) m = λ none. m.3 (ap accepted (gives.front m.0 m.1 m.2) ∙ front_ignored (length m.0) said none)
+
+-- one more source, and whether it was made
+history-push : (ss : List Source) (ms : List Bool) (s : Source) (m : Bool) → length ms ≡ length ss → history (ss ++ s ∷ []) (ms ++ m ∷ []) ≡ history ss ms ++ cond m (said_by s) []
+unfolding history
+history-push [] [] s m e = append-nil (cond m (said_by s) [])
+history-push [] (n ∷ ms) s m e = absurd (omega (arith, e))
+history-push (x ∷ ss) [] s m e = absurd (omega (arith, e))
+history-push (x ∷ ss) (n ∷ ms) s m e =
+    ap (λ l. cond n (said_by x) [] ++ l) (history-push ss ms s m (omega (arith, e)))
+    ∙ sym (append_assoc (cond n (said_by x) []) (history ss ms) (cond m (said_by s) []))
+
+-- no source says nothing
+pub normal_start : (n : List Mapping) → IsNormal n n → IsNormal (n ++ history [] []) n
+unfolding history
+normal_start n d = subst (λ l. IsNormal l n) (sym (append-nil n)) d
+
+-- nothing is the normal list of nothing
+pub normal_none : IsNormal [] []
+normal_none = subst (IsNormal []) (normal_nothing [] (normal []) refl (is_normal [])) (is_normal [])
+
+-- a merge of one more source is in the history if it was made, and changed nothing else
+merged_next : (h n m : List Mapping) (s : Source) (r : Result (Unit {0}) AllocError) → IsNormal h n → OnOk r (IsNormal (n ++ said_by s) m) → OnErr r (m ≡ n) → IsNormal (h ++ cond (is_ok r) (said_by s) []) m
+merged_next h n m s (Ok u) d ok err = normal_then h n (said_by s) m d ok
+merged_next h n m s (Err e) d ok err = subst (λ l. IsNormal l m) (sym (append-nil h)) (subst (IsNormal h) (sym err) d)
+
+-- no merge of a source without an accepted entry is refused
+idle_made : (s : Source) (r : Result (Unit {0}) AllocError) → OnErr r (accepted (said_by s) ≢ []) → accepted (said_by s) ≡ [] → is_ok r ≡ true
+idle_made s (Ok u) refused none = refl
+idle_made s (Err e) refused none = absurd (refused none)
+
+-- the marks up to a place tell of each source without an accepted entry that it was made
+abbrev pub MarksIdle : List Source → List Bool → ℕ → Type 0
+MarksIdle ss ms i = (k : ℕ) (s : Source) → k < i → slice_get ss k ≡ Some s → accepted (said_by s) ≡ [] → slice_get ms k ≡ Some true
+
+module _ (ss : List Source) (ms : List Bool) (i : ℕ) (s : Source) (r : Result (Unit {0}) AllocError) (b : Bool) (is : b ≡ is_ok r) (within : i < length ss) (same : length ms ≡ length ss) (here : s ≡ get_or ss i s) where
+  pub normal_more : (h n m : List Mapping) → IsNormal (h ++ history (take i ss) (take i ms)) n → OnOk r (IsNormal (n ++ said_by s) m) → OnErr r (m ≡ n)
+      → IsNormal (h ++ history (take (i + 1) ss) (take (i + 1) (set ms i b))) m
+  normal_more h n m d ok err =
+      let sources : take (i + 1) ss ≡ take i ss ++ s ∷ [] = take_more ss i s within ∙ ap (λ x. take i ss ++ x ∷ []) (sym here) in
+      let marks : take (i + 1) (set ms i b) ≡ take i ms ++ b ∷ [] = take_more_set ms i b (omega (arith, same)) in
+      let long : length (take i ms) ≡ length (take i ss) = length-take-le i ms (omega (arith, same)) ∙ sym (length-take-le i ss (omega arith)) in
+      let step : history (take (i + 1) ss) (take (i + 1) (set ms i b)) ≡ history (take i ss) (take i ms) ++ cond (is_ok r) (said_by s) [] =
+      ap (λ l. history l (take (i + 1) (set ms i b))) sources ∙ ap (history (take i ss ++ s ∷ [])) marks
+      ∙ history-push (take i ss) (take i ms) s b long ∙ ap (λ t. history (take i ss) (take i ms) ++ cond t (said_by s) []) is in
+      subst (λ l. IsNormal l m) (append_assoc h (history (take i ss) (take i ms)) (cond (is_ok r) (said_by s) []) ∙ ap (λ l. h ++ l) (sym step))
+      (merged_next (h ++ history (take i ss) (take i ms)) n m s r d ok err)
+
+  pub marks_more : OnErr r (accepted (said_by s) ≢ []) → MarksIdle ss ms i → MarksIdle ss (set ms i b) (i + 1)
+  marks_more refused before k x below at none = ⊎_elim
+      (λ (is_here : k ≡ i).
+      let x_is : x ≡ s = sym (get_or_from_slice_get ss k x s at) ∙ ap (λ j. get_or ss j s) is_here ∙ sym here in
+      slice_get_read (set ms i b) (length (set ms i b)) k true refl (omega (arith, same, length-set ms i b))
+      (sym (ap (λ j. get_or (set ms i b) j true) is_here ∙ get_or-set_same ms i b true (omega (arith, same)) ∙ is ∙ idle_made s r refused (ap (λ y. accepted (said_by y)) (sym x_is) ∙ none))))
+      (λ (other : k ≢ i).
+      let low : k < i = omega arith in
+      slice_get_read (set ms i b) (length (set ms i b)) k true refl (omega (arith, same, length-set ms i b))
+      (sym (get_or-set_other ms i k b true other ∙ get_or_from_slice_get ms k true true (before k x low at none))))
+      (cases_eq k i)
+
+-- ---- buffers
+
+-- what one more buffer says
+pub buffers_more : (bufs : List (Bor Text)) (i : ℕ) (d : Bor Text) → i < length bufs
+    → flat_map good (map (λ x. x.now) (take (i + 1) bufs)) ≡ flat_map good (map (λ x. x.now) (take i bufs)) ++ good (get_or bufs i d).now
+buffers_more bufs i d within =
+    ap (λ l. flat_map good (map (λ x. x.now) l)) (take_more bufs i d within)
+    ∙ ap (flat_map good) (map_push (λ x. x.now) (take i bufs) (get_or bufs i d))
+    ∙ sym (flat_map_more good [] (map (λ x. x.now) (take i bufs)) (get_or bufs i d).now)

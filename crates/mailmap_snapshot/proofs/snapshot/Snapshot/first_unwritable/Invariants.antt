@@ -1,0 +1,10 @@
+use Rattle.std.proofs.Common.{◌≡◌, take, drop}
+use Rattle.std.specs.List.{AllByRecursion}
+use Rattle.mailmap_snapshot.specs.CanonicalText.{IsWritable}
+use Rattle.mailmap_snapshot.proofs.snapshot.Snapshot.first_unwritable.Given as goal
+
+abbrev pub invariant-loop-entry : goal.invariant-loop-entry
+invariant-loop-entry l = record {
+  left : drop l.place l.fn.self ≡ l.entry-iterator;
+  before : AllByRecursion IsWritable (take l.place l.fn.self);
+}

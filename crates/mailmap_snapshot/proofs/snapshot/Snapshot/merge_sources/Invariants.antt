@@ -1,0 +1,13 @@
+use Rattle.std.proofs.Common.{◌≡◌, ◌++◌, length, take}
+use Rattle.mailmap_tables.specs.Histories.{IsNormal}
+use Rattle.mailmap_snapshot.specs.Sources.{history}
+use Rattle.mailmap_snapshot.proofs.Sources.{MarksIdle}
+use Rattle.mailmap_snapshot.proofs.snapshot.Snapshot.merge_sources.Given as goal
+
+abbrev pub invariant-loop-i : goal.invariant-loop-i
+invariant-loop-i l =
+    record {
+      marks : length l.made ≡ length l.sources;
+      normal : IsNormal (l.fn.self ++ history (take l.i l.sources) (take l.i l.made)) l.self;
+      unrefused : MarksIdle l.sources l.made l.i;
+    }

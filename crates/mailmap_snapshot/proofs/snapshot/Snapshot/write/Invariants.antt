@@ -1,0 +1,6 @@
+use Rattle.std.proofs.Common.{◌≡◌, ◌++◌}
+use Rattle.mailmap_snapshot.specs.CanonicalText.{text}
+use Rattle.mailmap_snapshot.proofs.snapshot.Snapshot.write.Given as goal
+
+abbrev pub invariant-loop-entry : goal.invariant-loop-entry
+invariant-loop-entry l = l.out.items ++ text l.entry-iterator ≡ text l.fn.self

@@ -1,0 +1,37 @@
+use Rattle.std.proofs.Common.{rules, ◌+◌, ◌++◌, ◌∷◌, length, sym, ap, ap₂, ◌∙◌}
+use Rattle.mailmap_grammar.specs.Entries.{mapping_of}
+use Rattle.mailmap_tables.specs.Groups.{Contents}
+use Rattle.mailmap_snapshot.specs.Listings.{left_to_list}
+use Rattle.mailmap_tables.specs.Pool.{spelled}
+use Rattle.mailmap_snapshot.proofs.Listed.{next_email, empty}
+use Rattle.mailmap_snapshot.proofs.snapshot.listing.IterIterator.next.Goals as goal
+
+pub returns-in-Some-clause-steps : goal.returns-in-Some-clause-steps
+returns-in-Some-clause-steps c =
+    let t = c.self.inside.tables.now in
+    let i = c.loop-row.self-inside.reached in
+    let row = c.email.result.0 in
+    let rest = c.email.result.1.now in
+    let none = empty c.loop-row.self-inside.names.now (sym c.is_empty.ensures ∙ c.loop-row-test.true) in
+    sym c.loop-row.invariant.left
+    ∙ next_email t c.loop-row.self-inside.old_email.now c.loop-row.self-inside.names.now i none row rest c.email.ensures.group
+    ∙ ap (λ own. own ++ left_to_list t (spelled t.pool row.old_email) rest (i + 1)) (sym c.in-Some.ensures)
+    ∙ ap₂ (λ (v : Contents) email. mapping_of c.in-Some.entry ∷ left_to_list v email rest (i + 1)) (sym c.loop-row.invariant.same) (sym c.text-self-inside.ensures)
+
+pub returns-in-Some-clause-goes : goal.returns-in-Some-clause-goes
+returns-in-Some-clause-goes c = let e = ap length (returns-in-Some-clause-steps c) in search rules
+
+pub loop-row-preserved : goal.loop-row-preserved
+loop-row-preserved c =
+    let t = c.self.inside.tables.now in
+    let i = c.loop-row.self-inside.reached in
+    let row = c.email.result.0 in
+    let rest = c.email.result.1.now in
+    let none = empty c.loop-row.self-inside.names.now (sym c.is_empty.ensures ∙ c.loop-row-test.true) in
+    record {
+      same = c.loop-row.invariant.same;
+      lie = c.email.ensures.lie.names_lie;
+      left = ap (λ email. left_to_list t email rest (i + 1)) c.text-self-inside.ensures
+          ∙ sym (next_email t c.loop-row.self-inside.old_email.now c.loop-row.self-inside.names.now i none row rest c.email.ensures.group ∙ ap (λ own. own ++ left_to_list t (spelled t.pool row.old_email) rest (i + 1)) (sym c.in_default.ensures))
+          ∙ c.loop-row.invariant.left;
+    }

@@ -1,0 +1,55 @@
+use Rattle.std.proofs.Common.{◌≡◌, ◌-◌, length, sym, ap, ◌∙◌, arith}
+use Rattle.mailmap_grammar.specs.Search.{digits}
+use Rattle.mailmap_snapshot.proofs.Resolved.{scan_at_none, no_names, names_ascend, names_counted, scan_at_name, scan_at_email}
+use Rattle.mailmap_snapshot.proofs.snapshot.lookup.look_up.Goals as goal
+
+pub returns-in_default-clause-fields : goal.returns-in_default-clause-fields
+returns-in_default-clause-fields c = sym (scan_at_none c.args.tables.now.groups c.args.email.now c.in_default.field-0 c.in_default.ensures.missing c.args.name.now)
+
+pub returns-in_default-clause-at_least : goal.returns-in_default-clause-at_least
+returns-in_default-clause-at_least c =
+    let none = no_names c.args.tables.now.groups c.args.email.now c.in_default.field-0 c.in_default.ensures.missing in
+    omega (arith, none, c.in_default.ensures.at_least)
+
+pub search_name-requires-clause-ascending : goal.search_name-requires-clause-ascending
+search_name-requires-clause-ascending c =
+    names_ascend c.args.tables.now.groups c.requires.groups c.args.email.now c.in-Ok.place c.in-Ok.ensures.found
+    c.args.tables.now.pool c.email.result.0 c.email.result.1.now c.email.ensures.group
+
+pub returns-in-Ok-search_name-clause-fields : goal.returns-in-Ok-search_name-clause-fields
+returns-in-Ok-search_name-clause-fields c =
+    c.answer.ensures.fields ∙ sym (scan_at_name c.args.tables.now.groups c.requires.groups c.args.email.now c.in-Ok.place c.in-Ok.ensures.found
+    c.args.tables.now.pool c.email.result.0 c.email.result.1.now c.email.ensures.group c.args.name.now c.in-Ok-search_name.i _ c.in-Ok-search_name.ensures.found)
+
+pub returns-in-Ok-search_name-clause-at_most : goal.returns-in-Ok-search_name-clause-at_most
+returns-in-Ok-search_name-clause-at_most c =
+    let groups = c.args.tables.now.groups in
+    let emails : digits (length groups - 0) ≡ digits (length groups) = ap digits (omega arith) in
+    let names = names_counted groups c.requires.groups c.args.email.now c.in-Ok.place c.in-Ok.ensures.found
+    c.args.tables.now.pool c.email.result.0 c.email.result.1.now c.email.ensures.group in
+    omega (arith, emails, ap digits names, c.in-Ok.ensures.at_most, c.in-Ok-search_name.ensures.at_most)
+
+pub returns-in-Ok-search_name-clause-at_least : goal.returns-in-Ok-search_name-clause-at_least
+returns-in-Ok-search_name-clause-at_least c =
+    let names = names_counted c.args.tables.now.groups c.requires.groups c.args.email.now c.in-Ok.place c.in-Ok.ensures.found
+    c.args.tables.now.pool c.email.result.0 c.email.result.1.now c.email.ensures.group in
+    omega (arith, names, c.in-Ok.ensures.at_least, c.in-Ok-search_name.ensures.at_least)
+
+pub returns-in-Err-clause-fields : goal.returns-in-Err-clause-fields
+returns-in-Err-clause-fields c =
+    c.answer-in-Err.ensures.fields ∙ sym (scan_at_email c.args.tables.now.groups c.requires.groups c.args.email.now c.in-Ok.place c.in-Ok.ensures.found
+    c.args.tables.now.pool c.email.result.0 c.email.result.1.now c.email.ensures.group c.args.name.now c.in-Err.field-0 c.in-Err.ensures.missing)
+
+pub returns-in-Err-clause-at_most : goal.returns-in-Err-clause-at_most
+returns-in-Err-clause-at_most c =
+    let groups = c.args.tables.now.groups in
+    let emails : digits (length groups - 0) ≡ digits (length groups) = ap digits (omega arith) in
+    let names = names_counted groups c.requires.groups c.args.email.now c.in-Ok.place c.in-Ok.ensures.found
+    c.args.tables.now.pool c.email.result.0 c.email.result.1.now c.email.ensures.group in
+    omega (arith, emails, ap digits names, c.in-Ok.ensures.at_most, c.in-Err.ensures.at_most)
+
+pub returns-in-Err-clause-at_least : goal.returns-in-Err-clause-at_least
+returns-in-Err-clause-at_least c =
+    let names = names_counted c.args.tables.now.groups c.requires.groups c.args.email.now c.in-Ok.place c.in-Ok.ensures.found
+    c.args.tables.now.pool c.email.result.0 c.email.result.1.now c.email.ensures.group in
+    omega (arith, names, c.in-Ok.ensures.at_least, c.in-Err.ensures.at_least)

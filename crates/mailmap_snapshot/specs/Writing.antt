@@ -1,0 +1,26 @@
+-- What the writing of a snapshot answers.
+use Rattle.std.specs.Prelude.{◌≡◌, ℕ, List, Some, take, slice_get}
+use Rattle.std.specs.List.{All, flat_map}
+use Rattle.mailmap_snapshot.specs.declared.snapshot.text.WriteError.{WriteError}
+use Rattle.mailmap_snapshot.specs.declared.snapshot.text.WriteError.TheVariants.{Unwritable, Memory}
+use Rattle.mailmap_snapshot.specs.CanonicalText.{IsWritable, text}
+use Rattle.mailmap_grammar.specs.Entries.{Mapping}
+use Rattle.mailmap_grammar.specs.Folding.{Text}
+use Rattle.mailmap_tables.specs.Histories.{IsNormal}
+use Rattle.mailmap_grammar.specs.Lines.{good}
+
+-- a line can hold each entry before this place, and not the one at it
+pub record IsFirstUnwritable (es : List Mapping) (place : ℕ) : Type 0 where
+  pub before : All IsWritable (take place es)
+  pub entry : Mapping
+  pub here : slice_get es place ≡ Some entry
+  pub unwritable : ¬ IsWritable entry
+
+-- why these entries aren't written: the first that no line can hold, or want of memory where a line can hold each
+abbrev pub IsUnwrittenBy : List Mapping → WriteError → Type 0
+IsUnwrittenBy es (Unwritable place) = IsFirstUnwritable es place
+IsUnwrittenBy es (Memory error) = All IsWritable es
+
+-- the bytes are the text of the normal list of what the buffers say, one buffer after another
+abbrev pub IsCompacted : List Text → Text → Type 0
+IsCompacted buffers bytes = (n : List Mapping) × IsNormal (flat_map good buffers) n × (bytes ≡ text n)

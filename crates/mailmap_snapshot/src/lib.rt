@@ -1,0 +1,6 @@
+//! Snapshots of mailmaps. The crate `gix_mailmap` passes them on.
+#![tactic(auto)]
+
+pub mod snapshot;
+
+pub use snapshot::Snapshot;

@@ -1,0 +1,143 @@
+//! Signatures with their mapped names and emails in place, owned or copied on write.
+ghost use Rattle.std.specs.Prelude.{◌≡◌, ◌↔◌, ◌||◌, List, is_some, IsTrue, IsSome, IfOk, IfSome, OnErr};
+ghost use Rattle.mailmap_signatures.specs.SignatureFields.{owned_fields, cow_fields};
+ghost use Rattle.mailmap_snapshot.specs.Answers.{mapped, IsAnswer, OwnsMapped, IsEnriched, OwnsJust};
+ghost use Rattle.mailmap_grammar.specs.Entries.{Mapping};
+ghost use Rattle.mailmap_tables.specs.Histories.{IsNormal};
+ghost use Rattle.mailmap_snapshot.specs.Signatures.{shown};
+
+use crate::snapshot::{ResolvedSignature, Signature, Snapshot};
+use mailmap_signatures::actor;
+use mailmap_signatures::actor::SignatureRef;
+use std::alloc::{AllocError, Global};
+use std::borrow::CowSlice;
+
+/// Resolving signatures: the name and the email that the mailmap gives take the place of those that were recorded, each
+/// where there is one, and the others stay. A time that can't be read becomes the default one.
+///
+/// Each answer is told twice by the contracts: from the entries of the snapshot, and from any history that the snapshot
+/// stands for, as the entries that were merged one after another.
+impl Snapshot {
+    /// The signature as the mailmap maps it, or `None` where it maps neither its name nor its email.
+    ///
+    /// Nothing is mapped where no entry is for the email, and where the entry that is for it would change nothing. An
+    /// email that differs from the mailmap's spelling in the case of its letters alone is mapped to that spelling, so it
+    /// is answered. `None` takes no memory, and so can't be refused.
+    ///
+    /// ```rust
+    /// let mailmap = Snapshot::from_bytes(alloc, b"Jane Doe <jane@x> <jd@y>")?;
+    /// let author = SignatureRef { name: b"jd", email: b"jd@y", time: "1711398853 +0800" };
+    /// if let Some(proper) = mailmap.try_resolve(alloc, author)? {
+    ///     assert_eq!(rt; proper.name.as_slice(), b"Jane Doe".as_slice());
+    ///     assert_eq!(rt; proper.email.as_slice(), b"jane@x".as_slice());
+    /// }
+    /// ```
+    pub fn try_resolve(
+        &self,
+        alloc: Global,
+        signature: SignatureRef<'_>,
+    ) -> Result<Option<actor::Signature>, AllocError>
+        // nothing exactly where nothing is mapped
+        ensures none { (result ≡ Ok None) ↔ (mapped self.now signature.entry ≡ None) }
+        ensures some { IfOk result (λ answer. IfSome answer (λ s. IsAnswer self.now signature.entry (owned_fields s))) }
+        // memory can be wanting only where something is mapped
+        ensures refused { OnErr result (IsSome (mapped self.now signature.entry)) }
+        // the same, by a history that the snapshot stands for
+        ensures history_none { (h : List Mapping) → IsNormal h self.now → (result ≡ Ok None) ↔ (mapped h signature.entry ≡ None) }
+        ensures history_some { (h : List Mapping) → IsNormal h self.now →
+            IfOk result (λ answer. IfSome answer (λ s. IsAnswer h signature.entry (owned_fields s))) }
+    {
+        match self.try_resolve_ref(signature) {
+            Some(new) => {
+                let enriched = enriched_signature(alloc, signature, new)?;
+                Ok(Some(actor::Signature::from_cow(alloc, enriched)?))
+            }
+            None => Ok(None),
+        }
+    }
+
+    /// The signature as the mailmap maps it, a copy of `signature` where it maps nothing.
+    ///
+    /// ```rust
+    /// let mailmap = Snapshot::from_bytes(alloc, b"Jane Doe <jane@x> <jd@y>")?;
+    /// let author = SignatureRef { name: b"Bob", email: b"bob@z", time: "1711398853 +0800" };
+    /// let proper = mailmap.resolve(alloc, author)?;
+    /// assert_eq!(rt; proper.name.as_slice(), b"Bob".as_slice());
+    /// assert_eq!(rt; proper.time.seconds, 1711398853);
+    /// ```
+    pub fn resolve(
+        &self,
+        alloc: Global,
+        signature: SignatureRef<'_>,
+    ) -> Result<actor::Signature, AllocError>
+        ensures view { IfOk result (λ s. IsAnswer self.now signature.entry (owned_fields s)) }
+        // the same, by a history that the snapshot stands for
+        ensures history { (h : List Mapping) → IsNormal h self.now → IfOk result (λ s. IsAnswer h signature.entry (owned_fields s)) }
+    {
+        match self.try_resolve(alloc, signature)? {
+            Some(resolved) => Ok(resolved),
+            None => actor::Signature::from_cow(alloc, signature.into()),
+        }
+    }
+
+    /// The signature as the mailmap maps it, with mapped texts owned and the others borrowed from `signature`.
+    ///
+    /// Where nothing is mapped both are borrowed and no memory is taken, so that this can't be refused. It suits views
+    /// that show many signatures, of which a mailmap changes few:
+    ///
+    /// ```rust
+    /// let mailmap = Snapshot::from_bytes(alloc, b"Jane Doe <jd@y>")?;
+    /// let author = SignatureRef { name: b"jd", email: b"jd@y", time: "1711398853 +0800" };
+    /// let proper = mailmap.resolve_cow(alloc, author)?;
+    /// assert_eq!(rt; proper.name.as_slice(), b"Jane Doe".as_slice());
+    /// assert!(rt; matches!(proper.email, CowSlice::Borrowed(_)));
+    /// ```
+    pub fn resolve_cow<'a>(
+        &self,
+        alloc: Global,
+        signature: SignatureRef<'a>,
+    ) -> Result<Signature<'a>, AllocError>
+        ensures view { IfOk result (λ s. IsAnswer self.now signature.entry (cow_fields s)) }
+        ensures owned { IfOk result (OwnsMapped self.now signature.entry) }
+        // memory can be wanting only where something is mapped
+        ensures refused { OnErr result (IsSome (mapped self.now signature.entry)) }
+        // the same, by a history that the snapshot stands for
+        ensures history { (h : List Mapping) → IsNormal h self.now → IfOk result (λ s. IsAnswer h signature.entry (cow_fields s)) }
+        ensures history_owned { (h : List Mapping) → IsNormal h self.now → IfOk result (OwnsMapped h signature.entry) }
+    {
+        match self.try_resolve_ref(signature) {
+            Some(new) => enriched_signature(alloc, signature, new),
+            None => Ok(signature.into()),
+        }
+    }
+}
+
+/// The signature with copies of the fields that a lookup found in the place of its own.
+fn enriched_signature<'a>(
+    alloc: Global,
+    signature: SignatureRef<'a>,
+    new: ResolvedSignature<'_>,
+) -> Result<Signature<'a>, AllocError>
+    // no lookup finds neither
+    requires { IsTrue (is_some new.name || is_some new.email) }
+    ensures fields { IfOk result (λ s. IsEnriched (shown new.entry) signature.entry (cow_fields s)) }
+    ensures owned { IfOk result (OwnsJust (shown new.entry)) }
+{
+    let kept = Signature::from(signature);
+    match (new.email, new.name) {
+        (Some(new_email), Some(new_name)) => Ok(Signature {
+            name: CowSlice::Owned(Vec::from_slice(alloc, new_name)?),
+            email: CowSlice::Owned(Vec::from_slice(alloc, new_email)?),
+            ..kept
+        }),
+        (Some(new_email), None) => Ok(Signature {
+            email: CowSlice::Owned(Vec::from_slice(alloc, new_email)?),
+            ..kept
+        }),
+        (None, Some(new_name)) => Ok(Signature {
+            name: CowSlice::Owned(Vec::from_slice(alloc, new_name)?),
+            ..kept
+        }),
+        (None, None) => unreachable!("a lookup finds a name or an email"),
+    }
+}

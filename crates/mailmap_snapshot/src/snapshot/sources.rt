@@ -1,0 +1,49 @@
+//! Merging from several sources, where want of memory skips a source and is told.
+ghost use Rattle.std.specs.Prelude.{◌≡◌, ◌≢◌, ℕ, [], ◌++◌, Some, true, length, slice_get, OnOk, OnErr};
+ghost use Rattle.mailmap_tables.specs.Histories.{IsNormal, accepted};
+ghost use Rattle.mailmap_snapshot.specs.Sources.{history, said_by};
+ghost use Rattle.mailmap_snapshot.specs.declared.snapshot.sources.Source.{Source as Said};
+
+use crate::snapshot::Snapshot;
+use mailmap_grammar::{Entry, parse_ignore_errors};
+use std::alloc::AllocError;
+
+/// Where entries come from.
+#[derive(Drop)]
+pub enum Source<'a> {
+    /// The text of a mailmap; lines that can't be read are left out.
+    Buffer(&'a [u8]),
+    /// Entries that are made already.
+    Entries(&'a [Entry<'a>]),
+}
+
+impl Snapshot {
+    /// Merges each source behind the ones before it, and is never refused itself: `made` tells for each source whether
+    /// it was merged. Where memory was refused, that source changed nothing, and the next one is merged all the same.
+    pub fn merge_sources(&mut self, sources: &[Source<'_>], made: &mut [bool])
+        requires { length sources.now ≡ length made.old }
+        ensures normal { IsNormal (self.old ++ history sources.now made.new) self.new }
+
+        // A source without an accepted entry asks for no memory, so it is always made.
+        ensures unrefused { (i : ℕ) (s : Said) → slice_get sources.now i ≡ Some s → accepted (said_by s) ≡ [] → slice_get made.new i ≡ Some true }
+        ensures marks { length made.new ≡ length made.old }
+    {
+        // What is listed is its own normal list, by the invariant of the tables.
+        let _ = &self.tables;
+        for (i, source) in sources.iter().enumerate() {
+            made[i] = self.merge_source(source).is_ok();
+        }
+    }
+
+    // Merges one source.
+    fn merge_source(&mut self, source: &Source<'_>) -> Result<(), AllocError>
+        ensures ok { OnOk result (IsNormal (self.old ++ said_by source.now) self.new) }
+        ensures err { OnErr result (self.new ≡ self.old) }
+        ensures refused { OnErr result (accepted (said_by source.now) ≢ []) }
+    {
+        match source {
+            Source::Buffer(buf) => self.merge(parse_ignore_errors(buf)),
+            Source::Entries(entries) => self.merge(entries.iter().copied()),
+        }
+    }
+}
