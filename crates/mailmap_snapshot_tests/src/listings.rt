@@ -183,11 +183,15 @@ fn snapshots_are_equal_by_what_they_list_and_hash_alike(rt: HostRuntime) -> Resu
     assert_alike(&rt, alloc, &given, &[start, listed[0], listed[1], end])?;
     let twice = [start, p, q, m, end, start, p, q, m, end];
     assert_alike(&rt, alloc, &given, &twice)?;
+    Ok(())
+}
 
+#[test]
+fn snapshots_of_other_first_spellings_are_not_equal(rt: HostRuntime) -> Result<(), Fail> {
     let jane = email_of_name(b"n@y", b"Jane", b"A@x");
     let plain = name(b"P", b"a@x");
-    let one = snapshot_of(alloc, &[jane, plain])?;
-    let other = snapshot_of(alloc, &[plain, jane])?;
+    let one = snapshot_of(rt.alloc(), &[jane, plain])?;
+    let other = snapshot_of(rt.alloc(), &[plain, jane])?;
     assert!(rt; one != other);
     Ok(())
 }
@@ -265,14 +269,24 @@ fn merged_in_turn(alloc: Global, entries: &[Entry<'_>]) -> Result<Snapshot, Allo
     Ok(in_turn)
 }
 
+/// Wants the snapshot of these entries to be that of each merged alone.
+fn assert_same_in_turn(
+    rt: &impl Abort,
+    alloc: Global,
+    entries: &[Entry<'_>],
+) -> Result<(), AllocError> {
+    let in_turn = merged_in_turn(alloc, entries)?;
+    assert_same(rt, &in_turn, &snapshot_of(alloc, entries)?);
+    Ok(())
+}
+
 #[test]
 fn all_spellings_of_an_email_are_one(rt: HostRuntime) -> Result<(), Fail> {
     let alloc = rt.alloc();
     let spellings = all_spellings(alloc)?;
     let mut entries = names_of(alloc, &spellings)?;
     assert_listed(&rt, alloc, &entries, &[name(b"4095", b"abcdefghijkl")])?;
-    let at_once = snapshot_of(alloc, &entries)?;
-    assert_same(&rt, &merged_in_turn(alloc, &entries)?, &at_once);
+    assert_same_in_turn(&rt, alloc, &entries)?;
     entries.reverse();
     assert_listed(&rt, alloc, &entries, &[name(b"0", b"ABCDEFGHIJKL")])?;
     Ok(())
@@ -305,8 +319,8 @@ fn all_spellings_of_a_name_are_one(rt: HostRuntime) -> Result<(), Fail> {
 fn a_batch_may_come_in_parts(rt: HostRuntime) -> Result<(), Fail> {
     let alloc = rt.alloc();
     let given = [name(b"N1", b"A@x"), email(b"e@x", b"a@X")];
+    assert_same_in_turn(&rt, alloc, &given)?;
     let at_once = snapshot_of(alloc, &given)?;
-    assert_same(&rt, &merged_in_turn(alloc, &given)?, &at_once);
     assert_same(&rt, &at_once.try_clone(alloc)?, &at_once);
     assert!(rt; at_once.iter().eq([both(b"N1", b"e@x", b"A@x")].into_iter()));
     Ok(())
@@ -326,6 +340,19 @@ fn resident(rt: &HostRuntime) -> Result<usize, Fail> {
     Ok(pages.saturating_mul(4096))
 }
 
+/// How many bytes of memory forty copies of a snapshot take, which are kept with those before them.
+fn taken_by_copies(
+    rt: &HostRuntime,
+    snapshot: &Snapshot,
+    copies: &mut Vec<Snapshot>,
+) -> Result<usize, Fail> {
+    let before = resident(rt)?;
+    for _ in 0..40 {
+        copies.push(snapshot.try_clone(rt.alloc())?)?;
+    }
+    Ok(resident(rt)?.saturating_sub(before))
+}
+
 /// A pool of which half is out of use is given up, so that merges which replace don't make it grow without end.
 ///
 /// The pool can't be asked for its length, but forty copies show it: they take memory for at most twice their texts.
@@ -338,11 +365,7 @@ fn replaced_texts_are_given_up(rt: HostRuntime) -> Result<(), Fail> {
     let mut copies = Vec::new(alloc);
     for _ in 0..20 {
         snapshot.merge(given.iter().copied())?;
-        let before = resident(&rt)?;
-        for _ in 0..40 {
-            copies.push(snapshot.try_clone(alloc)?)?;
-        }
-        let taken = resident(&rt)?.saturating_sub(before);
+        let taken = taken_by_copies(&rt, &snapshot, &mut copies)?;
         assert!(rt; 3_000_000 < taken && taken < 11_000_000, "{taken}");
     }
     assert_lists(&rt, alloc, &snapshot, &given)?;

@@ -1,5 +1,6 @@
 use gix_mailmap::actor::SignatureRef;
 use gix_mailmap::date::Time;
+use gix_mailmap::snapshot::Signature;
 use gix_mailmap::{Entry, Snapshot, actor};
 use std::alloc::{AllocError, Global};
 use std::borrow::CowSlice;
@@ -20,6 +21,15 @@ fn text_of<'a>(text: &'a CowSlice<'_, u8>) -> Text<'a> {
     }
 }
 
+/// Bob, by an email.
+fn bob(email: &str) -> SignatureRef<'_> {
+    SignatureRef {
+        name: b"Bob",
+        email: email.as_bytes(),
+        time: "5 +0000",
+    }
+}
+
 /// Wants these texts of the answer to Bob and an email, where there is one entry.
 fn assert_resolved(
     rt: &impl Abort,
@@ -30,17 +40,23 @@ fn assert_resolved(
     want_email: Text<'_>,
 ) -> Result<(), AllocError> {
     let snapshot = Snapshot::new(alloc, [entry].into_iter())?;
-    let signature = SignatureRef {
-        name: b"Bob",
-        email: email.as_bytes(),
-        time: "5 +0000",
-    };
-    let answer = snapshot.resolve_cow(alloc, signature)?;
-    assert_eq!(rt; text_of(&answer.name), want_name, "{email}");
-    assert_eq!(rt; text_of(&answer.email), want_email, "{email}");
+    let answer = snapshot.resolve_cow(alloc, bob(email))?;
+    let texts = (text_of(&answer.name), text_of(&answer.email));
+    assert_eq!(rt; texts, (want_name, want_email), "{email}");
     assert_eq!(rt; answer.time.seconds, 5);
-    let resolved = snapshot.resolve(alloc, signature)?;
-    assert_eq!(rt; resolved, actor::Signature::from_cow(alloc, answer)?);
+    assert_copied(rt, alloc, &snapshot, email, answer)
+}
+
+/// Wants a copy of an answer to Bob and an email, where no text is to be borrowed.
+fn assert_copied(
+    rt: &impl Abort,
+    alloc: Global,
+    snapshot: &Snapshot,
+    email: &str,
+    answer: Signature<'_>,
+) -> Result<(), AllocError> {
+    let copied = snapshot.resolve(alloc, bob(email))?;
+    assert_eq!(rt; copied, actor::Signature::from_cow(alloc, answer)?);
     Ok(())
 }
 
@@ -60,6 +76,19 @@ fn mapped_texts_are_owned_and_kept_ones_borrowed(rt: HostRuntime) -> Result<(), 
     Ok(())
 }
 
+fn owned(
+    alloc: Global,
+    name: &[u8],
+    email: &[u8],
+    time: Time,
+) -> Result<actor::Signature, AllocError> {
+    Ok(actor::Signature {
+        name: Vec::from_slice(alloc, name)?,
+        email: Vec::from_slice(alloc, email)?,
+        time,
+    })
+}
+
 #[test]
 fn a_blame_view_shows_proper_names(rt: HostRuntime) -> Result<(), Fail> {
     let buffer = b"
@@ -72,39 +101,40 @@ Jane Doe <jane@example.com> Jane <bugs@example.com>
         email: b"bugs@example.com",
         time: "1711398853 +0800",
     };
-    let want = actor::Signature {
-        name: Vec::from_slice(rt.alloc(), b"Jane Doe")?,
-        email: Vec::from_slice(rt.alloc(), b"jane@example.com")?,
-        time: Time {
-            seconds: 1711398853,
-            offset: 28800,
-        },
+    let time = Time {
+        seconds: 1711398853,
+        offset: 28800,
     };
+    let want = owned(rt.alloc(), b"Jane Doe", b"jane@example.com", time)?;
     assert_eq!(rt; snapshot.resolve(rt.alloc(), signature)?, want);
     assert_eq!(rt; snapshot.try_resolve(rt.alloc(), signature)?, Some(want));
     Ok(())
 }
 
-/// Wants this time of a text, and all three fields of a signature kept by an empty snapshot.
+/// Wants this time of a text, and the signature with it kept by an empty snapshot.
 fn assert_kept(
     rt: &impl Abort,
     alloc: Global,
     time: &str,
     read: Option<(i64, i32)>,
 ) -> Result<(), AllocError> {
-    let snapshot = Snapshot::empty(alloc);
-    let signature = SignatureRef {
-        name: b"Bob",
-        email: b"b@x",
-        time,
-    };
+    let signature = SignatureRef { time, ..bob("b@x") };
     let found = signature.time().map(|time| (time.seconds, time.offset));
     assert_eq!(rt; found, read, "{time}");
     let (seconds, offset) = read.unwrap_or((0, 0));
-    let resolved = snapshot.resolve(alloc, signature)?;
-    assert_eq!(rt; resolved.name.as_slice(), b"Bob".as_slice());
-    assert_eq!(rt; resolved.email.as_slice(), b"b@x".as_slice());
-    assert_eq!(rt; resolved.time, Time { seconds, offset }, "{time}");
+    let want = owned(alloc, b"Bob", b"b@x", Time { seconds, offset })?;
+    assert_left(rt, alloc, signature, &want)
+}
+
+/// Wants this signature of an empty snapshot, which maps none.
+fn assert_left(
+    rt: &impl Abort,
+    alloc: Global,
+    signature: SignatureRef<'_>,
+    want: &actor::Signature,
+) -> Result<(), AllocError> {
+    let snapshot = Snapshot::empty(alloc);
+    assert_eq!(rt; &snapshot.resolve(alloc, signature)?, want);
     assert_eq!(rt; snapshot.try_resolve(alloc, signature)?, None);
     Ok(())
 }

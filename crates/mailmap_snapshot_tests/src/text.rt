@@ -5,15 +5,24 @@ use std::alloc::{AllocError, Global};
 use std::process::Abort;
 use std::test::Fail;
 
+/// Wants a snapshot to be written as `want`.
+fn assert_text(
+    rt: &impl Abort,
+    alloc: Global,
+    snapshot: &Snapshot,
+    want: &[u8],
+) -> Result<(), Fail> {
+    assert_eq!(rt; snapshot.write(alloc)?.as_slice(), want);
+    Ok(())
+}
+
 /// Wants the snapshot of `buf` to be written as `want`, and that to be read and written as the same.
 fn assert_written(rt: &impl Abort, alloc: Global, buf: &[u8], want: &[u8]) -> Result<(), Fail> {
     let snapshot = Snapshot::from_bytes(alloc, buf)?;
-    let written = snapshot.write(alloc)?;
-    assert_eq!(rt; written.as_slice(), want, "{buf:?}");
-    let read_back = Snapshot::from_bytes(alloc, &written)?;
+    assert_text(rt, alloc, &snapshot, want)?;
+    let read_back = Snapshot::from_bytes(alloc, want)?;
     assert!(rt; read_back == snapshot, "{buf:?}");
-    assert_eq!(rt; read_back.write(alloc)?.as_slice(), want, "{buf:?}");
-    Ok(())
+    assert_text(rt, alloc, &read_back, want)
 }
 
 /// Wants the entry at `place` to be refused.
