@@ -1,5 +1,5 @@
 -- The numbers of the first bytes of two texts order the texts, where they differ.
-use Rattle.std.proofs.Common.{◌≡◌, ◌≢◌, ◌<◌, ◌≤◌, ◌+◌, ◌-◌, ◌*◌, ◌^◌, ℕ, zero, suc, [], ◌∷◌, drop, length, get_or, Ordering, Less, Equal, Greater, refl, sym, ap, ◌∙◌, arith, true, false, cond}
+use Rattle.std.proofs.Common.{◌≡◌, ◌≢◌, ◌<◌, ◌≤◌, ◌+◌, ◌-◌, ◌*◌, ◌^◌, ℕ, zero, suc, [], ◌∷◌, drop, take, map, length, get_or, Ordering, Less, Equal, Greater, refl, sym, ap, ◌∙◌, arith, true, false, cond}
 use Rattle.std.specs.Cmp.Lexicographic.{slice_cmp, nat_list_cmp_total}
 use Rattle.std.specs.Ordering.{nat_cmp, ordering_then, ordering_reverse}
 use Rattle.std.proofs.Math.Nat.{pow-succ', suc-mul, add-mul, mul_assoc, mul-le-mul_right, le-mul_of_pos_right}
@@ -7,6 +7,7 @@ use Rattle.std.proofs.lemmas.Cmp.{ranked}
 use Rattle.std.proofs.Math.Dec.{ltb}
 use Rattle.std.proofs.lemmas.Bool.{ltb-true}
 use Rattle.std.specs.Char.{to_ascii_lowercase}
+use Rattle.std.specs.Int.{from_be_bytes, w128}
 use Rattle.mailmap_grammar.specs.Folding.{Text, folded, text_cmp}
 use Rattle.mailmap_tables.specs.Fronts.{front_number, AreBytes}
 
@@ -101,6 +102,34 @@ pub front_done : (number i : ℕ) (xs : Text) → 16 ≤ i → number * 256 ^ (1
 front_done number i xs le e =
     let none : 16 - i ≡ 0 = omega (arith, le) in
     omega (arith, ap (λ k. number * 256 ^ k + front_number k (drop i xs)) none, e)
+
+-- sixteen bytes, the first one worth most
+pub number_of : (xs : Text) → from_be_bytes w128 xs ≡ front_number 16 xs
+number_of xs = omega (
+  arith,
+  first_digit 15 0 xs,
+  first_digit 14 1 xs,
+  first_digit 13 2 xs,
+  first_digit 12 3 xs,
+  first_digit 11 4 xs,
+  first_digit 10 5 xs,
+  first_digit 9 6 xs,
+  first_digit 8 7 xs,
+  first_digit 7 8 xs,
+  first_digit 6 9 xs,
+  first_digit 5 10 xs,
+  first_digit 4 11 xs,
+  first_digit 3 12 xs,
+  first_digit 2 13 xs,
+  first_digit 1 14 xs,
+  first_digit 0 15 xs,
+)
+
+-- what stands behind them doesn't count
+pub front_take : (f : ℕ → ℕ) (n : ℕ) (xs : Text) → front_number n (map f (take n xs)) ≡ front_number n (map f xs)
+front_take f zero xs = refl
+front_take f (suc n) [] = refl
+front_take f (suc n) (x ∷ xs) = ap (λ k. f x * 256 ^ n + k) (front_take f n xs)
 
 folded_below : (x : ℕ) → x < 256 → to_ascii_lowercase x < 256
 folded_below x lt =

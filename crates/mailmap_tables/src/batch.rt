@@ -104,6 +104,18 @@ fn with_front<'e, 'a>(placed: Placed<'e, 'a>) -> Fronted<'e, 'a>
 fn front_number(text: &[u8]) -> u128
     ensures { IsFront result (folded text.now) }
 {
+    let Some(front) = text.first_chunk::<16>() else {
+        return short_number(text);
+    };
+    let mut bytes = *front;
+    bytes.make_ascii_lowercase();
+    u128::from_be_bytes(bytes)
+}
+
+// The same, byte by byte, for a text that may be shorter.
+fn short_number(text: &[u8]) -> u128
+    ensures { IsFront result (folded text.now) }
+{
     let mut number = 0;
     for i in 0..16 {
         number = number * 256 + folded_at(text, i) as u128;

@@ -1,29 +1,13 @@
-use Rattle.std.proofs.Common.{◌<◌, ◌+◌, ◌-◌, ◌*◌, ◌^◌, get_or, drop, ap, arith, ◌∙◌}
-use Rattle.mailmap_grammar.specs.Folding.{folded}
+use Rattle.std.proofs.Common.{ap, map, ◌∙◌}
+use Rattle.std.specs.Char.{to_ascii_lowercase}
 use Rattle.mailmap_tables.specs.Fronts.{front_number}
-use Rattle.mailmap_tables.proofs.Fronts.{front_more, front_fits, front_done, folded_bytes}
+use Rattle.mailmap_tables.proofs.Fronts.{number_of, front_take, folded_bytes}
 use Rattle.mailmap_tables.proofs.batch.front_number.Goals as goal
 
-pub overflow_mul-number : goal.overflow_mul-number
-overflow_mul-number c =
-    let next : c.loop-i.number * 256 + get_or (folded c.args.text.now) c.loop-i.i 0 < 256 ^ 16 = front_fits c.loop-i.number c.loop-i.i (folded c.args.text.now) (folded_bytes c.args.text.now (λ i. (c.type_inv.text i).fits)) c.loop-i-test.true c.loop-i.invariant in
-    omega (arith, next)
-
-pub overflow_add-number : goal.overflow_add-number
-overflow_add-number c =
-    let next : c.loop-i.number * 256 + get_or (folded c.args.text.now) c.loop-i.i 0 < 256 ^ 16 = front_fits c.loop-i.number c.loop-i.i (folded c.args.text.now) (folded_bytes c.args.text.now (λ i. (c.type_inv.text i).fits)) c.loop-i-test.true c.loop-i.invariant in
-    omega (arith, next, c.folded_at.ensures)
-
-pub loop-i-preserved : goal.loop-i-preserved
-loop-i-preserved c =
-    let xs = folded c.args.text.now in
-    let rest = 16 - (c.loop-i.i + 1) in
-    ap (λ b. (c.loop-i.number * 256 + b) * 256 ^ rest + front_number rest (drop (c.loop-i.i + 1) xs)) c.folded_at.ensures
-    ∙ front_more c.loop-i.number c.loop-i.i xs c.loop-i-test.true c.loop-i.invariant
-
 pub returns : goal.returns
-returns c =
-    record {
-      bytes = folded_bytes c.args.text.now (λ i. (c.type_inv.text i).fits);
-      is = front_done c.loop-i.number c.loop-i.i (folded c.args.text.now) c.loop-i-test.false c.loop-i.invariant;
-    }
+returns c = record {
+  bytes = folded_bytes c.args.text.now (λ i. (c.type_inv.text i).fits);
+  is = c.from_be_bytes.ensures ∙ number_of c.make_ascii_lowercase.new.self
+      ∙ ap (front_number 16) (c.make_ascii_lowercase.ensures.after ∙ ap (map to_ascii_lowercase) c.in-Some.ensures.cases.same)
+      ∙ front_take to_ascii_lowercase 16 c.args.text.now;
+}
