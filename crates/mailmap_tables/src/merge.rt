@@ -1,6 +1,6 @@
 //! Joining a sorted batch with the standing tables: email by email, and within an email name by name. The standing rows
 //! between two emails of the batch are passed on without a look at their texts.
-ghost use Rattle.std.specs.Prelude.{◌≡◌, ◌≢◌, ◌+◌, ◌-◌, ◌<◌, ◌≤◌, [], ◌++◌, ◌∷◌, List, None, true, OnOk, IfOk, IfSome, Some, IsSome, take, drop, map, length, ℕ};
+ghost use Rattle.std.specs.Prelude.{◌≡◌, ◌≢◌, ◌+◌, ◌-◌, ◌<◌, ◌≤◌, [], ◌++◌, ◌∷◌, List, None, true, OnOk, IfOk, IfSome, Some, IsSome, IsTrue, ◌↔◌, take, drop, map, length, ℕ};
 ghost use Rattle.std.specs.Option.{option_copied, option_map, option_or, ForSome};
 ghost use Rattle.std.specs.List.{AllByRecursion, HoldsAt, fold};
 ghost use Rattle.std.specs.List.Sorted.{IsStrictlySortedBy};
@@ -16,7 +16,6 @@ use crate::batch::{Placed, sorted};
 use crate::search::{place_email, place_name};
 use crate::tables::{EmailRow, NameRow, Span, Tables};
 use mailmap_grammar::Entry;
-use mailmap_grammar::fold::cmp_ignore_ascii_case;
 use std::alloc::{AllocError, Global};
 
 // The texts that stand for an old name.
@@ -126,6 +125,13 @@ fn rest(rows: &[NameRow], place: usize) -> &[NameRow]
     &rows[place..]
 }
 
+// Whether two texts are the same but for the case of their letters. Most are the same.
+fn is_same(a: &[u8], b: &[u8]) -> bool
+    ensures { IsTrue result ↔ (folded a.now ≡ folded b.now) }
+{
+    a == b || a.eq_ignore_ascii_case(b)
+}
+
 // How many entries at the front have this old name.
 fn name_run(batch: &[Placed<'_, '_>], name: &[u8]) -> usize
     ensures within { result ≤ length batch.now }
@@ -134,7 +140,7 @@ fn name_run(batch: &[Placed<'_, '_>], name: &[u8]) -> usize
 {
     for (i, placed) in batch.iter().enumerate() {
         let other = placed.entry.old_name().unwrap_or(&[]);
-        if cmp_ignore_ascii_case(other, name).is_ne() {
+        if !is_same(other, name) {
             return i;
         }
     }
@@ -148,7 +154,7 @@ fn email_run(batch: &[Placed<'_, '_>], email: &[u8]) -> usize
     ensures other { result < length batch.now → HoldsAt (λ p. email_text (mapping_at p) ≢ folded email.now) batch.now result }
 {
     for (i, placed) in batch.iter().enumerate() {
-        if cmp_ignore_ascii_case(placed.entry.old_email(), email).is_ne() {
+        if !is_same(placed.entry.old_email(), email) {
             return i;
         }
     }
