@@ -1,7 +1,7 @@
 -- What a first, a last and a filter give of joined lists.
-use Rattle.std.proofs.Common.{◌≡◌, Bool, true, false, cond, ◌&&◌, ◌||◌, List, [], ◌∷◌, ◌++◌, map, filter, filter_map, Option, Some, None, is_some, unwrap_or, option_map, refl, ap, ◌∙◌}
+use Rattle.std.proofs.Common.{◌≡◌, Bool, true, false, cond, ◌&&◌, ◌||◌, List, [], ◌∷◌, ◌++◌, map, take, filter, filter_map, Option, Some, None, is_some, unwrap_or, option_map, refl, ap, ◌∙◌}
 use Rattle.std.specs.Option.{option_or, option_flatten, option_and_then}
-use Rattle.std.specs.List.{AllByRecursion, list_any, cons_option}
+use Rattle.std.specs.List.{AllByRecursion, HoldsAt, list_any, cons_option}
 use Rattle.mailmap_tables.specs.Histories.{first, last}
 
 pub or-None : {X : Type 0} (o : Option X) → o ≡ option_or o None
@@ -125,3 +125,8 @@ all_apply P Q R f (x ∷ xs) a b = (f x a.0 b.0, all_apply P Q R f xs a.1 b.1)
 pub all_map : {X Y : Type 0} (f : X → Y) (P : Y → Type 0) (xs : List X) → AllByRecursion P (map f xs) → AllByRecursion (λ x. P (f x)) xs
 all_map f P [] a = tt
 all_map f P (x ∷ xs) a = (a.0, all_map f P xs a.1)
+
+-- what holds at the first place holds of the first element
+pub first_alone : {X : Type 0} (P : X → Type 0) (xs : List X) → HoldsAt P xs 0 → AllByRecursion P (take 1 xs)
+first_alone P [] h = tt
+first_alone P (x ∷ xs) h = (h x, tt)

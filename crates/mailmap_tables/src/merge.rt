@@ -132,14 +132,15 @@ fn is_same(a: &[u8], b: &[u8]) -> bool
     a == b || a.eq_ignore_ascii_case(b)
 }
 
-// How many entries at the front have this old name.
+// How many entries at the front have this old name, which the first one has.
 fn name_run(batch: &[Placed<'_, '_>], name: &[u8]) -> usize
+    requires { HoldsAt (λ p. name_text (mapping_at p) ≡ folded name.now) batch.now 0 }
     ensures within { result ≤ length batch.now }
     ensures same { AllByRecursion (λ p. name_text (mapping_at p) ≡ folded name.now) (take result batch.now) }
     ensures other { result < length batch.now → HoldsAt (λ p. name_text (mapping_at p) ≢ folded name.now) batch.now result }
 {
-    for (i, placed) in batch.iter().enumerate() {
-        let other = placed.entry.old_name().unwrap_or(&[]);
+    for i in 1..batch.len() {
+        let other = batch[i].entry.old_name().unwrap_or(&[]);
         if !is_same(other, name) {
             return i;
         }
@@ -147,14 +148,15 @@ fn name_run(batch: &[Placed<'_, '_>], name: &[u8]) -> usize
     batch.len()
 }
 
-// How many entries at the front have this old email.
+// How many entries at the front have this old email, which the first one has.
 fn email_run(batch: &[Placed<'_, '_>], email: &[u8]) -> usize
+    requires { HoldsAt (λ p. email_text (mapping_at p) ≡ folded email.now) batch.now 0 }
     ensures within { result ≤ length batch.now }
     ensures same { AllByRecursion (λ p. email_text (mapping_at p) ≡ folded email.now) (take result batch.now) }
     ensures other { result < length batch.now → HoldsAt (λ p. email_text (mapping_at p) ≢ folded email.now) batch.now result }
 {
-    for (i, placed) in batch.iter().enumerate() {
-        if !is_same(placed.entry.old_email(), email) {
+    for i in 1..batch.len() {
+        if !is_same(batch[i].entry.old_email(), email) {
             return i;
         }
     }
