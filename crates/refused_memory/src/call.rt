@@ -3,7 +3,7 @@
 use std::fmt;
 
 /// A call, or another one that asks for memory.
-#[derive(Clone, Copy, Debug)]
+#[derive(Clone, Copy)]
 pub enum Call {
     New,
     FromBytes,
@@ -58,5 +58,12 @@ impl fmt::Display for Call {
             Call::Before => "a request before all calls",
             Call::Behind => "the request behind the calls that take none",
         })
+    }
+}
+
+/// As it is displayed.
+impl fmt::Debug for Call {
+    fn fmt<W: fmt::Write>(&self, f: &mut fmt::Formatter<W>) -> fmt::Result {
+        fmt::Display::fmt(self, f)
     }
 }
