@@ -1,4 +1,5 @@
-//! What mailmaps are written of: the lines of a buffer and the entries that they say, and the order of keys. The crate `gix_mailmap` passes on what users need of this.
+//! What mailmaps are written of: the lines of a buffer and the entries that they say, and the order of keys. The crate
+//! `gix_mailmap` passes on what users need of this.
 #![tactic(auto)]
 
 mod entry;
