@@ -1,5 +1,6 @@
 use gix_mailmap::check::{check, split};
-use std::test::Fail;
+use std::alloc::{AllocError, Global};
+use std::process::Abort;
 
 /// Two mappings of one email: for everybody, and for one name.
 const TEAM: &[u8] = b"
@@ -7,10 +8,28 @@ Joe R. Developer <joe@example.com> <bugs@example.com>
 Jane Doe <jane@example.com> Jane <bugs@example.com>
 ";
 
+/// Wants these bytes.
+pub(crate) fn assert_bytes(rt: &impl Abort, bytes: &[u8], want: &[u8]) {
+    assert_eq!(rt; bytes, want);
+}
+
+/// Wants these answers of some buffers to contacts.
+fn assert_checked(
+    rt: &impl Abort,
+    alloc: Global,
+    buffers: &[&[u8]],
+    contacts: &[u8],
+    answers: &[u8],
+) -> Result<(), AllocError> {
+    let text = check(alloc, buffers, contacts)?;
+    assert_bytes(rt, &text, answers);
+    Ok(())
+}
+
 /// Each contact is looked up; later buffers stand behind earlier ones.
 #[test]
-fn contacts_are_answered_by_the_buffers(rt: HostRuntime) -> Result<(), Fail> {
-    let rows: [(&[&[u8]], &[u8], &[u8]); 4] = [
+fn contacts_are_answered_by_the_buffers(rt: HostRuntime) -> Result<(), AllocError> {
+    static ROWS: [(&[&[u8]], &[u8], &[u8]); 4] = [
         (
             &[b"Joe R. Developer <joe@example.com> <bugs@example.com>\n"],
             b"bob <BUGS@example.com>\n",
@@ -28,17 +47,16 @@ fn contacts_are_answered_by_the_buffers(rt: HostRuntime) -> Result<(), Fail> {
         ),
         (&[b"N <a@x>", b"M <A@x>"], b"b <A@x>", b"M <a@x>\n"),
     ];
-    for (buffers, contacts, answers) in rows {
-        let text = check(rt.alloc(), buffers, contacts)?;
-        assert_eq!(rt; text.as_slice(), answers, "{contacts:?}");
+    for (buffers, contacts, answers) in &ROWS {
+        assert_checked(&rt, rt.alloc(), buffers, contacts, answers)?;
     }
     Ok(())
 }
 
 /// Contacts that nothing is known of are trimmed, and other lines stand as they are, without their ends.
 #[test]
-fn without_buffers_contacts_are_laid_out(rt: HostRuntime) -> Result<(), Fail> {
-    let rows: [(&[u8], &[u8]); 3] = [
+fn without_buffers_contacts_are_laid_out(rt: HostRuntime) -> Result<(), AllocError> {
+    static ROWS: [(&[u8], &[u8]); 3] = [
         (
             b"  Bob  < q@z > rest\r\n<>\n\nopen <x",
             b"Bob <q@z>\n<>\n\nopen <x\n",
@@ -46,24 +64,28 @@ fn without_buffers_contacts_are_laid_out(rt: HostRuntime) -> Result<(), Fail> {
         (b"x\r\ny\r", b"x\ny\r\n"),
         (b"", b""),
     ];
-    for (contacts, answers) in rows {
-        let text = check(rt.alloc(), &[], contacts)?;
-        assert_eq!(rt; text.as_slice(), answers, "{contacts:?}");
+    for (contacts, answers) in &ROWS {
+        assert_checked(&rt, rt.alloc(), &[], contacts, answers)?;
     }
     Ok(())
+}
+
+/// Wants these two parts.
+fn assert_parted(rt: &impl Abort, parts: (&[u8], &[u8]), want: (&[u8], &[u8])) {
+    assert_eq!(rt; parts, want);
 }
 
 /// The first line that is just `--` parts the input; blanks, or a carriage return at the end, make another line.
 #[test]
 fn split_parts_at_the_first_line_of_two_dashes(rt: HostRuntime) {
-    let rows = [
-        (b"a\n--\nb".as_slice(), b"a\n".as_slice(), b"b".as_slice()),
+    static ROWS: [(&[u8], &[u8], &[u8]); 5] = [
+        (b"a\n--\nb", b"a\n", b"b"),
         (b"--", b"", b""),
         (b"a\n -- \n", b"", b"a\n -- \n"),
         (b"--\r\nx", b"", b"x"),
         (b"--\r", b"", b"--\r"),
     ];
-    for (input, before, behind) in rows {
-        assert_eq!(rt; split(input), (before, behind));
+    for (input, before, behind) in &ROWS {
+        assert_parted(&rt, split(input), (before, behind));
     }
 }

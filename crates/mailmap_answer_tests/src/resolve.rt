@@ -5,7 +5,6 @@ use gix_mailmap::{Entry, Snapshot, actor};
 use std::alloc::{AllocError, Global};
 use std::borrow::CowSlice;
 use std::process::Abort;
-use std::test::Fail;
 
 /// A text of an answer.
 #[derive(Clone, Copy, PartialEq, Eq, Debug)]
@@ -30,50 +29,86 @@ fn bob(email: &str) -> SignatureRef<'_> {
     }
 }
 
-/// Wants these texts of the answer to Bob and an email, where there is one entry.
-fn assert_resolved(
-    rt: &impl Abort,
-    alloc: Global,
-    entry: Entry<'_>,
-    email: &str,
-    want_name: Text<'_>,
-    want_email: Text<'_>,
-) -> Result<(), AllocError> {
-    let snapshot = Snapshot::new(alloc, [entry].into_iter())?;
-    let answer = snapshot.resolve_cow(alloc, bob(email))?;
-    let texts = (text_of(&answer.name), text_of(&answer.email));
-    assert_eq!(rt; texts, (want_name, want_email), "{email}");
-    assert_eq!(rt; answer.time.seconds, 5);
-    assert_copied(rt, alloc, &snapshot, email, answer)
+/// Wants this text of an answer.
+fn assert_text(rt: &impl Abort, text: Text<'_>, want: Text<'_>) {
+    assert_eq!(rt; text, want);
 }
 
-/// Wants a copy of an answer to Bob and an email, where no text is to be borrowed.
-fn assert_copied(
+/// Wants these texts of an answer, and the time of Bob.
+fn assert_answer(
+    rt: &impl Abort,
+    answer: &Signature<'_>,
+    want_name: Text<'_>,
+    want_email: Text<'_>,
+) {
+    assert_text(rt, text_of(&answer.name), want_name);
+    assert_text(rt, text_of(&answer.email), want_email);
+    assert_eq!(rt; answer.time.seconds, 5);
+}
+
+/// Wants these texts of the answer of a snapshot to Bob and an email.
+fn assert_answered(
     rt: &impl Abort,
     alloc: Global,
     snapshot: &Snapshot,
     email: &str,
-    answer: Signature<'_>,
+    want_name: Text<'_>,
+    want_email: Text<'_>,
 ) -> Result<(), AllocError> {
-    let copied = snapshot.resolve(alloc, bob(email))?;
-    assert_eq!(rt; copied, actor::Signature::from_cow(alloc, answer)?);
+    let answer = snapshot.resolve_cow(alloc, bob(email))?;
+    assert_answer(rt, &answer, want_name, want_email);
+    let owned = actor::Signature::from_cow(alloc, answer)?;
+    assert_copied(rt, alloc, snapshot, bob(email), &owned)
+}
+
+/// Wants this copy of an answer, where no text is to be borrowed.
+fn assert_copied(
+    rt: &impl Abort,
+    alloc: Global,
+    snapshot: &Snapshot,
+    asked: SignatureRef<'_>,
+    want: &actor::Signature,
+) -> Result<(), AllocError> {
+    let copied = snapshot.resolve(alloc, asked)?;
+    assert_eq!(rt; &copied, want);
+    Ok(())
+}
+
+/// An email, and the texts of the answer to Bob and the email.
+type Answered = (&'static str, Text<'static>, Text<'static>);
+
+/// Wants these answers where there is one entry.
+fn assert_all_answered(
+    rt: &impl Abort,
+    alloc: Global,
+    entry: Entry<'_>,
+    table: &[Answered],
+) -> Result<(), AllocError> {
+    let snapshot = Snapshot::new(alloc, [entry].into_iter())?;
+    for (email, want_name, want_email) in table {
+        assert_answered(rt, alloc, &snapshot, email, *want_name, *want_email)?;
+    }
     Ok(())
 }
 
 #[test]
-fn mapped_texts_are_owned_and_kept_ones_borrowed(rt: HostRuntime) -> Result<(), Fail> {
-    let alloc = rt.alloc();
+fn mapped_texts_are_owned_and_kept_ones_borrowed(rt: HostRuntime) -> Result<(), AllocError> {
+    static BY_NAME: [Answered; 3] = [
+        ("x@y", Text::Owned(b"P"), Text::Borrowed(b"x@y")),
+        ("X@y", Text::Owned(b"P"), Text::Owned(b"x@y")),
+        ("x@z", Text::Borrowed(b"Bob"), Text::Borrowed(b"x@z")),
+    ];
+    static BY_EMAIL: [Answered; 2] = [
+        ("X@y", Text::Borrowed(b"Bob"), Text::Owned(b"x@y")),
+        ("x@y", Text::Borrowed(b"Bob"), Text::Borrowed(b"x@y")),
+    ];
+    static BY_BOTH: [Answered; 1] = [("x@y", Text::Owned(b"P"), Text::Owned(b"n@y"))];
     let name = Entry::change_name_by_email(b"P", b"x@y");
     let email = Entry::change_email_by_name_and_email(b"n@y", b"Jane", b"x@y");
     let both = Entry::change_name_and_email_by_email(b"P", b"n@y", b"x@y");
-    let (bob, proper) = (Text::Borrowed(b"Bob"), Text::Owned(b"P"));
-    assert_resolved(&rt, alloc, name, "x@y", proper, Text::Borrowed(b"x@y"))?;
-    assert_resolved(&rt, alloc, name, "X@y", proper, Text::Owned(b"x@y"))?;
-    assert_resolved(&rt, alloc, name, "x@z", bob, Text::Borrowed(b"x@z"))?;
-    assert_resolved(&rt, alloc, email, "X@y", bob, Text::Owned(b"x@y"))?;
-    assert_resolved(&rt, alloc, email, "x@y", bob, Text::Borrowed(b"x@y"))?;
-    assert_resolved(&rt, alloc, both, "x@y", proper, Text::Owned(b"n@y"))?;
-    Ok(())
+    assert_all_answered(&rt, rt.alloc(), name, &BY_NAME)?;
+    assert_all_answered(&rt, rt.alloc(), email, &BY_EMAIL)?;
+    assert_all_answered(&rt, rt.alloc(), both, &BY_BOTH)
 }
 
 fn owned(
@@ -89,13 +124,26 @@ fn owned(
     })
 }
 
+/// Wants this answer in place of a signature.
+fn assert_mapped(
+    rt: &impl Abort,
+    alloc: Global,
+    snapshot: &Snapshot,
+    asked: SignatureRef<'_>,
+    want: actor::Signature,
+) -> Result<(), AllocError> {
+    assert_copied(rt, alloc, snapshot, asked, &want)?;
+    let answer = snapshot.try_resolve(alloc, asked)?;
+    assert_eq!(rt; answer, Some(want));
+    Ok(())
+}
+
 #[test]
-fn a_blame_view_shows_proper_names(rt: HostRuntime) -> Result<(), Fail> {
+fn a_blame_view_shows_proper_names(rt: HostRuntime) -> Result<(), AllocError> {
     let buffer = b"
 Joe R. Developer <joe@example.com> <bugs@example.com>
 Jane Doe <jane@example.com> Jane <bugs@example.com>
 ";
-    let snapshot = Snapshot::from_bytes(rt.alloc(), buffer)?;
     let signature = SignatureRef {
         name: b"Jane",
         email: b"bugs@example.com",
@@ -106,9 +154,14 @@ Jane Doe <jane@example.com> Jane <bugs@example.com>
         offset: 28800,
     };
     let want = owned(rt.alloc(), b"Jane Doe", b"jane@example.com", time)?;
-    assert_eq!(rt; snapshot.resolve(rt.alloc(), signature)?, want);
-    assert_eq!(rt; snapshot.try_resolve(rt.alloc(), signature)?, Some(want));
-    Ok(())
+    let snapshot = Snapshot::from_bytes(rt.alloc(), buffer)?;
+    assert_mapped(&rt, rt.alloc(), &snapshot, signature, want)
+}
+
+/// Wants these seconds and this offset of the time of a signature.
+fn assert_time(rt: &impl Abort, signature: SignatureRef<'_>, want: Option<(i64, i32)>) {
+    let read = signature.time().map(|time| (time.seconds, time.offset));
+    assert_eq!(rt; read, want, "{}", signature.time);
 }
 
 /// Wants this time of a text, and the signature with it kept by an empty snapshot.
@@ -119,8 +172,7 @@ fn assert_kept(
     read: Option<(i64, i32)>,
 ) -> Result<(), AllocError> {
     let signature = SignatureRef { time, ..bob("b@x") };
-    let found = signature.time().map(|time| (time.seconds, time.offset));
-    assert_eq!(rt; found, read, "{time}");
+    assert_time(rt, signature, read);
     let (seconds, offset) = read.unwrap_or((0, 0));
     let want = owned(alloc, b"Bob", b"b@x", Time { seconds, offset })?;
     assert_left(rt, alloc, signature, &want)
@@ -134,19 +186,26 @@ fn assert_left(
     want: &actor::Signature,
 ) -> Result<(), AllocError> {
     let snapshot = Snapshot::empty(alloc);
-    assert_eq!(rt; &snapshot.resolve(alloc, signature)?, want);
-    assert_eq!(rt; snapshot.try_resolve(alloc, signature)?, None);
+    assert_copied(rt, alloc, &snapshot, signature, want)?;
+    let answer = snapshot.try_resolve(alloc, signature)?;
+    assert!(rt; answer.is_none());
     Ok(())
 }
 
 #[test]
-fn an_empty_snapshot_copies_the_texts_and_reads_the_time(rt: HostRuntime) -> Result<(), Fail> {
-    let alloc = rt.alloc();
-    assert_kept(&rt, alloc, "1 +0130", Some((1, 5400)))?;
-    assert_kept(&rt, alloc, "soon", None)?;
-    assert_kept(&rt, alloc, "9223372036854775808 +0000", None)?;
-    assert_kept(&rt, alloc, "1 +130", None)?;
-    assert_kept(&rt, alloc, "+1 +0000", None)?;
-    assert_kept(&rt, alloc, "1  +0000", None)?;
+fn an_empty_snapshot_copies_the_texts_and_reads_the_time(
+    rt: HostRuntime,
+) -> Result<(), AllocError> {
+    static TIMES: [(&str, Option<(i64, i32)>); 6] = [
+        ("1 +0130", Some((1, 5400))),
+        ("soon", None),
+        ("9223372036854775808 +0000", None),
+        ("1 +130", None),
+        ("+1 +0000", None),
+        ("1  +0000", None),
+    ];
+    for (time, read) in &TIMES {
+        assert_kept(&rt, rt.alloc(), time, *read)?;
+    }
     Ok(())
 }

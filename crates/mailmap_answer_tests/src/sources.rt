@@ -2,7 +2,23 @@ use gix_mailmap::snapshot::Source;
 use gix_mailmap::{Entry, Snapshot};
 use std::alloc::{AllocError, Global};
 use std::process::Abort;
-use std::test::Fail;
+
+/// Wants all sources to be made.
+fn assert_made(rt: &impl Abort, made: &[bool; 3]) {
+    assert_eq!(rt; *made, [true, true, true]);
+}
+
+/// Wants these entries of a snapshot.
+fn assert_lists(
+    rt: &impl Abort,
+    alloc: Global,
+    snapshot: &Snapshot,
+    want: &[Entry<'_>],
+) -> Result<(), AllocError> {
+    let entries = snapshot.entries(alloc)?;
+    assert_eq!(rt; entries.as_slice(), want);
+    Ok(())
+}
 
 /// Wants the one name `M` of these three sources.
 fn assert_merged(
@@ -20,22 +36,17 @@ fn assert_merged(
     let mut snapshot = Snapshot::empty(alloc);
     let mut made = [false; 3];
     snapshot.merge_sources(&sources, &mut made);
-    assert_eq!(rt; made, [true, true, true]);
-    let entries = snapshot.entries(alloc)?;
-    assert_eq!(rt;
-        entries.as_slice(),
-        [Entry::change_name_by_email(b"M", b"a@x")].as_slice()
-    );
-    Ok(())
+    assert_made(rt, &made);
+    let want = [Entry::change_name_by_email(b"M", b"a@x")];
+    assert_lists(rt, alloc, &snapshot, &want)
 }
 
 /// With ample memory all sources are made, also an empty one, and later ones count.
 #[test]
-fn each_source_is_merged_behind_the_ones_before_it(rt: HostRuntime) -> Result<(), Fail> {
+fn each_source_is_merged_behind_the_ones_before_it(rt: HostRuntime) -> Result<(), AllocError> {
     let alloc = rt.alloc();
     let n = Entry::change_name_by_email(b"N", b"a@x");
     assert_merged(&rt, alloc, b"N <a@x>", &[], b"M <a@x>")?;
     assert_merged(&rt, alloc, b"", &[n], b"M <A@x>")?;
-    assert_merged(&rt, alloc, b"M <a@x>", &[], b"plain")?;
-    Ok(())
+    assert_merged(&rt, alloc, b"M <a@x>", &[], b"plain")
 }

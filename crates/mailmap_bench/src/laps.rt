@@ -27,7 +27,7 @@ impl Laps {
     }
 
     /// What is told of the runs.
-    pub fn summary(mut self) -> Summary {
+    pub fn summary(&mut self) -> Summary {
         self.nanos.sort_unstable();
         let nanos = &self.nanos;
         Summary {

@@ -8,6 +8,7 @@ mod modes;
 mod tally;
 
 use anyhow::{Result, bail};
+use laps::Laps;
 use std::env;
 
 const USAGE: &str = "\
@@ -31,14 +32,15 @@ fn main(rt: HostRuntime) -> Result<()> {
             return Ok(());
         }
     };
+    let mut laps = Laps::new(rt.alloc());
     match mode {
-        "bench-parse" => modes::walks(&rt, words),
-        "bench-build" => modes::builds(&rt, words),
-        "bench-lookup" => modes::lookups(&rt, words),
-        "bench-check" => modes::checks(&rt, words),
-        "bench-compact" => modes::compactions(&rt, words),
-        "bench-merge1" => modes::merges(&rt, mode, words, 1),
-        "bench-merge" => modes::merges(&rt, mode, words, input::number(words, 1)?),
+        "bench-parse" => modes::walks(&rt, words, &mut laps),
+        "bench-build" => modes::builds(&rt, words, &mut laps),
+        "bench-lookup" => modes::lookups(&rt, words, &mut laps),
+        "bench-check" => modes::checks(&rt, words, &mut laps),
+        "bench-compact" => modes::compactions(&rt, words, &mut laps),
+        "bench-merge1" => modes::merges(&rt, mode, words, 1, &mut laps),
+        "bench-merge" => modes::merges(&rt, mode, words, input::number(words, 1)?, &mut laps),
         _ => bail!("unknown mode {mode}"),
     }
 }

@@ -14,9 +14,8 @@ use std::rt::Runtime;
 use std::time::Instant;
 
 /// Walks over the items of a file.
-pub fn walks<R: Runtime + AllocGlobal>(rt: &R, words: &[String]) -> Result<()> {
+pub fn walks<R: Runtime + AllocGlobal>(rt: &R, words: &[String], laps: &mut Laps) -> Result<()> {
     let buf = file(rt, words, 0)?;
-    let mut laps = Laps::new(rt.alloc());
     let mut tally = Tally::new();
     for _ in 0..number(words, 1)? {
         let start = Instant::now(rt)?;
@@ -55,20 +54,23 @@ fn optional_len(text: Option<&[u8]>) -> usize {
 }
 
 /// Builds the snapshot of a file.
-pub fn builds<R: Runtime + AllocGlobal>(rt: &R, words: &[String]) -> Result<()> {
+pub fn builds<R: Runtime + AllocGlobal>(rt: &R, words: &[String], laps: &mut Laps) -> Result<()> {
     let buf = file(rt, words, 0)?;
-    let mut laps = Laps::new(rt.alloc());
     let mut tally = Tally::new();
     for _ in 0..number(words, 1)? {
-        let start = Instant::now(rt)?;
-        let snapshot = Snapshot::from_bytes(rt.alloc(), &buf)?;
-        laps.end(rt, start)?;
-        tally = listed(&snapshot);
+        tally = build(rt, &buf, laps)?;
     }
     let bytes = buf.len();
     let laps = laps.summary();
     println!(rt; "bench-build {laps} bytes={bytes} entries={tally}")?;
     Ok(())
+}
+
+fn build<R: Runtime + AllocGlobal>(rt: &R, buf: &[u8], laps: &mut Laps) -> Result<Tally> {
+    let start = Instant::now(rt)?;
+    let snapshot = Snapshot::from_bytes(rt.alloc(), buf)?;
+    laps.end(rt, start)?;
+    Ok(listed(&snapshot))
 }
 
 fn listed(snapshot: &Snapshot) -> Tally {
@@ -80,16 +82,29 @@ fn listed(snapshot: &Snapshot) -> Tally {
 }
 
 /// Looks contacts up in the snapshot of a file.
-pub fn lookups<R: Runtime + AllocGlobal>(rt: &R, words: &[String]) -> Result<()> {
-    let buf = file(rt, words, 0)?;
-    let snapshot = Snapshot::from_bytes(rt.alloc(), &buf)?;
+pub fn lookups<R: Runtime + AllocGlobal>(rt: &R, words: &[String], laps: &mut Laps) -> Result<()> {
+    let snapshot = snapshot_of(rt, words)?;
     let text = file(rt, words, 1)?;
-    let contacts = contacts(rt.alloc(), &text)?;
-    let mut laps = Laps::new(rt.alloc());
+    look_up_often(rt, &snapshot, &text, number(words, 2)?, laps)
+}
+
+fn snapshot_of<R: Runtime + AllocGlobal>(rt: &R, words: &[String]) -> Result<Snapshot> {
+    let buf = file(rt, words, 0)?;
+    Ok(Snapshot::from_bytes(rt.alloc(), &buf)?)
+}
+
+fn look_up_often<R: Runtime + AllocGlobal>(
+    rt: &R,
+    snapshot: &Snapshot,
+    text: &[u8],
+    rounds: usize,
+    laps: &mut Laps,
+) -> Result<()> {
+    let contacts = contacts(rt.alloc(), text)?;
     let mut tally = Tally::new();
-    for _ in 0..number(words, 2)? {
+    for _ in 0..rounds {
         let start = Instant::now(rt)?;
-        tally = look_up(&snapshot, &contacts);
+        tally = look_up(snapshot, &contacts);
         laps.end(rt, start)?;
     }
     let count = contacts.len();
@@ -114,20 +129,31 @@ pub fn merges<R: Runtime + AllocGlobal>(
     mode: &str,
     words: &[String],
     batch: usize,
+    laps: &mut Laps,
 ) -> Result<()>
     requires { 0 < batch }
 {
     let buf = file(rt, words, 0)?;
     let entries: Vec<Entry<'_>> = parse_ignore_errors(&buf).collect(rt.alloc())?;
-    let mut laps = Laps::new(rt.alloc());
-    let start = Instant::now(rt)?;
-    let snapshot = merged(rt.alloc(), &entries, batch)?;
-    laps.end(rt, start)?;
+    let tally = merge(rt, &entries, batch, laps)?;
     let merges = entries.len().div_ceil(batch);
     let laps = laps.summary();
-    let tally = listed(&snapshot);
     println!(rt; "{mode} {laps} merges={merges} batch={batch} entries={tally}")?;
     Ok(())
+}
+
+fn merge<R: Runtime + AllocGlobal>(
+    rt: &R,
+    entries: &[Entry<'_>],
+    batch: usize,
+    laps: &mut Laps,
+) -> Result<Tally>
+    requires { 0 < batch }
+{
+    let start = Instant::now(rt)?;
+    let snapshot = merged(rt.alloc(), entries, batch)?;
+    laps.end(rt, start)?;
+    Ok(listed(&snapshot))
 }
 
 fn merged(alloc: Global, entries: &[Entry<'_>], batch: usize) -> Result<Snapshot, AllocError>
@@ -141,34 +167,49 @@ fn merged(alloc: Global, entries: &[Entry<'_>], batch: usize) -> Result<Snapshot
 }
 
 /// Answers a file of contacts by the snapshot of a file.
-pub fn checks<R: Runtime + AllocGlobal>(rt: &R, words: &[String]) -> Result<()> {
+pub fn checks<R: Runtime + AllocGlobal>(rt: &R, words: &[String], laps: &mut Laps) -> Result<()> {
     let buf = file(rt, words, 0)?;
     let contacts = file(rt, words, 1)?;
-    let mut laps = Laps::new(rt.alloc());
     let mut len = 0;
     for _ in 0..number(words, 2)? {
-        let start = Instant::now(rt)?;
-        let answers = check::check(rt.alloc(), &[&buf], &contacts)?;
-        laps.end(rt, start)?;
-        len = answers.len();
+        len = check_once(rt, &buf, &contacts, laps)?;
     }
     let laps = laps.summary();
     println!(rt; "bench-check {laps} texts={len}")?;
     Ok(())
 }
 
+fn check_once<R: Runtime + AllocGlobal>(
+    rt: &R,
+    buf: &[u8],
+    contacts: &[u8],
+    laps: &mut Laps,
+) -> Result<usize> {
+    let start = Instant::now(rt)?;
+    let answers = check::check(rt.alloc(), &[buf], contacts)?;
+    laps.end(rt, start)?;
+    Ok(answers.len())
+}
+
 /// Writes the canonical text of a file.
-pub fn compactions<R: Runtime + AllocGlobal>(rt: &R, words: &[String]) -> Result<()> {
+pub fn compactions<R: Runtime + AllocGlobal>(
+    rt: &R,
+    words: &[String],
+    laps: &mut Laps,
+) -> Result<()> {
     let buf = file(rt, words, 0)?;
-    let mut laps = Laps::new(rt.alloc());
     let mut len = 0;
     for _ in 0..number(words, 1)? {
-        let start = Instant::now(rt)?;
-        let text = check::compact(rt.alloc(), &[&buf])?;
-        laps.end(rt, start)?;
-        len = text.len();
+        len = compact(rt, &buf, laps)?;
     }
     let laps = laps.summary();
     println!(rt; "bench-compact {laps} texts={len}")?;
     Ok(())
+}
+
+fn compact<R: Runtime + AllocGlobal>(rt: &R, buf: &[u8], laps: &mut Laps) -> Result<usize> {
+    let start = Instant::now(rt)?;
+    let text = check::compact(rt.alloc(), &[buf])?;
+    laps.end(rt, start)?;
+    Ok(text.len())
 }

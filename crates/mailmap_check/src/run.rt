@@ -4,14 +4,14 @@
 //! really failed. So `Failure::Input` and `Failure::Memory` may come at any input, and
 //! `Failure::Output` at any text. Nor does a clause say what a real file or stream holds: the clauses
 //! on bytes speak of readers and writers whose bytes are known, as those over memory.
-ghost use Rattle.std.specs.Prelude.{◌≡◌, ◌⊎◌, ℕ, IsErrOf, IsNone, IsSome, OnOk};
+ghost use Rattle.std.specs.Prelude.{◌≡◌, ◌⊎◌, ℕ, IfErr, IfOk, IsErrOf, IsNone, None, IsSome, OnOk, Some};
 ghost use Rattle.std.specs.Io.KnownBytes.{IsAtEnd};
 ghost use Rattle.mailmap_check.specs.Run.{bytes_of, IsAnswer, IsMailmap, Prints, PrintsFront};
 
 use crate::failure::Failure;
 use crate::streams::{read_all, write_all};
 use gix_mailmap::check::{check, compact, split};
-use std::alloc::Global;
+use std::alloc::{AllocError, Global};
 use std::io::{Read, Write};
 
 #[cfg(test)]
@@ -43,14 +43,19 @@ pub fn run<R: Read, W: Write>(
     ensures no_file { (number : ℕ) → IsErrOf result (Failure.File number) → ⊥ }
 {
     let bytes = read_all(alloc, input, Failure::Input)?;
-    let answers = match files {
-        Some(buffers) => check(alloc, buffers, bytes.as_slice())?,
-        None => {
-            let (mailmap, contacts) = split(bytes.as_slice());
-            check(alloc, &[mailmap], contacts)?
-        }
-    };
+    let answers = answers_of(alloc, files, bytes.as_slice())?;
     write_all(output, answers.as_slice())
+}
+
+// The answers to all that was read.
+fn answers_of(alloc: Global, files: Option<&[&[u8]]>, input: &[u8]) -> Result<Vec<u8>, AllocError>
+    ensures { IfOk result (λ text. IsAnswer (bytes_of files.entry) (Some input.now) text.items) }
+{
+    if let Some(buffers) = files {
+        return check(alloc, buffers, input);
+    }
+    let (mailmap, contacts) = split(input);
+    check(alloc, &[mailmap], contacts)
 }
 
 /// Writes mailmaps anew, as one.
@@ -81,10 +86,17 @@ pub fn run_compact<R: Read, W: Write>(
 {
     let mailmap = match files {
         Some(buffers) => compact(alloc, buffers)?,
-        None => {
-            let bytes = read_all(alloc, input, Failure::Input)?;
-            compact(alloc, &[bytes.as_slice()])?
-        }
+        None => compact_input(alloc, input)?,
     };
     write_all(output, mailmap.as_slice())
+}
+
+// Reads all of the input and writes it anew.
+fn compact_input<R: Read>(alloc: Global, input: &mut R) -> Result<Vec<u8>, Failure>
+    ensures text { IfOk result (λ text. IsMailmap None (R.remaining input.old) text.items) }
+    ensures end { OnOk result (IsAtEnd (R.remaining input.new)) }
+    ensures err { IfErr result (λ e. (e ≡ Failure.Input) ⊎ (e ≡ Failure.Memory)) }
+{
+    let bytes = read_all(alloc, input, Failure::Input)?;
+    Ok(compact(alloc, &[bytes.as_slice()])?)
 }

@@ -9,23 +9,28 @@ fn assert_read(rt: &impl Abort, text: &str, expected: Option<(i64, i32)>) {
 
 #[test]
 fn texts_of_times(rt: HostRuntime) {
-    assert_read(&rt, "-9223372036854775808 -0000", Some((i64::MIN, 0)));
-    assert_read(&rt, "9223372036854775807 +0000", Some((i64::MAX, 0)));
-    assert_read(&rt, "0000000000000000000000001 +0130", Some((1, 5400)));
-    assert_read(&rt, "-0 -0730", Some((0, -27000)));
-    assert_read(&rt, "1 +9999", Some((1, 362340)));
-    assert_read(&rt, "9223372036854775808 +0000", None);
-    assert_read(&rt, "-9223372036854775809 +0000", None);
-    assert_read(&rt, "1 +130", None);
-    assert_read(&rt, "1 +00000", None);
-    assert_read(&rt, "1 0000", None);
-    assert_read(&rt, "+1 +0000", None);
-    assert_read(&rt, "- +0000", None);
-    assert_read(&rt, "1  +0000", None);
-    assert_read(&rt, " 1 +0000", None);
-    assert_read(&rt, "1 +0000 ", None);
-    assert_read(&rt, "1", None);
-    assert_read(&rt, "", None);
+    static TABLE: [(&str, Option<(i64, i32)>); 17] = [
+        ("-9223372036854775808 -0000", Some((i64::MIN, 0))),
+        ("9223372036854775807 +0000", Some((i64::MAX, 0))),
+        ("0000000000000000000000001 +0130", Some((1, 5400))),
+        ("-0 -0730", Some((0, -27000))),
+        ("1 +9999", Some((1, 362340))),
+        ("9223372036854775808 +0000", None),
+        ("-9223372036854775809 +0000", None),
+        ("1 +130", None),
+        ("1 +00000", None),
+        ("1 0000", None),
+        ("+1 +0000", None),
+        ("- +0000", None),
+        ("1  +0000", None),
+        (" 1 +0000", None),
+        ("1 +0000 ", None),
+        ("1", None),
+        ("", None),
+    ];
+    for (text, expected) in &TABLE {
+        assert_read(&rt, text, *expected);
+    }
 }
 
 #[test]

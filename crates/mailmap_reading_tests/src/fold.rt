@@ -24,18 +24,20 @@ impl Probe for Written<'_> {
     }
 }
 
+// Wants this to be what was found.
+fn assert_found<R: Abort>(rt: &R, found: Result<usize, usize>, want: Result<usize, usize>) {
+    assert_eq!(rt; found, want);
+}
+
 // What is found in some answers, with at most so many asks.
 fn finds<R: Abort>(rt: &R, answers: &[Ordering], want: Result<usize, usize>, at_most: usize)
     requires { IsParted answers.now }
 {
     let mut probe = Written { answers, asked: 0 };
     let found = search(answers.len(), &mut probe);
-    assert_eq!(rt; found, want, "in {answers:?}");
-    assert!(rt;
-        probe.asked <= at_most,
-        "{} asks in {answers:?}",
-        probe.asked
-    );
+    assert_found(rt, found, want);
+    let asked = probe.asked;
+    assert!(rt; asked <= at_most, "{asked} asks in {answers:?}");
 }
 
 #[test]
@@ -49,11 +51,16 @@ fn search_finds_or_places_within_the_digits_of_the_length(rt: HostRuntime) {
     finds(&rt, &[Less, Less, Greater, Greater], Err(2), 3);
 }
 
+// Wants one order of two texts to be another.
+fn assert_same<R: Abort>(rt: &R, a: &[u8], b: &[u8], order: Ordering, want: Ordering) {
+    assert_eq!(rt; order, want, "{a:?} and {b:?}");
+}
+
 // Wants this order of two texts, counted and not.
 fn assert_order<R: Abort>(rt: &R, a: &[u8], b: &[u8], want: Ordering) {
-    assert_eq!(rt; cmp_ignore_ascii_case(a, b), want, "{a:?} and {b:?}");
+    assert_same(rt, a, b, cmp_ignore_ascii_case(a, b), want);
     let mut steps = Steps::new();
-    assert_eq!(rt; steps.compare(a, b), want, "{a:?} and {b:?}, counted");
+    assert_same(rt, a, b, steps.compare(a, b), want);
     assert_eq!(rt; steps.count(), 1);
 }
 

@@ -5,7 +5,7 @@ use mailmap_signatures::date::Time;
 use std::alloc::{AllocError, Global};
 use std::borrow::CowSlice;
 use std::hash::{DefaultHasher, Hash, Hasher};
-use std::test::Fail;
+use std::process::Abort;
 
 const FIVE: Time = Time {
     seconds: 5,
@@ -34,31 +34,77 @@ fn hash_of(signature: &Signature<'_>) -> u64 {
     hasher.finish()
 }
 
+fn is_borrowed(text: &CowSlice<'_, u8>) -> bool {
+    matches!(text, CowSlice::Borrowed(_))
+}
+
+/// Wants two signatures to be equal.
+fn assert_same(rt: &impl Abort, a: &Signature<'_>, b: &Signature<'_>) {
+    assert_eq!(rt; a, b);
+}
+
+/// Wants the copy of a signature to own its name, and to borrow its email.
+fn assert_copied(
+    rt: &impl Abort,
+    alloc: Global,
+    signature: &Signature<'_>,
+) -> Result<(), AllocError> {
+    let copy = signature.try_clone(alloc)?;
+    assert_same(rt, &copy, signature);
+    assert!(rt; !is_borrowed(&copy.name));
+    assert!(rt; is_borrowed(&copy.email));
+    Ok(())
+}
+
 #[test]
-fn a_clone_owns_what_was_owned(rt: HostRuntime) -> Result<(), Fail> {
+fn a_clone_owns_what_was_owned(rt: HostRuntime) -> Result<(), AllocError> {
     let signature = owned_name(rt.alloc())?;
-    let copy = signature.try_clone(rt.alloc())?;
-    assert_eq!(rt; copy, signature);
-    assert!(rt; matches!(copy.name, CowSlice::Owned(_)));
-    assert!(rt; matches!(copy.email, CowSlice::Borrowed(_)));
+    assert_copied(&rt, rt.alloc(), &signature)
+}
+
+/// Wants these bytes.
+fn assert_bytes(rt: &impl Abort, bytes: &[u8], want: &[u8]) {
+    assert_eq!(rt; bytes, want);
+}
+
+/// Wants this name, email and time of a signature.
+fn assert_fields(
+    rt: &impl Abort,
+    signature: &actor::Signature,
+    name: &[u8],
+    email: &[u8],
+    time: Time,
+) {
+    assert_bytes(rt, &signature.name, name);
+    assert_bytes(rt, &signature.email, email);
+    assert_eq!(rt; signature.time, time);
+}
+
+#[test]
+fn an_owned_signature_keeps_the_three_fields(rt: HostRuntime) -> Result<(), AllocError> {
+    let signature = owned_name(rt.alloc())?;
+    let owned = actor::Signature::from_cow(rt.alloc(), signature)?;
+    assert_fields(&rt, &owned, b"P", b"x@y", FIVE);
     Ok(())
 }
 
 #[test]
-fn an_owned_signature_keeps_the_three_fields(rt: HostRuntime) -> Result<(), Fail> {
-    let owned = actor::Signature::from_cow(rt.alloc(), owned_name(rt.alloc())?)?;
-    assert_eq!(rt; owned.name.as_slice(), b"P".as_slice());
-    assert_eq!(rt; owned.email.as_slice(), b"x@y".as_slice());
-    assert_eq!(rt; owned.time, FIVE);
+fn owned_and_borrowed_texts_are_equal_and_hash_alike(rt: HostRuntime) -> Result<(), AllocError> {
+    let owned = owned_name(rt.alloc())?;
+    assert_alike(&rt, &owned, &borrowed_name());
     Ok(())
 }
 
-#[test]
-fn owned_and_borrowed_texts_are_equal_and_hash_alike(rt: HostRuntime) -> Result<(), Fail> {
-    let (owned, borrowed) = (owned_name(rt.alloc())?, borrowed_name());
-    assert_eq!(rt; owned, borrowed);
-    assert_eq!(rt; hash_of(&owned), hash_of(&borrowed));
-    Ok(())
+/// Wants two signatures to be equal, and to hash alike.
+fn assert_alike(rt: &impl Abort, a: &Signature<'_>, b: &Signature<'_>) {
+    assert_same(rt, a, b);
+    assert_eq!(rt; hash_of(a), hash_of(b));
+}
+
+/// Wants a signature to borrow its name and its email.
+fn assert_borrowed(rt: &impl Abort, signature: &Signature<'_>) {
+    assert!(rt; is_borrowed(&signature.name));
+    assert!(rt; is_borrowed(&signature.email));
 }
 
 #[test]
@@ -68,9 +114,8 @@ fn the_default_is_taken_from_three_empty_texts(rt: HostRuntime) {
         email: b"",
         time: "",
     });
-    assert_eq!(rt; Signature::default(), taken);
-    for signature in [Signature::default(), taken] {
-        assert!(rt; matches!(signature.name, CowSlice::Borrowed(_)));
-        assert!(rt; matches!(signature.email, CowSlice::Borrowed(_)));
-    }
+    assert_borrowed(&rt, &taken);
+    let default = Signature::default();
+    assert_borrowed(&rt, &default);
+    assert_same(&rt, &default, &taken);
 }

@@ -1,5 +1,5 @@
 //! The times of commit signatures.
-ghost use Rattle.std.specs.Prelude.{◌≡◌, ◌-◌, ◌∷◌, [], ℤ, pos, MatchOption};
+ghost use Rattle.std.specs.Prelude.{◌≡◌, ◌+◌, ◌-◌, ◌*◌, ◌∷◌, [], ℤ, pos, MatchOption};
 ghost use Rattle.std.specs.Option.{SomeIff};
 ghost use Rattle.std.specs.Char.{IsAsciiDigit};
 ghost use Rattle.mailmap_signatures.specs.Times.{AreDigits, number, SpellsSeconds, SpellsOffset, Reads};
@@ -52,13 +52,20 @@ fn read_offset(text: &str) -> Option<i32>
     let [sign, hour_tens, hour_ones, minute_tens, minute_ones] = text.as_bytes() else {
         return None;
     };
-    let hours = read_pair(*hour_tens, *hour_ones)?;
-    let minutes = hours * 60 + read_pair(*minute_tens, *minute_ones)?;
+    let seconds = read_clock(*hour_tens, *hour_ones, *minute_tens, *minute_ones)?;
     match sign {
-        b'+' => Some(minutes * 60),
-        b'-' => Some(-minutes * 60),
+        b'+' => Some(seconds),
+        b'-' => Some(-seconds),
         _ => None,
     }
+}
+
+/// Reads two digits of hours and two of minutes as a number of seconds.
+fn read_clock(hour_tens: u8, hour_ones: u8, minute_tens: u8, minute_ones: u8) -> Option<i32>
+    ensures { SomeIff result (AreDigits (hour_tens ∷ hour_ones ∷ []) × AreDigits (minute_tens ∷ minute_ones ∷ []))
+        (pos ((number (hour_tens ∷ hour_ones ∷ []) * 60 + number (minute_tens ∷ minute_ones ∷ [])) * 60)) }
+{
+    Some((read_pair(hour_tens, hour_ones)? * 60 + read_pair(minute_tens, minute_ones)?) * 60)
 }
 
 /// Reads two decimal digits.

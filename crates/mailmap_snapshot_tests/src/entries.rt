@@ -1,32 +1,63 @@
-//! Entries and snapshots of them, made in few words.
+//! Entries and snapshots of them, made in few words, and texts that are wanted.
 use gix_mailmap::{Entry, Snapshot};
 use std::alloc::{AllocError, Global};
+use std::process::Abort;
+
+/// An entry that is written out, as the constructor of its fields takes them.
+#[derive(Clone, Copy)]
+pub(crate) enum Row {
+    /// Nothing for nothing.
+    Nothing,
+    /// A name for an email.
+    Name(&'static [u8], &'static [u8]),
+    /// An email for an email.
+    Email(&'static [u8], &'static [u8]),
+    /// An email for a name and an email.
+    EmailOfName(&'static [u8], &'static [u8], &'static [u8]),
+    /// A name and an email for an email.
+    Both(&'static [u8], &'static [u8], &'static [u8]),
+    /// A name and an email for a name and an email.
+    BothOfName(&'static [u8], &'static [u8], &'static [u8], &'static [u8]),
+}
+
+impl Row {
+    fn entry(&self) -> Entry<'static> {
+        match *self {
+            Row::Nothing => Entry::default(),
+            Row::Name(name, old) => Entry::change_name_by_email(name, old),
+            Row::Email(email, old) => Entry::change_email_by_email(email, old),
+            Row::EmailOfName(email, old_name, old) => {
+                Entry::change_email_by_name_and_email(email, old_name, old)
+            }
+            Row::Both(name, email, old) => Entry::change_name_and_email_by_email(name, email, old),
+            Row::BothOfName(name, email, old_name, old) => {
+                Entry::change_name_and_email_by_name_and_email(name, email, old_name, old)
+            }
+        }
+    }
+}
+
+/// The entries of some rows.
+pub(crate) fn entries_of(alloc: Global, rows: &[Row]) -> Result<Vec<Entry<'static>>, AllocError> {
+    let mut entries = Vec::new(alloc);
+    for row in rows {
+        entries.push(row.entry())?;
+    }
+    Ok(entries)
+}
 
 /// A snapshot of these entries.
 pub(crate) fn snapshot_of(alloc: Global, entries: &[Entry<'_>]) -> Result<Snapshot, AllocError> {
     Snapshot::new(alloc, entries.iter().copied())
 }
 
-/// A name for an email.
-pub(crate) fn name<'a>(new_name: &'a [u8], old_email: &'a [u8]) -> Entry<'a> {
-    Entry::change_name_by_email(new_name, old_email)
+/// A snapshot of the entries of some rows.
+pub(crate) fn snapshot_of_rows(alloc: Global, rows: &[Row]) -> Result<Snapshot, AllocError> {
+    let entries = entries_of(alloc, rows)?;
+    snapshot_of(alloc, &entries)
 }
 
-/// An email for an email.
-pub(crate) fn email<'a>(new_email: &'a [u8], old_email: &'a [u8]) -> Entry<'a> {
-    Entry::change_email_by_email(new_email, old_email)
-}
-
-/// An email for a name and an email.
-pub(crate) fn email_of_name<'a>(
-    new_email: &'a [u8],
-    old_name: &'a [u8],
-    old_email: &'a [u8],
-) -> Entry<'a> {
-    Entry::change_email_by_name_and_email(new_email, old_name, old_email)
-}
-
-/// A name and an email for an email.
-pub(crate) fn both<'a>(new_name: &'a [u8], new_email: &'a [u8], old_email: &'a [u8]) -> Entry<'a> {
-    Entry::change_name_and_email_by_email(new_name, new_email, old_email)
+/// Wants this text.
+pub(crate) fn assert_str(rt: &impl Abort, text: &str, want: &str) {
+    assert_eq!(rt; text, want);
 }

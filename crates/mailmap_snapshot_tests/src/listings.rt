@@ -1,10 +1,20 @@
-use crate::entries::{both, email, email_of_name, name, snapshot_of};
+use crate::entries::Row::{Both, BothOfName, Email, EmailOfName, Name, Nothing};
+use crate::entries::{Row, assert_str, entries_of, snapshot_of, snapshot_of_rows};
 use gix_mailmap::{Entry, Snapshot};
 use std::alloc::{AllocError, Global};
+use std::fmt::Debug;
 use std::fs;
 use std::hash::{BuildHasher, BuildHasherDefault, FoldHasher};
 use std::process::Abort;
 use std::test::Fail;
+
+/// Two lists of entries.
+type Pair = (&'static [Row], &'static [Row]);
+
+/// Wants these entries.
+fn assert_entries(rt: &impl Abort, entries: &[Entry<'_>], want: &[Entry<'_>]) {
+    assert_eq!(rt; entries, want);
+}
 
 /// Wants these entries of a snapshot.
 fn assert_lists(
@@ -14,216 +24,318 @@ fn assert_lists(
     want: &[Entry<'_>],
 ) -> Result<(), AllocError> {
     let entries = snapshot.entries(alloc)?;
-    assert_eq!(rt; entries.as_slice(), want);
+    assert_entries(rt, &entries, want);
     Ok(())
+}
+
+fn hash_of(snapshot: &Snapshot) -> u64 {
+    BuildHasherDefault::<FoldHasher>::default().hash_one(snapshot)
 }
 
 /// Wants two snapshots to be equal, and to hash alike.
 fn assert_same(rt: &impl Abort, a: &Snapshot, b: &Snapshot) {
-    let builder = BuildHasherDefault::<FoldHasher>::default();
     assert!(rt; a == b);
-    assert_eq!(rt; builder.hash_one(a), builder.hash_one(b));
+    assert_eq!(rt; hash_of(a), hash_of(b));
 }
 
-#[test]
-fn nothing_is_listed_of_a_snapshot_without_an_entry(rt: HostRuntime) -> Result<(), Fail> {
-    let empty = Snapshot::empty(rt.alloc());
-    assert_lists(&rt, rt.alloc(), &empty, &[])?;
-    let silent = Snapshot::from_bytes(rt.alloc(), b"")?;
-    assert_same(&rt, &empty, &silent);
-    Ok(())
-}
-
-/// Wants these entries of the snapshot of others.
-fn assert_listed(
+/// Wants a snapshot to be that of a mailmap, and to hash as it does.
+fn assert_same_as_read(
     rt: &impl Abort,
     alloc: Global,
-    given: &[Entry<'_>],
-    want: &[Entry<'_>],
+    snapshot: &Snapshot,
+    buf: &[u8],
 ) -> Result<(), AllocError> {
-    let snapshot = snapshot_of(alloc, given)?;
-    assert_lists(rt, alloc, &snapshot, want)
-}
-
-#[test]
-fn each_key_is_listed_once_with_the_spellings_that_came_first(rt: HostRuntime) -> Result<(), Fail> {
-    let alloc = rt.alloc();
-    let jane = email_of_name(b"n@y", b"Jane", b"A@x");
-    let plain = name(b"P", b"a@x");
-    let given = [name(b"N1", b"A@x"), email(b"e@x", b"a@X")];
-    assert_listed(&rt, alloc, &given, &[both(b"N1", b"e@x", b"A@x")])?;
-    assert_listed(&rt, alloc, &[jane, plain], &[name(b"P", b"A@x"), jane])?;
-    let want = [plain, email_of_name(b"n@y", b"Jane", b"a@x")];
-    assert_listed(&rt, alloc, &[plain, jane], &want)?;
-
-    let given = [
-        Entry::change_name_and_email_by_name_and_email(b"Q", b"n1@y", b"Jane", b"x@y"),
-        email_of_name(b"n2@y", b"JANE", b"X@Y"),
-    ];
-    let want = [email_of_name(b"n2@y", b"Jane", b"x@y")];
-    assert_listed(&rt, alloc, &given, &want)?;
-
-    let (p, q) = (name(b"P", b"x@y"), name(b"Q", b"x@y"));
-    let m = email_of_name(b"m@y", b"JANE", b"x@Y");
-    let want = [q, email_of_name(b"m@y", b"JANE", b"x@y")];
-    assert_listed(&rt, alloc, &[p, q, m], &want)?;
-
-    let n = email_of_name(b"n@y", b"Jane", b"X@y");
-    let e = email(b"e@y", b"X@Y");
-    let want = [
-        both(b"Q", b"e@y", b"X@y"),
-        email_of_name(b"m@y", b"Jane", b"X@y"),
-    ];
-    assert_listed(&rt, alloc, &[n, p, q, m, e], &want)?;
+    let read = Snapshot::from_bytes(alloc, buf)?;
+    assert_same(rt, snapshot, &read);
     Ok(())
 }
 
 #[test]
-fn emails_and_their_names_are_listed_in_folded_order(rt: HostRuntime) -> Result<(), Fail> {
+fn nothing_is_listed_of_a_snapshot_without_an_entry(rt: HostRuntime) -> Result<(), AllocError> {
     let alloc = rt.alloc();
-    assert_listed(
-        &rt,
-        alloc,
-        &[name(b"1", b"Z@x"), name(b"2", b"_@x"), name(b"3", b"a@x")],
-        &[name(b"2", b"_@x"), name(b"3", b"a@x"), name(b"1", b"Z@x")],
-    )?;
-    assert_listed(
-        &rt,
-        alloc,
-        &[name(b"P", b"x@y"), email_of_name(b"n@y", b"", b"x@y")],
-        &[name(b"P", b"x@y"), email_of_name(b"n@y", b"", b"x@y")],
-    )?;
-    assert_listed(
-        &rt,
-        alloc,
-        &[email_of_name(b"n@y", b"", b"x@y"), name(b"P", b"x@y")],
-        &[name(b"P", b"x@y"), email_of_name(b"n@y", b"", b"x@y")],
-    )?;
-    // a name that answers just as its email does
-    assert_listed(
-        &rt,
-        alloc,
-        &[
-            email_of_name(b"n@y", b"Jane", b"x@y"),
-            email(b"n@y", b"x@y"),
-        ],
-        &[
-            email(b"n@y", b"x@y"),
-            email_of_name(b"n@y", b"Jane", b"x@y"),
-        ],
-    )?;
+    let empty = Snapshot::empty(alloc);
+    assert_lists(&rt, alloc, &empty, &[])?;
+    assert_same_as_read(&rt, alloc, &empty, b"")
+}
+
+/// Wants the entries of these rows of a snapshot.
+fn assert_lists_rows(
+    rt: &impl Abort,
+    alloc: Global,
+    snapshot: &Snapshot,
+    want: &[Row],
+) -> Result<(), AllocError> {
+    let want = entries_of(alloc, want)?;
+    assert_lists(rt, alloc, snapshot, &want)
+}
+
+/// Wants the second entries of each pair of the snapshot of the first.
+fn assert_all_listed(rt: &impl Abort, alloc: Global, table: &[Pair]) -> Result<(), AllocError> {
+    for (given, want) in table {
+        let snapshot = snapshot_of_rows(alloc, given)?;
+        assert_lists_rows(rt, alloc, &snapshot, want)?;
+    }
     Ok(())
 }
 
-/// Wants these entries of the snapshot of some, behind which others are merged.
+#[test]
+fn each_key_is_listed_once_with_the_spellings_that_came_first(
+    rt: HostRuntime,
+) -> Result<(), AllocError> {
+    static TABLE: [Pair; 6] = [
+        (
+            &[Name(b"N1", b"A@x"), Email(b"e@x", b"a@X")],
+            &[Both(b"N1", b"e@x", b"A@x")],
+        ),
+        (
+            &[EmailOfName(b"n@y", b"Jane", b"A@x"), Name(b"P", b"a@x")],
+            &[Name(b"P", b"A@x"), EmailOfName(b"n@y", b"Jane", b"A@x")],
+        ),
+        (
+            &[Name(b"P", b"a@x"), EmailOfName(b"n@y", b"Jane", b"A@x")],
+            &[Name(b"P", b"a@x"), EmailOfName(b"n@y", b"Jane", b"a@x")],
+        ),
+        (
+            &[
+                BothOfName(b"Q", b"n1@y", b"Jane", b"x@y"),
+                EmailOfName(b"n2@y", b"JANE", b"X@Y"),
+            ],
+            &[EmailOfName(b"n2@y", b"Jane", b"x@y")],
+        ),
+        (
+            &[
+                Name(b"P", b"x@y"),
+                Name(b"Q", b"x@y"),
+                EmailOfName(b"m@y", b"JANE", b"x@Y"),
+            ],
+            &[Name(b"Q", b"x@y"), EmailOfName(b"m@y", b"JANE", b"x@y")],
+        ),
+        (
+            &[
+                EmailOfName(b"n@y", b"Jane", b"X@y"),
+                Name(b"P", b"x@y"),
+                Name(b"Q", b"x@y"),
+                EmailOfName(b"m@y", b"JANE", b"x@Y"),
+                Email(b"e@y", b"X@Y"),
+            ],
+            &[
+                Both(b"Q", b"e@y", b"X@y"),
+                EmailOfName(b"m@y", b"Jane", b"X@y"),
+            ],
+        ),
+    ];
+    assert_all_listed(&rt, rt.alloc(), &TABLE)
+}
+
+#[test]
+fn emails_and_their_names_are_listed_in_folded_order(rt: HostRuntime) -> Result<(), AllocError> {
+    static TABLE: [Pair; 4] = [
+        (
+            &[Name(b"1", b"Z@x"), Name(b"2", b"_@x"), Name(b"3", b"a@x")],
+            &[Name(b"2", b"_@x"), Name(b"3", b"a@x"), Name(b"1", b"Z@x")],
+        ),
+        (
+            &[Name(b"P", b"x@y"), EmailOfName(b"n@y", b"", b"x@y")],
+            &[Name(b"P", b"x@y"), EmailOfName(b"n@y", b"", b"x@y")],
+        ),
+        (
+            &[EmailOfName(b"n@y", b"", b"x@y"), Name(b"P", b"x@y")],
+            &[Name(b"P", b"x@y"), EmailOfName(b"n@y", b"", b"x@y")],
+        ),
+        // a name that answers just as its email does
+        (
+            &[EmailOfName(b"n@y", b"Jane", b"x@y"), Email(b"n@y", b"x@y")],
+            &[Email(b"n@y", b"x@y"), EmailOfName(b"n@y", b"Jane", b"x@y")],
+        ),
+    ];
+    assert_all_listed(&rt, rt.alloc(), &TABLE)
+}
+
+/// Merges the entries of some rows into a snapshot.
+fn merge_rows(alloc: Global, snapshot: &mut Snapshot, rows: &[Row]) -> Result<(), AllocError> {
+    let entries = entries_of(alloc, rows)?;
+    snapshot.merge(entries.iter().copied())
+}
+
+/// Wants the last rows of the snapshot of the first, behind which the later ones are merged.
 fn assert_merged(
     rt: &impl Abort,
     alloc: Global,
-    first: &[Entry<'_>],
-    later: &[Entry<'_>],
-    want: &[Entry<'_>],
+    first: &[Row],
+    later: &[Row],
+    want: &[Row],
 ) -> Result<(), AllocError> {
-    let mut snapshot = snapshot_of(alloc, first)?;
-    snapshot.merge(later.iter().copied())?;
-    assert_lists(rt, alloc, &snapshot, want)
+    let mut snapshot = snapshot_of_rows(alloc, first)?;
+    merge_rows(alloc, &mut snapshot, later)?;
+    assert_lists_rows(rt, alloc, &snapshot, want)
 }
 
 #[test]
-fn names_of_a_later_merge_come_to_their_emails(rt: HostRuntime) -> Result<(), Fail> {
-    let first = [
-        name(b"A", b"a@x"),
-        email_of_name(b"e1@y", b"Bob", b"b@x"),
-        email_of_name(b"e2@y", b"Jane", b"b@x"),
-        name(b"C", b"c@x"),
+fn names_of_a_later_merge_come_to_their_emails(rt: HostRuntime) -> Result<(), AllocError> {
+    static FIRST: [Row; 4] = [
+        Name(b"A", b"a@x"),
+        EmailOfName(b"e1@y", b"Bob", b"b@x"),
+        EmailOfName(b"e2@y", b"Jane", b"b@x"),
+        Name(b"C", b"c@x"),
     ];
-    let later = [
-        email_of_name(b"e3@y", b"Zoe", b"a@x"),
-        email_of_name(b"e4@y", b"BOB", b"B@x"),
+    static LATER: [Row; 2] = [
+        EmailOfName(b"e3@y", b"Zoe", b"a@x"),
+        EmailOfName(b"e4@y", b"BOB", b"B@x"),
     ];
-    let want = [
-        name(b"A", b"a@x"),
-        email_of_name(b"e3@y", b"Zoe", b"a@x"),
-        email_of_name(b"e4@y", b"Bob", b"b@x"),
-        email_of_name(b"e2@y", b"Jane", b"b@x"),
-        name(b"C", b"c@x"),
+    static WANT: [Row; 5] = [
+        Name(b"A", b"a@x"),
+        EmailOfName(b"e3@y", b"Zoe", b"a@x"),
+        EmailOfName(b"e4@y", b"Bob", b"b@x"),
+        EmailOfName(b"e2@y", b"Jane", b"b@x"),
+        Name(b"C", b"c@x"),
     ];
-    assert_merged(&rt, rt.alloc(), &first, &later, &want)?;
-    Ok(())
+    assert_merged(&rt, rt.alloc(), &FIRST, &LATER, &WANT)
 }
 
-/// Wants the snapshots of these entries to be equal, and to hash alike.
-fn assert_alike(
+#[test]
+fn an_entry_that_maps_nothing_changes_nothing(rt: HostRuntime) -> Result<(), AllocError> {
+    static GIVEN: [Row; 1] = [Name(b"N", b"a@x")];
+    assert_merged(&rt, rt.alloc(), &GIVEN, &[Nothing], &GIVEN)
+}
+
+/// Wants a snapshot to be that of these rows, and to hash as it does.
+fn assert_same_as_of(
     rt: &impl Abort,
     alloc: Global,
-    one: &[Entry<'_>],
-    other: &[Entry<'_>],
+    snapshot: &Snapshot,
+    rows: &[Row],
 ) -> Result<(), AllocError> {
-    assert_same(rt, &snapshot_of(alloc, one)?, &snapshot_of(alloc, other)?);
+    let other = snapshot_of_rows(alloc, rows)?;
+    assert_same(rt, snapshot, &other);
+    Ok(())
+}
+
+/// Wants the snapshots of both entries of each pair to be equal, and to hash alike.
+fn assert_all_alike(rt: &impl Abort, alloc: Global, table: &[Pair]) -> Result<(), AllocError> {
+    for (one, other) in table {
+        let snapshot = snapshot_of_rows(alloc, one)?;
+        assert_same_as_of(rt, alloc, &snapshot, other)?;
+    }
     Ok(())
 }
 
 #[test]
-fn snapshots_are_equal_by_what_they_list_and_hash_alike(rt: HostRuntime) -> Result<(), Fail> {
-    let alloc = rt.alloc();
-    let start = email_of_name(b"n@y", b"Jane", b"X@y");
-    let middle = [
-        name(b"P", b"x@y"),
-        name(b"Q", b"x@y"),
-        email_of_name(b"m@y", b"JANE", b"x@Y"),
+fn snapshots_are_equal_by_what_they_list_and_hash_alike(rt: HostRuntime) -> Result<(), AllocError> {
+    const START: Row = EmailOfName(b"n@y", b"Jane", b"X@y");
+    const P: Row = Name(b"P", b"x@y");
+    const Q: Row = Name(b"Q", b"x@y");
+    const M: Row = EmailOfName(b"m@y", b"JANE", b"x@Y");
+    const LISTED: Row = EmailOfName(b"m@y", b"JANE", b"x@y");
+    const END: Row = Email(b"e@y", b"X@Y");
+    static TABLE: [Pair; 5] = [
+        (
+            &[Name(b"Long", b"a@x"), Name(b"N", b"a@x")],
+            &[Name(b"N", b"a@x")],
+        ),
+        (
+            &[Name(b"A", b"a@x"), Name(b"B", b"b@x")],
+            &[Name(b"B", b"b@x"), Name(b"A", b"a@x")],
+        ),
+        (&[P, Q, M], &[Q, LISTED]),
+        (&[START, P, Q, M, END], &[START, Q, LISTED, END]),
+        (
+            &[START, P, Q, M, END],
+            &[START, P, Q, M, END, START, P, Q, M, END],
+        ),
     ];
-    let listed = [name(b"Q", b"x@y"), email_of_name(b"m@y", b"JANE", b"x@y")];
-    let end = email(b"e@y", b"X@Y");
-    let [p, q, m] = middle;
-    let short = name(b"N", b"a@x");
-    assert_alike(&rt, alloc, &[name(b"Long", b"a@x"), short], &[short])?;
-    let (a, b) = (name(b"A", b"a@x"), name(b"B", b"b@x"));
-    assert_alike(&rt, alloc, &[a, b], &[b, a])?;
-    assert_alike(&rt, alloc, &middle, &listed)?;
-    let given = [start, p, q, m, end];
-    assert_alike(&rt, alloc, &given, &[start, listed[0], listed[1], end])?;
-    let twice = [start, p, q, m, end, start, p, q, m, end];
-    assert_alike(&rt, alloc, &given, &twice)?;
+    assert_all_alike(&rt, rt.alloc(), &TABLE)
+}
+
+/// Wants a snapshot to be another than that of these rows.
+fn assert_other(
+    rt: &impl Abort,
+    alloc: Global,
+    snapshot: &Snapshot,
+    rows: &[Row],
+) -> Result<(), AllocError> {
+    let other = snapshot_of_rows(alloc, rows)?;
+    assert!(rt; *snapshot != other);
     Ok(())
 }
 
 #[test]
-fn snapshots_of_other_first_spellings_are_not_equal(rt: HostRuntime) -> Result<(), Fail> {
-    let jane = email_of_name(b"n@y", b"Jane", b"A@x");
-    let plain = name(b"P", b"a@x");
-    let one = snapshot_of(rt.alloc(), &[jane, plain])?;
-    let other = snapshot_of(rt.alloc(), &[plain, jane])?;
-    assert!(rt; one != other);
+fn snapshots_of_other_first_spellings_are_not_equal(rt: HostRuntime) -> Result<(), AllocError> {
+    static JANE_FIRST: [Row; 2] = [EmailOfName(b"n@y", b"Jane", b"A@x"), Name(b"P", b"a@x")];
+    static JANE_LAST: [Row; 2] = [Name(b"P", b"a@x"), EmailOfName(b"n@y", b"Jane", b"A@x")];
+    let one = snapshot_of_rows(rt.alloc(), &JANE_FIRST)?;
+    assert_other(&rt, rt.alloc(), &one, &JANE_LAST)
+}
+
+/// Merges some rows into a snapshot, and then others, a thousand times.
+fn wear(
+    alloc: Global,
+    snapshot: &mut Snapshot,
+    first: &[Row],
+    then: &[Row],
+) -> Result<(), AllocError> {
+    for _ in 0..1000 {
+        merge_rows(alloc, snapshot, first)?;
+        merge_rows(alloc, snapshot, then)?;
+    }
     Ok(())
+}
+
+/// Wants the entries of these rows of the copy of a snapshot that is gone.
+fn assert_copy_lists(
+    rt: &impl Abort,
+    alloc: Global,
+    snapshot: Snapshot,
+    want: &[Row],
+) -> Result<(), AllocError> {
+    let copy = snapshot.try_clone(alloc)?;
+    drop(snapshot);
+    assert_lists_rows(rt, alloc, &copy, want)
 }
 
 #[test]
 fn many_rounds_of_replaced_names_leave_the_snapshot_of_the_last(
     rt: HostRuntime,
-) -> Result<(), Fail> {
-    let alloc = rt.alloc();
-    let long = [name(b"Long", b"a@x")];
-    let short = [name(b"N", b"a@x")];
-    let mut worn = Snapshot::empty(alloc);
-    for _ in 0..1000 {
-        worn.merge(long.iter().copied())?;
-        worn.merge(short.iter().copied())?;
-    }
-    assert_same(&rt, &worn, &snapshot_of(alloc, &short)?);
+) -> Result<(), AllocError> {
+    static LONG: [Row; 1] = [Name(b"Long", b"a@x")];
+    static SHORT: [Row; 1] = [Name(b"N", b"a@x")];
+    let mut worn = Snapshot::empty(rt.alloc());
+    wear(rt.alloc(), &mut worn, &LONG, &SHORT)?;
+    assert_same_as_of(&rt, rt.alloc(), &worn, &SHORT)?;
+    assert_copy_lists(&rt, rt.alloc(), worn, &SHORT)
+}
 
-    let copy = worn.try_clone(alloc)?;
-    drop(worn);
-    assert_lists(&rt, alloc, &copy, &short)?;
+fn debug_text(alloc: Global, value: &impl Debug) -> Result<String, AllocError> {
+    format!(in alloc; "{value:?}")
+}
+
+/// Wants this text of a snapshot by `Debug`.
+fn assert_debug_text(
+    rt: &impl Abort,
+    alloc: Global,
+    snapshot: &Snapshot,
+    want: &str,
+) -> Result<(), AllocError> {
+    let text = debug_text(alloc, snapshot)?;
+    assert_str(rt, &text, want);
     Ok(())
 }
 
-#[test]
-fn the_debug_text_is_that_of_the_entries(rt: HostRuntime) -> Result<(), Fail> {
-    let alloc = rt.alloc();
-    let snapshot = snapshot_of(alloc, &[name(b"N", b"a@x"), email(b"e@y", b"b@x")])?;
+/// Wants the text of a snapshot by `Debug` to be that of its entries.
+fn assert_debug_of_entries(
+    rt: &impl Abort,
+    alloc: Global,
+    snapshot: &Snapshot,
+) -> Result<(), AllocError> {
     let entries = snapshot.entries(alloc)?;
-    let text = format!(in alloc; "{snapshot:?}")?;
-    assert_eq!(rt; text, format!(in alloc; "{entries:?}")?);
-    Ok(())
+    let want = debug_text(alloc, &entries)?;
+    assert_debug_text(rt, alloc, snapshot, &want)
+}
+
+#[test]
+fn the_debug_text_is_that_of_the_entries(rt: HostRuntime) -> Result<(), AllocError> {
+    static ROWS: [Row; 2] = [Name(b"N", b"a@x"), Email(b"e@y", b"b@x")];
+    let snapshot = snapshot_of_rows(rt.alloc(), &ROWS)?;
+    assert_debug_of_entries(&rt, rt.alloc(), &snapshot)
 }
 
 // `abcdefghijkl`, the letters in capitals whose places are the binary ones of a number.
@@ -239,11 +351,11 @@ fn capitals(number: u32) -> [u8; 12] {
     text
 }
 
-/// Each spelling of a text of twelve letters, and the number of each as a text.
-fn all_spellings(alloc: Global) -> Result<Vec<([u8; 12], String)>, AllocError> {
+/// Each spelling of a text of twelve letters, and its number behind a word.
+fn all_spellings(alloc: Global, word: &str) -> Result<Vec<([u8; 12], String)>, AllocError> {
     let mut all = Vec::new(alloc);
     for number in 0..4096 {
-        all.push((capitals(number), format!(in alloc; "{number}")?))?;
+        all.push((capitals(number), format!(in alloc; "{word}{number}")?))?;
     }
     Ok(all)
 }
@@ -255,7 +367,7 @@ fn names_of<'a>(
 ) -> Result<Vec<Entry<'a>>, AllocError> {
     let mut entries = Vec::new(alloc);
     for (text, number) in spellings {
-        entries.push(name(number.as_bytes(), text))?;
+        entries.push(Entry::change_name_by_email(number.as_bytes(), text))?;
     }
     Ok(entries)
 }
@@ -276,68 +388,144 @@ fn assert_same_in_turn(
     entries: &[Entry<'_>],
 ) -> Result<(), AllocError> {
     let in_turn = merged_in_turn(alloc, entries)?;
-    assert_same(rt, &in_turn, &snapshot_of(alloc, entries)?);
+    assert_same_at_once(rt, alloc, &in_turn, entries)
+}
+
+/// Wants a snapshot to be that of these entries, and to hash as it does.
+fn assert_same_at_once(
+    rt: &impl Abort,
+    alloc: Global,
+    snapshot: &Snapshot,
+    entries: &[Entry<'_>],
+) -> Result<(), AllocError> {
+    let at_once = snapshot_of(alloc, entries)?;
+    assert_same(rt, snapshot, &at_once);
     Ok(())
 }
 
-#[test]
-fn all_spellings_of_an_email_are_one(rt: HostRuntime) -> Result<(), Fail> {
-    let alloc = rt.alloc();
-    let spellings = all_spellings(alloc)?;
-    let mut entries = names_of(alloc, &spellings)?;
-    assert_listed(&rt, alloc, &entries, &[name(b"4095", b"abcdefghijkl")])?;
-    assert_same_in_turn(&rt, alloc, &entries)?;
-    entries.reverse();
-    assert_listed(&rt, alloc, &entries, &[name(b"0", b"ABCDEFGHIJKL")])?;
-    Ok(())
+/// Wants this one entry of the snapshot of others.
+fn assert_listed(
+    rt: &impl Abort,
+    alloc: Global,
+    given: &[Entry<'_>],
+    want: Entry<'_>,
+) -> Result<(), AllocError> {
+    let snapshot = snapshot_of(alloc, given)?;
+    assert_lists(rt, alloc, &snapshot, &[want])
 }
 
-/// An email for each spelling, of its number.
-fn emails_of(alloc: Global, spellings: &[([u8; 12], String)]) -> Result<Vec<String>, AllocError> {
-    let mut emails = Vec::new(alloc);
-    for (_, number) in spellings {
-        emails.push(format!(in alloc; "e{number}")?)?;
-    }
-    Ok(emails)
+/// Wants the names of all spellings of an email to be listed as the last, whichever way they come.
+fn assert_names_are_one(
+    rt: &impl Abort,
+    alloc: Global,
+    spellings: &[([u8; 12], String)],
+) -> Result<(), AllocError> {
+    let (first, last) = (
+        Entry::change_name_by_email(b"0", b"ABCDEFGHIJKL"),
+        Entry::change_name_by_email(b"4095", b"abcdefghijkl"),
+    );
+    let mut names = names_of(alloc, spellings)?;
+    assert_listed(rt, alloc, &names, last)?;
+    assert_same_in_turn(rt, alloc, &names)?;
+    names.reverse();
+    assert_listed(rt, alloc, &names, first)
 }
 
 #[test]
-fn all_spellings_of_a_name_are_one(rt: HostRuntime) -> Result<(), Fail> {
-    let alloc = rt.alloc();
-    let spellings = all_spellings(alloc)?;
-    let emails = emails_of(alloc, &spellings)?;
+fn all_spellings_of_an_email_are_one(rt: HostRuntime) -> Result<(), AllocError> {
+    let spellings = all_spellings(rt.alloc(), "")?;
+    assert_names_are_one(&rt, rt.alloc(), &spellings)
+}
+
+/// An email for each spelling of a name, its number.
+fn emails_of<'a>(
+    alloc: Global,
+    spellings: &'a [([u8; 12], String)],
+) -> Result<Vec<Entry<'a>>, AllocError> {
     let mut entries = Vec::new(alloc);
-    for ((text, _), email) in spellings.iter().zip(emails.iter()) {
-        entries.push(email_of_name(email.as_bytes(), text, b"K@x"))?;
+    for (text, number) in spellings {
+        let email = number.as_bytes();
+        entries.push(Entry::change_email_by_name_and_email(email, text, b"K@x"))?;
     }
-    let want = [email_of_name(b"e4095", b"abcdefghijkl", b"K@x")];
-    assert_listed(&rt, alloc, &entries, &want)?;
-    Ok(())
+    Ok(entries)
 }
 
 #[test]
-fn a_batch_may_come_in_parts(rt: HostRuntime) -> Result<(), Fail> {
-    let alloc = rt.alloc();
-    let given = [name(b"N1", b"A@x"), email(b"e@x", b"a@X")];
-    assert_same_in_turn(&rt, alloc, &given)?;
-    let at_once = snapshot_of(alloc, &given)?;
-    assert_same(&rt, &at_once.try_clone(alloc)?, &at_once);
-    assert!(rt; at_once.iter().eq([both(b"N1", b"e@x", b"A@x")].into_iter()));
+fn all_spellings_of_a_name_are_one(rt: HostRuntime) -> Result<(), AllocError> {
+    let want = Entry::change_email_by_name_and_email(b"e4095", b"abcdefghijkl", b"K@x");
+    let spellings = all_spellings(rt.alloc(), "e")?;
+    let entries = emails_of(rt.alloc(), &spellings)?;
+    assert_listed(&rt, rt.alloc(), &entries, want)
+}
+
+/// Wants a snapshot to be equal to its copy, and to hash as it does.
+fn assert_same_as_copy(
+    rt: &impl Abort,
+    alloc: Global,
+    snapshot: &Snapshot,
+) -> Result<(), AllocError> {
+    let copy = snapshot.try_clone(alloc)?;
+    assert_same(rt, &copy, snapshot);
     Ok(())
+}
+
+/// Wants going through a snapshot to give just this entry.
+fn assert_gives(
+    rt: &impl Abort,
+    alloc: Global,
+    snapshot: &Snapshot,
+    want: Entry<'_>,
+) -> Result<(), AllocError> {
+    let entries: Vec<Entry<'_>> = snapshot.iter().collect(alloc)?;
+    assert_entries(rt, &entries, &[want]);
+    Ok(())
+}
+
+/// Wants a snapshot to be equal to its copy, and to give just this entry.
+fn assert_copied(
+    rt: &impl Abort,
+    alloc: Global,
+    snapshot: &Snapshot,
+    want: Entry<'_>,
+) -> Result<(), AllocError> {
+    assert_gives(rt, alloc, snapshot, want)?;
+    assert_same_as_copy(rt, alloc, snapshot)
 }
 
 #[test]
-fn an_entry_that_maps_nothing_changes_nothing(rt: HostRuntime) -> Result<(), Fail> {
-    let given = [name(b"N", b"a@x")];
-    assert_merged(&rt, rt.alloc(), &given, &[Entry::default()], &given)?;
-    Ok(())
+fn a_batch_may_come_in_parts(rt: HostRuntime) -> Result<(), AllocError> {
+    let given = [
+        Entry::change_name_by_email(b"N1", b"A@x"),
+        Entry::change_email_by_email(b"e@x", b"a@X"),
+    ];
+    let want = Entry::change_name_and_email_by_email(b"N1", b"e@x", b"A@x");
+    assert_same_in_turn(&rt, rt.alloc(), &given)?;
+    let at_once = snapshot_of(rt.alloc(), &given)?;
+    assert_copied(&rt, rt.alloc(), &at_once, want)
 }
 
-/// How many bytes of memory the process has, by the second number of the system's text on it, which counts pages.
+/// The second number of a text, as the system counts pages.
+fn second_number(text: &str) -> Option<usize> {
+    text.split(' ').nth(1)?.parse().ok()
+}
+
+/// How many bytes of memory the process has, by the system's text on it.
 fn resident(rt: &HostRuntime) -> Result<usize, Fail> {
     let text = fs::read_to_string(rt, "/proc/self/statm")?;
-    let pages: usize = text.split(' ').nth(1).ok_or("a count of pages")?.parse()?;
+    let pages = second_number(&text).ok_or("a count of pages")?;
     Ok(pages.saturating_mul(4096))
+}
+
+/// Keeps forty copies of a snapshot with those before them.
+fn keep_copies(
+    alloc: Global,
+    snapshot: &Snapshot,
+    copies: &mut Vec<Snapshot>,
+) -> Result<(), AllocError> {
+    for _ in 0..40 {
+        copies.push(snapshot.try_clone(alloc)?)?;
+    }
+    Ok(())
 }
 
 /// How many bytes of memory forty copies of a snapshot take, which are kept with those before them.
@@ -347,10 +535,41 @@ fn taken_by_copies(
     copies: &mut Vec<Snapshot>,
 ) -> Result<usize, Fail> {
     let before = resident(rt)?;
-    for _ in 0..40 {
-        copies.push(snapshot.try_clone(rt.alloc())?)?;
-    }
+    keep_copies(rt.alloc(), snapshot, copies)?;
     Ok(resident(rt)?.saturating_sub(before))
+}
+
+/// Counts what copies of a snapshot take after each of twenty merges of these entries.
+fn take_in_rounds(
+    rt: &HostRuntime,
+    snapshot: &mut Snapshot,
+    entries: &[Entry<'_>],
+    taken: &mut [usize; 20],
+) -> Result<(), Fail> {
+    let mut copies = Vec::new(rt.alloc());
+    for bytes in taken {
+        snapshot.merge(entries.iter().copied())?;
+        *bytes = taken_by_copies(rt, snapshot, &mut copies)?;
+    }
+    Ok(())
+}
+
+/// The snapshot of these entries, which are merged again twenty times, and what its copies take after each.
+fn merged_in_rounds(
+    rt: &HostRuntime,
+    entries: &[Entry<'_>],
+    taken: &mut [usize; 20],
+) -> Result<Snapshot, Fail> {
+    let mut snapshot = snapshot_of(rt.alloc(), entries)?;
+    take_in_rounds(rt, &mut snapshot, entries, taken)?;
+    Ok(snapshot)
+}
+
+/// Wants forty copies to take memory for at most twice their texts.
+fn assert_small(rt: &impl Abort, taken: &[usize]) {
+    for bytes in taken {
+        assert!(rt; 3_000_000 < *bytes && *bytes < 11_000_000, "{bytes}");
+    }
 }
 
 /// A pool of which half is out of use is given up, so that merges which replace don't make it grow without end.
@@ -358,16 +577,11 @@ fn taken_by_copies(
 /// The pool can't be asked for its length, but forty copies show it: they take memory for at most twice their texts.
 #[test]
 fn replaced_texts_are_given_up(rt: HostRuntime) -> Result<(), Fail> {
-    let alloc = rt.alloc();
-    let new_name = vec![in alloc; b'N'; 100_000]?;
-    let given = [both(&new_name, b"new@x", b"a@x")];
-    let mut snapshot = snapshot_of(alloc, &given)?;
-    let mut copies = Vec::new(alloc);
-    for _ in 0..20 {
-        snapshot.merge(given.iter().copied())?;
-        let taken = taken_by_copies(&rt, &snapshot, &mut copies)?;
-        assert!(rt; 3_000_000 < taken && taken < 11_000_000, "{taken}");
-    }
-    assert_lists(&rt, alloc, &snapshot, &given)?;
+    let new_name = [b'N'; 100_000];
+    let given = [Entry::change_name_and_email_by_email(&new_name, b"new@x", b"a@x")];
+    let mut taken = [0; 20];
+    let snapshot = merged_in_rounds(&rt, &given, &mut taken)?;
+    assert_small(&rt, &taken);
+    assert_lists(&rt, rt.alloc(), &snapshot, &given)?;
     Ok(())
 }

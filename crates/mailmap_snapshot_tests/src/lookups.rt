@@ -1,13 +1,17 @@
-use crate::entries::{both, email, email_of_name, name, snapshot_of};
+use crate::entries::Row::{Both, BothOfName, Email, EmailOfName, Name};
+use crate::entries::{Row, snapshot_of, snapshot_of_rows};
 use gix_mailmap::actor::SignatureRef;
 use gix_mailmap::fold::Steps;
+use gix_mailmap::snapshot::ResolvedSignature;
 use gix_mailmap::{Entry, Snapshot};
 use std::alloc::{AllocError, Global};
 use std::process::Abort;
-use std::test::Fail;
 
 /// A name and an email, each if it is there.
 type Answer<'a> = Option<(Option<&'a [u8]>, Option<&'a [u8]>)>;
+
+/// A name and an email, and the answer to them.
+type Question = (&'static [u8], &'static [u8], Answer<'static>);
 
 fn signature<'a>(name: &'a [u8], email: &'a [u8]) -> SignatureRef<'a> {
     SignatureRef {
@@ -17,154 +21,146 @@ fn signature<'a>(name: &'a [u8], email: &'a [u8]) -> SignatureRef<'a> {
     }
 }
 
+fn answer_of(found: Option<ResolvedSignature<'_>>) -> Answer<'_> {
+    let found = found?;
+    Some((found.name, found.email))
+}
+
+/// Wants this answer.
+fn assert_answer(rt: &impl Abort, answer: Answer<'_>, want: Answer<'_>) {
+    assert_eq!(rt; answer, want);
+}
+
 /// Wants these answers of both lookups, to a name and an email each.
-fn assert_answers(rt: &impl Abort, snapshot: &Snapshot, table: &[(&[u8], &[u8], Answer<'_>)]) {
+fn assert_answers(rt: &impl Abort, snapshot: &Snapshot, table: &[Question]) {
     for (name, email, want) in table {
         let asked = signature(name, email);
         let plain = snapshot.try_resolve_ref(asked);
+        assert_answer(rt, answer_of(plain), *want);
         let counted = snapshot.try_resolve_ref_counted(asked, &mut Steps::new());
-        for answer in [plain, counted] {
-            let answer = answer.map(|found| (found.name, found.email));
-            assert_eq!(rt; answer, *want, "{name:?} {email:?}");
-        }
+        assert_answer(rt, answer_of(counted), *want);
     }
 }
 
 #[test]
-fn an_old_name_counts_before_its_email(rt: HostRuntime) -> Result<(), Fail> {
+fn an_old_name_counts_before_its_email(rt: HostRuntime) -> Result<(), AllocError> {
+    static TABLE: [Question; 3] = [
+        (
+            b"Bob",
+            b"bugs@example.com",
+            Some((Some(b"Joe R. Developer"), Some(b"joe@example.com"))),
+        ),
+        (
+            b"JANE",
+            b"Bugs@example.com",
+            Some((Some(b"Jane Doe"), Some(b"jane@example.com"))),
+        ),
+        (b"Bob", b"nobody@x", None),
+    ];
     let snapshot = Snapshot::from_bytes(
         rt.alloc(),
         b"\nJoe R. Developer <joe@example.com> <bugs@example.com>\nJane Doe <jane@example.com> Jane <bugs@example.com>\n",
     )?;
-    let joe = (
-        Some(b"Joe R. Developer".as_slice()),
-        Some(b"joe@example.com".as_slice()),
-    );
-    let jane = (
-        Some(b"Jane Doe".as_slice()),
-        Some(b"jane@example.com".as_slice()),
-    );
-    assert_answers(
-        &rt,
-        &snapshot,
-        &[
-            (b"Bob", b"bugs@example.com", Some(joe)),
-            (b"JANE", b"Bugs@example.com", Some(jane)),
-            (b"Bob", b"nobody@x", None),
-        ],
-    );
+    assert_answers(&rt, &snapshot, &TABLE);
     Ok(())
 }
 
-/// Wants these answers of the snapshot of some entries.
-fn assert_found(
-    rt: &impl Abort,
-    alloc: Global,
-    entries: &[Entry<'_>],
-    table: &[(&[u8], &[u8], Answer<'_>)],
-) -> Result<(), AllocError> {
-    assert_answers(rt, &snapshot_of(alloc, entries)?, table);
+/// Some entries, and the answers of the snapshot of them.
+type Known = (&'static [Row], &'static [Question]);
+
+/// Wants the answers of each table of the snapshot of its rows.
+fn assert_all_found(rt: &impl Abort, alloc: Global, tables: &[Known]) -> Result<(), AllocError> {
+    for (rows, table) in tables {
+        let snapshot = snapshot_of_rows(alloc, rows)?;
+        assert_answers(rt, &snapshot, table);
+    }
     Ok(())
 }
 
 #[test]
 fn an_old_name_takes_nothing_from_its_email(rt: HostRuntime) -> Result<(), AllocError> {
-    assert_found(
-        &rt,
-        rt.alloc(),
-        &[name(b"P", b"x@y"), email_of_name(b"n@y", b"Jane", b"x@y")],
+    static TABLES: [Known; 1] = [(
+        &[Name(b"P", b"x@y"), EmailOfName(b"n@y", b"Jane", b"x@y")],
         &[
             (b"jane", b"x@y", Some((None, Some(b"n@y")))),
             (b"Bob", b"X@y", Some((Some(b"P"), Some(b"x@y")))),
             (b"Bob", b"x@y", Some((Some(b"P"), None))),
         ],
-    )
+    )];
+    assert_all_found(&rt, rt.alloc(), &TABLES)
 }
 
 #[test]
 fn each_field_of_an_email_is_the_last_that_was_given(rt: HostRuntime) -> Result<(), AllocError> {
-    assert_found(
-        &rt,
-        rt.alloc(),
-        &[name(b"N1", b"A@x"), email(b"e@x", b"a@X")],
+    static TABLES: [Known; 1] = [(
+        &[Name(b"N1", b"A@x"), Email(b"e@x", b"a@X")],
         &[(b"Bob", b"a@x", Some((Some(b"N1"), Some(b"e@x"))))],
-    )
+    )];
+    assert_all_found(&rt, rt.alloc(), &TABLES)
 }
 
 #[test]
 fn the_first_spelling_of_an_email_stands_for_the_others(rt: HostRuntime) -> Result<(), AllocError> {
-    let named = email_of_name(b"n@y", b"Jane", b"A@x");
-    let plain = name(b"P", b"a@x");
-    assert_found(
-        &rt,
-        rt.alloc(),
-        &[named, plain],
-        &[(b"Bob", b"a@x", Some((Some(b"P"), Some(b"A@x"))))],
-    )?;
-    assert_found(
-        &rt,
-        rt.alloc(),
-        &[plain, named],
-        &[
-            (b"Bob", b"a@x", Some((Some(b"P"), None))),
-            (b"Bob", b"A@x", Some((Some(b"P"), Some(b"a@x")))),
-        ],
-    )
+    static TABLES: [Known; 2] = [
+        (
+            &[EmailOfName(b"n@y", b"Jane", b"A@x"), Name(b"P", b"a@x")],
+            &[(b"Bob", b"a@x", Some((Some(b"P"), Some(b"A@x"))))],
+        ),
+        (
+            &[Name(b"P", b"a@x"), EmailOfName(b"n@y", b"Jane", b"A@x")],
+            &[
+                (b"Bob", b"a@x", Some((Some(b"P"), None))),
+                (b"Bob", b"A@x", Some((Some(b"P"), Some(b"a@x")))),
+            ],
+        ),
+    ];
+    assert_all_found(&rt, rt.alloc(), &TABLES)
 }
 
 #[test]
 fn an_email_with_names_alone_is_respelled_for_others(rt: HostRuntime) -> Result<(), AllocError> {
-    assert_found(
-        &rt,
-        rt.alloc(),
+    static TABLES: [Known; 1] = [(
         &[
-            Entry::change_name_and_email_by_name_and_email(b"Q", b"n1@y", b"Jane", b"x@y"),
-            email_of_name(b"n2@y", b"JANE", b"X@Y"),
+            BothOfName(b"Q", b"n1@y", b"Jane", b"x@y"),
+            EmailOfName(b"n2@y", b"JANE", b"X@Y"),
         ],
         &[
             (b"Jane", b"x@y", Some((None, Some(b"n2@y")))),
             (b"Bob", b"X@Y", Some((None, Some(b"x@y")))),
             (b"Bob", b"x@y", None),
         ],
-    )
+    )];
+    assert_all_found(&rt, rt.alloc(), &TABLES)
 }
 
 #[test]
 fn empty_texts_are_looked_up_and_answered_as_others(rt: HostRuntime) -> Result<(), AllocError> {
-    let alloc = rt.alloc();
-    let nobody = [name(b"", b"")];
-    assert_found(
-        &rt,
-        alloc,
-        &nobody,
-        &[(b"Bob", b"", Some((Some(b""), None)))],
-    )?;
-    let nameless = [name(b"P", b"x@y"), email_of_name(b"n@y", b"", b"x@y")];
-    assert_found(
-        &rt,
-        alloc,
-        &nameless,
-        &[(b"", b"x@y", Some((None, Some(b"n@y"))))],
-    )?;
-    let blank = [email(b"", b"x@y")];
-    assert_found(
-        &rt,
-        alloc,
-        &blank,
-        &[(b"Bob", b"X@y", Some((None, Some(b""))))],
-    )
+    static TABLES: [Known; 3] = [
+        (&[Name(b"", b"")], &[(b"Bob", b"", Some((Some(b""), None)))]),
+        (
+            &[Name(b"P", b"x@y"), EmailOfName(b"n@y", b"", b"x@y")],
+            &[(b"", b"x@y", Some((None, Some(b"n@y"))))],
+        ),
+        (
+            &[Email(b"", b"x@y")],
+            &[(b"Bob", b"X@y", Some((None, Some(b""))))],
+        ),
+    ];
+    assert_all_found(&rt, rt.alloc(), &TABLES)
+}
+
+/// The answer to a signature that is gone when it comes.
+fn answer_to_the_gone(snapshot: &Snapshot) -> Answer<'_> {
+    let email = [b'X', b'@', b'y'];
+    answer_of(snapshot.try_resolve_ref(signature(b"Bob", &email)))
 }
 
 #[test]
-fn an_answer_outlives_the_signature(rt: HostRuntime) -> Result<(), Fail> {
-    let snapshot = snapshot_of(rt.alloc(), &[both(b"P", b"p@y", b"x@y")])?;
-    let answer = {
-        let asked = [b'X', b'@', b'y'];
-        snapshot.try_resolve_ref(signature(b"Bob", &asked))
-    };
-    let answer = answer.ok_or("nothing")?;
-    assert_eq!(rt; answer.name, Some(b"P".as_slice()));
-    assert_eq!(rt; answer.email, Some(b"p@y".as_slice()));
+fn an_answer_outlives_the_signature(rt: HostRuntime) -> Result<(), AllocError> {
+    static ROWS: [Row; 1] = [Both(b"P", b"p@y", b"x@y")];
+    let snapshot = snapshot_of_rows(rt.alloc(), &ROWS)?;
+    let want: Answer<'_> = Some((Some(b"P"), Some(b"p@y")));
+    assert_answer(&rt, answer_to_the_gone(&snapshot), want);
     Ok(())
 }
 
@@ -175,41 +171,46 @@ fn count_of(snapshot: &Snapshot, name: &[u8], email: &[u8]) -> usize {
     steps.count()
 }
 
-/// Wants so many comparisons of the lookup of `b@x` under a name, in the snapshot of some entries.
-fn assert_count(
+/// Wants so many comparisons.
+fn assert_within(rt: &impl Abort, count: usize, at_least: usize, at_most: usize) {
+    assert!(rt; at_least <= count && count <= at_most, "{count}");
+}
+
+/// Wants so many comparisons of the lookup of `b@x` under each of these names, in the snapshot of some entries.
+fn assert_names_within(
     rt: &impl Abort,
     alloc: Global,
-    entries: &[Entry<'_>],
-    old_name: &[u8],
+    rows: &[Row],
+    old_names: &[&[u8]],
     at_least: usize,
     at_most: usize,
 ) -> Result<(), AllocError> {
-    let count = count_of(&snapshot_of(alloc, entries)?, old_name, b"b@x");
-    assert!(rt; at_least <= count && count <= at_most, "{count}");
+    let snapshot = snapshot_of_rows(alloc, rows)?;
+    for old_name in old_names {
+        assert_within(rt, count_of(&snapshot, old_name, b"b@x"), at_least, at_most);
+    }
     Ok(())
 }
 
 #[test]
 fn emails_and_names_are_searched_within_the_digits_of_their_numbers(
     rt: HostRuntime,
-) -> Result<(), Fail> {
-    let alloc = rt.alloc();
-    assert_eq!(rt; count_of(&Snapshot::empty(alloc), b"n", b"a@x"), 0);
-
-    let one = [name(b"N", b"a@x")];
-    assert_count(&rt, alloc, &one, b"n", 1, 1)?;
-
-    let three = [
-        name(b"N", b"a@x"),
-        name(b"N", b"c@x"),
-        email_of_name(b"1@x", b"A", b"b@x"),
-        email_of_name(b"2@x", b"B", b"b@x"),
-        email_of_name(b"3@x", b"C", b"b@x"),
-        email_of_name(b"4@x", b"D", b"b@x"),
+) -> Result<(), AllocError> {
+    static SIX: [Row; 6] = [
+        Name(b"N", b"a@x"),
+        Name(b"N", b"c@x"),
+        EmailOfName(b"1@x", b"A", b"b@x"),
+        EmailOfName(b"2@x", b"B", b"b@x"),
+        EmailOfName(b"3@x", b"C", b"b@x"),
+        EmailOfName(b"4@x", b"D", b"b@x"),
     ];
-    for old_name in [b"a", b"b", b"c", b"d", b"e"] {
-        assert_count(&rt, alloc, &three, old_name, 2, 5)?;
-    }
+    static OLD_NAMES: [&[u8]; 5] = [b"a", b"b", b"c", b"d", b"e"];
+    static ONE: [Row; 1] = [Name(b"N", b"a@x")];
+    static OLD_NAME: [&[u8]; 1] = [b"n"];
+    assert_names_within(&rt, rt.alloc(), &ONE, &OLD_NAME, 1, 1)?;
+    assert_names_within(&rt, rt.alloc(), &SIX, &OLD_NAMES, 2, 5)?;
+    let empty = Snapshot::empty(rt.alloc());
+    assert_within(&rt, count_of(&empty, b"n", b"a@x"), 0, 0);
     Ok(())
 }
 
@@ -226,29 +227,37 @@ fn numbered(alloc: Global) -> Result<Vec<String>, AllocError> {
 fn names_of<'a>(alloc: Global, texts: &'a [String]) -> Result<Vec<Entry<'a>>, AllocError> {
     let mut entries = Vec::new(alloc);
     for text in texts {
-        entries.push(name(b"N", text.as_bytes()))?;
+        entries.push(Entry::change_name_by_email(b"N", text.as_bytes()))?;
     }
     Ok(entries)
 }
 
-/// Wants at most so many comparisons of the lookup of each of these emails.
-fn assert_counts(rt: &impl Abort, snapshot: &Snapshot, texts: &[String], at_most: usize) {
+/// Wants at most so many comparisons of the lookup of each of these emails, in the snapshot of some entries.
+fn assert_counts(
+    rt: &impl Abort,
+    alloc: Global,
+    entries: &[Entry<'_>],
+    texts: &[String],
+    at_most: usize,
+) -> Result<(), AllocError> {
+    let snapshot = snapshot_of(alloc, entries)?;
     for text in texts {
-        let count = count_of(snapshot, b"n", text.as_bytes());
-        assert!(rt; 1 <= count && count <= at_most, "{text}: {count}");
+        assert_within(rt, count_of(&snapshot, b"n", text.as_bytes()), 1, at_most);
     }
+    assert_within(rt, count_of(&snapshot, b"n", b"z@x"), 1, at_most);
+    Ok(())
+}
+
+/// Wants eleven comparisons at most of the lookup of 1024 emails, and ten where the last is not known.
+fn assert_thousand(rt: &impl Abort, alloc: Global, texts: &[String]) -> Result<(), AllocError> {
+    let mut entries = names_of(alloc, texts)?;
+    assert_counts(rt, alloc, &entries, texts, 11)?;
+    let _last = entries.pop();
+    assert_counts(rt, alloc, &entries, texts, 10)
 }
 
 #[test]
-fn a_thousand_emails_are_searched_in_ten_comparisons(rt: HostRuntime) -> Result<(), Fail> {
-    let alloc = rt.alloc();
-    let texts = numbered(alloc)?;
-    let mut entries = names_of(alloc, &texts)?;
-    let all = snapshot_of(alloc, &entries)?;
-    assert_counts(&rt, &all, &texts, 11);
-    assert!(rt; count_of(&all, b"n", b"z@x") <= 11);
-    let _last = entries.pop();
-    let fewer = snapshot_of(alloc, &entries)?;
-    assert_counts(&rt, &fewer, &texts, 10);
-    Ok(())
+fn a_thousand_emails_are_searched_in_ten_comparisons(rt: HostRuntime) -> Result<(), AllocError> {
+    let texts = numbered(rt.alloc())?;
+    assert_thousand(&rt, rt.alloc(), &texts)
 }

@@ -1,9 +1,9 @@
-use crate::entries::snapshot_of;
+use crate::entries::Row::{Email, Name};
+use crate::entries::{Row, assert_str, snapshot_of_rows};
+use gix_mailmap::Snapshot;
 use gix_mailmap::snapshot::WriteError;
-use gix_mailmap::{Entry, Snapshot};
 use std::alloc::{AllocError, Global};
 use std::process::Abort;
-use std::test::Fail;
 
 /// Wants a snapshot to be written as `want`.
 fn assert_text(
@@ -11,40 +11,58 @@ fn assert_text(
     alloc: Global,
     snapshot: &Snapshot,
     want: &[u8],
-) -> Result<(), Fail> {
-    assert_eq!(rt; snapshot.write(alloc)?.as_slice(), want);
+) -> Result<(), WriteError> {
+    let text = snapshot.write(alloc)?;
+    assert_eq!(rt; text.as_slice(), want);
     Ok(())
 }
 
+/// Wants `want` to be read as a snapshot, and to be written as it was.
+fn assert_read_back(
+    rt: &impl Abort,
+    alloc: Global,
+    snapshot: &Snapshot,
+    want: &[u8],
+) -> Result<(), WriteError> {
+    let read_back = Snapshot::from_bytes(alloc, want)?;
+    assert!(rt; read_back == *snapshot);
+    assert_text(rt, alloc, &read_back, want)
+}
+
 /// Wants the snapshot of `buf` to be written as `want`, and that to be read and written as the same.
-fn assert_written(rt: &impl Abort, alloc: Global, buf: &[u8], want: &[u8]) -> Result<(), Fail> {
+fn assert_written(
+    rt: &impl Abort,
+    alloc: Global,
+    buf: &[u8],
+    want: &[u8],
+) -> Result<(), WriteError> {
     let snapshot = Snapshot::from_bytes(alloc, buf)?;
     assert_text(rt, alloc, &snapshot, want)?;
-    let read_back = Snapshot::from_bytes(alloc, want)?;
-    assert!(rt; read_back == snapshot, "{buf:?}");
-    assert_text(rt, alloc, &read_back, want)
+    assert_read_back(rt, alloc, &snapshot, want)
 }
 
 /// Wants the entry at `place` to be refused.
 fn assert_unwritable(
     rt: &impl Abort,
     alloc: Global,
-    entries: &[Entry<'_>],
+    rows: &[Row],
     place: usize,
-) -> Result<(), Fail> {
-    let refused = snapshot_of(alloc, entries)?.write(alloc).err();
-    assert_eq!(rt;
-        refused,
-        Some(WriteError::Unwritable { place }),
-        "{entries:?}"
-    );
+) -> Result<(), AllocError> {
+    let snapshot = snapshot_of_rows(alloc, rows)?;
+    let refused = snapshot.write(alloc).err();
+    assert_refused_at(rt, refused, place);
     Ok(())
+}
+
+/// Wants the entry at `place` to be what was refused.
+fn assert_refused_at(rt: &impl Abort, refused: Option<WriteError>, place: usize) {
+    assert_eq!(rt; refused, Some(WriteError::Unwritable { place }));
 }
 
 #[test]
 fn what_was_read_is_written_in_the_order_of_keys_and_reads_back(
     rt: HostRuntime,
-) -> Result<(), Fail> {
+) -> Result<(), WriteError> {
     let alloc = rt.alloc();
     assert_written(&rt, alloc, b"", b"")?;
     assert_written(&rt, alloc, b"# c\n<a@x>\nplain", b"")?;
@@ -63,38 +81,44 @@ fn what_was_read_is_written_in_the_order_of_keys_and_reads_back(
 }
 
 #[test]
-fn an_email_is_mapped_from_the_empty_one(rt: HostRuntime) -> Result<(), Fail> {
-    let alloc = rt.alloc();
-    let snapshot = snapshot_of(alloc, &[Entry::change_email_by_email(b"n@y", b"")])?;
-    assert_eq!(&rt;
-        snapshot.write(alloc)?.as_slice(),
-        b" <n@y> <>\n".as_slice()
-    );
+fn an_email_is_mapped_from_the_empty_one(rt: HostRuntime) -> Result<(), WriteError> {
+    static ROWS: [Row; 1] = [Email(b"n@y", b"")];
+    let snapshot = snapshot_of_rows(rt.alloc(), &ROWS)?;
+    assert_text(&rt, rt.alloc(), &snapshot, b" <n@y> <>\n")
+}
+
+#[test]
+fn the_first_entry_that_no_line_can_hold_is_named(rt: HostRuntime) -> Result<(), AllocError> {
+    static TABLE: [(&[Row], usize); 6] = [
+        (&[Name(b"N", b"")], 0),
+        (&[Name(b"N", b"a@x"), Email(b"n>y", b"b@x")], 1),
+        (&[Name(b" N", b"a@x")], 0),
+        (&[Email(b"", b"x@y")], 0),
+        (&[Name(b"N", b"a@x\xc2\xa0")], 0),
+        (&[Name(b"N\nM", b"a@x")], 0),
+    ];
+    for (rows, place) in &TABLE {
+        assert_unwritable(&rt, rt.alloc(), rows, *place)?;
+    }
+    Ok(())
+}
+
+/// Wants this text of an error.
+fn assert_error_text(
+    rt: &impl Abort,
+    alloc: Global,
+    error: &WriteError,
+    want: &str,
+) -> Result<(), AllocError> {
+    let text = error.to_string(alloc)?;
+    assert_str(rt, &text, want);
     Ok(())
 }
 
 #[test]
-fn the_first_entry_that_no_line_can_hold_is_named(rt: HostRuntime) -> Result<(), Fail> {
-    let alloc = rt.alloc();
-    let name = Entry::change_name_by_email;
-    let email = Entry::change_email_by_email;
-    assert_unwritable(&rt, alloc, &[name(b"N", b"")], 0)?;
-    assert_unwritable(&rt, alloc, &[name(b"N", b"a@x"), email(b"n>y", b"b@x")], 1)?;
-    assert_unwritable(&rt, alloc, &[name(b" N", b"a@x")], 0)?;
-    assert_unwritable(&rt, alloc, &[email(b"", b"x@y")], 0)?;
-    assert_unwritable(&rt, alloc, &[name(b"N", b"a@x\xc2\xa0")], 0)?;
-    assert_unwritable(&rt, alloc, &[name(b"N\nM", b"a@x")], 0)
-}
-
-#[test]
-fn the_texts_of_write_errors(rt: HostRuntime) -> Result<(), Fail> {
-    let alloc = rt.alloc();
+fn the_texts_of_write_errors(rt: HostRuntime) -> Result<(), AllocError> {
     let unwritable = WriteError::Unwritable { place: 3 };
-    assert_eq!(&rt;
-        unwritable.to_string(alloc)?.as_str(),
-        "entry 3 cannot be written"
-    );
+    assert_error_text(&rt, rt.alloc(), &unwritable, "entry 3 cannot be written")?;
     let memory = WriteError::Memory(AllocError);
-    assert_eq!(&rt; memory.to_string(alloc)?.as_str(), "out of memory");
-    Ok(())
+    assert_error_text(&rt, rt.alloc(), &memory, "out of memory")
 }

@@ -14,6 +14,7 @@ mod samples;
 mod unrefusable;
 
 use call::Call;
+use gix_mailmap::Snapshot;
 use run::{Run, Wrong};
 use std::alloc::Global;
 use std::io::Read;
@@ -49,13 +50,14 @@ fn walk(run: &mut Run, alloc: Global, before: usize) -> Result<(), Wrong> {
         request(run, alloc, Call::Before)?;
     }
     let team = refusable::build(run, alloc)?;
-    refusable::merge(run, alloc, &team)?;
-    refusable::merge_sources(run, alloc)?;
-    refusable::resolve(run, alloc, &team)?;
-    refusable::check_and_compact(run, alloc)?;
-
-    unrefusable::Built::new(run, alloc, team)?.judge(alloc)?;
+    judge(run, alloc, &team)?;
     request(run, alloc, Call::Behind)
+}
+
+// Makes the calls on the snapshot of the team.
+fn judge(run: &mut Run, alloc: Global, team: &Snapshot) -> Result<(), Wrong> {
+    refusable::judge(run, alloc, team)?;
+    unrefusable::judge(run, alloc, team)
 }
 
 // Asks for memory once.

@@ -9,38 +9,55 @@ use gix_mailmap::snapshot::{Source, WriteError};
 use gix_mailmap::{Entry, Snapshot, actor, check};
 use std::alloc::{AllocError, Global};
 
-/// The snapshot of the team, which is listed, copied and written as well.
+/// The snapshot of the team.
 pub fn build(run: &mut Run, alloc: Global) -> Result<Snapshot, Wrong> {
-    let snapshot = run.judge(
+    run.judge(
         Call::New,
         || Snapshot::new(alloc, team().into_iter()),
         |made| lists(made, &team()),
-    )?;
+    )
+}
+
+/// Makes these calls but for the first, which built the team.
+pub fn judge(run: &mut Run, alloc: Global, team: &Snapshot) -> Result<(), Wrong> {
+    read_and_list(run, alloc, team)?;
+    copy_and_write(run, alloc, team)?;
+    merge(run, alloc, team)?;
+    merge_anew(run, alloc)?;
+    merge_sources(run, alloc)?;
+    resolve(run, alloc, team)?;
+    copy_signatures(run, alloc, team)?;
+    check_and_compact(run, alloc)
+}
+
+// Reads the snapshot of the team, and lists it.
+fn read_and_list(run: &mut Run, alloc: Global, snapshot: &Snapshot) -> Result<(), Wrong> {
     run.judge(
         Call::FromBytes,
         || Snapshot::from_bytes(alloc, TEAM),
-        |made| *made == snapshot,
+        |made| *made == *snapshot,
     )?;
     run.judge(
         Call::Entries,
         || snapshot.entries(alloc),
         |entries| entries.as_slice() == team().as_slice(),
     )?;
-    run.judge(
-        Call::TryClone,
-        || snapshot.try_clone(alloc),
-        |copy| *copy == snapshot,
-    )?;
-    let _text = run.judge(
-        Call::Write,
-        || write(&snapshot, alloc),
-        |text| text.as_ref().is_ok_and(|text| text.as_slice() == WRITTEN),
-    )?;
-    Ok(snapshot)
+    Ok(())
 }
 
-/// The text of a snapshot, or the place of the entry that no line can hold.
-pub fn write(snapshot: &Snapshot, alloc: Global) -> Result<Result<Vec<u8>, usize>, AllocError> {
+// Copies the snapshot of the team, and writes it.
+fn copy_and_write(run: &mut Run, alloc: Global, snapshot: &Snapshot) -> Result<(), Wrong> {
+    clone(run, alloc, snapshot)?;
+    let _text = run.judge(
+        Call::Write,
+        || write(snapshot, alloc),
+        |text| text.as_ref().is_ok_and(|text| text.as_slice() == WRITTEN),
+    )?;
+    Ok(())
+}
+
+// The text of a snapshot, or the place of the entry that no line can hold.
+fn write(snapshot: &Snapshot, alloc: Global) -> Result<Result<Vec<u8>, usize>, AllocError> {
     match snapshot.write(alloc) {
         Ok(text) => Ok(Ok(text)),
         Err(WriteError::Unwritable { place }) => Ok(Err(place)),
@@ -48,11 +65,14 @@ pub fn write(snapshot: &Snapshot, alloc: Global) -> Result<Result<Vec<u8>, usize
     }
 }
 
-/// Merges: one into the team, and one that gives replaced texts up, which builds the snapshot once more.
-pub fn merge(run: &mut Run, alloc: Global, team: &Snapshot) -> Result<(), Wrong> {
+// A merge into the team.
+fn merge(run: &mut Run, alloc: Global, team: &Snapshot) -> Result<(), Wrong> {
     let mut copy = clone(run, alloc, team)?;
-    run.judge_merge(Call::Merge, team, &mut copy, &later(), &all())?;
+    run.judge_merge(Call::Merge, team, &mut copy, &later(), &all())
+}
 
+// A merge that gives replaced texts up, which builds the snapshot once more.
+fn merge_anew(run: &mut Run, alloc: Global) -> Result<(), Wrong> {
     let long = [Entry::change_name_by_email(b"A long name", b"a")];
     let short = [Entry::change_name_by_email(b"N", b"a")];
     let worn = run.judge(
@@ -73,9 +93,9 @@ pub fn clone(run: &mut Run, alloc: Global, snapshot: &Snapshot) -> Result<Snapsh
     )
 }
 
-/// Three sources, of which the one in the middle has no entry, so that it is always made. What the others say is there
-/// exactly where they are marked as made.
-pub fn merge_sources(run: &mut Run, alloc: Global) -> Result<(), Wrong> {
+// Three sources, of which the one in the middle has no entry, so that it is always made. What the others say is there
+// exactly where they are marked as made.
+fn merge_sources(run: &mut Run, alloc: Global) -> Result<(), Wrong> {
     let sources = [
         Source::Buffer(b"N <a@x>"),
         Source::Buffer(b""),
@@ -96,8 +116,8 @@ pub fn merge_sources(run: &mut Run, alloc: Global) -> Result<(), Wrong> {
     wants(call, lists(&snapshot, &[left]))
 }
 
-/// Signatures that are mapped, or copied as they are.
-pub fn resolve(run: &mut Run, alloc: Global, team: &Snapshot) -> Result<(), Wrong> {
+// Signatures that are mapped, or copied as they are.
+fn resolve(run: &mut Run, alloc: Global, team: &Snapshot) -> Result<(), Wrong> {
     run.judge(
         Call::TryResolve,
         || team.try_resolve(alloc, JANE),
@@ -109,6 +129,11 @@ pub fn resolve(run: &mut Run, alloc: Global, team: &Snapshot) -> Result<(), Wron
         || team.resolve(alloc, NOBODY),
         is_nobody,
     )?;
+    Ok(())
+}
+
+// A signature that owns its texts, copied and turned into one that always does.
+fn copy_signatures(run: &mut Run, alloc: Global, team: &Snapshot) -> Result<(), Wrong> {
     let jane = run.judge(
         Call::ResolveCow,
         || team.resolve_cow(alloc, JANE),
@@ -123,8 +148,8 @@ pub fn resolve(run: &mut Run, alloc: Global, team: &Snapshot) -> Result<(), Wron
     Ok(())
 }
 
-/// Answers to contact lines, and a mailmap written anew.
-pub fn check_and_compact(run: &mut Run, alloc: Global) -> Result<(), Wrong> {
+// Answers to contact lines, and a mailmap written anew.
+fn check_and_compact(run: &mut Run, alloc: Global) -> Result<(), Wrong> {
     run.judge(
         Call::Check,
         || check::check(alloc, &[TEAM], CONTACTS),

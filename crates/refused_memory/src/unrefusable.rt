@@ -9,68 +9,48 @@ use gix_mailmap::actor::SignatureRef;
 use gix_mailmap::date::Time;
 use gix_mailmap::fold::{Steps, cmp_ignore_ascii_case};
 use gix_mailmap::lines::Error;
-use gix_mailmap::snapshot::{Signature, WriteError};
+use gix_mailmap::snapshot::{ResolvedSignature, Signature, WriteError};
 use gix_mailmap::{Entry, Snapshot, actor, check, parse, parse_ignore_errors, parse_strict};
-use std::alloc::Global;
+use std::alloc::{AllocError, Global};
 use std::borrow::CowSlice;
 use std::cmp::Ordering;
 use std::hash::{DefaultHasher, Hash, Hasher};
 
-/// What has to be built before.
-#[derive(Drop)]
-pub struct Built {
-    team: Snapshot,
-    copy: Snapshot,
-    unwritable: Snapshot,
-    jane: Signature<'static>,
+/// Makes the last requests before these calls, and then the calls.
+pub fn judge(run: &mut Run, alloc: Global, team: &Snapshot) -> Result<(), Wrong> {
+    let mut copy = refusable::clone(run, alloc, team)?;
+    let unwritable = unwritable(run, alloc)?;
+    let jane = run.judge(
+        Call::ResolveCow,
+        || team.resolve_cow(alloc, JANE),
+        owns_jane,
+    )?;
+    let answers = moves(jane, alloc) && are_right(team, &mut copy, &unwritable, alloc);
+    wants(Call::Unrefusable, answers)
 }
 
-impl Built {
-    /// Makes the last requests before these calls.
-    pub fn new(run: &mut Run, alloc: Global, team: Snapshot) -> Result<Built, Wrong> {
-        let nameless = [Entry::change_name_by_email(b"N", b"")];
-        let copy = refusable::clone(run, alloc, &team)?;
-        let unwritable = run.judge(
-            Call::New,
-            || Snapshot::new(alloc, nameless.into_iter()),
-            |made| lists(made, &nameless),
-        )?;
-        let jane = run.judge(
-            Call::ResolveCow,
-            || team.resolve_cow(alloc, JANE),
-            owns_jane,
-        )?;
-        Ok(Built {
-            team,
-            copy,
-            unwritable,
-            jane,
-        })
-    }
+// A snapshot with an entry that no line can hold.
+fn unwritable(run: &mut Run, alloc: Global) -> Result<Snapshot, Wrong> {
+    let nameless = [Entry::change_name_by_email(b"N", b"")];
+    run.judge(
+        Call::New,
+        || Snapshot::new(alloc, nameless.into_iter()),
+        |made| lists(made, &nameless),
+    )
+}
 
-    /// Makes these calls.
-    pub fn judge(self, alloc: Global) -> Result<(), Wrong> {
-        let Built {
-            team,
-            mut copy,
-            unwritable,
-            jane,
-        } = self;
-        wants(
-            Call::Unrefusable,
-            parses() && cuts() && compares() && reads_times(),
-        )?;
-        wants(
-            Call::Unrefusable,
-            looks_up(&team) && finds_nothing(&team, alloc),
-        )?;
-        wants(
-            Call::Unrefusable,
-            moves(jane, alloc) && builds_nothing(alloc),
-        )?;
-        wants(Call::Unrefusable, cannot_write(&unwritable, alloc))?;
-        wants(Call::Unrefusable, merges_nothing(&mut copy) && copy == team)
-    }
+// Makes the calls on a snapshot, a copy of it and one that can't be written.
+fn are_right(team: &Snapshot, copy: &mut Snapshot, unwritable: &Snapshot, alloc: Global) -> bool {
+    parses()
+        && cuts()
+        && compares()
+        && reads_times()
+        && looks_up(team)
+        && finds_nothing(team, alloc)
+        && builds_nothing(alloc)
+        && cannot_write(unwritable, alloc)
+        && merges_nothing(copy)
+        && *copy == *team
 }
 
 fn parses() -> bool {
@@ -137,16 +117,22 @@ fn looks_up(snapshot: &Snapshot) -> bool {
     let mut steps = Steps::new();
     let plain = snapshot.try_resolve_ref(JANE);
     let counted = snapshot.try_resolve_ref_counted(JANE, &mut steps);
-    let want = (
-        Some(b"Jane Doe".as_slice()),
-        Some(b"jane@example.com".as_slice()),
-    );
-    plain.is_some_and(|found| (found.name, found.email) == want)
-        && counted.is_some_and(|found| (found.name, found.email) == want)
+    is_jane_doe(plain)
+        && is_jane_doe(counted)
         && steps.count() == 2
         && lists(snapshot, &team())
         && *snapshot == *snapshot
         && hash_of(snapshot) == hash_of(snapshot)
+}
+
+fn is_jane_doe(answer: Option<ResolvedSignature<'_>>) -> bool {
+    match answer {
+        Some(found) => {
+            found.name == Some(b"Jane Doe".as_slice())
+                && found.email == Some(b"jane@example.com".as_slice())
+        }
+        None => false,
+    }
 }
 
 fn finds_nothing(snapshot: &Snapshot, alloc: Global) -> bool {
@@ -156,18 +142,27 @@ fn finds_nothing(snapshot: &Snapshot, alloc: Global) -> bool {
     snapshot.try_resolve_ref(NOBODY).is_none()
         && snapshot.try_resolve(alloc, NOBODY) == Ok(None)
         && kept == Signature::from(NOBODY)
-        && kept.try_clone(alloc).is_ok_and(|copy| copy == kept)
+        && kept.try_clone(alloc) == Ok(kept)
 }
 
 // Texts that are owned are moved.
 fn moves(jane: Signature<'_>, alloc: Global) -> bool {
-    actor::Signature::from_cow(alloc, jane).is_ok_and(|jane| is_jane(&jane))
+    match actor::Signature::from_cow(alloc, jane) {
+        Ok(jane) => is_jane(&jane),
+        Err(_) => false,
+    }
 }
 
 fn builds_nothing(alloc: Global) -> bool {
-    let empty = Snapshot::empty(alloc);
-    Snapshot::new(alloc, [Entry::default()].into_iter()).is_ok_and(|made| made == empty)
-        && Snapshot::from_bytes(alloc, b"plain").is_ok_and(|made| made == empty)
+    is_empty(Snapshot::new(alloc, [Entry::default()].into_iter()))
+        && is_empty(Snapshot::from_bytes(alloc, b"plain"))
+}
+
+fn is_empty(made: Result<Snapshot, AllocError>) -> bool {
+    match made {
+        Ok(snapshot) => lists(&snapshot, &[]),
+        Err(_) => false,
+    }
 }
 
 fn cannot_write(snapshot: &Snapshot, alloc: Global) -> bool {

@@ -1,5 +1,5 @@
 //! Signatures with their mapped names and emails in place, owned or copied on write.
-ghost use Rattle.std.specs.Prelude.{◌≡◌, ◌↔◌, ◌||◌, List, is_some, IsTrue, IsSome, IfOk, IfSome, OnErr};
+ghost use Rattle.std.specs.Prelude.{◌≡◌, ◌↔◌, List, IsSome, IfOk, IfSome, OnErr};
 ghost use Rattle.mailmap_signatures.specs.SignatureFields.{owned_fields, cow_fields};
 ghost use Rattle.mailmap_snapshot.specs.Answers.{mapped, IsAnswer, OwnsMapped, IsEnriched, OwnsJust};
 ghost use Rattle.mailmap_grammar.specs.Entries.{Mapping};
@@ -118,26 +118,15 @@ fn enriched_signature<'a>(
     signature: SignatureRef<'a>,
     new: ResolvedSignature<'_>,
 ) -> Result<Signature<'a>, AllocError>
-    // no lookup finds neither
-    requires { IsTrue (is_some new.name || is_some new.email) }
     ensures fields { IfOk result (λ s. IsEnriched (shown new.entry) signature.entry (cow_fields s)) }
     ensures owned { IfOk result (OwnsJust (shown new.entry)) }
 {
-    let kept = Signature::from(signature);
-    match (new.email, new.name) {
-        (Some(new_email), Some(new_name)) => Ok(Signature {
-            name: CowSlice::Owned(Vec::from_slice(alloc, new_name)?),
-            email: CowSlice::Owned(Vec::from_slice(alloc, new_email)?),
-            ..kept
-        }),
-        (Some(new_email), None) => Ok(Signature {
-            email: CowSlice::Owned(Vec::from_slice(alloc, new_email)?),
-            ..kept
-        }),
-        (None, Some(new_name)) => Ok(Signature {
-            name: CowSlice::Owned(Vec::from_slice(alloc, new_name)?),
-            ..kept
-        }),
-        (None, None) => unreachable!("a lookup finds a name or an email"),
+    let mut enriched = Signature::from(signature);
+    if let Some(new_name) = new.name {
+        enriched.name = CowSlice::Owned(Vec::from_slice(alloc, new_name)?);
     }
+    if let Some(new_email) = new.email {
+        enriched.email = CowSlice::Owned(Vec::from_slice(alloc, new_email)?);
+    }
+    Ok(enriched)
 }

@@ -23,14 +23,12 @@ SpellsOffset-bytes bytes negative offset five sign hours minutes value = record 
 
 pub returns-in-43 : goal.returns-in-43
 returns-in-43 c =
-    let hours = c.in_ok-hours.ensures in
-    let minutes = c.in_ok-minutes.ensures in
+    let digits = c.in_ok-seconds.ensures.0 in
     rw (sym c.as_bytes.ensures.value)
-    (SpellsOffset-bytes c.as_bytes.result.now false _ (omega arith) c.in-43.is hours.0 minutes.0 (omega (arith, ints, hours.1, minutes.1)))
+    (SpellsOffset-bytes c.as_bytes.result.now false _ (omega arith) c.in-43.is digits.0 digits.1 (omega (arith, ints, c.in_ok-seconds.ensures.1)))
 
 pub returns-in-45 : goal.returns-in-45
 returns-in-45 c =
-    let hours = c.in_ok-hours.ensures in
-    let minutes = c.in_ok-minutes.ensures in
+    let digits = c.in_ok-seconds.ensures.0 in
     rw (sym c.as_bytes.ensures.value)
-    (SpellsOffset-bytes c.as_bytes.result.now true _ (omega arith) c.in-45.is hours.0 minutes.0 (omega (arith, ints, hours.1, minutes.1)))
+    (SpellsOffset-bytes c.as_bytes.result.now true _ (omega arith) c.in-45.is digits.0 digits.1 (omega (arith, ints, c.in_ok-seconds.ensures.1)))
