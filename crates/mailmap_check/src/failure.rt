@@ -45,7 +45,7 @@ mod tests {
 
     #[test]
     fn each_failure_prints_its_line(rt: HostRuntime) -> Result<(), Fail> {
-        let rows = [
+        static ROWS: [(Failure, &str); 4] = [
             (
                 Failure::File { number: 2 },
                 "mailmap_check: cannot read file 2",
@@ -54,8 +54,8 @@ mod tests {
             (Failure::Memory, "mailmap_check: out of memory"),
             (Failure::Output, "mailmap_check: cannot write output"),
         ];
-        for (failure, line) in rows {
-            assert_eq!(rt; failure.to_string(rt.alloc())?.as_str(), line);
+        for (failure, line) in &ROWS {
+            assert_eq!(rt; failure.to_string(rt.alloc())?.as_str(), *line);
         }
         Ok(())
     }

@@ -2,7 +2,7 @@ ghost use Rattle.std.specs.Prelude.{◌≤◌, IfOk};
 
 use super::*;
 use std::io::{Error, ErrorKind};
-use std::test::Fail;
+use std::process::Abort;
 use std::{cmp, io};
 
 // What a fake reader or writer does at one call: it moves at most so many bytes, or fails.
@@ -75,11 +75,21 @@ impl Write for Sink<'_> {
     }
 }
 
+/// Wants a run to have ended so.
+fn assert_ended(rt: &impl Abort, ended: Result<(), Failure>, want: Result<(), Failure>) {
+    assert_eq!(rt; ended, want);
+}
+
+/// Wants these bytes to have been written.
+fn assert_written(rt: &impl Abort, written: &[u8], want: &[u8]) {
+    assert_eq!(rt; written, want);
+}
+
 /// A reader that fails is `Input`, wherever it fails and for whatever cause, and nothing is written.
 /// An interrupted read is made again, and behind the end nothing is read.
 #[test]
-fn a_reader_that_fails_is_input_and_nothing_is_written(rt: HostRuntime) -> Result<(), Fail> {
-    let rows: [(&[Turn], Result<(), Failure>, &[u8]); 7] = [
+fn a_reader_that_fails_is_input_and_nothing_is_written(rt: HostRuntime) {
+    static ROWS: [(&[Turn], Result<(), Failure>, &[u8]); 7] = [
         (&[BREAKS], Err(Failure::Input), b""),
         (&[Turn::Moves(5), BREAKS], Err(Failure::Input), b""),
         (&[ALL, BREAKS], Err(Failure::Input), b""),
@@ -96,22 +106,22 @@ fn a_reader_that_fails_is_input_and_nothing_is_written(rt: HostRuntime) -> Resul
         ),
         (&[], Ok(()), b""),
     ];
-    for (turns, result, written) in rows {
+    for (turns, result, written) in &ROWS {
         let mut input = Source {
             bytes: b"--\nplain\n",
             turns,
         };
         let mut output = Vec::new(rt.alloc());
-        assert_eq!(rt; run(rt.alloc(), None, &mut input, &mut output), result);
-        assert_eq!(rt; output.as_slice(), written);
+        let ended = run(rt.alloc(), None, &mut input, &mut output);
+        assert_ended(&rt, ended, *result);
+        assert_written(&rt, &output, written);
     }
-    Ok(())
 }
 
 /// A writer that fails or takes no more is `Output`, and what it took is a front of the answers.
 #[test]
-fn a_writer_that_fails_is_output_and_holds_a_front(rt: HostRuntime) -> Result<(), Fail> {
-    let rows: [(&[Turn], Turn, Result<(), Failure>, &[u8]); 6] = [
+fn a_writer_that_fails_is_output_and_holds_a_front(rt: HostRuntime) {
+    static ROWS: [(&[Turn], Turn, Result<(), Failure>, &[u8]); 6] = [
         (&[BREAKS], ALL, Err(Failure::Output), b""),
         (&[Turn::Moves(3), BREAKS], ALL, Err(Failure::Output), b"pla"),
         (
@@ -129,39 +139,38 @@ fn a_writer_that_fails_is_output_and_holds_a_front(rt: HostRuntime) -> Result<()
         ),
         (&[], ALL, Ok(()), b"plain\n"),
     ];
-    for (turns, flush, result, written) in rows {
+    for (turns, flush, result, written) in &ROWS {
         let mut input: &[u8] = b"--\nplain\n";
         let mut output = Sink {
             taken: Vec::new(rt.alloc()),
             turns,
-            flush,
+            flush: *flush,
         };
-        assert_eq!(rt; run(rt.alloc(), None, &mut input, &mut output), result);
-        assert_eq!(rt; output.taken.as_slice(), written);
+        let ended = run(rt.alloc(), None, &mut input, &mut output);
+        assert_ended(&rt, ended, *result);
+        assert_written(&rt, &output.taken, written);
     }
-    Ok(())
 }
 
 /// With files all of the input is contact lines, a line `--` too.
 #[test]
-fn with_files_no_line_parts_the_input(rt: HostRuntime) -> Result<(), Fail> {
+fn with_files_no_line_parts_the_input(rt: HostRuntime) {
     let mut input: &[u8] = b"a\n--\nb\n";
     let mut output = Vec::new(rt.alloc());
-    assert_eq!(rt; run(rt.alloc(), Some(&[]), &mut input, &mut output), Ok(()));
-    assert_eq!(rt; output.as_slice(), b"a\n--\nb\n".as_slice());
-    Ok(())
+    let ended = run(rt.alloc(), Some(&[]), &mut input, &mut output);
+    assert_ended(&rt, ended, Ok(()));
+    assert_written(&rt, &output, b"a\n--\nb\n");
 }
 
 /// With files the compactor doesn't read its input; without, a reader that fails is `Input`.
 #[test]
-fn the_compactor_reads_its_input_only_without_files(rt: HostRuntime) -> Result<(), Fail> {
-    let no_files: &[&[u8]] = &[];
-    let rows: [(Option<&[&[u8]]>, Turn, Result<(), Failure>); 3] = [
-        (Some(no_files), ALL, Ok(())),
+fn the_compactor_reads_its_input_only_without_files(rt: HostRuntime) {
+    static ROWS: [(Option<&[&[u8]]>, Turn, Result<(), Failure>); 3] = [
+        (Some(&[]), ALL, Ok(())),
         (None, ALL, Err(Failure::Input)),
-        (Some(no_files), BREAKS, Err(Failure::Output)),
+        (Some(&[]), BREAKS, Err(Failure::Output)),
     ];
-    for (files, flush, result) in rows {
+    for (files, flush, result) in &ROWS {
         let mut input = Source {
             bytes: b"",
             turns: &[BREAKS],
@@ -169,22 +178,18 @@ fn the_compactor_reads_its_input_only_without_files(rt: HostRuntime) -> Result<(
         let mut output = Sink {
             taken: Vec::new(rt.alloc()),
             turns: &[],
-            flush,
+            flush: *flush,
         };
-        assert_eq!(rt;
-            run_compact(rt.alloc(), files, &mut input, &mut output),
-            result
-        );
-        assert!(rt; output.taken.is_empty());
+        let ended = run_compact(rt.alloc(), *files, &mut input, &mut output);
+        assert_ended(&rt, ended, *result);
+        assert_written(&rt, &output.taken, b"");
     }
-    Ok(())
 }
 
 /// Contact lines are answered by the mappings of the files, or of the part before the line `--`.
 #[test]
-fn contacts_are_answered_by_the_mailmaps(rt: HostRuntime) -> Result<(), Fail> {
-    let file: &[&[u8]] = &[b"N <n@x> <a@x>"];
-    let rows: [(Option<&[&[u8]]>, &[u8], &[u8]); 3] = [
+fn contacts_are_answered_by_the_mailmaps(rt: HostRuntime) {
+    static ROWS: [(Option<&[&[u8]]>, &[u8], &[u8]); 3] = [
         (
             None,
             b"Joe R. Developer <joe@example.com> <bugs@example.com>\n--\nbob <BUGS@example.com>\n",
@@ -195,40 +200,36 @@ fn contacts_are_answered_by_the_mailmaps(rt: HostRuntime) -> Result<(), Fail> {
             b"Joe R. Developer <joe@example.com> <bugs@example.com>\nJane Doe <jane@example.com> Jane <bugs@example.com>\n--\nbob <BUGS@example.com>\nnot a contact\n",
             b"Joe R. Developer <joe@example.com>\nnot a contact\n",
         ),
-        (Some(file), b"b <A@x>", b"N <n@x>\n"),
+        (Some(&[b"N <n@x> <a@x>"]), b"b <A@x>", b"N <n@x>\n"),
     ];
-    for (files, contacts, answers) in rows {
-        let mut input = contacts;
+    for (files, contacts, answers) in &ROWS {
+        let mut input = *contacts;
         let mut output = Vec::new(rt.alloc());
-        assert_eq!(rt; run(rt.alloc(), files, &mut input, &mut output), Ok(()));
-        assert_eq!(rt; output.as_slice(), answers);
+        let ended = run(rt.alloc(), *files, &mut input, &mut output);
+        assert_ended(&rt, ended, Ok(()));
+        assert_written(&rt, &output, answers);
     }
-    Ok(())
 }
 
 /// The compactor writes the mailmap of its input, or of the files and then reads no input.
 #[test]
-fn mailmaps_are_written_as_one(rt: HostRuntime) -> Result<(), Fail> {
-    let two: &[&[u8]] = &[b"N <a@x>", b"M <A@x>"];
-    let rows: [(Option<&[&[u8]]>, &[Turn], &[u8]); 2] = [
+fn mailmaps_are_written_as_one(rt: HostRuntime) {
+    static ROWS: [(Option<&[&[u8]]>, &[Turn], &[u8]); 2] = [
         (
             None,
             &[ALL],
             b" Jane <j@x> <>\n # c <a@x>\n <n@y> Bob <a@x>\n",
         ),
-        (Some(two), &[BREAKS], b" M <a@x>\n"),
+        (Some(&[b"N <a@x>", b"M <A@x>"]), &[BREAKS], b" M <a@x>\n"),
     ];
-    for (files, turns, mailmap) in rows {
+    for (files, turns, mailmap) in &ROWS {
         let mut input = Source {
             bytes: b" # c <a@x>\nJane <j@x> <>\n<n@y> Bob <A@X>",
             turns,
         };
         let mut output = Vec::new(rt.alloc());
-        assert_eq!(rt;
-            run_compact(rt.alloc(), files, &mut input, &mut output),
-            Ok(())
-        );
-        assert_eq!(rt; output.as_slice(), mailmap);
+        let ended = run_compact(rt.alloc(), *files, &mut input, &mut output);
+        assert_ended(&rt, ended, Ok(()));
+        assert_written(&rt, &output, mailmap);
     }
-    Ok(())
 }
