@@ -20,14 +20,22 @@ fn main(rt: HostRuntime) -> Result<()> {
     let mut input = Vec::new(rt.alloc());
     rt.stdin().read_to_end(&mut input)?;
     let (mailmap, lines) = split(&input);
+    view(&rt, mailmap, lines)
+}
+
+// Shows the authors of the lines.
+fn view<R: Print + AllocGlobal>(rt: &R, mailmap: &[u8], lines: &[u8]) -> Result<()> {
     let mailmap = Snapshot::from_bytes(rt.alloc(), mailmap)?;
-    let mut authors = Vec::new(rt.alloc());
+    show_authors(rt, &mailmap, &authors(rt.alloc(), lines)?)
+}
+
+// The author of each line.
+fn authors(alloc: Global, lines: &[u8]) -> Result<Vec<SignatureRef<'_>>> {
+    let mut authors = Vec::new(alloc);
     for line in lines.lines() {
         authors.push(author(line).context("a line without an author")?)?;
     }
-    show_all(&rt, &mailmap, &authors)?;
-    show_newest(&rt, &mailmap, &authors)?;
-    show_changed(&rt, &mailmap, &authors)
+    Ok(authors)
 }
 
 // The author of a line, as it was recorded.
@@ -39,6 +47,16 @@ fn author(line: &[u8]) -> Option<SignatureRef<'_>> {
         email,
         time: str::from_utf8(time).ok()?,
     })
+}
+
+fn show_authors<R: Print + AllocGlobal>(
+    rt: &R,
+    mailmap: &Snapshot,
+    authors: &[SignatureRef<'_>],
+) -> Result<()> {
+    show_all(rt, mailmap, authors)?;
+    show_newest(rt, mailmap, authors)?;
+    show_changed(rt, mailmap, authors)
 }
 
 // Shows each author. `resolve_cow` copies what the mailmap changes, and borrows the rest of what was recorded.
@@ -86,21 +104,23 @@ fn show_newest<R: Print + AllocGlobal>(
     mailmap: &Snapshot,
     authors: &[SignatureRef<'_>],
 ) -> Result<()> {
-    let mut newest: Option<actor::Signature> = None;
-    for author in authors {
-        let author = mailmap.resolve(rt.alloc(), *author)?;
-        if newest
-            .as_ref()
-            .is_none_or(|newest| newest.time.seconds < author.time.seconds)
-        {
-            newest = Some(author);
-        }
-    }
-    let newest = newest.context("no line")?;
-    let name = newest.name.as_slice().as_bstr();
-    let email = newest.email.as_slice().as_bstr();
+    let recorded = newest(authors).context("no line")?;
+    let author = mailmap.resolve(rt.alloc(), recorded)?;
+    let name = author.name.as_slice().as_bstr();
+    let email = author.email.as_slice().as_bstr();
     println!(rt; "newest: {name} <{email}>")?;
     Ok(())
+}
+
+// The author of the newest line.
+fn newest<'a>(authors: &[SignatureRef<'a>]) -> Option<SignatureRef<'a>> {
+    let mut newest = *authors.first()?;
+    for author in authors {
+        if newest.time() < author.time() {
+            newest = *author;
+        }
+    }
+    Some(newest)
 }
 
 // Shows the authors that the mailmap changes. `try_resolve` is `None` for the others, and copies nothing then.
@@ -111,10 +131,15 @@ fn show_changed<R: Print + AllocGlobal>(
 ) -> Result<()> {
     for author in authors {
         if let Some(proper) = mailmap.try_resolve(rt.alloc(), *author)? {
-            let recorded = author.name.as_bstr();
-            let name = proper.name.as_slice().as_bstr();
-            println!(rt; "changed: {recorded} is {name}")?;
+            show_change(rt, author.name, &proper)?;
         }
     }
+    Ok(())
+}
+
+fn show_change(rt: &impl Print, recorded: &[u8], proper: &actor::Signature) -> Result<()> {
+    let recorded = recorded.as_bstr();
+    let name = proper.name.as_slice().as_bstr();
+    println!(rt; "changed: {recorded} is {name}")?;
     Ok(())
 }

@@ -4,7 +4,7 @@ use Rattle.std.specs.List.{All, flat_map}
 use Rattle.std.specs.List.Sorted.{IsStrictlySortedBy}
 use Rattle.std.proofs.lemmas.List.{flat_map_more, map_more}
 use Rattle.std.proofs.lemmas.List.Elements.{All-nil, recursion_from_All}
-use Rattle.mailmap_snapshot.specs.CanonicalText.{IsWritable}
+use Rattle.mailmap_grammar.specs.CanonicalText.{IsWritable}
 use Rattle.mailmap_grammar.specs.Entries.{Mapping}
 use Rattle.mailmap_grammar.specs.Folding.{Text}
 use Rattle.mailmap_tables.specs.Histories.{IsNormal}

@@ -5,7 +5,7 @@ use Rattle.std.specs.List.{AllByRecursion, cons_option}
 use Rattle.std.specs.Ordering.{eq_by_cmp}
 use Rattle.std.specs.Cmp.{Equal-is}
 use Rattle.std.proofs.lemmas.List.Elements.{recursion_from_All, All-from_recursion, All-filter, filter_passes}
-use Rattle.mailmap_snapshot.specs.CanonicalText.{IsWritableName, IsWritableEmail, IsWritable}
+use Rattle.mailmap_grammar.specs.CanonicalText.{IsWritableName, IsWritableEmail, IsWritable}
 use Rattle.mailmap_grammar.specs.Entries.{Mapping}
 use Rattle.mailmap_grammar.specs.Folding.{Text, folded, text_cmp}
 use Rattle.mailmap_tables.specs.Histories.{Key, key, key_cmp, first, last, is_accepted, accepted, of_email, of_key, has_key, new_fields, no_fields, last_given, spelling, made, value, IsNormal}

@@ -3,7 +3,7 @@ use Rattle.std.proofs.Common.{◌≡◌, [], ◌∷◌, ◌++◌, Option, Some, 
 use Rattle.std.proofs.lemmas.List.Elements.{All-from_recursion}
 use Rattle.std.specs.Char.{encode_utf8}
 use Rattle.std.specs.List.Sorted.{IsStrictlySortedBy}
-use Rattle.mailmap_snapshot.specs.CanonicalText.{IsWritable, text}
+use Rattle.mailmap_grammar.specs.CanonicalText.{IsWritable, text}
 use Rattle.mailmap_grammar.specs.Entries.{Mapping}
 use Rattle.mailmap_grammar.specs.Folding.{Text}
 use Rattle.mailmap_tables.specs.Histories.{IsNormal, key, value}

@@ -1,6 +1,6 @@
 -- What a written line reads as.
 use Rattle.std.proofs.Common.{◌≡◌, ◌≢◌, ℕ, true, [], ◌∷◌, ◌++◌, Option, Some, None, IfSome, unwrap_or, Ok, append_assoc, append-nil, arith, refl, sym, ap, subst, ◌∙◌}
-use Rattle.mailmap_snapshot.specs.CanonicalText.{IsWritableName, IsWritableEmail, IsWritable, name_part, bracketed_email, email_part, line}
+use Rattle.mailmap_grammar.specs.CanonicalText.{IsWritableName, IsWritableEmail, IsWritable, name_part, bracketed_email, email_part, line}
 use Rattle.mailmap_grammar.specs.Entries.{Mapping}
 use Rattle.mailmap_grammar.specs.Folding.{Text}
 use Rattle.mailmap_tables.specs.Histories.{is_accepted}

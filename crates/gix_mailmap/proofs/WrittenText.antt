@@ -2,7 +2,7 @@
 use Rattle.std.proofs.Common.{◌≡◌, ◌+◌, ℕ, true, List, [], ◌∷◌, ◌++◌, map, Option, Some, Ok, option_to_list, All, refl, ap, ◌∙◌}
 use Rattle.std.specs.List.{AllByRecursion}
 use Rattle.std.proofs.lemmas.List.Elements.{recursion_from_All}
-use Rattle.mailmap_snapshot.specs.CanonicalText.{IsWritable, text}
+use Rattle.mailmap_grammar.specs.CanonicalText.{IsWritable, text}
 use Rattle.mailmap_grammar.specs.Entries.{Mapping}
 use Rattle.mailmap_grammar.specs.Folding.{Text}
 use Rattle.mailmap_tables.specs.Histories.{IsNormal, is_accepted}

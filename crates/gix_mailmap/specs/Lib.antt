@@ -16,7 +16,7 @@ pub use Rattle.mailmap_tables.specs.Named
 pub use Rattle.mailmap_snapshot.specs.Signatures
 pub use Rattle.mailmap_snapshot.specs.Listings
 pub use Rattle.mailmap_snapshot.specs.EqualListings
-pub use Rattle.mailmap_snapshot.specs.CanonicalText
+pub use Rattle.mailmap_grammar.specs.CanonicalText
 pub use Rattle.mailmap_snapshot.specs.Answers
 pub use Rattle.mailmap_snapshot.specs.Writing
 pub use Rattle.mailmap_snapshot.specs.Sources

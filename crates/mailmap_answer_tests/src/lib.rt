@@ -1,4 +1,5 @@
-//! Tests of what [`gix_mailmap`] answers to signatures, to contacts and to a compactor, and of sources that are merged.
+//! Tests of what [`gix_mailmap`] answers to signatures, to contacts and to a compactor, of sources that are merged, and of
+//! the two runs of `mailmap_check`.
 #![tactic(auto)]
 
 #[cfg(test)]
@@ -6,6 +7,12 @@ mod check;
 #[cfg(test)]
 mod compaction;
 #[cfg(test)]
+mod failure;
+#[cfg(test)]
+mod files;
+#[cfg(test)]
 mod resolve;
+#[cfg(test)]
+mod run;
 #[cfg(test)]
 mod sources;

@@ -10,13 +10,9 @@
 
 ghost use Rattle.std.specs.Prelude.{◌≡◌, ◌↔◌, IsTrue, codes, drop, if◌then◌else◌, map, slice_get, string_bytes};
 
-mod failure;
-mod files;
-mod run;
-mod streams;
-
-use failure::Failure;
-use files::{list_of, read_files};
+use mailmap_runs::failure::Failure;
+use mailmap_runs::files::{list_of, read_files};
+use mailmap_runs::run::{run, run_compact};
 use std::env;
 use std::process::ExitCode;
 
@@ -42,9 +38,9 @@ fn start(rt: &HostRuntime) -> Result<(), Failure> {
     let files = (!buffers.is_empty()).then_some(buffers.as_slice());
     let (mut input, mut output) = (rt.stdin(), rt.stdout());
     if is_compact {
-        run::run_compact(alloc, files, &mut input, &mut output)
+        run_compact(alloc, files, &mut input, &mut output)
     } else {
-        run::run(alloc, files, &mut input, &mut output)
+        run(alloc, files, &mut input, &mut output)
     }
 }
 

@@ -22,24 +22,37 @@ NAME EMAIL. Names, emails and lines are in hex, . is an empty one and - is none.
 
 fn main(rt: HostRuntime) -> Result<()> {
     let words: Vec<String> = env::args(&rt)?.collect(rt.alloc())?;
-    let [_, mode, paths @ ..] = words.as_slice() else {
-        print!(rt; "{USAGE}")?;
-        return Ok(());
-    };
-    let files = read_files(&rt, paths)?;
-    let mut out = String::new(rt.alloc());
-    match mode.as_str() {
-        "parse" => dump::items(&mut out, &files)?,
-        "entries" => dump::entries(&mut out, &merged(rt.alloc(), &files)?)?,
-        "resolve" => {
-            let mut pairs = Vec::new(rt.alloc());
-            rt.stdin().read_to_end(&mut pairs)?;
-            dump::answers(&mut out, rt.alloc(), &merged(rt.alloc(), &files)?, &pairs)?
-        }
-        _ => bail!("unknown mode {mode}"),
+    match words.as_slice() {
+        [_, mode, paths @ ..] => run(&rt, mode, paths),
+        _ => Ok(print!(rt; "{USAGE}")?),
     }
+}
+
+// Reads the files, and prints what the mode dumps of them.
+fn run(rt: &HostRuntime, mode: &str, paths: &[String]) -> Result<()> {
+    let files = read_files(rt, paths)?;
+    let mut out = String::new(rt.alloc());
+    put_dump(rt, mode, &files, &mut out)?;
     print!(rt; "{out}")?;
     Ok(())
+}
+
+// What the mode dumps of the files.
+fn put_dump(rt: &HostRuntime, mode: &str, files: &[Vec<u8>], out: &mut String) -> Result<()> {
+    match mode {
+        "parse" => Ok(dump::items(out, files)?),
+        "entries" => Ok(dump::entries(out, &merged(rt.alloc(), files)?)?),
+        "resolve" => resolve(rt, files, out),
+        _ => bail!("unknown mode {mode}"),
+    }
+}
+
+// Dumps what the snapshot of the files finds for the lines of standard input.
+fn resolve(rt: &HostRuntime, files: &[Vec<u8>], out: &mut String) -> Result<()> {
+    let snapshot = merged(rt.alloc(), files)?;
+    let mut pairs = Vec::new(rt.alloc());
+    rt.stdin().read_to_end(&mut pairs)?;
+    dump::answers(out, rt.alloc(), &snapshot, &pairs)
 }
 
 // The bytes of the files.

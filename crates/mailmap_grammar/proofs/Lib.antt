@@ -6,5 +6,6 @@ pub mod Readings
 pub mod Rising
 pub mod SplitOnce
 pub mod Trimmed
+mod Whole
 pub mod Folding
 pub mod Search

@@ -2,4 +2,5 @@ pub mod Folding
 pub mod Trimming
 pub mod Entries
 pub mod Lines
+pub mod CanonicalText
 pub mod Search

@@ -3,7 +3,6 @@ pub mod Counts
 pub mod Resolved
 pub mod Listed
 pub mod Compared
-pub mod Whole
 pub mod Left
 pub mod Sources
 pub mod Built

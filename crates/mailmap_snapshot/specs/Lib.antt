@@ -2,6 +2,7 @@ pub use Rattle.mailmap_grammar.specs.Folding
 pub use Rattle.mailmap_grammar.specs.Trimming
 pub use Rattle.mailmap_grammar.specs.Entries
 pub use Rattle.mailmap_grammar.specs.Lines
+pub use Rattle.mailmap_grammar.specs.CanonicalText
 pub use Rattle.mailmap_grammar.specs.Search
 pub use Rattle.mailmap_signatures.specs.Times
 pub use Rattle.mailmap_signatures.specs.SignatureFields
@@ -16,7 +17,6 @@ pub use Rattle.mailmap_tables.specs.Named
 pub mod Signatures
 pub mod Listings
 pub mod EqualListings
-pub mod CanonicalText
 pub mod Answers
 pub mod Writing
 pub mod Sources

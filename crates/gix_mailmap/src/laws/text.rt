@@ -7,7 +7,7 @@ ghost use Rattle.mailmap_grammar.specs.Folding.{Text};
 ghost use Rattle.mailmap_grammar.specs.Entries.{Mapping};
 ghost use Rattle.mailmap_grammar.specs.Lines.{good, strict_readings};
 ghost use Rattle.mailmap_tables.specs.Histories.{IsNormal};
-ghost use Rattle.mailmap_snapshot.specs.CanonicalText.{IsWritable, text};
+ghost use Rattle.mailmap_grammar.specs.CanonicalText.{IsWritable, text};
 
 /// The text of a normal list reads back as that list, and whatever buffers build can be written.
 pub fn law_text()

@@ -1,6 +1,6 @@
 use Rattle.std.proofs.Common.{◌≡◌, take, drop}
 use Rattle.std.specs.List.{AllByRecursion}
-use Rattle.mailmap_snapshot.specs.CanonicalText.{IsWritable}
+use Rattle.mailmap_grammar.specs.CanonicalText.{IsWritable}
 use Rattle.mailmap_snapshot.proofs.snapshot.Snapshot.first_unwritable.Given as goal
 
 abbrev pub invariant-loop-entry : goal.invariant-loop-entry

@@ -1,5 +1,5 @@
 use Rattle.std.proofs.Common.{◌≡◌, ◌++◌}
-use Rattle.mailmap_snapshot.specs.CanonicalText.{text}
+use Rattle.mailmap_grammar.specs.CanonicalText.{text}
 use Rattle.mailmap_snapshot.proofs.snapshot.Snapshot.write.Given as goal
 
 abbrev pub invariant-loop-entry : goal.invariant-loop-entry

@@ -1,0 +1,236 @@
+ghost use Rattle.std.specs.Prelude.{◌≤◌, IfOk};
+
+use mailmap_runs::failure::Failure;
+use mailmap_runs::run::{run, run_compact};
+use std::io::{Error, ErrorKind, Read, Write};
+use std::process::Abort;
+use std::{cmp, io};
+
+// What a fake reader or writer does at one call: it moves at most so many bytes, or fails.
+#[derive(Clone, Copy)]
+enum Turn {
+    Moves(usize),
+    Fails(ErrorKind),
+}
+
+const ALL: Turn = Turn::Moves(usize::MAX);
+
+const BREAKS: Turn = Turn::Fails(ErrorKind::BrokenPipe);
+
+const INTERRUPTED: Turn = Turn::Fails(ErrorKind::Interrupted);
+
+// How many of `len` bytes the turn moves.
+fn moved(turn: Turn, len: usize) -> io::Result<usize>
+    ensures { IfOk result (λ count. count ≤ len) }
+{
+    match turn {
+        Turn::Moves(most) => Ok(cmp::min(most, len)),
+        Turn::Fails(kind) => Err(Error::from(kind)),
+    }
+}
+
+// Gives its bytes turn by turn, and is at its end when the turns are over.
+#[derive(Drop)]
+struct Source<'a> {
+    bytes: &'a [u8],
+    turns: &'a [Turn],
+}
+
+impl Read for Source<'_> {
+    fn read(&mut self, buf: &mut [u8]) -> io::Result<usize> {
+        let Some((turn, turns)) = self.turns.split_first() else {
+            return Ok(0);
+        };
+        self.turns = turns;
+        let bytes = self.bytes;
+        let count = moved(*turn, cmp::min(bytes.len(), buf.len()))?;
+        buf[..count].copy_from_slice(&bytes[..count]);
+        self.bytes = &bytes[count..];
+        Ok(count)
+    }
+}
+
+// Takes bytes turn by turn, and all of them when the turns are over. A flush does what `flush` says.
+#[derive(Drop)]
+struct Sink<'a> {
+    taken: Vec<u8>,
+    turns: &'a [Turn],
+    flush: Turn,
+}
+
+impl Write for Sink<'_> {
+    fn write(&mut self, buf: &[u8]) -> io::Result<usize> {
+        let mut turn = ALL;
+        if let Some((first, turns)) = self.turns.split_first() {
+            turn = *first;
+            self.turns = turns;
+        }
+        let count = moved(turn, buf.len())?;
+        self.taken.extend_from_slice(&buf[..count])?;
+        Ok(count)
+    }
+
+    fn flush(&mut self) -> io::Result<()> {
+        moved(self.flush, 0)?;
+        Ok(())
+    }
+}
+
+/// Wants a run to have ended so.
+fn assert_ended(rt: &impl Abort, ended: Result<(), Failure>, want: Result<(), Failure>) {
+    assert_eq!(rt; ended, want);
+}
+
+/// Wants these bytes to have been written.
+fn assert_written(rt: &impl Abort, written: &[u8], want: &[u8]) {
+    assert_eq!(rt; written, want);
+}
+
+/// A reader that fails is `Input`, wherever it fails and for whatever cause, and nothing is written.
+/// An interrupted read is made again, and behind the end nothing is read.
+#[test]
+fn a_reader_that_fails_is_input_and_nothing_is_written(rt: HostRuntime) {
+    static ROWS: [(&[Turn], Result<(), Failure>, &[u8]); 7] = [
+        (&[BREAKS], Err(Failure::Input), b""),
+        (&[Turn::Moves(5), BREAKS], Err(Failure::Input), b""),
+        (&[ALL, BREAKS], Err(Failure::Input), b""),
+        (
+            &[Turn::Fails(ErrorKind::OutOfMemory)],
+            Err(Failure::Input),
+            b"",
+        ),
+        (&[ALL, Turn::Moves(0), BREAKS], Ok(()), b"plain\n"),
+        (
+            &[INTERRUPTED, Turn::Moves(1), INTERRUPTED, ALL],
+            Ok(()),
+            b"plain\n",
+        ),
+        (&[], Ok(()), b""),
+    ];
+    for (turns, result, written) in &ROWS {
+        let mut input = Source {
+            bytes: b"--\nplain\n",
+            turns,
+        };
+        let mut output = Vec::new(rt.alloc());
+        let ended = run(rt.alloc(), None, &mut input, &mut output);
+        assert_ended(&rt, ended, *result);
+        assert_written(&rt, &output, written);
+    }
+}
+
+/// A writer that fails or takes no more is `Output`, and what it took is a front of the answers.
+#[test]
+fn a_writer_that_fails_is_output_and_holds_a_front(rt: HostRuntime) {
+    static ROWS: [(&[Turn], Turn, Result<(), Failure>, &[u8]); 6] = [
+        (&[BREAKS], ALL, Err(Failure::Output), b""),
+        (&[Turn::Moves(3), BREAKS], ALL, Err(Failure::Output), b"pla"),
+        (
+            &[Turn::Moves(3), Turn::Moves(0)],
+            ALL,
+            Err(Failure::Output),
+            b"pla",
+        ),
+        (&[], BREAKS, Err(Failure::Output), b"plain\n"),
+        (
+            &[Turn::Moves(1), INTERRUPTED, Turn::Moves(2)],
+            ALL,
+            Ok(()),
+            b"plain\n",
+        ),
+        (&[], ALL, Ok(()), b"plain\n"),
+    ];
+    for (turns, flush, result, written) in &ROWS {
+        let mut input: &[u8] = b"--\nplain\n";
+        let mut output = Sink {
+            taken: Vec::new(rt.alloc()),
+            turns,
+            flush: *flush,
+        };
+        let ended = run(rt.alloc(), None, &mut input, &mut output);
+        assert_ended(&rt, ended, *result);
+        assert_written(&rt, &output.taken, written);
+    }
+}
+
+/// With files all of the input is contact lines, a line `--` too.
+#[test]
+fn with_files_no_line_parts_the_input(rt: HostRuntime) {
+    let mut input: &[u8] = b"a\n--\nb\n";
+    let mut output = Vec::new(rt.alloc());
+    let ended = run(rt.alloc(), Some(&[]), &mut input, &mut output);
+    assert_ended(&rt, ended, Ok(()));
+    assert_written(&rt, &output, b"a\n--\nb\n");
+}
+
+/// With files the compactor doesn't read its input; without, a reader that fails is `Input`.
+#[test]
+fn the_compactor_reads_its_input_only_without_files(rt: HostRuntime) {
+    static ROWS: [(Option<&[&[u8]]>, Turn, Result<(), Failure>); 3] = [
+        (Some(&[]), ALL, Ok(())),
+        (None, ALL, Err(Failure::Input)),
+        (Some(&[]), BREAKS, Err(Failure::Output)),
+    ];
+    for (files, flush, result) in &ROWS {
+        let mut input = Source {
+            bytes: b"",
+            turns: &[BREAKS],
+        };
+        let mut output = Sink {
+            taken: Vec::new(rt.alloc()),
+            turns: &[],
+            flush: *flush,
+        };
+        let ended = run_compact(rt.alloc(), *files, &mut input, &mut output);
+        assert_ended(&rt, ended, *result);
+        assert_written(&rt, &output.taken, b"");
+    }
+}
+
+/// Contact lines are answered by the mappings of the files, or of the part before the line `--`.
+#[test]
+fn contacts_are_answered_by_the_mailmaps(rt: HostRuntime) {
+    static ROWS: [(Option<&[&[u8]]>, &[u8], &[u8]); 3] = [
+        (
+            None,
+            b"Joe R. Developer <joe@example.com> <bugs@example.com>\n--\nbob <BUGS@example.com>\n",
+            b"Joe R. Developer <joe@example.com>\n",
+        ),
+        (
+            None,
+            b"Joe R. Developer <joe@example.com> <bugs@example.com>\nJane Doe <jane@example.com> Jane <bugs@example.com>\n--\nbob <BUGS@example.com>\nnot a contact\n",
+            b"Joe R. Developer <joe@example.com>\nnot a contact\n",
+        ),
+        (Some(&[b"N <n@x> <a@x>"]), b"b <A@x>", b"N <n@x>\n"),
+    ];
+    for (files, contacts, answers) in &ROWS {
+        let mut input = *contacts;
+        let mut output = Vec::new(rt.alloc());
+        let ended = run(rt.alloc(), *files, &mut input, &mut output);
+        assert_ended(&rt, ended, Ok(()));
+        assert_written(&rt, &output, answers);
+    }
+}
+
+/// The compactor writes the mailmap of its input, or of the files and then reads no input.
+#[test]
+fn mailmaps_are_written_as_one(rt: HostRuntime) {
+    static ROWS: [(Option<&[&[u8]]>, &[Turn], &[u8]); 2] = [
+        (
+            None,
+            &[ALL],
+            b" Jane <j@x> <>\n # c <a@x>\n <n@y> Bob <a@x>\n",
+        ),
+        (Some(&[b"N <a@x>", b"M <A@x>"]), &[BREAKS], b" M <a@x>\n"),
+    ];
+    for (files, turns, mailmap) in &ROWS {
+        let mut input = Source {
+            bytes: b" # c <a@x>\nJane <j@x> <>\n<n@y> Bob <A@X>",
+            turns,
+        };
+        let mut output = Vec::new(rt.alloc());
+        let ended = run_compact(rt.alloc(), *files, &mut input, &mut output);
+        assert_ended(&rt, ended, Ok(()));
+        assert_written(&rt, &output, mailmap);
+    }
+}

@@ -1,0 +1,141 @@
+//! How an entry is written: as a line, which [reads](crate::parse()) as the same entry again where a line can hold it.
+ghost use Rattle.std.specs.Prelude.{◌≡◌, ◌≢◌, ◌++◌, ◌∷◌, ◌+◌, ◌≤◌, ◌^◌, ◌↔◌, [], length, IsTrue, OnOk, IfSome, IfNone, MatchOption, option_map, unwrap_or};
+ghost use Rattle.std.specs.Option.{option_copied};
+ghost use Rattle.mailmap_grammar.specs.CanonicalText.{IsWritable, IsWritableName, IsWritableEmail, name_part, bracketed_email, email_part, line};
+ghost use Rattle.mailmap_grammar.specs.Entries.{mapping_of};
+ghost use Rattle.mailmap_grammar.specs.Lines.{HoldsNo};
+ghost use Rattle.mailmap_grammar.specs.Trimming.{trim as spec_trim};
+
+use crate::entry::Entry;
+use crate::halves::trim;
+use bstr::ByteSlice;
+use std::alloc::AllocError;
+
+/// Whether a line can hold the entry: read back, it is the same.
+pub fn is_writable(entry: &Entry<'_>) -> bool
+    ensures { IsTrue result ↔ IsWritable (mapping_of entry.now) }
+{
+    is_writable_name(entry.new_name())
+        && is_writable_name(entry.old_name())
+        && are_writable_emails(entry.new_email(), entry.old_email())
+}
+
+// Whether a name, if there is one, stays as it is before a `<`.
+fn is_writable_name(name: Option<&[u8]>) -> bool
+    ensures { IsTrue result ↔ IfSome (option_copied name.entry) IsWritableName }
+{
+    match name {
+        Some(name) => {
+            !name.is_empty() && is_trimmed(name) && holds_no(name, b'<') && holds_no(name, b'\n')
+        }
+        None => true,
+    }
+}
+
+// Whether the emails stay as they are between brackets, and the first of them is not empty.
+fn are_writable_emails(new_email: Option<&[u8]>, old_email: &[u8]) -> bool
+    ensures { let new = option_copied new_email.entry in
+        let old = old_email.now in
+        IsTrue result ↔ (IfSome new IsWritableEmail × IsWritableEmail old × IfSome new (λ email. email ≢ []) × IfNone new (old ≢ [])) }
+{
+    match new_email {
+        Some(new_email) => {
+            !new_email.is_empty() && is_writable_email(new_email) && is_writable_email(old_email)
+        }
+        None => !old_email.is_empty() && is_writable_email(old_email),
+    }
+}
+
+// Whether an email stays as it is between brackets.
+fn is_writable_email(email: &[u8]) -> bool
+    ensures { IsTrue result ↔ IsWritableEmail email.now }
+{
+    is_trimmed(email) && holds_no(email, b'>') && holds_no(email, b'\n')
+}
+
+// Whether a text has no white space at its ends.
+fn is_trimmed(text: &[u8]) -> bool
+    ensures { IsTrue result ↔ (text.now ≡ spec_trim text.now) }
+{
+    trim(text).len() == text.len()
+}
+
+// Whether no byte of the text is this one.
+fn holds_no(text: &[u8], byte: u8) -> bool
+    ensures { IsTrue result ↔ HoldsNo byte text.now }
+{
+    text.find_byte(byte).is_none()
+}
+
+/// A length and that of the entry's line together, if a length can be that large.
+pub fn len_with_line(len: usize, entry: &Entry<'_>) -> Option<usize>
+    ensures { let all = len + length (line (mapping_of entry.now)) in MatchOption result (2 ^ 64 ≤ all) (λ n. n ≡ all) }
+{
+    // beside each text: a blank, brackets and a blank, a blank, and brackets, the first blank and the line feed
+    let len = len_with_part(len, entry.new_name(), 1)?;
+    let len = len_with_part(len, entry.new_email(), 3)?;
+    let len = len_with_part(len, entry.old_name(), 1)?;
+    len_with_part(len, Some(entry.old_email()), 4)
+}
+
+// A length and that of a text and of what stands beside it together, if there is a text.
+fn len_with_part(len: usize, text: Option<&[u8]>, beside: usize) -> Option<usize>
+    ensures { let all = len + unwrap_or (option_map (λ t. length t + beside) (option_copied text.entry)) 0 in MatchOption result (2 ^ 64 ≤ all) (λ n. n ≡ all) }
+{
+    match text {
+        Some(text) => len.checked_add(text.len())?.checked_add(beside),
+        None => Some(len),
+    }
+}
+
+/// Puts the line of an entry behind what is written.
+pub fn push_line(out: &mut Vec<u8>, entry: &Entry<'_>) -> Result<(), AllocError>
+    ensures { OnOk result (out.new.items ≡ out.old.items ++ line (mapping_of entry.now)) }
+{
+    push_new_fields(out, entry)?;
+    push_old_fields(out, entry)
+}
+
+// Puts a blank and the new fields of an entry behind what is written.
+fn push_new_fields(out: &mut Vec<u8>, entry: &Entry<'_>) -> Result<(), AllocError>
+    ensures { let e = mapping_of entry.now in OnOk result (out.new.items ≡ out.old.items ++ 32 ∷ (name_part e.new_name ++ email_part e.new_email)) }
+{
+    out.push(b' ')?;
+    push_name(out, entry.new_name())?;
+    if let Some(new_email) = entry.new_email() {
+        push_email(out, new_email)?;
+        out.push(b' ')?;
+    }
+    Ok(())
+}
+
+// Puts the old fields of an entry and a line feed behind what is written.
+fn push_old_fields(out: &mut Vec<u8>, entry: &Entry<'_>) -> Result<(), AllocError>
+    ensures { let e = mapping_of entry.now in OnOk result (out.new.items ≡ out.old.items ++ (name_part e.old_name ++ bracketed_email e.old_email ++ 10 ∷ [])) }
+{
+    push_name(out, entry.old_name())?;
+    push_email(out, entry.old_email())?;
+    out.push(b'\n')?;
+    Ok(())
+}
+
+// Puts a name and a blank behind what is written, if there is a name.
+fn push_name(out: &mut Vec<u8>, name: Option<&[u8]>) -> Result<(), AllocError>
+    ensures { OnOk result (out.new.items ≡ out.old.items ++ name_part (option_copied name.entry)) }
+{
+    if let Some(name) = name {
+        out.extend_from_slice(name)?;
+        out.push(b' ')?;
+    }
+    Ok(())
+}
+
+// Puts an email in brackets behind what is written.
+fn push_email(out: &mut Vec<u8>, email: &[u8]) -> Result<(), AllocError>
+    ensures { OnOk result (out.new.items ≡ out.old.items ++ bracketed_email email.now) }
+{
+    out.push(b'<')?;
+    out.extend_from_slice(email)?;
+    out.push(b'>')?;
+    Ok(())
+}
