@@ -64,9 +64,6 @@ EndsLine-drop n xs (inr (front, is)) = ⊎_elim
     let long : length xs ≡ length front + 1 = ap length is ∙ length-append front (10 ∷ []) in
     inr (drop n front, ap (drop n) is ∙ drop-append-le n front (10 ∷ []) (omega arith)))
     (le_or_lt (length xs) n)
-  where
-    le_or_lt : (a b : ℕ) → (a ≤ b) ⊎ (b < a)
-    le_or_lt a b = grind arith
 
 -- no parting stands within a first line that is not `--`
 past_line : (before line behind : List ℕ) → EndsLine before → IsDivider line behind → (IsDividerLine (take (line_len (before ++ (line ++ behind))) (before ++ (line ++ behind))) → ⊥)
@@ -197,17 +194,11 @@ ended input place lines over passed = inr (record {
 
 -- ---- an input is parted in one way
 
--- what is behind a line `--` is behind it in each reading
+-- what is behind a line `--` is behind it in each reading: the line is the first one, either way
 same_behind : (line behind line' behind' : List ℕ) → IsDivider line behind → IsDivider line' behind' → line ++ behind ≡ line' ++ behind' → behind ≡ behind'
-same_behind line r line' s (inl is, last) (inl also, last') same = by (r ≡ s) (let e : 45 ∷ 45 ∷ 10 ∷ r ≡ 45 ∷ 45 ∷ 10 ∷ s = ap (λ l. l ++ r) (sym is) ∙ same ∙ ap (λ l. l ++ s) also in cc)
-same_behind line r line' s (inl is, last) (inr (inl also), last') same = let e : 45 ∷ 45 ∷ 10 ∷ r ≡ 45 ∷ 45 ∷ 13 ∷ 10 ∷ s = ap (λ l. l ++ r) (sym is) ∙ same ∙ ap (λ l. l ++ s) also in absurd (cc)
-same_behind line r line' s (inl is, last) (inr (inr also), last') same = let e : 45 ∷ 45 ∷ 10 ∷ r ≡ 45 ∷ 45 ∷ [] = ap (λ l. l ++ r) (sym is) ∙ same ∙ ap (λ l. l ++ s) also ∙ ap (λ l. 45 ∷ 45 ∷ l) (last' also) in absurd (cc)
-same_behind line r line' s (inr (inl is), last) (inl also, last') same = let e : 45 ∷ 45 ∷ 13 ∷ 10 ∷ r ≡ 45 ∷ 45 ∷ 10 ∷ s = ap (λ l. l ++ r) (sym is) ∙ same ∙ ap (λ l. l ++ s) also in absurd (cc)
-same_behind line r line' s (inr (inl is), last) (inr (inl also), last') same = let e : 45 ∷ 45 ∷ 13 ∷ 10 ∷ r ≡ 45 ∷ 45 ∷ 13 ∷ 10 ∷ s = ap (λ l. l ++ r) (sym is) ∙ same ∙ ap (λ l. l ++ s) also in cc
-same_behind line r line' s (inr (inl is), last) (inr (inr also), last') same = let e : 45 ∷ 45 ∷ 13 ∷ 10 ∷ r ≡ 45 ∷ 45 ∷ [] = ap (λ l. l ++ r) (sym is) ∙ same ∙ ap (λ l. l ++ s) also ∙ ap (λ l. 45 ∷ 45 ∷ l) (last' also) in absurd (cc)
-same_behind line r line' s (inr (inr is), last) (inl also, last') same = let e : 45 ∷ 45 ∷ [] ≡ 45 ∷ 45 ∷ 10 ∷ s = sym (ap (λ l. 45 ∷ 45 ∷ l) (last is)) ∙ ap (λ l. l ++ r) (sym is) ∙ same ∙ ap (λ l. l ++ s) also in absurd (cc)
-same_behind line r line' s (inr (inr is), last) (inr (inl also), last') same = let e : 45 ∷ 45 ∷ [] ≡ 45 ∷ 45 ∷ 13 ∷ 10 ∷ s = sym (ap (λ l. 45 ∷ 45 ∷ l) (last is)) ∙ ap (λ l. l ++ r) (sym is) ∙ same ∙ ap (λ l. l ++ s) also in absurd (cc)
-same_behind line r line' s (inr (inr is), last) (inr (inr also), last') same = last is ∙ sym (last' also)
+same_behind line r line' s here there same =
+    let lines : line ≡ line' = sym (first_divider line r here) ∙ ap (λ bs. take (line_len bs) bs) same ∙ first_divider line' s there in
+    append_cancel_left line' r s (ap (λ l. l ++ r) (sym lines) ∙ same)
 
 -- two first partings of an input are one
 first_same : (input p r q s : List ℕ) → IsFirstParting input p r → IsFirstParting input q s → (p ≡ q) × (r ≡ s)

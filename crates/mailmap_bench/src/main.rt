@@ -25,22 +25,22 @@ Each prints one line: how often, and the nanoseconds of all, the quickest, the m
 
 fn main(rt: HostRuntime) -> Result<()> {
     let words: Vec<String> = env::args(&rt)?.collect(rt.alloc())?;
-    let (mode, words) = match words.as_slice() {
-        [_, mode, words @ ..] => (mode.as_str(), words),
-        _ => {
-            print!(rt; "{USAGE}")?;
-            return Ok(());
-        }
-    };
-    let mut laps = Laps::new(rt.alloc());
+    match words.as_slice() {
+        [_, mode, words @ ..] => measure(&rt, mode, words, &mut Laps::new(rt.alloc())),
+        _ => Ok(print!(rt; "{USAGE}")?),
+    }
+}
+
+// Times what the mode says, and prints it.
+fn measure(rt: &HostRuntime, mode: &str, words: &[String], laps: &mut Laps) -> Result<()> {
     match mode {
-        "bench-parse" => modes::walks(&rt, words, &mut laps),
-        "bench-build" => modes::builds(&rt, words, &mut laps),
-        "bench-lookup" => modes::lookups(&rt, words, &mut laps),
-        "bench-check" => modes::checks(&rt, words, &mut laps),
-        "bench-compact" => modes::compactions(&rt, words, &mut laps),
-        "bench-merge1" => modes::merges(&rt, mode, words, 1, &mut laps),
-        "bench-merge" => modes::merges(&rt, mode, words, input::number(words, 1)?, &mut laps),
+        "bench-parse" => modes::walks(rt, words, laps),
+        "bench-build" => modes::builds(rt, words, laps),
+        "bench-lookup" => modes::lookups(rt, words, laps),
+        "bench-check" => modes::checks(rt, words, laps),
+        "bench-compact" => modes::compactions(rt, words, laps),
+        "bench-merge1" => modes::merges(rt, mode, words, 1, laps),
+        "bench-merge" => modes::merges(rt, mode, words, input::number(words, 1)?, laps),
         _ => bail!("unknown mode {mode}"),
     }
 }

@@ -135,7 +135,19 @@ pub fn merges<R: Runtime + AllocGlobal>(
 {
     let buf = file(rt, words, 0)?;
     let entries: Vec<Entry<'_>> = parse_ignore_errors(&buf).collect(rt.alloc())?;
-    let tally = merge(rt, &entries, batch, laps)?;
+    merge_all(rt, mode, &entries, batch, laps)
+}
+
+fn merge_all<R: Runtime + AllocGlobal>(
+    rt: &R,
+    mode: &str,
+    entries: &[Entry<'_>],
+    batch: usize,
+    laps: &mut Laps,
+) -> Result<()>
+    requires { 0 < batch }
+{
+    let tally = merge(rt, entries, batch, laps)?;
     let merges = entries.len().div_ceil(batch);
     let laps = laps.summary();
     println!(rt; "{mode} {laps} merges={merges} batch={batch} entries={tally}")?;

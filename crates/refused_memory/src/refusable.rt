@@ -96,24 +96,33 @@ pub fn clone(run: &mut Run, alloc: Global, snapshot: &Snapshot) -> Result<Snapsh
 // Three sources, of which the one in the middle has no entry, so that it is always made. What the others say is there
 // exactly where they are marked as made.
 fn merge_sources(run: &mut Run, alloc: Global) -> Result<(), Wrong> {
+    let mut snapshot = Snapshot::empty(alloc);
+    let made = merge_three(&mut snapshot);
+    let n = Entry::change_name_by_email(b"N", b"a@x");
+    let m = Entry::change_name_by_email(b"M", b"a@x");
+    match made {
+        [true, true, true] => wants(Call::MergeSources, lists(&snapshot, &[m])),
+        [false, true, true] => refused_source(run, Call::FirstSource, lists(&snapshot, &[m])),
+        [true, true, false] => refused_source(run, Call::ThirdSource, lists(&snapshot, &[n])),
+        _ => wants(Call::MergeSources, false),
+    }
+}
+
+// Which of the sources were made.
+fn merge_three(snapshot: &mut Snapshot) -> [bool; 3] {
     let sources = [
         Source::Buffer(b"N <a@x>"),
         Source::Buffer(b""),
         Source::Buffer(b"M <a@x>"),
     ];
-    let mut snapshot = Snapshot::empty(alloc);
     let mut made = [false; 3];
     snapshot.merge_sources(&sources, &mut made);
-    let n = Entry::change_name_by_email(b"N", b"a@x");
-    let m = Entry::change_name_by_email(b"M", b"a@x");
-    let (call, left) = match made {
-        [true, true, true] => return wants(Call::MergeSources, lists(&snapshot, &[m])),
-        [false, true, true] => (Call::FirstSource, m),
-        [true, true, false] => (Call::ThirdSource, n),
-        _ => return wants(Call::MergeSources, false),
-    };
+    made
+}
+
+fn refused_source(run: &mut Run, call: Call, is_right: bool) -> Result<(), Wrong> {
     run.refuse(call)?;
-    wants(call, lists(&snapshot, &[left]))
+    wants(call, is_right)
 }
 
 // Signatures that are mapped, or copied as they are.

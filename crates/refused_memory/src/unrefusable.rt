@@ -45,6 +45,7 @@ fn are_right(team: &Snapshot, copy: &mut Snapshot, unwritable: &Snapshot, alloc:
         && cuts()
         && compares()
         && reads_times()
+        && borrows()
         && looks_up(team)
         && finds_nothing(team, alloc)
         && builds_nothing(alloc)
@@ -101,16 +102,18 @@ fn hash_of<T: Hash>(value: &T) -> u64 {
 }
 
 fn reads_times() -> bool {
-    let empty = SignatureRef {
-        name: b"",
-        email: b"",
-        time: "",
-    };
     JANE.time() == Some(JANES_TIME)
         && NOBODY.time() == None
         && Time::read("0 +0000") == Some(Time::default())
-        && Signature::from(empty) == Signature::default()
-        && Signature::from(JANE) > Signature::from(empty)
+}
+
+fn borrows() -> bool {
+    let empty = Signature::from(SignatureRef {
+        name: b"",
+        email: b"",
+        time: "",
+    });
+    empty == Signature::default() && Signature::from(JANE) > empty
 }
 
 fn looks_up(snapshot: &Snapshot) -> bool {
