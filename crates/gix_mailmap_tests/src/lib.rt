@@ -1,0 +1,26 @@
+//! Tests of snapshots, what they list, find, write and answer to signatures and contacts, of sources that are merged, and
+//! of the two runs of `mailmap_check`. Those of lines, entries and signatures are in `mailmap_reading_tests`.
+#![tactic(auto)]
+
+#[cfg(test)]
+mod check;
+#[cfg(test)]
+mod compaction;
+#[cfg(test)]
+mod entries;
+#[cfg(test)]
+mod failure;
+#[cfg(test)]
+mod files;
+#[cfg(test)]
+mod listings;
+#[cfg(test)]
+mod lookups;
+#[cfg(test)]
+mod resolve;
+#[cfg(test)]
+mod run;
+#[cfg(test)]
+mod sources;
+#[cfg(test)]
+mod text;
