@@ -17,7 +17,7 @@ fn assert_entries(rt: &impl Abort, entries: &[Entry<'_>], want: &[Entry<'_>]) {
 }
 
 /// Wants these entries of a snapshot.
-fn assert_lists(
+pub(crate) fn assert_lists(
     rt: &impl Abort,
     alloc: Global,
     snapshot: &Snapshot,

@@ -1,5 +1,6 @@
 ghost use Rattle.std.specs.Prelude.{◌≤◌, IfOk};
 
+use crate::check::assert_bytes;
 use mailmap_runs::failure::Failure;
 use mailmap_runs::run::{run, run_compact};
 use std::io::{Error, ErrorKind, Read, Write};
@@ -81,11 +82,6 @@ fn assert_ended(rt: &impl Abort, ended: Result<(), Failure>, want: Result<(), Fa
     assert_eq!(rt; ended, want);
 }
 
-/// Wants these bytes to have been written.
-fn assert_written(rt: &impl Abort, written: &[u8], want: &[u8]) {
-    assert_eq!(rt; written, want);
-}
-
 /// A reader that fails is `Input`, wherever it fails and for whatever cause, and nothing is written.
 /// An interrupted read is made again, and behind the end nothing is read.
 #[test]
@@ -115,7 +111,7 @@ fn a_reader_that_fails_is_input_and_nothing_is_written(rt: HostRuntime) {
         let mut output = Vec::new(rt.alloc());
         let ended = run(rt.alloc(), None, &mut input, &mut output);
         assert_ended(&rt, ended, *result);
-        assert_written(&rt, &output, written);
+        assert_bytes(&rt, &output, written);
     }
 }
 
@@ -149,7 +145,7 @@ fn a_writer_that_fails_is_output_and_holds_a_front(rt: HostRuntime) {
         };
         let ended = run(rt.alloc(), None, &mut input, &mut output);
         assert_ended(&rt, ended, *result);
-        assert_written(&rt, &output.taken, written);
+        assert_bytes(&rt, &output.taken, written);
     }
 }
 
@@ -160,7 +156,7 @@ fn with_files_no_line_parts_the_input(rt: HostRuntime) {
     let mut output = Vec::new(rt.alloc());
     let ended = run(rt.alloc(), Some(&[]), &mut input, &mut output);
     assert_ended(&rt, ended, Ok(()));
-    assert_written(&rt, &output, b"a\n--\nb\n");
+    assert_bytes(&rt, &output, b"a\n--\nb\n");
 }
 
 /// With files the compactor doesn't read its input; without, a reader that fails is `Input`.
@@ -183,7 +179,7 @@ fn the_compactor_reads_its_input_only_without_files(rt: HostRuntime) {
         };
         let ended = run_compact(rt.alloc(), *files, &mut input, &mut output);
         assert_ended(&rt, ended, *result);
-        assert_written(&rt, &output.taken, b"");
+        assert_bytes(&rt, &output.taken, b"");
     }
 }
 
@@ -208,7 +204,7 @@ fn contacts_are_answered_by_the_mailmaps(rt: HostRuntime) {
         let mut output = Vec::new(rt.alloc());
         let ended = run(rt.alloc(), *files, &mut input, &mut output);
         assert_ended(&rt, ended, Ok(()));
-        assert_written(&rt, &output, answers);
+        assert_bytes(&rt, &output, answers);
     }
 }
 
@@ -231,6 +227,6 @@ fn mailmaps_are_written_as_one(rt: HostRuntime) {
         let mut output = Vec::new(rt.alloc());
         let ended = run_compact(rt.alloc(), *files, &mut input, &mut output);
         assert_ended(&rt, ended, Ok(()));
-        assert_written(&rt, &output, mailmap);
+        assert_bytes(&rt, &output, mailmap);
     }
 }

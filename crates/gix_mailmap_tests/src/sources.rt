@@ -1,3 +1,4 @@
+use crate::listings::assert_lists;
 use gix_mailmap::snapshot::Source;
 use gix_mailmap::{Entry, Snapshot};
 use std::alloc::{AllocError, Global};
@@ -6,18 +7,6 @@ use std::process::Abort;
 /// Wants all sources to be made.
 fn assert_made(rt: &impl Abort, made: &[bool; 3]) {
     assert_eq!(rt; *made, [true, true, true]);
-}
-
-/// Wants these entries of a snapshot.
-fn assert_lists(
-    rt: &impl Abort,
-    alloc: Global,
-    snapshot: &Snapshot,
-    want: &[Entry<'_>],
-) -> Result<(), AllocError> {
-    let entries = snapshot.entries(alloc)?;
-    assert_eq!(rt; entries.as_slice(), want);
-    Ok(())
 }
 
 /// Wants the one name `M` of these three sources.
