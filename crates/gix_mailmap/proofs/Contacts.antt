@@ -7,8 +7,8 @@ use Rattle.std.proofs.lemmas.Bool.Decides.{nat_tests}
 use Rattle.bstr.specs.Text.{line_len, lines_of, no_cr, without_terminator}
 use Rattle.bstr.proofs.lemmas.LineLemmas.{lines-nil, lines-step}
 use Rattle.gix_mailmap.specs.Contacts.{answer, answers, fields_for, feeds, half_answer, lines, replaced}
-use Rattle.mailmap_grammar.specs.Entries.{Mapping}
-use Rattle.mailmap_grammar.specs.Folding.{Text}
+use Rattle.mailmap_entries.specs.Entries.{Mapping}
+use Rattle.mailmap_entries.specs.Folding.{Text}
 use Rattle.mailmap_tables.specs.Histories.{IsNormal, no_fields}
 use Rattle.mailmap_grammar.specs.Lines.{Half, Absent, Unclosed, Closed, cut, trimmed_half, with_first}
 use Rattle.mailmap_grammar.specs.Trimming.{trim}

@@ -2,7 +2,7 @@
 use Rattle.std.proofs.Common.{◌≡◌, ◌≢◌, ◌+◌, ℕ, true, false, cond, List, [], ◌∷◌, ◌++◌, flat_map, Option, Some, None, IsSome, IfSome, OnSome, option_to_list, Ok, Err, IfOk, refl, sym, subst}
 use Rattle.std.specs.List.{AllByRecursion}
 use Rattle.mailmap_grammar.specs.CanonicalText.{IsWritableName, IsWritableEmail, IsWritable}
-use Rattle.mailmap_grammar.specs.Folding.{Text}
+use Rattle.mailmap_entries.specs.Folding.{Text}
 use Rattle.mailmap_grammar.specs.Lines.{Reading, Half, Absent, Unclosed, Closed, HoldsNo, cut, trimmed_half, non_empty, two_halves, first_half, line_reading, is_comment, unless_blank, reading, readings_from, pieces, good_of, good}
 use Rattle.mailmap_grammar.specs.Trimming.{trim}
 use Rattle.mailmap_grammar.proofs.Cut.{closed-cut}

@@ -4,8 +4,8 @@ use Rattle.std.proofs.lemmas.List.Elements.{All-from_recursion}
 use Rattle.std.specs.Char.{encode_utf8}
 use Rattle.std.specs.List.Sorted.{IsStrictlySortedBy}
 use Rattle.mailmap_grammar.specs.CanonicalText.{IsWritable, text}
-use Rattle.mailmap_grammar.specs.Entries.{Mapping}
-use Rattle.mailmap_grammar.specs.Folding.{Text}
+use Rattle.mailmap_entries.specs.Entries.{Mapping}
+use Rattle.mailmap_entries.specs.Folding.{Text}
 use Rattle.mailmap_tables.specs.Histories.{IsNormal, key, value}
 use Rattle.mailmap_grammar.specs.Lines.{good}
 use Rattle.mailmap_grammar.specs.Trimming.{trim}

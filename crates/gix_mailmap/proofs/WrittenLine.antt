@@ -1,8 +1,8 @@
 -- What a written line reads as.
 use Rattle.std.proofs.Common.{◌≡◌, ◌≢◌, ℕ, true, [], ◌∷◌, ◌++◌, Option, Some, None, IfSome, unwrap_or, Ok, append_assoc, append-nil, arith, refl, sym, ap, subst, ◌∙◌}
 use Rattle.mailmap_grammar.specs.CanonicalText.{IsWritableName, IsWritableEmail, IsWritable, name_part, bracketed_email, email_part, line}
-use Rattle.mailmap_grammar.specs.Entries.{Mapping}
-use Rattle.mailmap_grammar.specs.Folding.{Text}
+use Rattle.mailmap_entries.specs.Entries.{Mapping}
+use Rattle.mailmap_entries.specs.Folding.{Text}
 use Rattle.mailmap_tables.specs.Histories.{is_accepted}
 use Rattle.mailmap_grammar.specs.Lines.{HoldsNo, Reading, Half, Absent, Unclosed, Closed, cut, trimmed_half, non_empty, two_halves, strict_halves, first_half, line_reading, strict_line_reading, unless_blank, reading_by, reading, strict_reading}
 use Rattle.mailmap_grammar.specs.Trimming.{trim, BeginsWhite, EndsWhite}

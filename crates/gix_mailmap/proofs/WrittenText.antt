@@ -3,8 +3,8 @@ use Rattle.std.proofs.Common.{◌≡◌, ◌+◌, ℕ, true, List, [], ◌∷◌
 use Rattle.std.specs.List.{AllByRecursion}
 use Rattle.std.proofs.lemmas.List.Elements.{recursion_from_All}
 use Rattle.mailmap_grammar.specs.CanonicalText.{IsWritable, text}
-use Rattle.mailmap_grammar.specs.Entries.{Mapping}
-use Rattle.mailmap_grammar.specs.Folding.{Text}
+use Rattle.mailmap_entries.specs.Entries.{Mapping}
+use Rattle.mailmap_entries.specs.Folding.{Text}
 use Rattle.mailmap_tables.specs.Histories.{IsNormal, is_accepted}
 use Rattle.mailmap_grammar.specs.Lines.{Reading, reading, strict_reading, readings_from, pieces, readings, strict_readings, good, good_of}
 use Rattle.gix_mailmap.proofs.LineFeeds.{pieces-line}

@@ -1,8 +1,8 @@
 -- What contact lines are answered.
 use Rattle.std.specs.Prelude.{◌==◌, Bool, false, ◌&&◌, if◌then◌else◌, List, [], ◌∷◌, ◌++◌, unwrap_or}
 use Rattle.std.specs.List.{flat_map}
-use Rattle.mailmap_grammar.specs.Entries.{Mapping}
-use Rattle.mailmap_grammar.specs.Folding.{Text}
+use Rattle.mailmap_entries.specs.Entries.{Mapping}
+use Rattle.mailmap_entries.specs.Folding.{Text}
 use Rattle.mailmap_tables.specs.Histories.{Fields, no_fields, scan}
 use Rattle.mailmap_grammar.specs.Lines.{Half, Absent, Unclosed, Closed, cut, good, trimmed_half, with_first}
 use Rattle.mailmap_grammar.specs.Trimming.{trim}

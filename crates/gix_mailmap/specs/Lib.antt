@@ -1,8 +1,8 @@
-pub use Rattle.mailmap_grammar.specs.Folding
+pub use Rattle.mailmap_entries.specs.Folding
 pub use Rattle.mailmap_grammar.specs.Trimming
-pub use Rattle.mailmap_grammar.specs.Entries
+pub use Rattle.mailmap_entries.specs.Entries
 pub use Rattle.mailmap_grammar.specs.Lines
-pub use Rattle.mailmap_grammar.specs.Search
+pub use Rattle.mailmap_entries.specs.Search
 pub use Rattle.mailmap_signatures.specs.Times
 pub use Rattle.mailmap_signatures.specs.SignatureFields
 pub use Rattle.mailmap_tables.specs.Fronts

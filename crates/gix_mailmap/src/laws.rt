@@ -1,6 +1,6 @@
 //! Laws of the definitions. Each function runs nothing: its contract is the law.
 ghost use Rattle.std.specs.Prelude.{◌≡◌};
-ghost use Rattle.mailmap_grammar.specs.Folding.{Text};
+ghost use Rattle.mailmap_entries.specs.Folding.{Text};
 ghost use Rattle.gix_mailmap.specs.Parts.{IsParted};
 
 mod text;

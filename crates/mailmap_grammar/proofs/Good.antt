@@ -1,8 +1,8 @@
 -- The first of some readings, and whether it is good.
 use Rattle.std.proofs.Common.{◌≡◌, ◌≤◌, Result, Ok, Err, List, [], ◌∷◌, ◌++◌, length, option_to_list, arith, refl, sym, ap, ◌∙◌}
-use Rattle.mailmap_grammar.specs.declared.entry.Entry.{Entry}
+use Rattle.mailmap_entries.specs.declared.entry.Entry.{Entry}
 use Rattle.mailmap_grammar.specs.declared.lines.Error.{Error}
-use Rattle.mailmap_grammar.specs.Entries.{Mapping, mapping_of}
+use Rattle.mailmap_entries.specs.Entries.{Mapping, mapping_of}
 use Rattle.mailmap_grammar.specs.Lines.{Reading, reading_of, good_of, is_good}
 
 module _ (said : List Mapping) (rs rest : List Reading) (x : Result Entry Error) (whole : good_of rs ≡ said) (first : rs ≡ reading_of x ∷ rest) where

@@ -1,7 +1,7 @@
 -- A reading is the relation by cases.
 use Rattle.std.proofs.Common.{◌≡◌, ◌≢◌, ◌⊎◌, ℕ, true, false, Option, Some, Ok, [], ◌∷◌, refl, sym, ap, subst, ◌∙◌, inl, inr, ⊎_elim}
 use Rattle.std.proofs.lemmas.Bool.{cond-true, cond-false, eqb-true, cases_Bool}
-use Rattle.mailmap_grammar.specs.Folding.{Text}
+use Rattle.mailmap_entries.specs.Folding.{Text}
 use Rattle.mailmap_grammar.specs.Trimming.{trim, IsTrimmed}
 use Rattle.mailmap_grammar.specs.Lines.{Reading, Half, Absent, Unclosed, Closed, cut, trimmed_half, fault, nothing_to_map, by_both, by_name, two_halves, strict_halves, first_half, is_comment, unless_blank, reading_by, line_reading, strict_line_reading, reading, strict_reading, HoldsNo, IsUnclosed, IsHalf, NoHalf, IsSecondRead, second, name_alone, neither, IsSecondReadStrictly, open_second, as_ever, IsFirstRead, no_bracket, open_first, blank_email, first, IsComment, IsReadBy, comment, blank, said, IsRead, IsReadStrictly}
 use Rattle.mailmap_grammar.proofs.Cut.{kind, absent_kind, unclosed_kind, closed_kind, cut-absent, cut-unclosed, cut-closed}

@@ -7,5 +7,3 @@ pub mod Rising
 pub mod SplitOnce
 pub mod Trimmed
 mod Whole
-pub mod Folding
-pub mod Search

@@ -1,6 +1,6 @@
 -- The first line of some, and what it says.
 use Rattle.std.proofs.Common.{◌≡◌, ◌+◌, ℕ, Some, Option, None, option_to_list, List, [], ◌∷◌, ◌++◌, refl, sym, ap, ◌∙◌}
-use Rattle.mailmap_grammar.specs.Folding.{Text}
+use Rattle.mailmap_entries.specs.Folding.{Text}
 use Rattle.mailmap_grammar.specs.Lines.{Reading, readings_from}
 
 module _ (read : ℕ → Text → Option Reading) (n : ℕ) (said : List Reading) (ls rest : List Text) (l : Text) (whole : readings_from read n ls ≡ said) (first : ls ≡ l ∷ rest) where

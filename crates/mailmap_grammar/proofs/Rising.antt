@@ -6,7 +6,7 @@ use Rattle.std.specs.Ordering.{nat_cmp}
 use Rattle.std.specs.Cmp.{nat_cmp_is}
 use Rattle.mailmap_grammar.specs.declared.lines.Strictness.{Strictness}
 use Rattle.mailmap_grammar.specs.declared.lines.Strictness.TheVariants.{Lenient, Strict}
-use Rattle.mailmap_grammar.specs.Folding.{Text}
+use Rattle.mailmap_entries.specs.Folding.{Text}
 use Rattle.mailmap_grammar.specs.Trimming.{trim}
 use Rattle.mailmap_grammar.specs.Lines.{Reading, Half, Absent, Unclosed, Closed, cut, trimmed_half, two_halves, strict_halves, first_half, line_reader, is_comment, unless_blank, reading_by, readings_from, fault_lines}
 

@@ -1,7 +1,7 @@
 -- Texts that trimming leaves whole.
 use Rattle.std.proofs.Common.{◌≡◌, [], ◌∷◌, ◌++◌, length, length-append, append-nil, refl, sym, ap, ◌∙◌, arith}
 use Rattle.std.specs.Str.{encode_utf8_all}
-use Rattle.mailmap_grammar.specs.Folding.{Text}
+use Rattle.mailmap_entries.specs.Folding.{Text}
 use Rattle.mailmap_grammar.specs.Trimming.{trim, IsTrimmed}
 use Rattle.mailmap_grammar.proofs.Trimmed.{trimmed-made}
 

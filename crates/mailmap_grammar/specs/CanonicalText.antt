@@ -1,8 +1,8 @@
 -- What a snapshot is written as, and which entries a line of a mailmap can hold.
 use Rattle.std.specs.Prelude.{◌≡◌, ◌≢◌, List, [], ◌∷◌, ◌++◌, Option, Some, None, IsSome, IfSome, IfNone, OnSome}
 use Rattle.std.specs.List.{flat_map}
-use Rattle.mailmap_grammar.specs.Entries.{Mapping}
-use Rattle.mailmap_grammar.specs.Folding.{Text}
+use Rattle.mailmap_entries.specs.Entries.{Mapping}
+use Rattle.mailmap_entries.specs.Folding.{Text}
 use Rattle.mailmap_grammar.specs.Lines.{HoldsNo}
 use Rattle.mailmap_grammar.specs.Trimming.{trim}
 

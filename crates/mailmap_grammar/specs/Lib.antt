@@ -1,6 +1,6 @@
-pub mod Folding
+pub use Rattle.mailmap_entries.specs.Folding
+pub use Rattle.mailmap_entries.specs.Entries
+pub use Rattle.mailmap_entries.specs.Search
 pub mod Trimming
-pub mod Entries
 pub mod Lines
 pub mod CanonicalText
-pub mod Search

@@ -1,15 +1,15 @@
 -- What the lines of a mailmap say.
 use Rattle.std.specs.List.{AllByRecursion}
 use Rattle.std.specs.Prelude.{◌≡◌, ◌≢◌, ◌⊎◌, ◌+◌, ◌==◌, ℕ, if◌then◌else◌, Bool, false, Option, Some, None, option_map, option_to_list, Result, Ok, Err, List, [], ◌∷◌, ◌++◌}
-use Rattle.mailmap_grammar.specs.declared.entry.Entry.{Entry}
+use Rattle.mailmap_entries.specs.declared.entry.Entry.{Entry}
 use Rattle.mailmap_grammar.specs.declared.lines.Error.{Error}
 use Rattle.mailmap_grammar.specs.declared.lines.Error.TheVariants.{NoEmail, MissingClosingBracket, EmptyEmail, NothingToMap, UnclosedSecond}
 use Rattle.mailmap_grammar.specs.declared.halves.Half as the_half
 use Rattle.mailmap_grammar.specs.declared.halves.Half.TheVariants as variant
 use Rattle.mailmap_grammar.specs.declared.lines.Strictness.{Strictness}
 use Rattle.mailmap_grammar.specs.declared.lines.Strictness.TheVariants.{Lenient, Strict}
-use Rattle.mailmap_grammar.specs.Folding.{Text}
-use Rattle.mailmap_grammar.specs.Entries.{Mapping, mapping_of}
+use Rattle.mailmap_entries.specs.Folding.{Text}
+use Rattle.mailmap_entries.specs.Entries.{Mapping, mapping_of}
 use Rattle.mailmap_grammar.specs.Trimming.{trim, IsTrimmed}
 
 -- the five faults; the last one comes of strict reading alone

@@ -4,7 +4,7 @@ use Rattle.std.specs.List.{AllByRecursion}
 use Rattle.std.specs.Char.{is_whitespace, encode_utf8}
 use Rattle.std.specs.Str.{encode_utf8_all}
 use Rattle.bstr.specs.Trim.{trim_start_by, trim_end_by}
-use Rattle.mailmap_grammar.specs.Folding.{Text}
+use Rattle.mailmap_entries.specs.Folding.{Text}
 
 -- the trimmed text, as it is computed; IsTrimmed says which one it is
 unfoldable pub trim : Text → Text

@@ -1,6 +1,6 @@
 //! Laws of the definitions. Each function runs nothing: its contract is the law.
 ghost use Rattle.std.specs.Prelude.{◌≡◌, ◌↔◌, ℕ, Option};
-ghost use Rattle.mailmap_grammar.specs.Folding.{Text};
+ghost use Rattle.mailmap_entries.specs.Folding.{Text};
 ghost use Rattle.mailmap_grammar.specs.Lines.{cut, Closed, Unclosed, Absent, IsCut, IsUnclosed, HoldsNo, Reading, reading, strict_reading, IsRead, IsReadStrictly};
 ghost use Rattle.mailmap_grammar.specs.Trimming.{IsTrimmed, trim};
 

@@ -19,12 +19,12 @@ ghost use Rattle.std.specs.Option.{option_copied};
 ghost use Rattle.std.specs.Iterator.{YieldsFirstBy, item_count};
 ghost use Rattle.std.specs.List.Sorted.{IsStrictlySortedBy};
 ghost use Rattle.std.specs.Ordering.{nat_cmp};
-ghost use Rattle.mailmap_grammar.specs.Entries.{mapping_of};
+ghost use Rattle.mailmap_entries.specs.Entries.{mapping_of};
 ghost use Rattle.mailmap_grammar.specs.Lines.{reading_of, reading_by, line_reader, non_empty as spec_non_empty, by_both, readings, readings_from, strict_readings, pieces, fault_lines, good};
 
-use crate::entry::Entry;
 use crate::halves::{Half, parse_name_and_email, trim};
 use bstr::ByteSlice;
+use mailmap_entries::Entry;
 use std::marker::Model;
 use thiserror::Error;
 
@@ -149,7 +149,7 @@ pub struct GoodLines<'a> {
 
 impl<'a> Model for GoodLines<'a> {
     ghost use Rattle.std.specs.Prelude.{List};
-    ghost use Rattle.mailmap_grammar.specs.Entries.{Mapping};
+    ghost use Rattle.mailmap_entries.specs.Entries.{Mapping};
     ghost use Rattle.mailmap_grammar.specs.Lines.{good_of};
 
     ghost Value = { List Mapping };

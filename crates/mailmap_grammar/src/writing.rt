@@ -2,13 +2,13 @@
 ghost use Rattle.std.specs.Prelude.{◌≡◌, ◌≢◌, ◌++◌, ◌∷◌, ◌+◌, ◌≤◌, ◌^◌, ◌↔◌, [], length, IsTrue, OnOk, IfSome, IfNone, MatchOption, option_map, unwrap_or};
 ghost use Rattle.std.specs.Option.{option_copied};
 ghost use Rattle.mailmap_grammar.specs.CanonicalText.{IsWritable, IsWritableName, IsWritableEmail, name_part, bracketed_email, email_part, line};
-ghost use Rattle.mailmap_grammar.specs.Entries.{mapping_of};
+ghost use Rattle.mailmap_entries.specs.Entries.{mapping_of};
 ghost use Rattle.mailmap_grammar.specs.Lines.{HoldsNo};
 ghost use Rattle.mailmap_grammar.specs.Trimming.{trim as spec_trim};
 
-use crate::entry::Entry;
 use crate::halves::trim;
 use bstr::ByteSlice;
+use mailmap_entries::Entry;
 use std::alloc::AllocError;
 
 /// Whether a line can hold the entry: read back, it is the same.

@@ -1,4 +1,4 @@
-use mailmap_grammar::Entry;
+use mailmap_entries::Entry;
 use std::cmp::Ordering;
 use std::process::Abort;
 

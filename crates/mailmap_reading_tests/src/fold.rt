@@ -1,8 +1,8 @@
 //! Worked rows of the order, of the search and of the count.
 ghost use Rattle.std.specs.Prelude.{◌≡◌, ◌≤◌, length};
-ghost use Rattle.mailmap_grammar.specs.Search.{IsParted};
+ghost use Rattle.mailmap_entries.specs.Search.{IsParted};
 
-use mailmap_grammar::fold::{Probe, Steps, cmp_ignore_ascii_case, search};
+use mailmap_entries::fold::{Probe, Steps, cmp_ignore_ascii_case, search};
 use std::cmp::Ordering;
 use std::process::Abort;
 
@@ -41,7 +41,7 @@ fn finds<R: Abort>(rt: &R, answers: &[Ordering], want: Result<usize, usize>, at_
 }
 
 #[test]
-#[tactic(auto, unfolding(mailmap_grammar::specs::Search::IsParted))]
+#[tactic(auto, unfolding(mailmap_entries::specs::Search::IsParted))]
 fn search_finds_or_places_within_the_digits_of_the_length(rt: HostRuntime) {
     use std::cmp::Ordering::{Equal, Greater, Less};
     finds(&rt, &[], Err(0), 0);

@@ -1,5 +1,6 @@
+use mailmap_entries::Entry;
 use mailmap_grammar::lines::Error;
-use mailmap_grammar::{Entry, parse, parse_ignore_errors, parse_strict};
+use mailmap_grammar::{parse, parse_ignore_errors, parse_strict};
 use std::alloc::{AllocError, Global};
 use std::process::Abort;
 use std::test::Fail;

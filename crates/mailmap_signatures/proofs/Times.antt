@@ -6,7 +6,7 @@ use Rattle.std.proofs.lemmas.List.{take_at, drop_at}
 use Rattle.std.proofs.lemmas.Str.Parse.{IsNumeralModel, numerals_by_weight, not_in_digits, parse_signed_minus, parse_signed_plain}
 use Rattle.std.specs.Result.{OkIff, result_ok}
 use Rattle.std.specs.Str.Parse.{ParsesSigned}
-use Rattle.mailmap_grammar.specs.Folding.{Text}
+use Rattle.mailmap_entries.specs.Folding.{Text}
 use Rattle.mailmap_signatures.specs.Times.{AreDigits, number, signed, SpellsSeconds, SpellsOffset, Spells, IsTimeOf}
 use Rattle.mailmap_signatures.specs.declared.date.Time.{Time}
 

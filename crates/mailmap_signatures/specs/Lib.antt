@@ -1,3 +1,3 @@
-pub use Rattle.mailmap_grammar.specs.Folding
+pub use Rattle.mailmap_entries.specs.Folding
 pub mod Times
 pub mod SignatureFields

@@ -6,7 +6,7 @@ use Rattle.std.specs.Ordering.{ordering_then}
 use Rattle.std.specs.declared.alloc.Global.{Global}
 use Rattle.std.specs.declared.borrow.CowSlice.{CowSlice}
 use Rattle.std.specs.declared.cmp.Ordering.{Ordering}
-use Rattle.mailmap_grammar.specs.Folding.{Text, text_cmp}
+use Rattle.mailmap_entries.specs.Folding.{Text, text_cmp}
 use Rattle.mailmap_signatures.specs.Times.{IsTimeOf, epoch, time_cmp}
 use Rattle.mailmap_signatures.specs.declared.actor.Signature as owned
 use Rattle.mailmap_signatures.specs.declared.actor.SignatureRef.{SignatureRef}

@@ -1,6 +1,6 @@
 //! A law of times. The function runs nothing: its contract is the law.
 ghost use Rattle.std.specs.Prelude.{◌≡◌};
-ghost use Rattle.mailmap_grammar.specs.Folding.{Text};
+ghost use Rattle.mailmap_entries.specs.Folding.{Text};
 ghost use Rattle.mailmap_signatures.specs.Times.{Spells, IsTimeOf};
 ghost use Rattle.mailmap_signatures.specs.declared.date.Time.{Time};
 

@@ -4,7 +4,7 @@ use Rattle.std.specs.Iterator.{Yields, YieldsFirstBy}
 use Rattle.std.specs.List.{AllByRecursion}
 use Rattle.std.specs.Result.{IfOk, OnErr}
 use Rattle.std.proofs.lemmas.List.Elements.{filter-append, filter_passes, recursion_from_All}
-use Rattle.mailmap_grammar.specs.Entries.{Mapping}
+use Rattle.mailmap_entries.specs.Entries.{Mapping}
 use Rattle.mailmap_tables.specs.Histories.{IsNormal, accepted, is_accepted}
 use Rattle.mailmap_tables.proofs.Alike.{same_normal, alike_accepted}
 use Rattle.mailmap_tables.proofs.Parts.{filter_all}

@@ -8,7 +8,7 @@ use Rattle.std.specs.Prelude.{nat_eq}
 use Rattle.std.proofs.lemmas.Iterator.{YieldsList}
 use denote.Ref.{Bor}
 use lib.Pointwise.{pointwise}
-use Rattle.mailmap_grammar.specs.Folding.{Text}
+use Rattle.mailmap_entries.specs.Folding.{Text}
 use Rattle.mailmap_snapshot.specs.Listings.{same_optional, optional_hashed}
 
 -- ---- `eq` of two iterators

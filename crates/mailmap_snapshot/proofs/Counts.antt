@@ -8,8 +8,8 @@ use Rattle.std.specs.Ordering.{eq_by_cmp, ordering_reverse}
 use Rattle.std.proofs.lemmas.List.{length-map}
 use Rattle.std.proofs.lemmas.List.Sums.{sum_by-append}
 use Rattle.std.proofs.lemmas.Map.Lookups.{exact_bytes}
-use Rattle.mailmap_grammar.specs.Entries.{Mapping}
-use Rattle.mailmap_grammar.specs.Folding.{Text, folded, text_cmp}
+use Rattle.mailmap_entries.specs.Entries.{Mapping}
+use Rattle.mailmap_entries.specs.Folding.{Text, folded, text_cmp}
 use Rattle.mailmap_tables.specs.Groups.{EmailGroup, IsGroup, email_key, name_row, own_rows, rows, listing}
 use Rattle.mailmap_tables.specs.Histories.{made}
 use Rattle.mailmap_snapshot.specs.Signatures.{has_email, email_count, name_count}

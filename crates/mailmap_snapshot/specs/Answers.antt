@@ -1,7 +1,7 @@
 -- Signatures as they are answered: three fields, of which a mailmap may change two.
 use Rattle.std.specs.Prelude.{◌≡◌, List, Option, unwrap_or, MatchOption}
 use Rattle.std.specs.Cow.{IsOwnedSlice, IsBorrowedSlice}
-use Rattle.mailmap_grammar.specs.Entries.{Mapping}
+use Rattle.mailmap_entries.specs.Entries.{Mapping}
 use Rattle.mailmap_signatures.specs.SignatureFields.{SignatureFields}
 use Rattle.mailmap_signatures.specs.Times.{IsTimeOf}
 use Rattle.mailmap_signatures.specs.declared.actor.SignatureRef.{SignatureRef}

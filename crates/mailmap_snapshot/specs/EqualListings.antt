@@ -4,8 +4,8 @@ use Rattle.std.specs.Bool.{Decides, IsTrue}
 use Rattle.std.specs.Cmp.{IsEquivalence, IsPartialEquivalence, partial_equiv_from_equiv, first_so, second_so}
 use Rattle.std.specs.Prelude.{nat_eq}
 use lib.Pointwise.{pointwise, pointwise_decides, bytes_decides}
-use Rattle.mailmap_grammar.specs.Entries.{Mapping}
-use Rattle.mailmap_grammar.specs.Folding.{Text}
+use Rattle.mailmap_entries.specs.Entries.{Mapping}
+use Rattle.mailmap_entries.specs.Folding.{Text}
 use Rattle.mailmap_snapshot.specs.Listings.{same_optional, same_entry, same_entries, entries_hashed}
 
 -- ---- equality decides sameness

@@ -4,8 +4,8 @@ use lib.Pointwise.{pointwise}
 use Rattle.std.specs.Hash as fed
 use Rattle.std.specs.List.{flat_map}
 use Rattle.std.specs.Option.{option_eq}
-use Rattle.mailmap_grammar.specs.Entries.{Mapping}
-use Rattle.mailmap_grammar.specs.Folding.{Text}
+use Rattle.mailmap_entries.specs.Entries.{Mapping}
+use Rattle.mailmap_entries.specs.Folding.{Text}
 use Rattle.mailmap_tables.specs.Groups.{Contents, name_row, listing}
 use Rattle.mailmap_tables.specs.Pool.{name_group}
 use Rattle.mailmap_tables.specs.declared.tables.NameRow.{NameRow}

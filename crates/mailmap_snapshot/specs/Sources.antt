@@ -1,6 +1,6 @@
 -- What sources of entries say, one after another.
 use Rattle.std.specs.Prelude.{Bool, if◌then◌else◌, List, [], ◌∷◌, ◌++◌, map}
-use Rattle.mailmap_grammar.specs.Entries.{Mapping, mapping_of}
+use Rattle.mailmap_entries.specs.Entries.{Mapping, mapping_of}
 use Rattle.mailmap_grammar.specs.Lines.{good}
 use Rattle.mailmap_snapshot.specs.declared.snapshot.sources.Source.{Source}
 use Rattle.mailmap_snapshot.specs.declared.snapshot.sources.Source.TheVariants.{Buffer, Entries}

@@ -4,8 +4,8 @@ use Rattle.std.specs.List.{All, flat_map}
 use Rattle.mailmap_snapshot.specs.declared.snapshot.text.WriteError.{WriteError}
 use Rattle.mailmap_snapshot.specs.declared.snapshot.text.WriteError.TheVariants.{Unwritable, Memory}
 use Rattle.mailmap_grammar.specs.CanonicalText.{IsWritable, text}
-use Rattle.mailmap_grammar.specs.Entries.{Mapping}
-use Rattle.mailmap_grammar.specs.Folding.{Text}
+use Rattle.mailmap_entries.specs.Entries.{Mapping}
+use Rattle.mailmap_entries.specs.Folding.{Text}
 use Rattle.mailmap_tables.specs.Histories.{IsNormal}
 use Rattle.mailmap_grammar.specs.Lines.{good}
 

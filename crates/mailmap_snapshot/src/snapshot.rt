@@ -30,7 +30,7 @@ pub struct Snapshot {
 
 impl Model for Snapshot {
     ghost use Rattle.std.specs.Prelude.{List};
-    ghost use Rattle.mailmap_grammar.specs.Entries.{Mapping};
+    ghost use Rattle.mailmap_entries.specs.Entries.{Mapping};
 
     ghost Value = { List Mapping };
 

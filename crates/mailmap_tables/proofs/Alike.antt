@@ -5,8 +5,8 @@ use Rattle.std.proofs.lemmas.List.{map-append}
 use Rattle.std.proofs.lemmas.List.Elements.{filter-append, filter_map-append, All-weaker}
 use Rattle.std.specs.List.{list_any}
 use Rattle.std.specs.Ordering.{eq_by_cmp}
-use Rattle.mailmap_grammar.specs.Entries.{Mapping}
-use Rattle.mailmap_grammar.specs.Folding.{text_cmp, Text, folded}
+use Rattle.mailmap_entries.specs.Entries.{Mapping}
+use Rattle.mailmap_entries.specs.Folding.{text_cmp, Text, folded}
 use Rattle.mailmap_tables.specs.Histories.{key_cmp, of_email, Key, key, first, last, accepted, of_key, has_key, given_fields, last_fields, last_given, spelling, made, no_fields, value, scan, answered, IsNormal, is_accepted, new_fields}
 use Rattle.mailmap_tables.proofs.Parts.{first-append, last-append, option_map-or, list_any-append, and_then-flatten}
 pub use Rattle.mailmap_tables.specs.Alike.{Alike, first_name}

@@ -9,8 +9,8 @@ use Rattle.std.specs.Ordering.{eq_by_cmp, is_lt, ordering_then}
 use Rattle.std.proofs.lemmas.List.{map-append}
 use Rattle.std.proofs.lemmas.List.Elements.{All-contains, All-from_recursion, recursion_from_All, Contains-append_left, Contains-append_right}
 use Rattle.mailmap_tables.specs.Alike.{Alike}
-use Rattle.mailmap_grammar.specs.Entries.{Mapping}
-use Rattle.mailmap_grammar.specs.Folding.{Text, folded, text_cmp}
+use Rattle.mailmap_entries.specs.Entries.{Mapping}
+use Rattle.mailmap_entries.specs.Folding.{Text, folded, text_cmp}
 use Rattle.mailmap_tables.specs.Groups.{EmailGroup, IsGroup, AreGroups, Contents, email_key, rows, listing}
 use Rattle.mailmap_tables.specs.Histories.{key, key_cmp, is_accepted, accepted, first, of_email, spelling}
 use Rattle.mailmap_tables.specs.Merging.{IsAscending, AreBelowAll, InOrder, Extends, known, unknown, IsEarliest, RunPut, IsSpelling, AllJoined, StartsOther, bare, email_text, spelled_by, with_email}

@@ -8,8 +8,8 @@ use Rattle.std.specs.Ordering.{eq_by_cmp}
 use Rattle.std.specs.List.Sorted.{IsStrictlySortedBy}
 use Rattle.std.proofs.lemmas.List.Elements.{All-from_recursion, All-map}
 use Rattle.std.proofs.lemmas.Map.Lookups.{exact_bytes}
-use Rattle.mailmap_grammar.specs.Entries.{Mapping}
-use Rattle.mailmap_grammar.specs.Folding.{text_cmp, folded}
+use Rattle.mailmap_entries.specs.Entries.{Mapping}
+use Rattle.mailmap_entries.specs.Folding.{text_cmp, folded}
 use Rattle.mailmap_tables.specs.Histories.{Key, key, key_cmp, first, accepted, of_key, has_key, spelling, value, IsNormal}
 use Rattle.mailmap_tables.proofs.Ascending.{ordered, ordered_sorted, has_ordered, of_each, finds_key}
 use Rattle.mailmap_tables.proofs.Keys.{keys_total, keys_exact}

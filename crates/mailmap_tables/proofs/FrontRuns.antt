@@ -3,7 +3,7 @@ use Rattle.std.proofs.Common.{◌≡◌, ◌≢◌, ◌+◌, ◌-◌, ◌<◌, �
 use Rattle.std.specs.List.{AllByRecursion}
 use Rattle.std.proofs.lemmas.List.{map-append, length-map, take_more, get_or-map}
 use Rattle.std.proofs.lemmas.List.Elements.{Contains-get_or, All-from_recursion}
-use Rattle.mailmap_grammar.specs.Folding.{folded}
+use Rattle.mailmap_entries.specs.Folding.{folded}
 use Rattle.mailmap_tables.specs.Histories.{last}
 use Rattle.mailmap_tables.specs.Groups.{NameGroup}
 use Rattle.mailmap_tables.specs.Merging.{IsEarliest, NameRun, StartsOther, mapping_at, placed_at, name_text}

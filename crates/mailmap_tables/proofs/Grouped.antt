@@ -13,8 +13,8 @@ use Rattle.std.proofs.lemmas.List.{map-append, take-append-drop}
 use Rattle.std.proofs.lemmas.List.Elements.{All-filter, All-from_recursion, recursion_from_All, filter-append}
 use Rattle.std.proofs.lemmas.Map.Keys.{sorted_head, sorted_tail}
 use Rattle.std.proofs.lemmas.Map.Lookups.{exact_bytes}
-use Rattle.mailmap_grammar.specs.Entries.{Mapping}
-use Rattle.mailmap_grammar.specs.Folding.{Text, folded, text_cmp}
+use Rattle.mailmap_entries.specs.Entries.{Mapping}
+use Rattle.mailmap_entries.specs.Folding.{Text, folded, text_cmp}
 use Rattle.mailmap_tables.specs.Groups.{NameGroup, EmailGroup, IsGroup, AreGroups, email_key, name_key, name_fields, name_row, own_rows, rows, listing}
 use Rattle.mailmap_tables.specs.Histories.{Fields, key, key_cmp, first, last, last_given, is_accepted, accepted, of_key, has_key, given_fields, last_fields, new_fields, no_fields, made, spelling, value, answered, scan, IsNormal}
 use Rattle.mailmap_tables.proofs.Alike.{Alike, alike_back, same_normal, picked-append}

@@ -6,8 +6,8 @@ use Rattle.std.specs.Option.{option_or}
 use Rattle.std.specs.List.{AllByRecursion, cons_option}
 use Rattle.std.specs.Ordering.{eq_by_cmp, ordering_then}
 use Rattle.std.proofs.lemmas.Bool.{and_parts}
-use Rattle.mailmap_grammar.specs.Entries.{Mapping}
-use Rattle.mailmap_grammar.specs.Folding.{Text, folded, text_cmp}
+use Rattle.mailmap_entries.specs.Entries.{Mapping}
+use Rattle.mailmap_entries.specs.Folding.{Text, folded, text_cmp}
 use Rattle.mailmap_tables.specs.Histories.{Fields, Key, key, key_cmp, first, last, last_given, is_accepted, accepted, made, new_fields, of_key, spelling}
 use Rattle.mailmap_tables.proofs.Alike.{Alike, alike_itself, alike_joined}
 use Rattle.mailmap_tables.proofs.Keys.{keys_total}

@@ -5,7 +5,7 @@ use Rattle.std.specs.Cmp.Lexicographic.{nat_list_cmp_total, options_total}
 use Rattle.std.specs.Option.{option_cmp}
 use Rattle.std.proofs.lemmas.Cmp.{then_total, on_total}
 use Rattle.std.proofs.lemmas.Map.Lookups.{exact_bytes, exact_pairs}
-use Rattle.mailmap_grammar.specs.Folding.{Text, text_cmp}
+use Rattle.mailmap_entries.specs.Folding.{Text, text_cmp}
 use Rattle.mailmap_tables.specs.Histories.{Key, key_cmp}
 
 pub keys_total : IsTotalOrder key_cmp

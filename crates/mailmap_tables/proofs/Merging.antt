@@ -6,8 +6,8 @@ use Rattle.std.specs.Ordering.{ordering_then, ordering_reverse}
 use Rattle.std.specs.List.{AllByRecursion, fold}
 use Rattle.std.proofs.lemmas.Bool.{or_right}
 use Rattle.std.proofs.lemmas.List.{map-append}
-use Rattle.mailmap_grammar.specs.Entries.{Mapping}
-use Rattle.mailmap_grammar.specs.Folding.{Text, folded, text_cmp}
+use Rattle.mailmap_entries.specs.Entries.{Mapping}
+use Rattle.mailmap_entries.specs.Folding.{Text, folded, text_cmp}
 use Rattle.mailmap_tables.specs.Groups.{NameGroup, EmailGroup, email_key, name_key, name_row, own_rows, rows, listing}
 use Rattle.mailmap_tables.specs.Histories.{Fields, key, is_accepted, made}
 use Rattle.mailmap_tables.proofs.Alike.{Alike, alike_itself, alike_joined}

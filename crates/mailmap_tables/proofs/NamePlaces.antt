@@ -2,7 +2,7 @@
 use Rattle.std.proofs.Common.{◌≡◌, ◌+◌, ◌<◌, ℕ, zero, suc, Less, List, [], ◌∷◌, ◌++◌, map, take, drop, get_or, length, refl, sym, ap, subst, ◌∙◌, arith, append_assoc}
 use Rattle.std.specs.List.{AllByRecursion}
 use Rattle.std.proofs.lemmas.List.{map-append, take-map, drop-map, length-map, get_or-map, get_or_default}
-use Rattle.mailmap_grammar.specs.Folding.{Text, folded, text_cmp}
+use Rattle.mailmap_entries.specs.Folding.{Text, folded, text_cmp}
 use Rattle.mailmap_tables.specs.Groups.{NameGroup, Contents, name_key}
 use Rattle.mailmap_tables.specs.Merging.{Extends, NamePut, NamePlaced, known, unknown}
 use Rattle.mailmap_tables.specs.Places.{IsFound, IsMissing}

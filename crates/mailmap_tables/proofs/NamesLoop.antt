@@ -8,8 +8,8 @@ use Rattle.std.specs.Ordering.{is_lt, ordering_reverse}
 use Rattle.std.proofs.lemmas.List.{map-append}
 use Rattle.std.proofs.lemmas.Map.Lookups.{exact_bytes}
 use Rattle.mailmap_tables.specs.Alike.{Alike}
-use Rattle.mailmap_grammar.specs.Entries.{Mapping}
-use Rattle.mailmap_grammar.specs.Folding.{Text, folded, text_cmp}
+use Rattle.mailmap_entries.specs.Entries.{Mapping}
+use Rattle.mailmap_entries.specs.Folding.{Text, folded, text_cmp}
 use Rattle.mailmap_tables.specs.Groups.{NameGroup, Contents, name_key}
 use Rattle.mailmap_tables.specs.Histories.{last}
 use Rattle.mailmap_tables.specs.Merging.{IsAscending, AreBelowAll, InOrder, Extends, IsNamed, NamePut, known, unknown, NamesPut, NameRun, StartsOther, name_text, with_email}

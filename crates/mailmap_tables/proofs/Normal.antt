@@ -7,8 +7,8 @@ use Rattle.std.specs.Option.{option_and_then}
 use Rattle.std.specs.Ordering.{eq_by_cmp}
 use Rattle.std.proofs.lemmas.List.Elements.{recursion_from_All, All-filter, filter_passes}
 use Rattle.std.proofs.lemmas.Map.Lookups.{exact_bytes}
-use Rattle.mailmap_grammar.specs.Entries.{Mapping}
-use Rattle.mailmap_grammar.specs.Folding.{Text, text_cmp, folded}
+use Rattle.mailmap_entries.specs.Entries.{Mapping}
+use Rattle.mailmap_entries.specs.Folding.{Text, text_cmp, folded}
 use Rattle.mailmap_tables.specs.Histories.{Key, key, key_cmp, first, last, is_accepted, accepted, of_email, of_key, has_key, new_fields, no_fields, last_given, spelling, value, IsNormal}
 use Rattle.mailmap_tables.proofs.Ascending.{has_itself, one_at, each_key, same_any, finds_key}
 use Rattle.mailmap_tables.proofs.Alike.{Alike, same_normal, alike_joined, alike_back, alike_itself}

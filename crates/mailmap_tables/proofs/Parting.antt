@@ -5,7 +5,7 @@ use Rattle.std.proofs.lemmas.List.{drop-drop}
 use Rattle.std.specs.Cmp.Lexicographic.{nat_list_cmp_total}
 use Rattle.std.specs.Ordering.{ordering_reverse}
 use Rattle.std.specs.List.{AllByRecursion, AllWithin}
-use Rattle.mailmap_grammar.specs.Folding.{Text, text_cmp}
+use Rattle.mailmap_entries.specs.Folding.{Text, text_cmp}
 use Rattle.mailmap_tables.specs.Places.{IsFound, IsMissing}
 use Rattle.mailmap_tables.proofs.Pooled.{slice_get-map_at}
 

@@ -4,7 +4,7 @@ use Rattle.std.specs.List.{slice_get, flat_map}
 use Rattle.std.proofs.Math.Seq.{drop-cons, take-append_seam, drop-append_seam}
 use Rattle.std.proofs.lemmas.List.{take_more, get_or-drop, length-map}
 use Rattle.std.proofs.lemmas.Option.{slice_get_within, get_or_from_slice_get}
-use Rattle.mailmap_grammar.specs.Folding.{Text}
+use Rattle.mailmap_entries.specs.Folding.{Text}
 use Rattle.mailmap_tables.specs.Groups.{EmailGroup, NameGroup}
 use Rattle.mailmap_tables.specs.Merging.{Extends}
 use Rattle.mailmap_tables.specs.Pool.{RowsLie, EmailLies, group_of, name_group}

@@ -4,7 +4,7 @@ use Rattle.std.specs.Option.{ForSome, option_map_or}
 use Rattle.std.specs.List.{slice_get}
 use Rattle.std.specs.List.{AllByRecursion}
 use Rattle.std.proofs.lemmas.List.{take-append-le, drop-append-le, map-append, take-map, drop-map, drop-drop, length-map}
-use Rattle.mailmap_grammar.specs.Folding.{Text}
+use Rattle.mailmap_entries.specs.Folding.{Text}
 use Rattle.mailmap_tables.specs.Pool.{RowsLie, names_of, spelled, LiesIn, name_group, email_group, NameLies, EmailLies, Follow, end_of, AreTables, contents}
 use Rattle.mailmap_tables.specs.declared.tables.Span.{Span}
 use Rattle.mailmap_tables.specs.declared.tables.NameRow.{NameRow}

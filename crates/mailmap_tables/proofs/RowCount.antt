@@ -1,9 +1,9 @@
 -- How many entries the tables of a snapshot list at most.
 use Rattle.std.proofs.Common.{◌+◌, ◌-◌, ◌≤◌, ◌||◌, if◌then◌else◌, Bool, true, false, is_some, ℕ, List, [], ◌∷◌, map, take, drop, length, length-append, arith, None}
 use Rattle.std.proofs.lemmas.List.{length-map, length-take}
-use Rattle.mailmap_grammar.specs.Folding.{Text}
+use Rattle.mailmap_entries.specs.Folding.{Text}
 use Rattle.mailmap_tables.specs.Groups.{EmailGroup, listing, rows, own_rows, name_row}
-use Rattle.mailmap_grammar.specs.Entries.{Mapping}
+use Rattle.mailmap_entries.specs.Entries.{Mapping}
 use Rattle.mailmap_tables.specs.Histories.{made}
 use Rattle.mailmap_tables.specs.Pool.{names_of, name_group, email_group, Follow}
 use Rattle.mailmap_tables.specs.declared.tables.NameRow.{NameRow}

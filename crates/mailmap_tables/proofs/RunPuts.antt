@@ -3,7 +3,7 @@ use Rattle.std.proofs.Common.{◌≡◌, ◌+◌, ◌-◌, ◌<◌, ℕ, List, [
 use Rattle.std.specs.List.{slice_get}
 use Rattle.std.specs.List.Sorted.{IsStrictlySortedBy}
 use Rattle.std.proofs.lemmas.Option.{slice_get_within, get_or_from_slice_get}
-use Rattle.mailmap_grammar.specs.Folding.{Text, text_cmp}
+use Rattle.mailmap_entries.specs.Folding.{Text, text_cmp}
 use Rattle.mailmap_tables.specs.Groups.{EmailGroup, AreGroups, Contents, IsGroup, email_key, name_key}
 use Rattle.mailmap_tables.specs.Merging.{Extends, EmailPut, EmailJoined, EmailPlaced, known, unknown, IsEarliest, RunPut, bare, email_text, first_email, mapping_at, placed_at}
 use Rattle.mailmap_tables.specs.Places.{IsFound, IsMissing}

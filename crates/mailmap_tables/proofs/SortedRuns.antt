@@ -2,8 +2,8 @@
 use Rattle.std.proofs.Common.{◌≡◌, ◌≢◌, ◌<◌, ◌≤◌, ◌==◌, ℕ, zero, suc, true, false, List, [], ◌∷◌, ◌++◌, map, take, drop, get_or, length, HoldsAt, sym, ap, subst, ◌∙◌, arith, take-append-drop, eqb-true}
 use Rattle.std.specs.List.{AllByRecursion}
 use Rattle.std.proofs.lemmas.List.{map-append, nil_from_length}
-use Rattle.mailmap_grammar.specs.Entries.{Mapping}
-use Rattle.mailmap_grammar.specs.Folding.{Text, text_cmp}
+use Rattle.mailmap_entries.specs.Entries.{Mapping}
+use Rattle.mailmap_entries.specs.Folding.{Text, text_cmp}
 use Rattle.mailmap_tables.specs.Groups.{EmailGroup, AreGroups, Contents}
 use Rattle.mailmap_tables.specs.Histories.{is_accepted, key, key_cmp}
 use Rattle.mailmap_tables.specs.Merging.{IsAscending, EmailRun, RunPut, StartsOther, email_text, first_email, mapping_at, placed_at}

@@ -1,7 +1,7 @@
 -- A history has one normal list at most.
 use Rattle.std.proofs.Common.{List, map, sym, ap, ◌≡◌, ◌∙◌}
 use Rattle.std.proofs.lemmas.List.Elements.{recursion_from_All}
-use Rattle.mailmap_grammar.specs.Entries.{Mapping}
+use Rattle.mailmap_entries.specs.Entries.{Mapping}
 use Rattle.mailmap_tables.specs.Histories.{key, value, IsNormal}
 use Rattle.mailmap_tables.proofs.Ascending.{same_keys, from_keys}
 use Rattle.mailmap_tables.proofs.Keys.{keys_total, keys_exact}

@@ -9,8 +9,8 @@ use Rattle.std.proofs.lemmas.List.Elements.{All-from_recursion, recursion_from_A
 use Rattle.std.proofs.lemmas.List.Sorted.{All-permutation}
 use Rattle.std.proofs.lemmas.Map.Lookups.{exact_bytes}
 use Rattle.mailmap_tables.specs.Alike.{Alike}
-use Rattle.mailmap_grammar.specs.Entries.{Mapping}
-use Rattle.mailmap_grammar.specs.Folding.{Text, folded, text_cmp}
+use Rattle.mailmap_entries.specs.Entries.{Mapping}
+use Rattle.mailmap_entries.specs.Folding.{Text, folded, text_cmp}
 use Rattle.mailmap_tables.specs.Groups.{EmailGroup, AreGroups, email_key, listing}
 use Rattle.mailmap_tables.specs.Histories.{Key, key, first, is_accepted, accepted, has_key, spelling, value, IsNormal}
 use Rattle.mailmap_tables.specs.Merging.{IsSorted, IsSpelling, AllJoined, email_text, spelled_by, mapping_at, placed_at}

@@ -1,7 +1,7 @@
 -- Histories that agree in all that a normal list and a scan ask of them.
 use Rattle.std.specs.Prelude.{◌≡◌, List, Option, Some, option_map}
-use Rattle.mailmap_grammar.specs.Entries.{Mapping}
-use Rattle.mailmap_grammar.specs.Folding.{Text}
+use Rattle.mailmap_entries.specs.Entries.{Mapping}
+use Rattle.mailmap_entries.specs.Folding.{Text}
 use Rattle.mailmap_tables.specs.Histories.{Key, first, accepted, of_key, has_key, given_fields, last_fields, spelling}
 
 -- as the first entry of a key has it

@@ -1,7 +1,7 @@
 -- The first bytes of a text as a number, which orders texts as far as they differ there.
 use Rattle.std.specs.Prelude.{◌≡◌, ◌+◌, ◌*◌, ◌^◌, ◌<◌, ℕ, zero, suc, [], ◌∷◌}
 use Rattle.std.specs.List.{AllByRecursion}
-use Rattle.mailmap_grammar.specs.Folding.{Text}
+use Rattle.mailmap_entries.specs.Folding.{Text}
 
 -- the first n bytes as the digits of a number in base 256, those behind the end as 0
 abbrev pub front_number : ℕ → Text → ℕ

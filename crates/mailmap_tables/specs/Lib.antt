@@ -1,8 +1,6 @@
-pub use Rattle.mailmap_grammar.specs.Folding
-pub use Rattle.mailmap_grammar.specs.Trimming
-pub use Rattle.mailmap_grammar.specs.Entries
-pub use Rattle.mailmap_grammar.specs.Lines
-pub use Rattle.mailmap_grammar.specs.Search
+pub use Rattle.mailmap_entries.specs.Folding
+pub use Rattle.mailmap_entries.specs.Entries
+pub use Rattle.mailmap_entries.specs.Search
 pub mod Fronts
 pub mod Histories
 pub mod Groups

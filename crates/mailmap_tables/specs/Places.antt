@@ -2,7 +2,7 @@
 use Rattle.std.specs.Prelude.{◌≡◌, ◌<◌, ◌≤◌, ℕ, List, length, map, Some, slice_get}
 use Rattle.std.specs.List.{AllWithin}
 use Rattle.std.specs.declared.cmp.Ordering.TheVariants.{Less, Greater}
-use Rattle.mailmap_grammar.specs.Folding.{Text, text_cmp}
+use Rattle.mailmap_entries.specs.Folding.{Text, text_cmp}
 
 -- the place has the key k, and from `start` up to it all keys are smaller
 pub record IsFound {X : Type 0} (f : X → Text) (k : Text) (start : ℕ) (xs : List X) (i : ℕ) : Type 0 where

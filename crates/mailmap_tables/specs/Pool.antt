@@ -2,7 +2,7 @@
 use Rattle.std.specs.Prelude.{◌≡◌, ◌≤◌, ◌+◌, ◌-◌, ℕ, List, [], ◌∷◌, map, take, drop, length}
 use Rattle.std.specs.Option.{option_map, ForSome}
 use Rattle.std.specs.List.{AllByRecursion}
-use Rattle.mailmap_grammar.specs.Folding.{Text}
+use Rattle.mailmap_entries.specs.Folding.{Text}
 use Rattle.mailmap_tables.specs.Groups.{NameGroup, EmailGroup, Contents}
 use Rattle.mailmap_tables.specs.declared.tables.Span.{Span}
 use Rattle.mailmap_tables.specs.declared.tables.NameRow.{NameRow}

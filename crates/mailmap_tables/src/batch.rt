@@ -3,16 +3,16 @@ ghost use Rattle.std.specs.Prelude.{◌≡◌, ◌≢◌, ◌+◌, ◌<◌, ◌�
 ghost use Rattle.std.specs.Iterator.{IsFinite, Drains, Yields};
 ghost use Rattle.std.specs.Option.{option_copied, option_map, option_cmp};
 ghost use Rattle.std.specs.List.{AllByRecursion, enumerate_from, fold};
-ghost use Rattle.mailmap_grammar.specs.Entries.{mapping_of};
-ghost use Rattle.mailmap_grammar.specs.Folding.{folded, text_cmp};
+ghost use Rattle.mailmap_entries.specs.Entries.{mapping_of};
+ghost use Rattle.mailmap_entries.specs.Folding.{folded, text_cmp};
 ghost use Rattle.mailmap_tables.specs.Histories.{accepted, is_accepted, key, key_cmp, no_fields};
 ghost use Rattle.mailmap_tables.specs.Fronts.{IsFront, front_number};
 ghost use Rattle.mailmap_tables.specs.Merging.{IsSorted, IsAscending, mapping_at, placed_at, email_text, name_text};
 ghost use Rattle.mailmap_tables.specs.declared.batch.Placed.{Placed as At};
-ghost use Rattle.mailmap_grammar.specs.declared.entry.Entry.{Entry as Item};
+ghost use Rattle.mailmap_entries.specs.declared.entry.Entry.{Entry as Item};
 
-use mailmap_grammar::Entry;
-use mailmap_grammar::fold::cmp_ignore_ascii_case;
+use mailmap_entries::Entry;
+use mailmap_entries::fold::cmp_ignore_ascii_case;
 use std::alloc::{AllocError, Global};
 use std::cmp::Ordering;
 use std::marker::Model;

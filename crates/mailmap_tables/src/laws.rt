@@ -1,7 +1,7 @@
 //! Laws of normal lists. Each function runs nothing: its contract is the law.
 ghost use Rattle.std.specs.Prelude.{◌≡◌, ◌≤◌, ◌↔◌, ◌++◌, List, length};
-ghost use Rattle.mailmap_grammar.specs.Folding.{Text};
-ghost use Rattle.mailmap_grammar.specs.Entries.{Mapping};
+ghost use Rattle.mailmap_entries.specs.Folding.{Text};
+ghost use Rattle.mailmap_entries.specs.Entries.{Mapping};
 ghost use Rattle.mailmap_tables.specs.Histories.{IsNormal, of_email, scan};
 
 /// A history has one normal list at most.

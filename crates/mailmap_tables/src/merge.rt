@@ -4,8 +4,8 @@ ghost use Rattle.std.specs.Prelude.{◌≡◌, ◌≢◌, ◌+◌, ◌-◌, ◌<
 ghost use Rattle.std.specs.Option.{option_copied, option_map, option_or, ForSome};
 ghost use Rattle.std.specs.List.{AllByRecursion, HoldsAt, fold};
 ghost use Rattle.std.specs.List.Sorted.{IsStrictlySortedBy};
-ghost use Rattle.mailmap_grammar.specs.Entries.{mapping_of};
-ghost use Rattle.mailmap_grammar.specs.Folding.{folded, text_cmp};
+ghost use Rattle.mailmap_entries.specs.Entries.{mapping_of};
+ghost use Rattle.mailmap_entries.specs.Folding.{folded, text_cmp};
 ghost use Rattle.mailmap_tables.specs.Groups.{Contents, AreGroups, IsComplete, name_key, email_key, listing};
 ghost use Rattle.mailmap_tables.specs.Histories.{IsNormal, is_accepted, key, key_cmp, no_fields};
 ghost use Rattle.mailmap_tables.specs.Merging.{IsAscending, first_email, IsNamed, mapping_at, placed_at, email_text, name_text, Extends, NamePut, NameRun, NamesPut, EmailRun, IsEarliest, give, EmailPut, RunPut, AllJoined};
@@ -15,7 +15,7 @@ ghost use Rattle.mailmap_tables.specs.Named.{named_group, fields_given};
 use crate::batch::{Placed, sorted};
 use crate::search::{place_email, place_name};
 use crate::tables::{EmailRow, NameRow, Span, Tables};
-use mailmap_grammar::Entry;
+use mailmap_entries::Entry;
 use std::alloc::{AllocError, Global};
 
 // The texts that stand for an old name.

@@ -3,14 +3,14 @@
 ghost use Rattle.std.specs.Prelude.{◌≡◌, ◌<◌, ◌≤◌, ◌+◌, ◌-◌, ◌^◌, All, length, map, drop, min, IfOk, IfErr};
 ghost use Rattle.std.specs.List.{AllByRecursion};
 ghost use Rattle.std.specs.List.Sorted.{IsStrictlySortedBy};
-ghost use Rattle.mailmap_grammar.specs.Folding.{folded, text_cmp};
-ghost use Rattle.mailmap_grammar.specs.Search.{digits};
+ghost use Rattle.mailmap_entries.specs.Folding.{folded, text_cmp};
+ghost use Rattle.mailmap_entries.specs.Search.{digits};
 ghost use Rattle.mailmap_tables.specs.Groups.{email_key, name_key};
 ghost use Rattle.mailmap_tables.specs.Places.{IsFound, IsMissing};
 ghost use Rattle.mailmap_tables.specs.Pool.{LiesIn, NameLies, name_group};
 
 use crate::tables::{NameRow, Tables};
-use mailmap_grammar::fold::{Probe, Steps, search};
+use mailmap_entries::fold::{Probe, Steps, search};
 use std::cmp::Ordering;
 use std::mem;
 

@@ -3,8 +3,8 @@
 //! last. By the blank in front a name may begin with `#` and the line is still no comment.
 ghost use Rattle.std.specs.Prelude.{◌≡◌, List, map, Ok};
 ghost use Rattle.std.specs.List.{All, flat_map};
-ghost use Rattle.mailmap_grammar.specs.Folding.{Text};
-ghost use Rattle.mailmap_grammar.specs.Entries.{Mapping};
+ghost use Rattle.mailmap_entries.specs.Folding.{Text};
+ghost use Rattle.mailmap_entries.specs.Entries.{Mapping};
 ghost use Rattle.mailmap_grammar.specs.Lines.{good, strict_readings};
 ghost use Rattle.mailmap_tables.specs.Histories.{IsNormal};
 ghost use Rattle.mailmap_grammar.specs.CanonicalText.{IsWritable, text};

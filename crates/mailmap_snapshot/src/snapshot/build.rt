@@ -1,13 +1,14 @@
 //! Making snapshots, and merging entries into them.
 ghost use Rattle.std.specs.Prelude.{◌≡◌, ◌≢◌, [], ◌++◌, List, map, IfOk, OnOk, OnErr};
 ghost use Rattle.std.specs.Iterator.{IsFinite, Drains, Yields};
-ghost use Rattle.mailmap_grammar.specs.Entries.{mapping_of};
+ghost use Rattle.mailmap_entries.specs.Entries.{mapping_of};
 ghost use Rattle.mailmap_tables.specs.Histories.{IsNormal, accepted};
 ghost use Rattle.mailmap_grammar.specs.Lines.{good};
-ghost use Rattle.mailmap_grammar.specs.declared.entry.Entry.{Entry as Item};
+ghost use Rattle.mailmap_entries.specs.declared.entry.Entry.{Entry as Item};
 
 use crate::snapshot::Snapshot;
-use mailmap_grammar::{Entry, parse_ignore_errors};
+use mailmap_entries::Entry;
+use mailmap_grammar::parse_ignore_errors;
 use mailmap_tables::batch::accepted_of;
 use mailmap_tables::merge::joined;
 use mailmap_tables::tables::Tables;

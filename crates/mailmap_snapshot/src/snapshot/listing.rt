@@ -3,13 +3,13 @@ ghost use Rattle.std.specs.Prelude.{◌≡◌, ◌↔◌, List, [], length, map,
 ghost use Rattle.std.specs.Iterator.{YieldsFirstBy, item_count};
 ghost use Rattle.std.specs.List.{AllByRecursion};
 ghost use Rattle.std.specs.Option.{option_to_list};
-ghost use Rattle.mailmap_grammar.specs.Entries.{mapping_of};
+ghost use Rattle.mailmap_entries.specs.Entries.{mapping_of};
 ghost use Rattle.mailmap_tables.specs.Groups.{listing, name_row, own_rows};
 ghost use Rattle.mailmap_snapshot.specs.Listings.{left_to_list};
 ghost use Rattle.mailmap_tables.specs.Pool.{EmailLies, NameLies, group_of, name_group};
 
 use crate::snapshot::Snapshot;
-use mailmap_grammar::Entry;
+use mailmap_entries::Entry;
 use mailmap_tables::tables::{EmailRow, NameRow, Tables};
 use std::alloc::{AllocError, Global};
 use std::fmt;
@@ -31,7 +31,7 @@ pub struct Iter<'a> {
 impl<'a> Model for Iter<'a> {
     ghost use Rattle.std.specs.Prelude.{List, length};
     ghost use Rattle.std.specs.List.{AllByRecursion};
-    ghost use Rattle.mailmap_grammar.specs.Entries.{Mapping};
+    ghost use Rattle.mailmap_entries.specs.Entries.{Mapping};
 
     ghost Value = { List Mapping };
 

@@ -1,16 +1,16 @@
 //! What a snapshot answers to a signature: a search for its email, and one for its name among the names of that.
 ghost use Rattle.std.specs.Prelude.{◌≡◌, ◌≤◌, ◌+◌, ◌-◌, ◌||◌, List, Some, length, min, is_some, option_map, IsTrue, IfSome};
 ghost use Rattle.std.specs.Option.{ForSome};
-ghost use Rattle.mailmap_grammar.specs.Entries.{Mapping};
+ghost use Rattle.mailmap_entries.specs.Entries.{Mapping};
 ghost use Rattle.mailmap_tables.specs.Groups.{AreGroups, listing};
 ghost use Rattle.mailmap_tables.specs.Histories.{IsNormal, answered, scan};
 ghost use Rattle.mailmap_tables.specs.Pool.{LiesIn, spelled};
-ghost use Rattle.mailmap_grammar.specs.Search.{digits};
+ghost use Rattle.mailmap_entries.specs.Search.{digits};
 ghost use Rattle.mailmap_snapshot.specs.Signatures.{shown, email_count, name_count};
 
 use crate::snapshot::Snapshot;
 use crate::snapshot::resolved::ResolvedSignature;
-use mailmap_grammar::fold::Steps;
+use mailmap_entries::fold::Steps;
 use mailmap_signatures::actor::SignatureRef;
 use mailmap_tables::search::{search_email, search_name};
 use mailmap_tables::tables::{Span, Tables};

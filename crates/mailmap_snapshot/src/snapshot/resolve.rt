@@ -2,7 +2,7 @@
 ghost use Rattle.std.specs.Prelude.{◌≡◌, ◌↔◌, List, IsSome, IfOk, IfSome, OnErr};
 ghost use Rattle.mailmap_signatures.specs.SignatureFields.{owned_fields, cow_fields};
 ghost use Rattle.mailmap_snapshot.specs.Answers.{mapped, IsAnswer, OwnsMapped, IsEnriched, OwnsJust};
-ghost use Rattle.mailmap_grammar.specs.Entries.{Mapping};
+ghost use Rattle.mailmap_entries.specs.Entries.{Mapping};
 ghost use Rattle.mailmap_tables.specs.Histories.{IsNormal};
 ghost use Rattle.mailmap_snapshot.specs.Signatures.{shown};
 

@@ -2,7 +2,7 @@
 ghost use Rattle.std.specs.Prelude.{◌≡◌, ◌||◌, is_some, IsTrue, IfSome, option_map};
 ghost use Rattle.std.specs.Option.{option_copied};
 ghost use Rattle.std.specs.Ordering.{eq_by_cmp};
-ghost use Rattle.mailmap_grammar.specs.Folding.{text_cmp};
+ghost use Rattle.mailmap_entries.specs.Folding.{text_cmp};
 ghost use Rattle.mailmap_tables.specs.Histories.{answered};
 ghost use Rattle.mailmap_snapshot.specs.Signatures.{shown};
 

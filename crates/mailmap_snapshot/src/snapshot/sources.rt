@@ -5,7 +5,8 @@ ghost use Rattle.mailmap_snapshot.specs.Sources.{history, said_by};
 ghost use Rattle.mailmap_snapshot.specs.declared.snapshot.sources.Source.{Source as Said};
 
 use crate::snapshot::Snapshot;
-use mailmap_grammar::{Entry, parse_ignore_errors};
+use mailmap_entries::Entry;
+use mailmap_grammar::parse_ignore_errors;
 use std::alloc::AllocError;
 
 /// Where entries come from.

@@ -13,7 +13,7 @@ use thiserror::Error;
 #[derive(Debug, PartialEq, Eq, Drop, Error)]
 pub enum WriteError {
     /// No line can hold the entry at this place of the listing, counted from 0: read back, it would be another. Lines
-    /// hold each entry that was ever read from one, so this comes of the constructors of [`Entry`](mailmap_grammar::Entry) alone.
+    /// hold each entry that was ever read from one, so this comes of the constructors of [`Entry`](mailmap_entries::Entry) alone.
     #[error("entry {place} cannot be written")]
     Unwritable { place: usize },
     /// Memory was refused.

@@ -1,7 +1,7 @@
 use Rattle.std.proofs.Common.{[], map, take, get_or, sym, subst}
 use Rattle.std.specs.List.{flat_map}
 use Rattle.std.proofs.lemmas.Iterator.Consumers.{YieldsList-from_first}
-use Rattle.mailmap_grammar.specs.Entries.{mapping_of}
+use Rattle.mailmap_entries.specs.Entries.{mapping_of}
 use Rattle.mailmap_tables.specs.Histories.{IsNormal}
 use Rattle.mailmap_grammar.specs.Lines.{good}
 use Rattle.mailmap_tables.proofs.Normal.{normal_then}

@@ -1,7 +1,7 @@
 use Rattle.std.proofs.Common.{◌≡◌, ◌-◌, ◌∙◌, length, take, drop, length-drop, take_all, sym, ap, ap₂, arith}
 use Rattle.std.proofs.lemmas.List.{length-map, drop-map}
 use Rattle.std.specs.Char.{to_ascii_lowercase}
-use Rattle.mailmap_grammar.specs.Folding.{Text, folded, text_cmp}
+use Rattle.mailmap_entries.specs.Folding.{Text, folded, text_cmp}
 use Rattle.mailmap_tables.proofs.Fronts.{front_alike, folded_bytes}
 use Rattle.mailmap_tables.proofs.batch.compare_rests.Goals as goal
 

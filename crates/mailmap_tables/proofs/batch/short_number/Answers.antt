@@ -1,5 +1,5 @@
 use Rattle.std.proofs.Common.{◌<◌, ◌+◌, ◌-◌, ◌*◌, ◌^◌, get_or, drop, ap, arith, ◌∙◌}
-use Rattle.mailmap_grammar.specs.Folding.{folded}
+use Rattle.mailmap_entries.specs.Folding.{folded}
 use Rattle.mailmap_tables.specs.Fronts.{front_number}
 use Rattle.mailmap_tables.proofs.Fronts.{front_more, front_fits, front_done, folded_bytes}
 use Rattle.mailmap_tables.proofs.batch.short_number.Goals as goal

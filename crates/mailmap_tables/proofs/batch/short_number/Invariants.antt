@@ -1,5 +1,5 @@
 use Rattle.std.proofs.Common.{◌≡◌, ◌+◌, ◌-◌, ◌*◌, ◌^◌, drop}
-use Rattle.mailmap_grammar.specs.Folding.{folded}
+use Rattle.mailmap_entries.specs.Folding.{folded}
 use Rattle.mailmap_tables.specs.Fronts.{front_number}
 use Rattle.mailmap_tables.proofs.batch.short_number.Given as goal
 

@@ -2,7 +2,7 @@ use Rattle.std.proofs.Common.{◌≡◌, Bool, map, sym, ap, subst, ◌∙◌, r
 use Rattle.std.specs.Cmp.{IsStrictWeakOrder}
 use Rattle.std.specs.Ordering.{is_lt}
 use Rattle.std.proofs.lemmas.List.Sorted.{ranks_by, answers_always}
-use Rattle.mailmap_grammar.specs.Entries.{mapping_of}
+use Rattle.mailmap_entries.specs.Entries.{mapping_of}
 use Rattle.mailmap_tables.specs.Histories.{key, key_cmp}
 use Rattle.mailmap_tables.specs.Merging.{IsSorted, mapping_at, placed_at}
 use Rattle.mailmap_tables.specs.declared.batch.Placed.{Placed}

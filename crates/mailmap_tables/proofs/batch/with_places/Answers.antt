@@ -1,7 +1,7 @@
 use Rattle.std.proofs.Common.{◌≡◌, ◌+◌, ◌∷◌, [], ◌++◌, map, take, length, sym, ap, ◌∙◌, arith}
 use Rattle.std.specs.List.{enumerate_from}
 use Rattle.std.proofs.lemmas.List.{map_more, map_push, length-map, length-take-le}
-use Rattle.mailmap_grammar.specs.Entries.{mapping_of}
+use Rattle.mailmap_entries.specs.Entries.{mapping_of}
 use Rattle.mailmap_tables.specs.Merging.{placed_at}
 use Rattle.mailmap_tables.proofs.Collected.{enumerate_from-push}
 use Rattle.mailmap_tables.proofs.batch.with_places.Goals as goal

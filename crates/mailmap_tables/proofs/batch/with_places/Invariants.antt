@@ -1,6 +1,6 @@
 use Rattle.std.proofs.Common.{◌≡◌, map, take}
 use Rattle.std.specs.List.{enumerate_from}
-use Rattle.mailmap_grammar.specs.Entries.{mapping_of}
+use Rattle.mailmap_entries.specs.Entries.{mapping_of}
 use Rattle.mailmap_tables.specs.Merging.{placed_at}
 use Rattle.mailmap_tables.proofs.batch.with_places.Given as goal
 

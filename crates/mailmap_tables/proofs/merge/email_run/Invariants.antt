@@ -1,6 +1,6 @@
 use Rattle.std.proofs.Common.{◌≡◌, take}
 use Rattle.std.specs.List.{AllByRecursion}
-use Rattle.mailmap_grammar.specs.Folding.{folded}
+use Rattle.mailmap_entries.specs.Folding.{folded}
 use Rattle.mailmap_tables.specs.Merging.{mapping_at, email_text}
 use Rattle.mailmap_tables.proofs.merge.email_run.Given as goal
 

@@ -2,7 +2,7 @@ use Rattle.std.proofs.Common.{◌≡◌, ◌∙◌, ◌++◌, ◌∷◌, [], Lis
 use Rattle.std.specs.List.{AllByRecursion, fold}
 use Rattle.std.specs.Option.{option_cmp, option_or, option_copied}
 use Rattle.std.proofs.lemmas.List.{drop-map, map-append}
-use Rattle.mailmap_grammar.specs.Folding.{text_cmp}
+use Rattle.mailmap_entries.specs.Folding.{text_cmp}
 use Rattle.mailmap_tables.specs.Groups.{Contents}
 use Rattle.mailmap_tables.specs.Histories.{Fields, is_accepted, no_fields}
 use Rattle.mailmap_tables.specs.Merging.{IsAscending, IsNamed, Extends, EmailJoined, NamesJoined, give, mapping_at, name_text}

@@ -1,5 +1,5 @@
 use Rattle.std.proofs.Common.{◌≡◌, ◌∙◌, ◌-◌, ◌<◌, ◌≤◌, ◌++◌, List, map, take, drop, length, take_all, length-drop, sym, ap, subst, arith}
-use Rattle.mailmap_grammar.specs.Folding.{folded}
+use Rattle.mailmap_entries.specs.Folding.{folded}
 use Rattle.mailmap_tables.specs.Merging.{EmailRun, RunPut, first_email, mapping_at, placed_at}
 use Rattle.mailmap_tables.specs.declared.batch.Placed.{Placed}
 use Rattle.mailmap_tables.proofs.EmailsLoop.{EmailsState, emails_start, emails_end}

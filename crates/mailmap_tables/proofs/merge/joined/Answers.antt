@@ -1,6 +1,6 @@
 use Rattle.std.proofs.Common.{◌≡◌, ◌∙◌, List, true, map, sym, subst}
 use Rattle.std.specs.List.{AllByRecursion}
-use Rattle.mailmap_grammar.specs.Entries.{mapping_of}
+use Rattle.mailmap_entries.specs.Entries.{mapping_of}
 use Rattle.mailmap_tables.specs.Groups.{Contents}
 use Rattle.mailmap_tables.specs.Histories.{is_accepted, key, key_cmp}
 use Rattle.mailmap_tables.specs.Merging.{IsAscending, AllJoined, mapping_at, placed_at}

@@ -2,11 +2,11 @@ use Rattle.std.proofs.Common.{◌-◌, subst, refl, drop, map, None, [], arith}
 use Rattle.std.specs.List.Sorted.{IsStrictlySortedBy}
 use Rattle.std.specs.Cmp.Lexicographic.{nat_list_cmp_total}
 use Rattle.std.proofs.lemmas.List.{drop-map}
-use Rattle.mailmap_grammar.specs.Folding.{folded, text_cmp}
+use Rattle.mailmap_entries.specs.Folding.{folded, text_cmp}
 use Rattle.mailmap_tables.specs.Groups.{email_key}
 use Rattle.mailmap_tables.proofs.Lookups.{IsParted-from_ascending}
 use Rattle.mailmap_tables.proofs.Places.{sorted_drop, found_from, missing_from}
-use Rattle.mailmap_grammar.proofs.Search.{digits-le}
+use Rattle.mailmap_entries.proofs.Search.{digits-le}
 use Rattle.mailmap_tables.proofs.search.search_email.Goals as goal
 
 pub search-found-requires-clause-parted : goal.search-found-requires-clause-parted

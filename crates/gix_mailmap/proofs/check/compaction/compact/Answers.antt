@@ -1,5 +1,5 @@
 use Rattle.std.proofs.Common.{[], map, take, subst, sym, ◌∙◌, arith}
-use Rattle.mailmap_grammar.specs.Entries.{mapping_of}
+use Rattle.mailmap_entries.specs.Entries.{mapping_of}
 use Rattle.mailmap_tables.specs.Histories.{IsNormal}
 use Rattle.mailmap_snapshot.specs.Writing.{IsFirstUnwritable, IsUnwrittenBy}
 use Rattle.gix_mailmap.proofs.Compacted.{nothing_normal, next_merged, never_unwritable}

@@ -1,10 +1,10 @@
 use Rattle.std.proofs.Common.{eqb-true, ◌≡◌, ◌∙◌, ◌++◌, [], List, true, map, arith, sym, ap, subst}
 use Rattle.std.specs.List.{AllByRecursion}
 use Rattle.std.proofs.lemmas.List.{nil_from_length}
-use Rattle.mailmap_grammar.specs.Entries.{mapping_of}
+use Rattle.mailmap_entries.specs.Entries.{mapping_of}
 use Rattle.mailmap_tables.specs.Groups.{listing}
 use Rattle.mailmap_tables.specs.Histories.{IsNormal, accepted, is_accepted}
-use Rattle.mailmap_grammar.specs.declared.entry.Entry.{Entry as Item}
+use Rattle.mailmap_entries.specs.declared.entry.Entry.{Entry as Item}
 use Rattle.mailmap_snapshot.proofs.Built.{normal_accepted, normal_unchanged, accepted_good}
 use Rattle.mailmap_tables.proofs.Grouped.{groups_normal}
 use Rattle.mailmap_snapshot.proofs.snapshot.Snapshot.merge.Goals as goal

@@ -1,6 +1,6 @@
 use Rattle.std.proofs.lemmas.Iterator.{YieldsList-from_slice}
 use Rattle.std.proofs.lemmas.Iterator.Consumers.{YieldsList-from_first, YieldsList-from_copied}
-use Rattle.mailmap_grammar.specs.Entries.{mapping_of}
+use Rattle.mailmap_entries.specs.Entries.{mapping_of}
 use Rattle.mailmap_grammar.specs.Lines.{good}
 use Rattle.mailmap_snapshot.proofs.Sources.{gives_said, gives_entries, merged_all, refused_some}
 use Rattle.mailmap_snapshot.proofs.snapshot.Snapshot.merge_source.Goals as goal

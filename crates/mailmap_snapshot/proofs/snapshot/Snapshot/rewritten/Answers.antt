@@ -1,6 +1,6 @@
 use Rattle.std.proofs.Common.{◌≡◌, ◌∙◌, ◌++◌, true, map, sym, ap, subst}
 use Rattle.std.specs.List.{AllByRecursion}
-use Rattle.mailmap_grammar.specs.Entries.{mapping_of}
+use Rattle.mailmap_entries.specs.Entries.{mapping_of}
 use Rattle.mailmap_tables.specs.Groups.{AreGroups, Contents, listing}
 use Rattle.mailmap_tables.specs.Histories.{IsNormal, is_accepted}
 use Rattle.mailmap_snapshot.proofs.Complete.{no_groups}

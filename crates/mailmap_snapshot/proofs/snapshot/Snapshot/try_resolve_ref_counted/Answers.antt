@@ -1,6 +1,6 @@
 use Rattle.std.proofs.Common.{◌≡◌, length, sym, ap, ◌∙◌, arith}
 use Rattle.mailmap_tables.specs.Groups.{listing}
-use Rattle.mailmap_grammar.specs.Search.{digits}
+use Rattle.mailmap_entries.specs.Search.{digits}
 use Rattle.mailmap_snapshot.specs.Signatures.{email_count, name_count}
 use Rattle.mailmap_tables.specs.Histories.{scan}
 use Rattle.mailmap_tables.proofs.Alike.{same_scan}

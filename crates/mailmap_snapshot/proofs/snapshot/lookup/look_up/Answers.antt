@@ -1,5 +1,5 @@
 use Rattle.std.proofs.Common.{◌≡◌, ◌-◌, length, sym, ap, ◌∙◌, arith}
-use Rattle.mailmap_grammar.specs.Search.{digits}
+use Rattle.mailmap_entries.specs.Search.{digits}
 use Rattle.mailmap_snapshot.proofs.Resolved.{scan_at_none, no_names, names_ascend, names_counted, scan_at_name, scan_at_email}
 use Rattle.mailmap_snapshot.proofs.snapshot.lookup.look_up.Goals as goal
 

@@ -1,5 +1,5 @@
 use Rattle.std.proofs.Common.{sym, ap, ◌∙◌, Some, refl}
-use Rattle.mailmap_grammar.specs.Folding.{folded, text_cmp}
+use Rattle.mailmap_entries.specs.Folding.{folded, text_cmp}
 use Rattle.mailmap_tables.specs.Groups.{EmailGroup}
 use Rattle.mailmap_tables.proofs.Places.{read_behind}
 use Rattle.mailmap_tables.proofs.search.EmailProbeProbe.ask.Goals as goal

@@ -1,5 +1,5 @@
 use Rattle.std.proofs.Common.{rules, ◌+◌, ◌++◌, ◌∷◌, length, sym, ap, ap₂, ◌∙◌}
-use Rattle.mailmap_grammar.specs.Entries.{mapping_of}
+use Rattle.mailmap_entries.specs.Entries.{mapping_of}
 use Rattle.mailmap_tables.specs.Groups.{Contents}
 use Rattle.mailmap_snapshot.specs.Listings.{left_to_list}
 use Rattle.mailmap_tables.specs.Pool.{spelled}

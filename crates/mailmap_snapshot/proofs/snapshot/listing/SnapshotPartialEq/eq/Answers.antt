@@ -2,7 +2,7 @@ use Rattle.std.proofs.Common.{◌≡◌, ◌&&◌, sym, ◌∙◌}
 use Rattle.std.proofs.lemmas.Iterator.Consumers.{YieldsList-from_first}
 use Rattle.std.specs.Prelude.{nat_eq}
 use lib.Pointwise.{pointwise}
-use Rattle.mailmap_grammar.specs.Entries.{mapping_of}
+use Rattle.mailmap_entries.specs.Entries.{mapping_of}
 use Rattle.mailmap_snapshot.specs.EqualListings.{entries_decide}
 use Rattle.mailmap_snapshot.specs.Listings.{same_entry}
 use Rattle.mailmap_snapshot.proofs.Compared.{eq_from_yields_List, same_fields}

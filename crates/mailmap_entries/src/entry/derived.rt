@@ -5,7 +5,7 @@
 //! the default of an entry depend on its four texts alone, wherever they lie in memory. A caller, in another crate too,
 //! has the same from the derive itself; these contracts keep it from changing unseen.
 ghost use Rattle.std.specs.Prelude.{◌≡◌, ◌↔◌, IsTrue, fold};
-ghost use Rattle.mailmap_grammar.specs.Entries.{mapping_of, mapping_cmp, mapping_writes, nothing};
+ghost use Rattle.mailmap_entries.specs.Entries.{mapping_of, mapping_cmp, mapping_writes, nothing};
 
 use crate::entry::Entry;
 use std::cmp::Ordering;

@@ -3,7 +3,7 @@ use Rattle.std.proofs.Common.{◌≡◌, ℕ, zero, suc, ◌+◌, ◌/◌, ◌^�
 use Rattle.std.specs.List.{slice_get, AllByRecursion}
 use Rattle.std.specs.Int.Digits.{digits_of}
 use Rattle.std.proofs.lemmas.Int.Digits.{length-digits_of_step, length-digits_of-le, number_lt, number_digits_of, all_below_base_digits_of}
-use Rattle.mailmap_grammar.specs.Search.{IsParted, digits}
+use Rattle.mailmap_entries.specs.Search.{IsParted, digits}
 
 -- ---- digits
 

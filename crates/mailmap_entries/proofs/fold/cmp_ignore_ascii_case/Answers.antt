@@ -1,6 +1,6 @@
 use Rattle.std.proofs.Common.{◌∙◌, sym, inl, inr, ⊎_elim, rules}
-use Rattle.mailmap_grammar.proofs.Folding.{text_cmp-end, less-below, equal-folded}
-use Rattle.mailmap_grammar.proofs.fold.cmp_ignore_ascii_case.Goals as goal
+use Rattle.mailmap_entries.proofs.Folding.{text_cmp-end, less-below, equal-folded}
+use Rattle.mailmap_entries.proofs.fold.cmp_ignore_ascii_case.Goals as goal
 
 pub returns-then-is_ne-clause-value : goal.returns-then-is_ne-clause-value
 returns-then-is_ne-clause-value c = search rules

@@ -20,7 +20,7 @@ mod derived;
 /// new name and the new email, each where there is one, stand in the place of what the commit has. An entry with an old
 /// name always has a new email. Texts are bytes and need not be UTF-8.
 ///
-/// Entries come from [`parse`](crate::parse()) and from a snapshot's listing, or are made by the constructors below. The
+/// Entries come from the lines of a mailmap and from a snapshot's listing, or are made by the constructors below. The
 /// constructors take texts as they are: an empty one, or one with white space or brackets that no line could hold, too.
 ///
 /// Entries are ordered by new name, new email, old name and old email, in this sequence, byte by byte and without
@@ -37,7 +37,7 @@ pub struct Entry<'a> {
 
 impl<'a> Default for Entry<'a> {
     ghost use Rattle.std.specs.Prelude.{◌≡◌};
-    ghost use Rattle.mailmap_grammar.specs.Entries.{mapping_of, nothing};
+    ghost use Rattle.mailmap_entries.specs.Entries.{mapping_of, nothing};
 
     ghost is_default = { λ e. mapping_of e ≡ nothing };
 
@@ -53,7 +53,7 @@ impl<'a> Default for Entry<'a> {
 
 /// Constructors, one for each combination of fields that a line of a mailmap can have.
 impl<'a> Entry<'a> {
-    ghost use Rattle.mailmap_grammar.specs.Entries.{mapping_of};
+    ghost use Rattle.mailmap_entries.specs.Entries.{mapping_of};
 
     /// An entry that changes the name by an email, as the line `Proper <commit@x>` does.
     pub fn change_name_by_email(proper_name: &'a [u8], commit_email: &'a [u8]) -> Self
@@ -133,7 +133,7 @@ impl<'a> Entry<'a> {
 /// Access. What is lent lives as long as the texts do, also where the entry, or the iterator that gave it, is gone.
 impl<'a> Entry<'a> {
     ghost use Rattle.std.specs.Option.{option_copied};
-    ghost use Rattle.mailmap_grammar.specs.Entries.{mapping_of};
+    ghost use Rattle.mailmap_entries.specs.Entries.{mapping_of};
 
     /// The name to map to, `None` where the commit keeps its name.
     pub fn new_name(&self) -> Option<&'a [u8]>

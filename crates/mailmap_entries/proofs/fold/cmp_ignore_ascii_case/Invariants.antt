@@ -1,8 +1,8 @@
 use Rattle.std.proofs.Common.{◌≡◌, ◌+◌, length}
 use Rattle.std.specs.Slice.Iter.{iter_rest}
 use Rattle.std.specs.Iterator.Adapters.{zip_first, zip_second}
-use Rattle.mailmap_grammar.specs.Folding.{folded, text_cmp}
-use Rattle.mailmap_grammar.proofs.fold.cmp_ignore_ascii_case.Given as goal
+use Rattle.mailmap_entries.specs.Folding.{folded, text_cmp}
+use Rattle.mailmap_entries.proofs.fold.cmp_ignore_ascii_case.Given as goal
 
 -- what is left of both texts decides, and is as much shorter than they are
 abbrev pub invariant-loop-x : goal.invariant-loop-x

@@ -2,8 +2,8 @@
 ghost use Rattle.std.specs.Prelude.{◌≡◌, ◌↔◌, ◌+◌, ◌-◌, ◌<◌, ◌≤◌, ℕ, List, length, slice_get, IfOk, IfErr};
 ghost use Rattle.std.specs.List.Sorted.{IsSearchInRange, IsPartitionPoint};
 ghost use Rattle.std.specs.declared.cmp.Ordering.{Ordering as Answer};
-ghost use Rattle.mailmap_grammar.specs.Folding.{folded, text_cmp, IsBelow};
-ghost use Rattle.mailmap_grammar.specs.Search.{IsParted, digits};
+ghost use Rattle.mailmap_entries.specs.Folding.{folded, text_cmp, IsBelow};
+ghost use Rattle.mailmap_entries.specs.Search.{IsParted, digits};
 
 use std::cmp::Ordering;
 use std::marker::Model;

@@ -4,8 +4,8 @@ use Rattle.std.specs.Hash as fed
 use Rattle.std.specs.Ordering.{ordering_then}
 use Rattle.std.specs.Option.{option_cmp, option_copied}
 use Rattle.std.specs.declared.cmp.Ordering.{Ordering}
-use Rattle.mailmap_grammar.specs.Folding.{Text, text_cmp}
-use Rattle.mailmap_grammar.specs.declared.entry.Entry.{Entry}
+use Rattle.mailmap_entries.specs.Folding.{Text, text_cmp}
+use Rattle.mailmap_entries.specs.declared.entry.Entry.{Entry}
 
 -- the four fields of an entry as texts, wherever they lie in memory
 pub record Mapping : Type 0 where

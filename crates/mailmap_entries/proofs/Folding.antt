@@ -5,7 +5,7 @@ use Rattle.std.specs.Ordering.{nat_cmp, ordering_then}
 use Rattle.std.specs.Cmp.{nat_cmp_is}
 use Rattle.std.specs.Cmp.Lexicographic.{slice_cmp}
 use Rattle.std.specs.FinMap.{slice_cmp-IsAntisymmetric, nat_cmp-IsAntisymmetric}
-use Rattle.mailmap_grammar.specs.Folding.{Text, folded, text_cmp, IsSmaller, IsBelow}
+use Rattle.mailmap_entries.specs.Folding.{Text, folded, text_cmp, IsSmaller, IsBelow}
 
 -- the first numbers decide, unless they are equal
 pub less-smaller : (xs ys : List ℕ) → slice_cmp nat_cmp xs ys ≡ Less → IsSmaller xs ys

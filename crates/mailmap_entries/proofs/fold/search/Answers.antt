@@ -1,7 +1,7 @@
 use Rattle.std.proofs.Common.{◌∙◌, ◌+◌, ◌-◌, ◌/◌, ◌≤◌, arith}
-use Rattle.mailmap_grammar.specs.Search.{digits}
-use Rattle.mailmap_grammar.proofs.Search.{digits-le, digits-part, less_before, greater_from}
-use Rattle.mailmap_grammar.proofs.fold.search.Goals as goal
+use Rattle.mailmap_entries.specs.Search.{digits}
+use Rattle.mailmap_entries.proofs.Search.{digits-le, digits-part, less_before, greater_from}
+use Rattle.mailmap_entries.proofs.fold.search.Goals as goal
 
 pub ask-requires-clause-countable : goal.ask-requires-clause-countable
 ask-requires-clause-countable g c =

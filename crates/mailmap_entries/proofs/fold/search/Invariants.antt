@@ -1,7 +1,7 @@
 use Rattle.std.proofs.Common.{◌≡◌, ◌+◌, ◌-◌, ◌<◌, ◌≤◌, Less, Greater}
 use Rattle.std.specs.List.{AllWithin}
-use Rattle.mailmap_grammar.specs.Search.{digits}
-use Rattle.mailmap_grammar.proofs.fold.search.Given as goal
+use Rattle.mailmap_entries.specs.Search.{digits}
+use Rattle.mailmap_entries.proofs.fold.search.Given as goal
 
 abbrev pub invariant-loop-low : goal.invariant-loop-low
 invariant-loop-low g l = record {
