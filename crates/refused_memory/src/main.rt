@@ -62,6 +62,5 @@ fn judge(run: &mut Run, alloc: Global, team: &Snapshot) -> Result<(), Wrong> {
 
 // Asks for memory once.
 fn request(run: &mut Run, alloc: Global, call: Call) -> Result<(), Wrong> {
-    run.judge(call, || Vec::<u8>::with_capacity(alloc, 1), Vec::is_empty)?;
-    Ok(())
+    run.judge_at_once(call, || Ok(Vec::<u8>::with_capacity(alloc, 1)?.is_empty()))
 }

@@ -32,35 +32,25 @@ pub fn judge(run: &mut Run, alloc: Global, team: &Snapshot) -> Result<(), Wrong>
 
 // Reads the snapshot of the team, and lists it.
 fn read_and_list(run: &mut Run, alloc: Global, snapshot: &Snapshot) -> Result<(), Wrong> {
-    run.judge(
-        Call::FromBytes,
-        || Snapshot::from_bytes(alloc, TEAM),
-        |made| *made == *snapshot,
-    )?;
-    run.judge(
-        Call::Entries,
-        || snapshot.entries(alloc),
-        |entries| entries.as_slice() == team().as_slice(),
-    )?;
-    Ok(())
+    run.judge_at_once(Call::FromBytes, || {
+        Ok(Snapshot::from_bytes(alloc, TEAM)? == *snapshot)
+    })?;
+    run.judge_at_once(Call::Entries, || {
+        Ok(snapshot.entries(alloc)?.as_slice() == team().as_slice())
+    })
 }
 
 // Copies the snapshot of the team, and writes it.
 fn copy_and_write(run: &mut Run, alloc: Global, snapshot: &Snapshot) -> Result<(), Wrong> {
     clone(run, alloc, snapshot)?;
-    let _text = run.judge(
-        Call::Write,
-        || write(snapshot, alloc),
-        |text| text.as_ref().is_ok_and(|text| text.as_slice() == WRITTEN),
-    )?;
-    Ok(())
+    run.judge_at_once(Call::Write, || writes(snapshot, alloc))
 }
 
-// The text of a snapshot, or the place of the entry that no line can hold.
-fn write(snapshot: &Snapshot, alloc: Global) -> Result<Result<Vec<u8>, usize>, AllocError> {
+// Whether the text of the team's snapshot is the right one.
+fn writes(snapshot: &Snapshot, alloc: Global) -> Result<bool, AllocError> {
     match snapshot.write(alloc) {
-        Ok(text) => Ok(Ok(text)),
-        Err(WriteError::Unwritable { place }) => Ok(Err(place)),
+        Ok(text) => Ok(text.as_slice() == WRITTEN),
+        Err(WriteError::Unwritable { .. }) => Ok(false),
         Err(WriteError::Memory(error)) => Err(error),
     }
 }
@@ -127,18 +117,14 @@ fn refused_source(run: &mut Run, call: Call, is_right: bool) -> Result<(), Wrong
 
 // Signatures that are mapped, or copied as they are.
 fn resolve(run: &mut Run, alloc: Global, team: &Snapshot) -> Result<(), Wrong> {
-    run.judge(
-        Call::TryResolve,
-        || team.try_resolve(alloc, JANE),
-        |answer| answer.as_ref().is_some_and(is_jane),
-    )?;
-    run.judge(Call::Resolve, || team.resolve(alloc, JANE), is_jane)?;
-    run.judge(
-        Call::ResolveNothing,
-        || team.resolve(alloc, NOBODY),
-        is_nobody,
-    )?;
-    Ok(())
+    run.judge_at_once(Call::TryResolve, || {
+        let answer = team.try_resolve(alloc, JANE)?;
+        Ok(answer.as_ref().is_some_and(is_jane))
+    })?;
+    run.judge_at_once(Call::Resolve, || Ok(is_jane(&team.resolve(alloc, JANE)?)))?;
+    run.judge_at_once(Call::ResolveNothing, || {
+        Ok(is_nobody(&team.resolve(alloc, NOBODY)?))
+    })
 }
 
 // A signature that owns its texts, copied and turned into one that always does.
@@ -148,26 +134,21 @@ fn copy_signatures(run: &mut Run, alloc: Global, team: &Snapshot) -> Result<(), 
         || team.resolve_cow(alloc, JANE),
         owns_jane,
     )?;
-    run.judge(Call::SignatureTryClone, || jane.try_clone(alloc), owns_jane)?;
-    run.judge(
-        Call::FromCow,
-        || actor::Signature::from_cow(alloc, NOBODY.into()),
-        is_nobody,
-    )?;
-    Ok(())
+    run.judge_at_once(Call::SignatureTryClone, || {
+        Ok(owns_jane(&jane.try_clone(alloc)?))
+    })?;
+    run.judge_at_once(Call::FromCow, || {
+        let owned = actor::Signature::from_cow(alloc, NOBODY.into())?;
+        Ok(is_nobody(&owned))
+    })
 }
 
 // Answers to contact lines, and a mailmap written anew.
 fn check_and_compact(run: &mut Run, alloc: Global) -> Result<(), Wrong> {
-    run.judge(
-        Call::Check,
-        || check::check(alloc, &[TEAM], CONTACTS),
-        |answers| answers.as_slice() == ANSWERS,
-    )?;
-    run.judge(
-        Call::Compact,
-        || check::compact(alloc, &[TEAM]),
-        |text| text.as_slice() == WRITTEN,
-    )?;
-    Ok(())
+    run.judge_at_once(Call::Check, || {
+        Ok(check::check(alloc, &[TEAM], CONTACTS)?.as_slice() == ANSWERS)
+    })?;
+    run.judge_at_once(Call::Compact, || {
+        Ok(check::compact(alloc, &[TEAM])?.as_slice() == WRITTEN)
+    })
 }

@@ -76,6 +76,25 @@ impl Run {
         Ok(answer)
     }
 
+    /// As [`Run::judge`], for a call whose answer isn't kept: it is judged where it is made.
+    pub fn judge_at_once<F: FnMut() -> Result<bool, AllocError>>(
+        &mut self,
+        call: Call,
+        mut is_right: F,
+    ) -> Result<(), Wrong>
+        requires makes { F.IsAlwaysCallable is_right }
+    {
+        let mut answer = is_right();
+        if answer.is_err() {
+            self.refuse(call)?;
+            answer = is_right();
+        }
+        match answer {
+            Ok(is_right) => wants(call, is_right),
+            Err(AllocError) => Err(Wrong::Want(call)),
+        }
+    }
+
     /// Merges into a copy of `before`, and once more where memory was refused: then the copy must not have changed.
     pub fn judge_merge(
         &mut self,
