@@ -6,14 +6,14 @@ use Rattle.std.proofs.lemmas.Bool.{cases_Bool, cond-true, cond-false, eqb-false,
 use Rattle.std.proofs.lemmas.Bool.Decides.{nat_tests}
 use Rattle.bstr.specs.Text.{line_len, lines_of, no_cr, without_terminator}
 use Rattle.bstr.proofs.lemmas.LineLemmas.{lines-nil, lines-step}
-use Rattle.gix_mailmap.specs.Contacts.{answer, answers, fields_for, feeds, half_answer, lines, replaced}
+use Rattle.gix_mailmap.specs.Contacts.{answer, answers, feeds, half_answer, lines, replaced}
 use Rattle.mailmap_entries.specs.Entries.{Mapping}
 use Rattle.mailmap_entries.specs.Folding.{Text}
-use Rattle.mailmap_tables.specs.Histories.{IsNormal, no_fields}
+use Rattle.mailmap_histories.specs.Histories.{IsNormal, fields_for, no_fields}
 use Rattle.mailmap_grammar.specs.Lines.{Half, Absent, Unclosed, Closed, cut, trimmed_half, with_first}
 use Rattle.mailmap_grammar.specs.Trimming.{trim}
-use Rattle.mailmap_tables.proofs.Alike.{same_scan}
-use Rattle.mailmap_tables.proofs.Normal.{alike_normal}
+use Rattle.mailmap_histories.proofs.Alike.{same_scan}
+use Rattle.mailmap_histories.proofs.Normal.{alike_normal}
 
 -- ---- lines
 

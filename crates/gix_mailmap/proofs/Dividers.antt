@@ -5,7 +5,7 @@ use Rattle.std.proofs.lemmas.List.{append_assoc, append_cancel_left, drop-append
 use Rattle.std.proofs.Math.Seq.{take-add, take-append_seam}
 use Rattle.bstr.specs.Text.{line_len, lines_of}
 use Rattle.bstr.proofs.lemmas.LineLemmas.{line_len-bounds, lines-nil, lines-step}
-use Rattle.gix_mailmap.specs.Parts.{EndsLine, IsDividerLine, IsDivider, PartsAt, IsFirstParting, IsParted}
+use Rattle.gix_mailmap.specs.Parts.{EndsLine, IsDividerLine, IsDivider, PartsAt, IsFirstParting, IsSplit}
 
 -- one number is at most the other, or above it
 le_or_lt : (a b : ℕ) → (a ≤ b) ⊎ (b < a)
@@ -156,7 +156,7 @@ module _ (input : List ℕ) (place : ℕ) (lines : List (List ℕ)) (line : List
   }
 
   -- at a line `--` the input is parted
-  pub parted : IsDividerLine line → IsParted input (take place input) (drop (place + length line) input)
+  pub parted : IsDividerLine line → IsSplit input (take place input) (drop (place + length line) input)
   parted divider = inl (record {
     parts = record {
       line = line;
@@ -182,7 +182,7 @@ module _ (input : List ℕ) (place : ℕ) (lines : List (List ℕ)) (line : List
   })
 
 -- where no line is left the input is not parted
-pub ended : (input : List ℕ) (place : ℕ) (lines : List (List ℕ)) → lines ≡ [] → HasPassed input place lines → IsParted input [] input
+pub ended : (input : List ℕ) (place : ℕ) (lines : List (List ℕ)) → lines ≡ [] → HasPassed input place lines → IsSplit input [] input
 ended input place lines over passed = inr (record {
   none = λ p r parts.
       let less = no_bytes (drop place input) (sym over ∙ passed.left_are) in
@@ -212,7 +212,7 @@ first_same input p r q s here there =
     (fronts, same_behind here.parts.line r there.parts.line s here.parts.divides there.parts.divides (append_cancel_left p _ _ wholes))
 
 -- an input is parted in one way
-pub parted_same : (input p r q s : List ℕ) → IsParted input p r → IsParted input q s → (p ≡ q) × (r ≡ s)
+pub parted_same : (input p r q s : List ℕ) → IsSplit input p r → IsSplit input q s → (p ≡ q) × (r ≡ s)
 parted_same input p r q s (inl here) (inl there) = first_same input p r q s here there
 parted_same input p r q s (inl here) (inr there) = absurd (there.none p r here.parts)
 parted_same input p r q s (inr here) (inl there) = absurd (here.none q s there.parts)

@@ -6,7 +6,7 @@ use Rattle.std.specs.Str.{encode_utf8_all}
 use Rattle.std.proofs.lemmas.Bool.{cases_lt, cond-true, cond-false, lt-ltb, le-ltb}
 use Rattle.mailmap_grammar.specs.Lines.{HoldsNo}
 use Rattle.mailmap_grammar.specs.Trimming.{trim, BeginsWhite, EndsWhite}
-use Rattle.mailmap_tables.proofs.Parts.{all_front, all_back}
+use Rattle.mailmap_histories.proofs.Parts.{all_front, all_back}
 use Rattle.mailmap_grammar.proofs.Trimmed.{trimmed-same, trimmed-made, trim-white_start, trim-white_end}
 
 -- ---- the bytes of white space

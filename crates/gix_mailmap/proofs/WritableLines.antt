@@ -7,7 +7,7 @@ use Rattle.mailmap_grammar.specs.Lines.{Reading, Half, Absent, Unclosed, Closed,
 use Rattle.mailmap_grammar.specs.Trimming.{trim}
 use Rattle.mailmap_grammar.proofs.Cut.{closed-cut}
 use Rattle.gix_mailmap.proofs.LineFeeds.{pieces-hold_no}
-use Rattle.mailmap_tables.proofs.Parts.{all_front, all_back, all_append}
+use Rattle.mailmap_histories.proofs.Parts.{all_front, all_back, all_append}
 use Rattle.gix_mailmap.proofs.WhiteEnds.{trim-trim, HoldsNo-trim}
 
 -- ---- what a line says

@@ -8,12 +8,12 @@ use Rattle.std.proofs.lemmas.List.Elements.{recursion_from_All, All-from_recursi
 use Rattle.mailmap_grammar.specs.CanonicalText.{IsWritableName, IsWritableEmail, IsWritable}
 use Rattle.mailmap_entries.specs.Entries.{Mapping}
 use Rattle.mailmap_entries.specs.Folding.{Text, folded, text_cmp}
-use Rattle.mailmap_tables.specs.Histories.{Key, key, key_cmp, first, last, is_accepted, accepted, of_email, of_key, has_key, new_fields, no_fields, last_given, spelling, made, value, IsNormal}
-use Rattle.mailmap_tables.proofs.Ascending.{each_key}
-use Rattle.mailmap_tables.proofs.Exists.{speller}
-use Rattle.mailmap_tables.proofs.Keys.{keys_total, keys_exact}
-use Rattle.mailmap_tables.proofs.Normal.{known}
-use Rattle.mailmap_tables.proofs.Parts.{all_apply, all_last, is_some-option_map}
+use Rattle.mailmap_histories.specs.Histories.{Key, key, key_cmp, first, last, is_accepted, accepted, of_email, of_key, has_key, new_fields, no_fields, last_given, spelling, mapping_with, value, IsNormal}
+use Rattle.mailmap_histories.proofs.Ascending.{each_key}
+use Rattle.mailmap_histories.proofs.Exists.{speller}
+use Rattle.mailmap_histories.proofs.Keys.{keys_total, keys_exact}
+use Rattle.mailmap_histories.proofs.Normal.{known}
+use Rattle.mailmap_histories.proofs.Parts.{all_apply, all_last, is_some-option_map}
 
 -- ---- the last field that is given, and the first entry
 
@@ -83,7 +83,7 @@ none_of_some (Some s) Q is = tt
 
 -- without an old name: each field as it was last given
 given_fits : (l : List Mapping) (s : Text) → IsWritableEmail s → is_some (first l) ≡ true → AllByRecursion (λ e. IsWritable e × (folded e.old_email ≡ folded s)) l
-    → IsWritable (made (record { name = last_given (λ e. e.new_name) l; email = last_given (λ e. e.new_email) l }) None s)
+    → IsWritable (mapping_with (record { name = last_given (λ e. e.new_name) l; email = last_given (λ e. e.new_email) l }) None s)
 given_fits l s email some all =
     record {
       names = (given_all (λ e. e.new_name) IsWritableName l (each (λ e. IfSome e.new_name IsWritableName) (λ e w same. w.names.0)), tt);
@@ -98,7 +98,7 @@ given_fits l s email some all =
 
 -- with an old name: the new fields of the last and the name of the first
 named_fits : (l : List Mapping) (s : Text) → IsWritableEmail s → is_some (first l) ≡ true → AllByRecursion (λ e. IsWritable e × IsSome e.old_name) l
-    → IsWritable (made (unwrap_or (option_map new_fields (last l)) no_fields) (option_and_then (λ e. e.old_name) (first l)) s)
+    → IsWritable (mapping_with (unwrap_or (option_map new_fields (last l)) no_fields) (option_and_then (λ e. e.old_name) (first l)) s)
 named_fits [] s email some all = absurd (cc)
 named_fits (x ∷ l) s email some all =
     let end : Mapping = unwrap_or (last l) x in

@@ -6,7 +6,7 @@ use Rattle.std.specs.List.Sorted.{IsStrictlySortedBy}
 use Rattle.mailmap_grammar.specs.CanonicalText.{IsWritable, text}
 use Rattle.mailmap_entries.specs.Entries.{Mapping}
 use Rattle.mailmap_entries.specs.Folding.{Text}
-use Rattle.mailmap_tables.specs.Histories.{IsNormal, key, value}
+use Rattle.mailmap_histories.specs.Histories.{IsNormal, key, value}
 use Rattle.mailmap_grammar.specs.Lines.{good}
 use Rattle.mailmap_grammar.specs.Trimming.{trim}
 use Rattle.gix_mailmap.proofs.WhiteEnds.{BeginsWhite-trimmed, EndsWhite-trimmed, trim-stays, trim-nil, BeginsWhite-ascii, EndsWhite-ascii}

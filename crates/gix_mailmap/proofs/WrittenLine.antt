@@ -3,11 +3,11 @@ use Rattle.std.proofs.Common.{◌≡◌, ◌≢◌, ℕ, true, [], ◌∷◌, �
 use Rattle.mailmap_grammar.specs.CanonicalText.{IsWritableName, IsWritableEmail, IsWritable, name_part, bracketed_email, email_part, line}
 use Rattle.mailmap_entries.specs.Entries.{Mapping}
 use Rattle.mailmap_entries.specs.Folding.{Text}
-use Rattle.mailmap_tables.specs.Histories.{is_accepted}
+use Rattle.mailmap_histories.specs.Histories.{is_accepted}
 use Rattle.mailmap_grammar.specs.Lines.{HoldsNo, Reading, Half, Absent, Unclosed, Closed, cut, trimmed_half, non_empty, two_halves, strict_halves, first_half, line_reading, strict_line_reading, unless_blank, reading_by, reading, strict_reading}
 use Rattle.mailmap_grammar.specs.Trimming.{trim, BeginsWhite, EndsWhite}
 use Rattle.mailmap_grammar.proofs.Cut.{cut-absent, cut-closed}
-use Rattle.mailmap_tables.proofs.Parts.{all_append}
+use Rattle.mailmap_histories.proofs.Parts.{all_append}
 use Rattle.gix_mailmap.proofs.WhiteEnds.{BeginsWhite-ascii, BeginsWhite-before, EndsWhite-ascii, trim-stays, trim-nil, trim-blank_start, trim-blank_end, BeginsWhite-trimmed}
 
 -- ---- the parts of a line

@@ -3,7 +3,7 @@ use Rattle.std.specs.Prelude.{◌==◌, Bool, false, ◌&&◌, if◌then◌else�
 use Rattle.std.specs.List.{flat_map}
 use Rattle.mailmap_entries.specs.Entries.{Mapping}
 use Rattle.mailmap_entries.specs.Folding.{Text}
-use Rattle.mailmap_tables.specs.Histories.{Fields, no_fields, scan}
+use Rattle.mailmap_histories.specs.Histories.{Fields, fields_for}
 use Rattle.mailmap_grammar.specs.Lines.{Half, Absent, Unclosed, Closed, cut, good, trimmed_half, with_first}
 use Rattle.mailmap_grammar.specs.Trimming.{trim}
 
@@ -22,10 +22,6 @@ lines (b ∷ s) = if b == 10 then [] ∷ lines s else if b == 13 && feeds s then
 abbrev pub contact : Text → Text → Text
 contact [] email = 60 ∷ email ++ 62 ∷ []
 contact (b ∷ name) email = (b ∷ name) ++ 32 ∷ 60 ∷ email ++ 62 ∷ []
-
--- the fields that a history gives to a name and an email
-abbrev pub fields_for : List Mapping → Text → Text → Fields
-fields_for h name email = unwrap_or (scan h name email) no_fields
 
 -- a contact with these fields, where there are any, in the place of its own
 abbrev pub replaced : Fields → Text → Text → Text

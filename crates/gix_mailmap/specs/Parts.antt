@@ -32,5 +32,5 @@ pub record IsUndivided (input before behind : List ℕ) : Type 0 where
   pub all : behind ≡ input
 
 -- what stands before the first line `--` and what behind it; without such a line nothing and the whole input
-abbrev pub IsParted : List ℕ → List ℕ → List ℕ → Type 0
-IsParted input before behind = IsFirstParting input before behind ⊎ IsUndivided input before behind
+abbrev pub IsSplit : List ℕ → List ℕ → List ℕ → Type 0
+IsSplit input before behind = IsFirstParting input before behind ⊎ IsUndivided input before behind

@@ -1,8 +1,8 @@
 //! Answers for contacts: what mailmaps make of lines like `Jane <jane@x>`.
 ghost use Rattle.std.specs.Prelude.{◌≡◌, ◌++◌, map, unwrap_or, IfOk, OnOk};
 ghost use Rattle.std.specs.List.{flat_map};
-ghost use Rattle.gix_mailmap.specs.Contacts.{answer, answers, answers_by, contact, fields_for};
-ghost use Rattle.mailmap_tables.specs.Histories.{IsNormal};
+ghost use Rattle.gix_mailmap.specs.Contacts.{answer, answers, answers_by, contact};
+ghost use Rattle.mailmap_histories.specs.Histories.{IsNormal, fields_for};
 ghost use Rattle.mailmap_grammar.specs.Lines.{good};
 
 mod compaction;

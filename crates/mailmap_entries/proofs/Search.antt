@@ -3,7 +3,7 @@ use Rattle.std.proofs.Common.{◌≡◌, ℕ, zero, suc, ◌+◌, ◌/◌, ◌^�
 use Rattle.std.specs.List.{slice_get, AllByRecursion}
 use Rattle.std.specs.Int.Digits.{digits_of}
 use Rattle.std.proofs.lemmas.Int.Digits.{length-digits_of_step, length-digits_of-le, number_lt, number_digits_of, all_below_base_digits_of}
-use Rattle.mailmap_entries.specs.Search.{IsParted, digits}
+use Rattle.mailmap_entries.specs.Search.{IsPartitioned, digits}
 
 -- ---- digits
 
@@ -50,8 +50,8 @@ greater_or (x ∷ xs) zero d all h = all.0
 greater_or (x ∷ xs) (suc k) d all h = greater_or xs k d all.1 (omega arith)
 
 -- before a `Less` stand `Less` alone
-pub less_before : (xs : List Ordering) (k j : ℕ) (d : Ordering) → IsParted xs → slice_get xs k ≡ Some Less → j ≤ k → get_or xs j d ≡ Less
-unfolding IsParted
+pub less_before : (xs : List Ordering) (k j : ℕ) (d : Ordering) → IsPartitioned xs → slice_get xs k ≡ Some Less → j ≤ k → get_or xs j d ≡ Less
+unfolding IsPartitioned
 less_before [] k j d parted e le = absurd (cc)
 less_before (Less ∷ xs) k zero d parted e le = refl
 less_before (Less ∷ xs) zero (suc j) d parted e le = absurd (omega arith)
@@ -62,8 +62,8 @@ less_before (Greater ∷ xs) zero j d parted e le = absurd (cc)
 less_before (Greater ∷ xs) (suc k) j d parted e le = let wrong = greater_at xs k Less parted e in absurd (cc)
 
 -- from a `Greater` on stand `Greater` alone
-pub greater_from : (xs : List Ordering) (k j : ℕ) (d : Ordering) → IsParted xs → slice_get xs k ≡ Some Greater → k ≤ j → j < length xs → get_or xs j d ≡ Greater
-unfolding IsParted
+pub greater_from : (xs : List Ordering) (k j : ℕ) (d : Ordering) → IsPartitioned xs → slice_get xs k ≡ Some Greater → k ≤ j → j < length xs → get_or xs j d ≡ Greater
+unfolding IsPartitioned
 greater_from [] k j d parted e le h = absurd (cc)
 greater_from (Less ∷ xs) zero j d parted e le h = absurd (cc)
 greater_from (Less ∷ xs) (suc k) zero d parted e le h = absurd (omega arith)

@@ -3,7 +3,7 @@ ghost use Rattle.std.specs.Prelude.{◌≡◌, ◌↔◌, ◌+◌, ◌-◌, ◌<
 ghost use Rattle.std.specs.List.Sorted.{IsSearchInRange, IsPartitionPoint};
 ghost use Rattle.std.specs.declared.cmp.Ordering.{Ordering as Answer};
 ghost use Rattle.mailmap_entries.specs.Folding.{folded, text_cmp, IsBelow};
-ghost use Rattle.mailmap_entries.specs.Search.{IsParted, digits};
+ghost use Rattle.mailmap_entries.specs.Search.{IsPartitioned, digits};
 
 use std::cmp::Ordering;
 use std::marker::Model;
@@ -54,7 +54,7 @@ pub trait Probe {
 /// the length has binary digits: once for one place, ten times for 1,023 places, and never for none.
 pub fn search<P: Probe>(len: usize, p: &mut P) -> Result<usize, usize>
     requires whole { len ≡ length (P.answers p.old) }
-    requires parted { IsParted (P.answers p.old) }
+    requires parted { IsPartitioned (P.answers p.old) }
     requires countable { P.asked p.old ≤ usize.MAX - 64 }
     ensures within { IsSearchInRange result len }
     ensures found { IfOk result (λ i. slice_get (P.answers p.old) i ≡ Some Ordering.Equal) }

@@ -1,6 +1,6 @@
 //! Worked rows of the order, of the search and of the count.
 ghost use Rattle.std.specs.Prelude.{◌≡◌, ◌≤◌, length};
-ghost use Rattle.mailmap_entries.specs.Search.{IsParted};
+ghost use Rattle.mailmap_entries.specs.Search.{IsPartitioned};
 
 use mailmap_entries::fold::{Probe, Steps, cmp_ignore_ascii_case, search};
 use std::cmp::Ordering;
@@ -31,7 +31,7 @@ fn assert_found<R: Abort>(rt: &R, found: Result<usize, usize>, want: Result<usiz
 
 // What is found in some answers, with at most so many asks.
 fn finds<R: Abort>(rt: &R, answers: &[Ordering], want: Result<usize, usize>, at_most: usize)
-    requires { IsParted answers.now }
+    requires { IsPartitioned answers.now }
 {
     let mut probe = Written { answers, asked: 0 };
     let found = search(answers.len(), &mut probe);
@@ -41,7 +41,7 @@ fn finds<R: Abort>(rt: &R, answers: &[Ordering], want: Result<usize, usize>, at_
 }
 
 #[test]
-#[tactic(auto, unfolding(mailmap_entries::specs::Search::IsParted))]
+#[tactic(auto, unfolding(mailmap_entries::specs::Search::IsPartitioned))]
 fn search_finds_or_places_within_the_digits_of_the_length(rt: HostRuntime) {
     use std::cmp::Ordering::{Equal, Greater, Less};
     finds(&rt, &[], Err(0), 0);

@@ -3,7 +3,7 @@ use Rattle.std.specs.Prelude.{◌≡◌, ℕ, List, [], ◌∷◌, Option, None,
 use Rattle.std.specs.Borrow.{Bor}
 use Rattle.std.specs.Io.KnownBytes.{Appends}
 use Rattle.gix_mailmap.specs.Contacts.{answers_by}
-use Rattle.gix_mailmap.specs.Parts.{IsParted}
+use Rattle.gix_mailmap.specs.Parts.{IsSplit}
 use Rattle.gix_mailmap.specs.Writing.{IsCompacted}
 
 -- the bytes of the files, where files are given
@@ -12,10 +12,10 @@ bytes_of files = option_map (λ given. map (λ file. file.now) given.now) files
 
 -- The text answers the contact lines. With files all of the input holds contacts; without, they stand behind the mailmap.
 -- Of an input that isn't known it says nothing.
-abbrev pub IsAnswer : Option (List (List ℕ)) → Option (List ℕ) → List ℕ → Type 0
-IsAnswer files None text = ⊤
-IsAnswer (Some buffers) (Some input) text = text ≡ answers_by buffers input
-IsAnswer None (Some input) text = (mailmap contacts : List ℕ) × IsParted input mailmap contacts × (text ≡ answers_by (mailmap ∷ []) contacts)
+abbrev pub AnswersContacts : Option (List (List ℕ)) → Option (List ℕ) → List ℕ → Type 0
+AnswersContacts files None text = ⊤
+AnswersContacts (Some buffers) (Some input) text = text ≡ answers_by buffers input
+AnswersContacts None (Some input) text = (mailmap contacts : List ℕ) × IsSplit input mailmap contacts × (text ≡ answers_by (mailmap ∷ []) contacts)
 
 -- The text is the mailmap written anew: of the files, or without files of all of the input, where that is known.
 abbrev pub IsMailmap : Option (List (List ℕ)) → Option (List ℕ) → List ℕ → Type 0

@@ -6,7 +6,7 @@
 //! on bytes speak of readers and writers whose bytes are known, as those over memory.
 ghost use Rattle.std.specs.Prelude.{◌≡◌, ◌⊎◌, ℕ, IfErr, IfOk, IsErrOf, IsNone, None, IsSome, OnOk, Some};
 ghost use Rattle.std.specs.Io.KnownBytes.{IsAtEnd};
-ghost use Rattle.mailmap_runs.specs.Run.{bytes_of, IsAnswer, IsMailmap, Prints, PrintsFront};
+ghost use Rattle.mailmap_runs.specs.Run.{bytes_of, AnswersContacts, IsMailmap, Prints, PrintsFront};
 
 use crate::failure::Failure;
 use crate::streams::{read_all, write_all};
@@ -27,7 +27,7 @@ pub fn run<R: Read, W: Write>(
 ) -> Result<(), Failure>
     // The answers are written, once and with nothing beside them.
     ensures prints { OnOk result
-        (Prints (IsAnswer (bytes_of files.entry) (R.remaining input.old)) (W.contents output.old) (W.contents output.new)) }
+        (Prints (AnswersContacts (bytes_of files.entry) (R.remaining input.old)) (W.contents output.old) (W.contents output.new)) }
 
     // All of the input is read before anything is written.
     ensures reads_all { OnOk result (IsAtEnd (R.remaining input.new)) }
@@ -35,7 +35,7 @@ pub fn run<R: Read, W: Write>(
 
     // Output that breaks off holds a front of the answers; at the other failures nothing is written.
     ensures breaks_off { IsErrOf result Failure.Output
-        → PrintsFront (IsAnswer (bytes_of files.entry) (R.remaining input.old)) (W.contents output.old) (W.contents output.new) }
+        → PrintsFront (AnswersContacts (bytes_of files.entry) (R.remaining input.old)) (W.contents output.old) (W.contents output.new) }
     ensures silent { IsErrOf result Failure.Input ⊎ IsErrOf result Failure.Memory → output.new ≡ output.old }
     ensures no_file { (number : ℕ) → IsErrOf result (Failure.File number) → ⊥ }
 {
@@ -46,7 +46,7 @@ pub fn run<R: Read, W: Write>(
 
 // The answers to all that was read.
 fn answers_of(alloc: Global, files: Option<&[&[u8]]>, input: &[u8]) -> Result<Vec<u8>, AllocError>
-    ensures { IfOk result (λ text. IsAnswer (bytes_of files.entry) (Some input.now) text.items) }
+    ensures { IfOk result (λ text. AnswersContacts (bytes_of files.entry) (Some input.now) text.items) }
 {
     if let Some(buffers) = files {
         return check(alloc, buffers, input);

@@ -5,9 +5,9 @@ use Rattle.std.specs.List.{AllByRecursion}
 use Rattle.std.specs.Result.{IfOk, OnErr}
 use Rattle.std.proofs.lemmas.List.Elements.{filter-append, filter_passes, recursion_from_All}
 use Rattle.mailmap_entries.specs.Entries.{Mapping}
-use Rattle.mailmap_tables.specs.Histories.{IsNormal, accepted, is_accepted}
-use Rattle.mailmap_tables.proofs.Alike.{same_normal, alike_accepted}
-use Rattle.mailmap_tables.proofs.Parts.{filter_all}
+use Rattle.mailmap_histories.specs.Histories.{IsNormal, accepted, is_accepted}
+use Rattle.mailmap_histories.proofs.Alike.{same_normal, alike_accepted}
+use Rattle.mailmap_histories.proofs.Parts.{filter_all}
 
 accepted_twice : (xs : List Mapping) → accepted (accepted xs) ≡ accepted xs
 accepted_twice xs = filter_all is_accepted (accepted xs) (recursion_from_All _ (accepted xs) (filter_passes is_accepted xs))

@@ -8,8 +8,9 @@ use Rattle.std.specs.Prelude.{nat_eq}
 use Rattle.std.proofs.lemmas.Iterator.{YieldsList}
 use denote.Ref.{Bor}
 use lib.Pointwise.{pointwise}
+use Rattle.mailmap_entries.specs.Entries.{text_writes}
 use Rattle.mailmap_entries.specs.Folding.{Text}
-use Rattle.mailmap_snapshot.specs.Listings.{same_optional, optional_hashed}
+use Rattle.mailmap_snapshot.specs.Listings.{same_optional}
 
 -- ---- `eq` of two iterators
 
@@ -62,6 +63,6 @@ same_fields None (Some y) = refl
 same_fields (Some x) None = refl
 same_fields (Some x) (Some y) = refl
 
-pub hashed_fields : (o : Option (Bor Text)) → fed.option (λ a. fed.slice fed.u8 a.now) o ≡ optional_hashed (option_copied o)
+pub hashed_fields : (o : Option (Bor Text)) → fed.option (λ a. fed.slice fed.u8 a.now) o ≡ text_writes (option_copied o)
 hashed_fields None = refl
 hashed_fields (Some x) = refl

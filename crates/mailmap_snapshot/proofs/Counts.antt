@@ -11,10 +11,10 @@ use Rattle.std.proofs.lemmas.Map.Lookups.{exact_bytes}
 use Rattle.mailmap_entries.specs.Entries.{Mapping}
 use Rattle.mailmap_entries.specs.Folding.{Text, folded, text_cmp}
 use Rattle.mailmap_tables.specs.Groups.{EmailGroup, IsGroup, email_key, name_row, own_rows, rows, listing}
-use Rattle.mailmap_tables.specs.Histories.{made}
+use Rattle.mailmap_histories.specs.Histories.{mapping_with}
 use Rattle.mailmap_snapshot.specs.Signatures.{has_email, email_count, name_count}
 use Rattle.mailmap_tables.proofs.Grouped.{all_weaker, all_rows, rows_spelled, listing_all}
-use Rattle.mailmap_tables.proofs.Parts.{all_map}
+use Rattle.mailmap_histories.proofs.Parts.{all_map}
 
 -- ---- what all or none of a list pass
 
@@ -84,7 +84,7 @@ rows_counted k g same =
     ∙ ap₂ (λ m n. m + n) (own (is_some g.own.name || is_some g.own.email)) (all_counted (is_name_of k) (map (name_row g.old_email) g.names) (all_rows (λ e. is_name_of k e ≡ true) g.old_email g.names (λ n. tied)) ∙ length-map g.names (name_row g.old_email))
     ∙ omega arith
   where
-    own : (b : Bool) → count_by (is_name_of k) (if b then made g.own None g.old_email ∷ [] else []) ≡ 0
+    own : (b : Bool) → count_by (is_name_of k) (if b then mapping_with g.own None g.old_email ∷ [] else []) ≡ 0
     own true = refl
     own false = refl
 

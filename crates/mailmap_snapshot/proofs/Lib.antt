@@ -6,3 +6,4 @@ pub mod Compared
 pub mod Left
 pub mod Sources
 pub mod Built
+pub mod EqualListings

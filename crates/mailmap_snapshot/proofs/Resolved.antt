@@ -6,7 +6,7 @@ use Rattle.std.proofs.lemmas.List.{get_or-map, length-map}
 use Rattle.std.proofs.lemmas.Option.{slice_get-map, slice_get-get_or, get_or_from_slice_get}
 use Rattle.mailmap_entries.specs.Folding.{Text, folded, text_cmp}
 use Rattle.mailmap_tables.specs.Groups.{EmailGroup, IsGroup, AreGroups, email_key, name_key, listing}
-use Rattle.mailmap_tables.specs.Histories.{answered, scan}
+use Rattle.mailmap_histories.specs.Histories.{answered, scan}
 use Rattle.mailmap_tables.specs.Places.{IsFound, IsMissing}
 use Rattle.mailmap_tables.specs.Pool.{spelled, name_group, group_of}
 use Rattle.mailmap_snapshot.specs.Signatures.{name_count}

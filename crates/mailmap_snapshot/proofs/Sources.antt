@@ -10,14 +10,14 @@ use Rattle.std.proofs.lemmas.List.{take_more, take_more_set, take-map, map-id, m
 use Rattle.std.proofs.lemmas.Option.{slice_get_read, get_or_from_slice_get}
 use Rattle.std.proofs.lemmas.List.Elements.{filter-append}
 use Rattle.mailmap_entries.specs.Entries.{Mapping, mapping_of}
-use Rattle.mailmap_tables.specs.Histories.{IsNormal, accepted, is_accepted}
+use Rattle.mailmap_histories.specs.Histories.{IsNormal, accepted, is_accepted}
 use Rattle.mailmap_entries.specs.Folding.{Text}
 use Rattle.mailmap_grammar.specs.Lines.{good}
 use Rattle.mailmap_snapshot.specs.Sources.{history, said_by}
 use Rattle.mailmap_entries.specs.declared.entry.Entry.{Entry}
 use Rattle.mailmap_snapshot.specs.declared.snapshot.sources.Source.{Source}
-use Rattle.mailmap_tables.proofs.Exists.{normal, is_normal}
-use Rattle.mailmap_tables.proofs.Normal.{normal_then, normal_nothing}
+use Rattle.mailmap_histories.proofs.Exists.{normal, is_normal}
+use Rattle.mailmap_histories.proofs.Normal.{normal_then, normal_nothing}
 
 -- the entries that an iterator gives say this list
 pub record Gives {S : Type 0} (steps : S → Option Entry → S → Type 0) (s : S) (said : List Mapping) : Type 0 where

@@ -6,7 +6,7 @@ use Rattle.mailmap_signatures.specs.SignatureFields.{SignatureFields}
 use Rattle.mailmap_signatures.specs.Times.{IsTimeOf}
 use Rattle.mailmap_signatures.specs.declared.actor.SignatureRef.{SignatureRef}
 use Rattle.mailmap_signatures.specs.declared.cow.Signature.{Signature}
-use Rattle.mailmap_tables.specs.Histories.{Fields, no_fields, scan}
+use Rattle.mailmap_histories.specs.Histories.{Fields, fields_for, scan}
 
 -- what a history gives in the place of a signature's name and email, if it gives either
 abbrev pub mapped : List Mapping → SignatureRef → Option Fields
@@ -24,9 +24,9 @@ pub record OwnsJust (new : Fields) (answer : Signature) : Type 0 where
   pub email : MatchOption new.email (IsBorrowedSlice answer.email) (λ _. IsOwnedSlice answer.email)
 
 -- the answer of a history to a signature: what it maps is replaced, the rest kept, and the time read
-abbrev pub IsAnswer : List Mapping → SignatureRef → SignatureFields → Type 0
-IsAnswer h signature answer = IsEnriched (unwrap_or (mapped h signature) no_fields) signature answer
+abbrev pub IsResolved : List Mapping → SignatureRef → SignatureFields → Type 0
+IsResolved h signature answer = IsEnriched (fields_for h signature.name.now signature.email.now) signature answer
 
 -- just what the history maps is owned
 abbrev pub OwnsMapped : List Mapping → SignatureRef → Signature → Type 0
-OwnsMapped h signature answer = OwnsJust (unwrap_or (mapped h signature) no_fields) answer
+OwnsMapped h signature answer = OwnsJust (fields_for h signature.name.now signature.email.now) answer

@@ -5,7 +5,7 @@ use Rattle.std.specs.Option.{option_copied}
 use Rattle.std.specs.Ordering.{eq_by_cmp}
 use Rattle.mailmap_entries.specs.Entries.{Mapping}
 use Rattle.mailmap_entries.specs.Folding.{Text, folded, text_cmp}
-use Rattle.mailmap_tables.specs.Histories.{Fields}
+use Rattle.mailmap_histories.specs.Histories.{Fields}
 use Rattle.mailmap_snapshot.specs.declared.snapshot.resolved.ResolvedSignature.{ResolvedSignature}
 
 -- the name and the email of an answer, wherever they lie in memory

@@ -6,7 +6,7 @@ use Rattle.mailmap_snapshot.specs.declared.snapshot.text.WriteError.TheVariants.
 use Rattle.mailmap_grammar.specs.CanonicalText.{IsWritable, text}
 use Rattle.mailmap_entries.specs.Entries.{Mapping}
 use Rattle.mailmap_entries.specs.Folding.{Text}
-use Rattle.mailmap_tables.specs.Histories.{IsNormal}
+use Rattle.mailmap_histories.specs.Histories.{IsNormal}
 use Rattle.mailmap_grammar.specs.Lines.{good}
 
 -- a line can hold each entry before this place, and not the one at it

@@ -14,15 +14,15 @@ use Rattle.std.proofs.lemmas.List.Sorted.{All-permutation, Contains-permutation,
 use Rattle.std.proofs.lemmas.Map.Lookups.{exact_bytes}
 use Rattle.mailmap_entries.specs.Entries.{Mapping}
 use Rattle.mailmap_entries.specs.Folding.{Text, folded, text_cmp}
-use Rattle.mailmap_tables.specs.Histories.{Key, key, key_cmp, first, is_accepted, accepted, of_key, has_key, spelling, value}
-use Rattle.mailmap_tables.proofs.Alike.{Alike, picked-append, first_parts, key_parts}
-use Rattle.mailmap_tables.proofs.Ascending.{each_key, same_any}
-use Rattle.mailmap_tables.proofs.Exists.{speller}
+use Rattle.mailmap_histories.specs.Histories.{Key, key, key_cmp, first, is_accepted, accepted, of_key, has_key, spelling, value}
+use Rattle.mailmap_histories.proofs.Alike.{Alike, picked-append, first_parts, key_parts}
+use Rattle.mailmap_histories.proofs.Ascending.{each_key, same_any}
+use Rattle.mailmap_histories.proofs.Exists.{speller}
 use Rattle.mailmap_tables.proofs.Grouped.{all_mapped, all_weaker}
-use Rattle.mailmap_tables.proofs.Joined.{alike_by_keys, stripped}
-use Rattle.mailmap_tables.proofs.Keys.{keys_total, keys_exact}
-use Rattle.mailmap_tables.proofs.Normal.{known}
-use Rattle.mailmap_tables.proofs.Parts.{filter-filter, first_alike, first_found, is_some-option_map, list_any-map, some_again}
+use Rattle.mailmap_histories.proofs.Joined.{alike_by_keys, stripped}
+use Rattle.mailmap_histories.proofs.Keys.{keys_total, keys_exact}
+use Rattle.mailmap_histories.proofs.Normal.{known}
+use Rattle.mailmap_histories.proofs.Parts.{filter-filter, first_alike, first_found, is_some-option_map, list_any-map, some_again}
 
 filter-map : {X Y : Type 0} (p : Y → Bool) (f : X → Y) (xs : List X) → filter p (map f xs) ≡ map f (filter (λ x. p (f x)) xs)
 filter-map p f [] = refl

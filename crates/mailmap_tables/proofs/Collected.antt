@@ -7,11 +7,11 @@ use Rattle.std.specs.Ordering.{is_lt}
 use Rattle.std.proofs.lemmas.List.Elements.{filter-append}
 use Rattle.std.proofs.lemmas.List.Sorted.{IsPermutation-map, sorted_far, ranks_by}
 use Rattle.mailmap_entries.specs.Entries.{Mapping}
-use Rattle.mailmap_tables.specs.Histories.{accepted, is_accepted, key, key_cmp, of_key}
+use Rattle.mailmap_histories.specs.Histories.{accepted, is_accepted, key, key_cmp, of_key}
 use Rattle.mailmap_tables.specs.Merging.{IsAscending, IsSorted, mapping_at, placed_at}
 use Rattle.mailmap_tables.specs.declared.batch.Placed.{Placed}
 use Rattle.mailmap_tables.proofs.Batches.{keyed_from_stable}
-use Rattle.mailmap_tables.proofs.Keys.{keys_total}
+use Rattle.mailmap_histories.proofs.Keys.{keys_total}
 
 pub accepted-taken : (h : List Mapping) (e : Mapping) → is_accepted e ≡ true → accepted (h ++ e ∷ []) ≡ accepted h ++ e ∷ []
 accepted-taken h e good = filter-append is_accepted h (e ∷ []) ∙ ap (λ b. accepted h ++ cond b (e ∷ []) []) good

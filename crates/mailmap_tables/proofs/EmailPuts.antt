@@ -4,11 +4,11 @@ use Rattle.std.specs.List.{AllByRecursion, fold}
 use Rattle.std.specs.Option.{ForSome, option_cmp, option_copied}
 use Rattle.std.specs.Ordering.{is_lt}
 use Rattle.std.proofs.lemmas.List.{map-append}
-use Rattle.mailmap_tables.specs.Alike.{Alike}
+use Rattle.mailmap_histories.specs.Alike.{Alike}
 use Rattle.mailmap_entries.specs.Entries.{Mapping}
 use Rattle.mailmap_entries.specs.Folding.{Text, folded, text_cmp}
 use Rattle.mailmap_tables.specs.Groups.{NameGroup, EmailGroup, own_rows, rows}
-use Rattle.mailmap_tables.specs.Histories.{is_accepted}
+use Rattle.mailmap_histories.specs.Histories.{is_accepted}
 use Rattle.mailmap_tables.specs.Merging.{IsAscending, Extends, IsNamed, NamesJoined, EmailJoined, give, mapping_at, name_text, with_email}
 use Rattle.mailmap_tables.specs.Pool.{spelled, LiesIn}
 use Rattle.mailmap_tables.specs.declared.batch.Placed.{Placed}

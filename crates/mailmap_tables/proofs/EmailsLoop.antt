@@ -8,17 +8,17 @@ use Rattle.std.specs.Option.{option_cmp, option_or}
 use Rattle.std.specs.Ordering.{eq_by_cmp, is_lt, ordering_then}
 use Rattle.std.proofs.lemmas.List.{map-append}
 use Rattle.std.proofs.lemmas.List.Elements.{All-contains, All-from_recursion, recursion_from_All, Contains-append_left, Contains-append_right}
-use Rattle.mailmap_tables.specs.Alike.{Alike}
+use Rattle.mailmap_histories.specs.Alike.{Alike}
 use Rattle.mailmap_entries.specs.Entries.{Mapping}
 use Rattle.mailmap_entries.specs.Folding.{Text, folded, text_cmp}
 use Rattle.mailmap_tables.specs.Groups.{EmailGroup, IsGroup, AreGroups, Contents, email_key, rows, listing}
-use Rattle.mailmap_tables.specs.Histories.{key, key_cmp, is_accepted, accepted, first, of_email, spelling}
+use Rattle.mailmap_histories.specs.Histories.{key, key_cmp, is_accepted, accepted, first, of_email, spelling}
 use Rattle.mailmap_tables.specs.Merging.{IsAscending, AreBelowAll, InOrder, Extends, known, unknown, IsEarliest, RunPut, IsSpelling, AllJoined, StartsOther, bare, email_text, spelled_by, with_email}
-use Rattle.mailmap_tables.proofs.Alike.{alike_itself, first_parts}
+use Rattle.mailmap_histories.proofs.Alike.{alike_itself, first_parts}
 use Rattle.mailmap_tables.proofs.Merging.{AreBelow, step_copied, step_joined, step_made}
 use Rattle.mailmap_tables.proofs.NamePlaces.{extends_itself, extends_through}
 use Rattle.mailmap_tables.proofs.NamesLoop.{behind_run}
-use Rattle.mailmap_tables.proofs.Parts.{all_front, all_back, all_append}
+use Rattle.mailmap_histories.proofs.Parts.{all_front, all_back, all_append}
 use Rattle.mailmap_tables.proofs.Runs.{order_start, order_missing, order_found, order_end, turned}
 
 abbrev pub Item : Type 0

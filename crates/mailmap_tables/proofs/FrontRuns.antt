@@ -4,12 +4,12 @@ use Rattle.std.specs.List.{AllByRecursion}
 use Rattle.std.proofs.lemmas.List.{map-append, length-map, take_more, get_or-map}
 use Rattle.std.proofs.lemmas.List.Elements.{Contains-get_or, All-from_recursion}
 use Rattle.mailmap_entries.specs.Folding.{folded}
-use Rattle.mailmap_tables.specs.Histories.{last}
+use Rattle.mailmap_histories.specs.Histories.{last}
 use Rattle.mailmap_tables.specs.Groups.{NameGroup}
 use Rattle.mailmap_tables.specs.Merging.{IsEarliest, NameRun, StartsOther, mapping_at, placed_at, name_text}
 use Rattle.mailmap_tables.specs.declared.batch.Placed.{Placed}
 use Rattle.mailmap_tables.proofs.NamesLoop.{name_is}
-use Rattle.mailmap_tables.proofs.Parts.{all_append}
+use Rattle.mailmap_histories.proofs.Parts.{all_append}
 
 -- the last of a front, by its place
 last_at : {X Y : Type 0} (f : X → Y) (x : X) (xs : List X) (k : ℕ) (d : X) → k ≤ length xs → unwrap_or (last (map f (take k xs))) (f x) ≡ f (get_or (x ∷ xs) k d)

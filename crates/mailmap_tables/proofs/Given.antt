@@ -4,7 +4,7 @@ use Rattle.std.specs.Option.{option_or, option_copied}
 use Rattle.std.specs.List.{fold}
 use Rattle.mailmap_entries.specs.Entries.{Mapping}
 use Rattle.mailmap_entries.specs.Folding.{Text}
-use Rattle.mailmap_tables.specs.Histories.{Fields}
+use Rattle.mailmap_histories.specs.Histories.{Fields}
 use Rattle.mailmap_tables.specs.Merging.{give, with_email}
 
 pub copied-or : (a b : Option (Bor Text)) → option_copied (option_or a b) ≡ option_or (option_copied a) (option_copied b)

@@ -16,12 +16,12 @@ use Rattle.std.proofs.lemmas.Map.Lookups.{exact_bytes}
 use Rattle.mailmap_entries.specs.Entries.{Mapping}
 use Rattle.mailmap_entries.specs.Folding.{Text, folded, text_cmp}
 use Rattle.mailmap_tables.specs.Groups.{NameGroup, EmailGroup, IsGroup, AreGroups, email_key, name_key, name_fields, name_row, own_rows, rows, listing}
-use Rattle.mailmap_tables.specs.Histories.{Fields, key, key_cmp, first, last, last_given, is_accepted, accepted, of_key, has_key, given_fields, last_fields, new_fields, no_fields, made, spelling, value, answered, scan, IsNormal}
-use Rattle.mailmap_tables.proofs.Alike.{Alike, alike_back, same_normal, picked-append}
-use Rattle.mailmap_tables.proofs.Ascending.{before, behind}
-use Rattle.mailmap_tables.proofs.Joined.{filter_none, never}
-use Rattle.mailmap_tables.proofs.Keys.{keys_total}
-use Rattle.mailmap_tables.proofs.Parts.{all_append, all_back, all_map, all_apply, filter_all, last_of_one}
+use Rattle.mailmap_histories.specs.Histories.{Fields, key, key_cmp, first, last, last_given, is_accepted, accepted, of_key, has_key, given_fields, last_fields, new_fields, no_fields, mapping_with, spelling, value, answered, scan, IsNormal}
+use Rattle.mailmap_histories.proofs.Alike.{Alike, alike_back, same_normal, picked-append}
+use Rattle.mailmap_histories.proofs.Ascending.{before, behind}
+use Rattle.mailmap_histories.proofs.Joined.{filter_none, never}
+use Rattle.mailmap_histories.proofs.Keys.{keys_total}
+use Rattle.mailmap_histories.proofs.Parts.{all_append, all_back, all_map, all_apply, filter_all, last_of_one}
 
 -- ---- what holds of each row
 
@@ -41,10 +41,10 @@ all_rows P email [] f = tt
 all_rows P email (n ∷ ns) f = (f n, all_rows P email ns f)
 
 -- what holds of the row that an email may have of its own
-own_all : (P : Mapping → Type 0) (g : EmailGroup) → ((is_some g.own.name || is_some g.own.email) ≡ true → P (made g.own None g.old_email)) → AllByRecursion P (own_rows g)
+own_all : (P : Mapping → Type 0) (g : EmailGroup) → ((is_some g.own.name || is_some g.own.email) ≡ true → P (mapping_with g.own None g.old_email)) → AllByRecursion P (own_rows g)
 own_all P g f = by (is_some g.own.name || is_some g.own.email) f
   where
-    by : (b : Bool) → (b ≡ true → P (made g.own None g.old_email)) → AllByRecursion P (if b then made g.own None g.old_email ∷ [] else [])
+    by : (b : Bool) → (b ≡ true → P (mapping_with g.own None g.old_email)) → AllByRecursion P (if b then mapping_with g.own None g.old_email ∷ [] else [])
     by true h = (h refl, tt)
     by false h = tt
 
@@ -89,10 +89,10 @@ value_alone : (n : List Mapping) (e : Mapping) → of_key n (key e) ≡ e ∷ []
 value_alone n e here spelled = by e.old_name refl here
   where
     by : (o : Option Text) → e.old_name ≡ o → of_key n (folded e.old_email, option_map folded o) ≡ e ∷ [] → e ≡ value n (folded e.old_email, option_map folded o)
-    by None plain here = λ i. made
+    by None plain here = λ i. mapping_with
         (record { name = sym (ap (last_given (λ x. x.new_name)) here ∙ last_of_one (λ x. x.new_name) e) i; email = sym (ap (last_given (λ x. x.new_email)) here ∙ last_of_one (λ x. x.new_email) e) i })
         (plain i) (unwrap_or (sym spelled i) [])
-    by (Some name) named here = λ i. made (unwrap_or (option_map new_fields (last (sym here i))) no_fields) (option_and_then (λ x. x.old_name) (first (sym here i))) (unwrap_or (sym spelled i) [])
+    by (Some name) named here = λ i. mapping_with (unwrap_or (option_map new_fields (last (sym here i))) no_fields) (option_and_then (λ x. x.old_name) (first (sym here i))) (unwrap_or (sym spelled i) [])
 
 -- a strictly ascending list of accepted entries, each email spelled in one way, is normal for itself
 pub self_normal : (n : List Mapping) → IsStrictlySortedBy key_cmp (map key n) → AllByRecursion (λ e. is_accepted e ≡ true) n → AllByRecursion (λ e. spelling n (folded e.old_email) ≡ Some e.old_email) n → IsNormal n n
@@ -130,7 +130,7 @@ rows_sorted g s =
     sorted_entries (own_rows g) (map (name_row g.old_email) g.names) (one (is_some g.own.name || is_some g.own.email)) (names_sorted g.old_email g.names s)
     (own_all _ g (λ _. all_rows _ g.old_email g.names (λ n. by_name (email_key g) None (Some (name_key n)) refl)))
   where
-    one : (b : Bool) → IsStrictlySortedBy key_cmp (map key (if b then made g.own None g.old_email ∷ [] else []))
+    one : (b : Bool) → IsStrictlySortedBy key_cmp (map key (if b then mapping_with g.own None g.old_email ∷ [] else []))
     one true = (tt, tt)
     one false = tt
 
@@ -209,12 +209,12 @@ module _ (gs : List EmailGroup) (are : AreGroups gs) (front : List EmailGroup) (
       ∙ filter_all p (own_rows g) (own_all _ g (λ _. ap (λ o. is_eq (ordering_then o Equal)) (tied_itself nat_list_cmp_total e))) in
       λ i. record { name = (ap (last_given (λ x. x.new_name)) here ∙ name_of g.own.name g.own.email) i; email = (ap (last_given (λ x. x.new_email)) here ∙ email_of g.own.name g.own.email) i }
     where
-      name_of : (a b : Option Text) → last_given (λ x. x.new_name) (if is_some a || is_some b then made (record { name = a; email = b }) None g.old_email ∷ [] else []) ≡ a
+      name_of : (a b : Option Text) → last_given (λ x. x.new_name) (if is_some a || is_some b then mapping_with (record { name = a; email = b }) None g.old_email ∷ [] else []) ≡ a
       name_of None None = refl
       name_of None (Some b) = refl
       name_of (Some a) b = refl
 
-      email_of : (a b : Option Text) → last_given (λ x. x.new_email) (if is_some a || is_some b then made (record { name = a; email = b }) None g.old_email ∷ [] else []) ≡ b
+      email_of : (a b : Option Text) → last_given (λ x. x.new_email) (if is_some a || is_some b then mapping_with (record { name = a; email = b }) None g.old_email ∷ [] else []) ≡ b
       email_of None None = refl
       email_of None (Some b) = refl
       email_of (Some a) None = refl

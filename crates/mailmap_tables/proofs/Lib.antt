@@ -1,14 +1,6 @@
-pub mod Alike
-pub mod Ascending
 pub mod Batches
-pub mod Exists
 pub mod Grouped
-pub mod Joined
-pub mod Keys
 pub mod Merging
-pub mod Normal
-pub mod Parts
-pub mod Reorder
 pub mod Pooled
 pub mod Together
 pub mod Fronts
@@ -28,4 +20,3 @@ pub mod RunPuts
 pub mod EmailsLoop
 pub mod SortedRuns
 pub mod WholeMerge
-pub mod Unique

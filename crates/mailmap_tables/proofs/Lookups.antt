@@ -10,7 +10,7 @@ use Rattle.std.proofs.lemmas.Cmp.{tied_back, tied_itself}
 use Rattle.std.proofs.lemmas.List.{get_or-map, length-map}
 use Rattle.std.proofs.lemmas.List.Folds.{list_any_none, list_any_at}
 use Rattle.std.proofs.lemmas.Option.{slice_get_within, get_or_from_slice_get}
-use Rattle.mailmap_entries.specs.Search.{IsParted}
+use Rattle.mailmap_entries.specs.Search.{IsPartitioned}
 
 module _ {K : Type 0} {R : K → K → Ordering} (o : IsTotalOrder R) where
   -- what is above q, is above it also when asked the other way
@@ -30,17 +30,17 @@ module _ {K : Type 0} {R : K → K → Ordering} (o : IsTotalOrder R) where
     greater_behind k a is other (x ∷ xs) all = (above_other k (key x) q a is other all.0, greater_behind k a is other xs all.1)
 
     -- how the first key compares, before a parted list or before `Greater` alone
-    parted_on : (k : K) (a : Ordering) → R k q ≡ a → (xs : List X) → AllByRecursion (λ y. R k y ≡ Less) (map key xs) → IsParted (map (λ x. R (key x) q) xs) → IsParted (a ∷ map (λ x. R (key x) q) xs)
-    unfolding IsParted
+    parted_on : (k : K) (a : Ordering) → R k q ≡ a → (xs : List X) → AllByRecursion (λ y. R k y ≡ Less) (map key xs) → IsPartitioned (map (λ x. R (key x) q) xs) → IsPartitioned (a ∷ map (λ x. R (key x) q) xs)
+    unfolding IsPartitioned
     parted_on k Less is xs all parted = parted
     parted_on k Equal is xs all parted = greater_behind k Equal is (λ e. cc) xs all
     parted_on k Greater is xs all parted = greater_behind k Greater is (λ e. cc) xs all
 
     -- strictly ascending keys are parted by any q
-    pub IsParted-from_ascending : (xs : List X) → IsStrictlySortedBy R (map key xs) → IsParted (map (λ x. R (key x) q) xs)
-    unfolding IsParted IsStrictlySortedBy
-    IsParted-from_ascending [] up = tt
-    IsParted-from_ascending (x ∷ xs) up = parted_on (key x) (R (key x) q) refl xs up.0 (IsParted-from_ascending xs up.1)
+    pub IsPartitioned-from_ascending : (xs : List X) → IsStrictlySortedBy R (map key xs) → IsPartitioned (map (λ x. R (key x) q) xs)
+    unfolding IsPartitioned IsStrictlySortedBy
+    IsPartitioned-from_ascending [] up = tt
+    IsPartitioned-from_ascending (x ∷ xs) up = parted_on (key x) (R (key x) q) refl xs up.0 (IsPartitioned-from_ascending xs up.1)
 
 module _ {X K : Type 0} (R : K → K → Ordering) (key : X → K) (q : K) where
   -- the place that a search finds is one of the table, and the key there compares as equal

@@ -9,11 +9,11 @@ use Rattle.std.proofs.lemmas.List.{map-append}
 use Rattle.mailmap_entries.specs.Entries.{Mapping}
 use Rattle.mailmap_entries.specs.Folding.{Text, folded, text_cmp}
 use Rattle.mailmap_tables.specs.Groups.{NameGroup, EmailGroup, email_key, name_key, name_row, own_rows, rows, listing}
-use Rattle.mailmap_tables.specs.Histories.{Fields, key, is_accepted, made}
-use Rattle.mailmap_tables.proofs.Alike.{Alike, alike_itself, alike_joined}
+use Rattle.mailmap_histories.specs.Histories.{Fields, key, is_accepted, mapping_with}
+use Rattle.mailmap_histories.proofs.Alike.{Alike, alike_itself, alike_joined}
 use Rattle.mailmap_tables.proofs.Grouped.{all_weaker, all_rows, rows_spelled, listing_all, listing-append}
-use Rattle.mailmap_tables.proofs.Joined.{IsApart, alike_trans, alike_swapped, alike_combined, either_given, never}
-use Rattle.mailmap_tables.proofs.Parts.{all_apply, or-None}
+use Rattle.mailmap_histories.proofs.Joined.{IsApart, alike_trans, alike_swapped, alike_combined, either_given, never}
+use Rattle.mailmap_histories.proofs.Parts.{all_apply, or-None}
 pub use Rattle.mailmap_tables.specs.Merging.{give}
 
 -- ---- what is put on a batch and what it is joined with
@@ -104,7 +104,7 @@ names_apart e n js mailed below = all_apply _ _ _ (name_apart e n) js mailed bel
 -- an entry in the place of one with its name
 name_combined : (e : Text) (n : NameGroup) (m : Mapping) (y : Text) → m.old_email ≡ e → (key m).1 ≡ Some (name_key n) → m.new_email ≡ Some y → Alike (name_row e n ∷ m ∷ []) (name_row e (renewed n.old_name m y) ∷ [])
 name_combined e n m y same_email same_name given =
-    subst (λ o. Alike (name_row e n ∷ m ∷ []) (made (record { name = m.new_name; email = o }) (Some n.old_name) e ∷ [])) given
+    subst (λ o. Alike (name_row e n ∷ m ∷ []) (mapping_with (record { name = m.new_name; email = o }) (Some n.old_name) e ∷ [])) given
     (alike_combined (name_row e n) m (λ i. (folded (sym same_email i), sym same_name i)) (sym same_email) (or_right (is_some n.new_name) true refl) (or_right (is_some m.new_name) (is_some m.new_email) (ap is_some given)))
 
 -- standing names above those so far go over as they are
@@ -145,27 +145,27 @@ pub names_pushed : (e : Text) (ds os : List NameGroup) (js : List Mapping) (m : 
     → m.old_email ≡ e → m.old_name ≡ Some x → m.new_email ≡ Some y
     → Alike (name_rows e ds ++ (js ++ m ∷ [])) (name_rows e (os ++ renewed x m y ∷ []))
 names_pushed e ds os js m x y done same_email named given =
-    let same : m ≡ name_row e (renewed x m y) = λ i. made (record { name = m.new_name; email = given i }) (named i) (same_email i) in
+    let same : m ≡ name_row e (renewed x m y) = λ i. mapping_with (record { name = m.new_name; email = given i }) (named i) (same_email i) in
     subst (Alike (name_rows e ds ++ (js ++ m ∷ []))) (sym (name_rows-push e os (renewed x m y)))
     (put_more (name_rows e ds) js (m ∷ []) (name_rows e os) (name_row e (renewed x m y) ∷ []) done (subst (λ r. Alike (m ∷ []) (r ∷ [])) same (alike_itself (m ∷ []))))
 
 -- ---- the fields of one email e that stand without an old name
 
 abbrev pub own_of : Text → Fields → List Mapping
-own_of e f = if is_some f.name || is_some f.email then made f None e ∷ [] else []
+own_of e f = if is_some f.name || is_some f.email then mapping_with f None e ∷ [] else []
 
 -- an accepted entry of the email e, without an old name
 abbrev pub IsOwn : Text → Mapping → Type 0
 IsOwn e u = (u.old_name ≡ None) × (u.old_email ≡ e) × (is_accepted u ≡ true)
 
 own_once : (e : Text) (f : Fields) (u : Mapping) → IsOwn e u → Alike (own_of e f ++ u ∷ []) (own_of e (give f u))
-own_once e f u own = subst (Alike (own_of e f ++ u ∷ [])) (ap (λ b. if b then made (give f u) None e ∷ [] else []) (sym (either_given u.new_name u.new_email f.name f.email own.2))) (by f.name f.email)
+own_once e f u own = subst (Alike (own_of e f ++ u ∷ [])) (ap (λ b. if b then mapping_with (give f u) None e ∷ [] else []) (sym (either_given u.new_name u.new_email f.name f.email own.2))) (by f.name f.email)
   where
-    joined : (a b : Option Text) → (is_some a || is_some b) ≡ true → Alike (made (record { name = a; email = b }) None e ∷ u ∷ []) (made (give (record { name = a; email = b }) u) None e ∷ [])
-    joined a b some = alike_combined (made (record { name = a; email = b }) None e) u (λ i. (folded (sym own.1 i), option_map folded (sym own.0 i))) (sym own.1) some own.2
+    joined : (a b : Option Text) → (is_some a || is_some b) ≡ true → Alike (mapping_with (record { name = a; email = b }) None e ∷ u ∷ []) (mapping_with (give (record { name = a; email = b }) u) None e ∷ [])
+    joined a b some = alike_combined (mapping_with (record { name = a; email = b }) None e) u (λ i. (folded (sym own.1 i), option_map folded (sym own.0 i))) (sym own.1) some own.2
 
-    by : (a b : Option Text) → Alike (own_of e (record { name = a; email = b }) ++ u ∷ []) (made (give (record { name = a; email = b }) u) None e ∷ [])
-    by None None = subst (λ r. Alike (u ∷ []) (r ∷ [])) (λ i. made (record { name = or-None u.new_name i; email = or-None u.new_email i }) (own.0 i) (own.1 i)) (alike_itself (u ∷ []))
+    by : (a b : Option Text) → Alike (own_of e (record { name = a; email = b }) ++ u ∷ []) (mapping_with (give (record { name = a; email = b }) u) None e ∷ [])
+    by None None = subst (λ r. Alike (u ∷ []) (r ∷ [])) (λ i. mapping_with (record { name = or-None u.new_name i; email = or-None u.new_email i }) (own.0 i) (own.1 i)) (alike_itself (u ∷ []))
     by None (Some b) = joined None (Some b) refl
     by (Some a) b = joined (Some a) b refl
 

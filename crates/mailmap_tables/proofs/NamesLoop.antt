@@ -7,16 +7,16 @@ use Rattle.std.specs.Option.{option_cmp}
 use Rattle.std.specs.Ordering.{is_lt, ordering_reverse}
 use Rattle.std.proofs.lemmas.List.{map-append}
 use Rattle.std.proofs.lemmas.Map.Lookups.{exact_bytes}
-use Rattle.mailmap_tables.specs.Alike.{Alike}
+use Rattle.mailmap_histories.specs.Alike.{Alike}
 use Rattle.mailmap_entries.specs.Entries.{Mapping}
 use Rattle.mailmap_entries.specs.Folding.{Text, folded, text_cmp}
 use Rattle.mailmap_tables.specs.Groups.{NameGroup, Contents, name_key}
-use Rattle.mailmap_tables.specs.Histories.{last}
+use Rattle.mailmap_histories.specs.Histories.{last}
 use Rattle.mailmap_tables.specs.Merging.{IsAscending, AreBelowAll, InOrder, Extends, IsNamed, NamePut, known, unknown, NamesPut, NameRun, StartsOther, name_text, with_email}
-use Rattle.mailmap_tables.proofs.Alike.{alike_itself}
+use Rattle.mailmap_histories.proofs.Alike.{alike_itself}
 use Rattle.mailmap_tables.proofs.Merging.{name_rows, AreNamedBelow, renewed, names_copied, names_found, names_replaced, names_pushed}
 use Rattle.mailmap_tables.proofs.NamePlaces.{extends_itself, extends_through}
-use Rattle.mailmap_tables.proofs.Parts.{all_front, all_back}
+use Rattle.mailmap_histories.proofs.Parts.{all_front, all_back}
 use Rattle.mailmap_tables.proofs.Runs.{order_start, order_missing, order_found, order_end, turned}
 
 -- ---- what comes behind a run

@@ -9,7 +9,7 @@ use Rattle.mailmap_tables.specs.Pool.{RowsLie, names_of, spelled, LiesIn, name_g
 use Rattle.mailmap_tables.specs.declared.tables.Span.{Span}
 use Rattle.mailmap_tables.specs.declared.tables.NameRow.{NameRow}
 use Rattle.mailmap_tables.specs.declared.tables.EmailRow.{EmailRow}
-use Rattle.mailmap_tables.proofs.Parts.{all_append}
+use Rattle.mailmap_histories.proofs.Parts.{all_append}
 
 -- ---- a pool that grows
 

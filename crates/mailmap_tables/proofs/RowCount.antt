@@ -4,7 +4,7 @@ use Rattle.std.proofs.lemmas.List.{length-map, length-take}
 use Rattle.mailmap_entries.specs.Folding.{Text}
 use Rattle.mailmap_tables.specs.Groups.{EmailGroup, listing, rows, own_rows, name_row}
 use Rattle.mailmap_entries.specs.Entries.{Mapping}
-use Rattle.mailmap_tables.specs.Histories.{made}
+use Rattle.mailmap_histories.specs.Histories.{mapping_with}
 use Rattle.mailmap_tables.specs.Pool.{names_of, name_group, email_group, Follow}
 use Rattle.mailmap_tables.specs.declared.tables.NameRow.{NameRow}
 use Rattle.mailmap_tables.specs.declared.tables.EmailRow.{EmailRow}
@@ -16,7 +16,7 @@ one false m = omega arith
 
 -- an email has one entry of its own at most
 own_one : (g : EmailGroup) → length (own_rows g) ≤ 1
-own_one g = one (is_some g.own.name || is_some g.own.email) (made g.own None g.old_email)
+own_one g = one (is_some g.own.name || is_some g.own.email) (mapping_with g.own None g.old_email)
 
 -- the entries of an email: its own one, and those of its names
 rows_most : (g : EmailGroup) → length (rows g) ≤ 1 + length g.names

@@ -6,7 +6,7 @@ use Rattle.std.specs.List.Sorted.{IsStrictlySortedBy}
 use Rattle.std.proofs.lemmas.Map.Keys.{sorted_head, sorted_tail}
 use Rattle.mailmap_entries.specs.Folding.{Text, text_cmp}
 use Rattle.mailmap_tables.specs.Merging.{IsAscending, AreBelowAll, InOrder}
-use Rattle.mailmap_tables.proofs.Parts.{all_append, all_front, all_back}
+use Rattle.mailmap_histories.proofs.Parts.{all_append, all_front, all_back}
 
 abbrev Below : Text → List Text → Type 0
 Below x ys = AllByRecursion (λ y. text_cmp x y ≡ Less) ys

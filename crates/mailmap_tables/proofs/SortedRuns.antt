@@ -5,13 +5,13 @@ use Rattle.std.proofs.lemmas.List.{map-append, nil_from_length}
 use Rattle.mailmap_entries.specs.Entries.{Mapping}
 use Rattle.mailmap_entries.specs.Folding.{Text, text_cmp}
 use Rattle.mailmap_tables.specs.Groups.{EmailGroup, AreGroups, Contents}
-use Rattle.mailmap_tables.specs.Histories.{is_accepted, key, key_cmp}
+use Rattle.mailmap_histories.specs.Histories.{is_accepted, key, key_cmp}
 use Rattle.mailmap_tables.specs.Merging.{IsAscending, EmailRun, RunPut, StartsOther, email_text, first_email, mapping_at, placed_at}
 use Rattle.mailmap_tables.specs.declared.batch.Placed.{Placed}
 use Rattle.mailmap_tables.proofs.Collected.{mapped_twice}
 use Rattle.mailmap_tables.proofs.EmailsLoop.{Item, by, EmailsState, emails_step, emails_ascend, run_ascends, ascending_front}
 use Rattle.mailmap_tables.proofs.FrontRuns.{starts_other, all_mapped}
-use Rattle.mailmap_tables.proofs.Parts.{all_front, all_back}
+use Rattle.mailmap_histories.proofs.Parts.{all_front, all_back}
 
 -- a batch that is in order, its entries accepted
 pub record IsBatch (xs : List Placed) : Type 0 where

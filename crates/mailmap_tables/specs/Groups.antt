@@ -4,7 +4,7 @@ use Rattle.std.specs.List.{AllByRecursion, flat_map}
 use Rattle.std.specs.List.Sorted.{IsStrictlySortedBy}
 use Rattle.mailmap_entries.specs.Entries.{Mapping}
 use Rattle.mailmap_entries.specs.Folding.{Text, folded, text_cmp}
-use Rattle.mailmap_tables.specs.Histories.{Fields, made}
+use Rattle.mailmap_histories.specs.Histories.{Fields, mapping_with}
 
 -- an old name as it is kept, and the fields that stand for it
 pub record NameGroup : Type 0 where
@@ -28,11 +28,11 @@ abbrev pub name_fields : NameGroup → Fields
 name_fields n = record { name = n.new_name; email = Some n.new_email }
 
 abbrev pub name_row : Text → NameGroup → Mapping
-name_row email n = made (name_fields n) (Some n.old_name) email
+name_row email n = mapping_with (name_fields n) (Some n.old_name) email
 
 -- an email's own entry, if a field was given without an old name
 abbrev pub own_rows : EmailGroup → List Mapping
-own_rows g = if is_some g.own.name || is_some g.own.email then made g.own None g.old_email ∷ [] else []
+own_rows g = if is_some g.own.name || is_some g.own.email then mapping_with g.own None g.old_email ∷ [] else []
 
 -- the entries of an email
 abbrev pub rows : EmailGroup → List Mapping

@@ -2,10 +2,8 @@ pub use Rattle.mailmap_entries.specs.Folding
 pub use Rattle.mailmap_entries.specs.Entries
 pub use Rattle.mailmap_entries.specs.Search
 pub mod Fronts
-pub mod Histories
 pub mod Groups
 pub mod Pool
 pub mod Places
-pub mod Alike
 pub mod Merging
 pub mod Named

@@ -6,11 +6,11 @@ use Rattle.std.specs.Option.{option_cmp, option_map, option_or}
 use Rattle.std.specs.Ordering.{is_lt}
 use Rattle.std.specs.declared.cmp.Ordering.{Ordering}
 use Rattle.std.specs.declared.cmp.Ordering.TheVariants.{Less}
-use Rattle.mailmap_tables.specs.Alike.{Alike}
+use Rattle.mailmap_histories.specs.Alike.{Alike}
 use Rattle.mailmap_entries.specs.Entries.{Mapping, mapping_of}
 use Rattle.mailmap_entries.specs.Folding.{Text, folded, text_cmp}
 use Rattle.mailmap_tables.specs.Groups.{NameGroup, EmailGroup, AreGroups, Contents, email_key, name_key, name_row, rows, listing}
-use Rattle.mailmap_tables.specs.Histories.{Key, Fields, key, key_cmp, is_accepted, of_key, no_fields, last}
+use Rattle.mailmap_histories.specs.Histories.{Key, Fields, key, key_cmp, is_accepted, of_key, no_fields, last}
 use Rattle.mailmap_tables.specs.declared.batch.Placed.{Placed}
 
 -- no key is below one that stands before it

@@ -1,7 +1,7 @@
 -- What the entries of a batch give, on its way out.
 use Rattle.std.specs.Option.{option_copied}
 use Rattle.mailmap_tables.specs.Groups.{NameGroup}
-use Rattle.mailmap_tables.specs.Histories.{Fields}
+use Rattle.mailmap_histories.specs.Histories.{Fields}
 use Rattle.mailmap_tables.specs.declared.merge.Given.{Given}
 use Rattle.mailmap_tables.specs.declared.merge.Named.{Named}
 

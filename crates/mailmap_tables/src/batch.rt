@@ -5,7 +5,7 @@ ghost use Rattle.std.specs.Option.{option_copied, option_map, option_cmp};
 ghost use Rattle.std.specs.List.{AllByRecursion, enumerate_from, fold};
 ghost use Rattle.mailmap_entries.specs.Entries.{mapping_of};
 ghost use Rattle.mailmap_entries.specs.Folding.{folded, text_cmp};
-ghost use Rattle.mailmap_tables.specs.Histories.{accepted, is_accepted, key, key_cmp, no_fields};
+ghost use Rattle.mailmap_histories.specs.Histories.{accepted, is_accepted, key, key_cmp, no_fields};
 ghost use Rattle.mailmap_tables.specs.Fronts.{IsFront, front_number};
 ghost use Rattle.mailmap_tables.specs.Merging.{IsSorted, IsAscending, mapping_at, placed_at, email_text, name_text};
 ghost use Rattle.mailmap_tables.specs.declared.batch.Placed.{Placed as At};

@@ -3,7 +3,6 @@
 #![tactic(auto)]
 
 pub mod batch;
-pub mod laws;
 pub mod merge;
 pub mod search;
 pub mod tables;

@@ -7,7 +7,7 @@ ghost use Rattle.std.specs.List.Sorted.{IsStrictlySortedBy};
 ghost use Rattle.mailmap_entries.specs.Entries.{mapping_of};
 ghost use Rattle.mailmap_entries.specs.Folding.{folded, text_cmp};
 ghost use Rattle.mailmap_tables.specs.Groups.{Contents, AreGroups, IsComplete, name_key, email_key, listing};
-ghost use Rattle.mailmap_tables.specs.Histories.{IsNormal, is_accepted, key, key_cmp, no_fields};
+ghost use Rattle.mailmap_histories.specs.Histories.{IsNormal, is_accepted, key, key_cmp, no_fields};
 ghost use Rattle.mailmap_tables.specs.Merging.{IsAscending, first_email, IsNamed, mapping_at, placed_at, email_text, name_text, Extends, NamePut, NameRun, NamesPut, EmailRun, IsEarliest, give, EmailPut, RunPut, AllJoined};
 ghost use Rattle.mailmap_tables.specs.Pool.{spelled, LiesIn, NameLies, EmailLies, RowsLie, name_group, group_of};
 ghost use Rattle.mailmap_tables.specs.Named.{named_group, fields_given};

@@ -2,8 +2,8 @@
 ghost use Rattle.std.specs.Prelude.{IfOk, map};
 ghost use Rattle.mailmap_snapshot.specs.Writing.{IsCompacted};
 
-use mailmap_grammar::parse_ignore_errors;
-use mailmap_snapshot::snapshot::{Snapshot, WriteError};
+use crate::check::merged;
+use mailmap_snapshot::snapshot::WriteError;
 use std::alloc::{AllocError, Global};
 
 /// The mailmap that maps as the buffers do, one after another: each key has one line, and the lines are in the order of
@@ -16,11 +16,7 @@ pub fn compact(alloc: Global, buffers: &[&[u8]]) -> Result<Vec<u8>, AllocError>
     // the text of the normal list of what the buffers say
     ensures { IfOk result (λ v. IsCompacted (map (λ b. b.now) buffers.now) v.items) }
 {
-    let mut snapshot = Snapshot::empty(alloc);
-    for buffer in buffers {
-        snapshot.merge(parse_ignore_errors(buffer))?;
-    }
-    match snapshot.write(alloc) {
+    match merged(alloc, buffers)?.write(alloc) {
         Ok(written) => Ok(written),
         Err(WriteError::Memory(error)) => Err(error),
         // a line can hold each entry that was read from one

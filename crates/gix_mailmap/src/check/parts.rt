@@ -1,6 +1,6 @@
 // Where one input is parted into a mailmap and contact lines.
 ghost use Rattle.std.specs.Prelude.{◌↔◌, IsTrue};
-ghost use Rattle.gix_mailmap.specs.Parts.{IsDividerLine, IsParted};
+ghost use Rattle.gix_mailmap.specs.Parts.{IsDividerLine, IsSplit};
 
 use bstr::ByteSlice;
 
@@ -12,7 +12,7 @@ use bstr::ByteSlice;
 ///
 /// `a\n--\nb` gives `a\n` and `b`.
 pub fn split(input: &[u8]) -> (&[u8], &[u8])
-    ensures { IsParted input.now result.0.now result.1.now }
+    ensures { IsSplit input.now result.0.now result.1.now }
 {
     let mut place = 0;
     let mut lines = input.lines_with_terminator();

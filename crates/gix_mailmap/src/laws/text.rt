@@ -6,7 +6,7 @@ ghost use Rattle.std.specs.List.{All, flat_map};
 ghost use Rattle.mailmap_entries.specs.Folding.{Text};
 ghost use Rattle.mailmap_entries.specs.Entries.{Mapping};
 ghost use Rattle.mailmap_grammar.specs.Lines.{good, strict_readings};
-ghost use Rattle.mailmap_tables.specs.Histories.{IsNormal};
+ghost use Rattle.mailmap_histories.specs.Histories.{IsNormal};
 ghost use Rattle.mailmap_grammar.specs.CanonicalText.{IsWritable, text};
 
 /// The text of a normal list reads back as that list, and whatever buffers build can be written.

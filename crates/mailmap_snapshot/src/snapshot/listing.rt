@@ -5,7 +5,7 @@ ghost use Rattle.std.specs.List.{AllByRecursion};
 ghost use Rattle.std.specs.Option.{option_to_list};
 ghost use Rattle.mailmap_entries.specs.Entries.{mapping_of};
 ghost use Rattle.mailmap_tables.specs.Groups.{listing, name_row, own_rows};
-ghost use Rattle.mailmap_snapshot.specs.Listings.{left_to_list};
+ghost use Rattle.mailmap_snapshot.specs.Remaining.{left_to_list};
 ghost use Rattle.mailmap_tables.specs.Pool.{EmailLies, NameLies, group_of, name_group};
 
 use crate::snapshot::Snapshot;
@@ -35,7 +35,7 @@ impl<'a> Model for Iter<'a> {
 
     ghost Value = { List Mapping };
 
-    ghost use Rattle.mailmap_snapshot.specs.Listings.{left_to_list};
+    ghost use Rattle.mailmap_snapshot.specs.Remaining.{left_to_list};
     ghost use Rattle.mailmap_tables.specs.Pool.{NameLies};
 
     ghost view = { λ s. left_to_list s.tables.now s.old_email.now s.names.now s.reached };
@@ -147,7 +147,7 @@ impl Snapshot {
 impl PartialEq for Snapshot {
     ghost use Rattle.std.specs.Prelude.{◌≡◌, ◌↔◌, IsTrue};
     ghost use Rattle.mailmap_snapshot.specs.Listings.{same_entries};
-    ghost use Rattle.mailmap_snapshot.specs.EqualListings.{partly_equal_entries};
+    ghost use Rattle.mailmap_snapshot.proofs.EqualListings.{partly_equal_entries};
 
     ghost eq = { same_entries };
 
@@ -163,14 +163,14 @@ impl PartialEq for Snapshot {
 }
 
 impl Eq for Snapshot {
-    ghost use Rattle.mailmap_snapshot.specs.EqualListings.{equal_entries};
+    ghost use Rattle.mailmap_snapshot.proofs.EqualListings.{equal_entries};
 
     ghost laws = { equal_entries };
 }
 
 impl Hash for Snapshot {
     ghost use Rattle.mailmap_snapshot.specs.Listings.{entries_hashed};
-    ghost use Rattle.mailmap_snapshot.specs.EqualListings.{equal_hashes};
+    ghost use Rattle.mailmap_snapshot.proofs.EqualListings.{equal_hashes};
 
     ghost hash_input = { entries_hashed };
 

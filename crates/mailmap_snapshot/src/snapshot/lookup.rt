@@ -3,7 +3,7 @@ ghost use Rattle.std.specs.Prelude.{◌≡◌, ◌≤◌, ◌+◌, ◌-◌, ◌|
 ghost use Rattle.std.specs.Option.{ForSome};
 ghost use Rattle.mailmap_entries.specs.Entries.{Mapping};
 ghost use Rattle.mailmap_tables.specs.Groups.{AreGroups, listing};
-ghost use Rattle.mailmap_tables.specs.Histories.{IsNormal, answered, scan};
+ghost use Rattle.mailmap_histories.specs.Histories.{IsNormal, answered, scan};
 ghost use Rattle.mailmap_tables.specs.Pool.{LiesIn, spelled};
 ghost use Rattle.mailmap_entries.specs.Search.{digits};
 ghost use Rattle.mailmap_snapshot.specs.Signatures.{shown, email_count, name_count};

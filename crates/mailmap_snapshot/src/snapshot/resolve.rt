@@ -1,9 +1,9 @@
 //! Signatures with their mapped names and emails in place, owned or copied on write.
 ghost use Rattle.std.specs.Prelude.{◌≡◌, ◌↔◌, List, IsSome, IfOk, IfSome, OnErr};
 ghost use Rattle.mailmap_signatures.specs.SignatureFields.{owned_fields, cow_fields};
-ghost use Rattle.mailmap_snapshot.specs.Answers.{mapped, IsAnswer, OwnsMapped, IsEnriched, OwnsJust};
+ghost use Rattle.mailmap_snapshot.specs.Answers.{mapped, IsResolved, OwnsMapped, IsEnriched, OwnsJust};
 ghost use Rattle.mailmap_entries.specs.Entries.{Mapping};
-ghost use Rattle.mailmap_tables.specs.Histories.{IsNormal};
+ghost use Rattle.mailmap_histories.specs.Histories.{IsNormal};
 ghost use Rattle.mailmap_snapshot.specs.Signatures.{shown};
 
 use crate::snapshot::{ResolvedSignature, Signature, Snapshot};
@@ -39,13 +39,13 @@ impl Snapshot {
     ) -> Result<Option<actor::Signature>, AllocError>
         // nothing exactly where nothing is mapped
         ensures none { (result ≡ Ok None) ↔ (mapped self.now signature.entry ≡ None) }
-        ensures some { IfOk result (λ answer. IfSome answer (λ s. IsAnswer self.now signature.entry (owned_fields s))) }
+        ensures some { IfOk result (λ answer. IfSome answer (λ s. IsResolved self.now signature.entry (owned_fields s))) }
         // memory can be wanting only where something is mapped
         ensures refused { OnErr result (IsSome (mapped self.now signature.entry)) }
         // the same, by a history that the snapshot stands for
         ensures history_none { (h : List Mapping) → IsNormal h self.now → (result ≡ Ok None) ↔ (mapped h signature.entry ≡ None) }
         ensures history_some { (h : List Mapping) → IsNormal h self.now →
-            IfOk result (λ answer. IfSome answer (λ s. IsAnswer h signature.entry (owned_fields s))) }
+            IfOk result (λ answer. IfSome answer (λ s. IsResolved h signature.entry (owned_fields s))) }
     {
         match self.try_resolve_ref(signature) {
             Some(new) => {
@@ -70,9 +70,9 @@ impl Snapshot {
         alloc: Global,
         signature: SignatureRef<'_>,
     ) -> Result<actor::Signature, AllocError>
-        ensures view { IfOk result (λ s. IsAnswer self.now signature.entry (owned_fields s)) }
+        ensures view { IfOk result (λ s. IsResolved self.now signature.entry (owned_fields s)) }
         // the same, by a history that the snapshot stands for
-        ensures history { (h : List Mapping) → IsNormal h self.now → IfOk result (λ s. IsAnswer h signature.entry (owned_fields s)) }
+        ensures history { (h : List Mapping) → IsNormal h self.now → IfOk result (λ s. IsResolved h signature.entry (owned_fields s)) }
     {
         match self.try_resolve(alloc, signature)? {
             Some(resolved) => Ok(resolved),
@@ -97,12 +97,12 @@ impl Snapshot {
         alloc: Global,
         signature: SignatureRef<'a>,
     ) -> Result<Signature<'a>, AllocError>
-        ensures view { IfOk result (λ s. IsAnswer self.now signature.entry (cow_fields s)) }
+        ensures view { IfOk result (λ s. IsResolved self.now signature.entry (cow_fields s)) }
         ensures owned { IfOk result (OwnsMapped self.now signature.entry) }
         // memory can be wanting only where something is mapped
         ensures refused { OnErr result (IsSome (mapped self.now signature.entry)) }
         // the same, by a history that the snapshot stands for
-        ensures history { (h : List Mapping) → IsNormal h self.now → IfOk result (λ s. IsAnswer h signature.entry (cow_fields s)) }
+        ensures history { (h : List Mapping) → IsNormal h self.now → IfOk result (λ s. IsResolved h signature.entry (cow_fields s)) }
         ensures history_owned { (h : List Mapping) → IsNormal h self.now → IfOk result (OwnsMapped h signature.entry) }
     {
         match self.try_resolve_ref(signature) {

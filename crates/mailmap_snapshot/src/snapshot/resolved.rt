@@ -3,7 +3,7 @@ ghost use Rattle.std.specs.Prelude.{◌≡◌, ◌||◌, is_some, IsTrue, IfSome
 ghost use Rattle.std.specs.Option.{option_copied};
 ghost use Rattle.std.specs.Ordering.{eq_by_cmp};
 ghost use Rattle.mailmap_entries.specs.Folding.{text_cmp};
-ghost use Rattle.mailmap_tables.specs.Histories.{answered};
+ghost use Rattle.mailmap_histories.specs.Histories.{answered};
 ghost use Rattle.mailmap_snapshot.specs.Signatures.{shown};
 
 /// A name and an email that stand in the place of those of a signature. They are lent by the snapshot that answered, so

@@ -1,6 +1,6 @@
 //! Merging from several sources, where want of memory skips a source and is told.
 ghost use Rattle.std.specs.Prelude.{◌≡◌, ◌≢◌, ℕ, [], ◌++◌, Some, true, length, slice_get, OnOk, OnErr};
-ghost use Rattle.mailmap_tables.specs.Histories.{IsNormal, accepted};
+ghost use Rattle.mailmap_histories.specs.Histories.{IsNormal, accepted};
 ghost use Rattle.mailmap_snapshot.specs.Sources.{history, said_by};
 ghost use Rattle.mailmap_snapshot.specs.declared.snapshot.sources.Source.{Source as Said};
 

@@ -2,9 +2,9 @@ use Rattle.std.proofs.Common.{[], map, take, get_or, sym, subst}
 use Rattle.std.specs.List.{flat_map}
 use Rattle.std.proofs.lemmas.Iterator.Consumers.{YieldsList-from_first}
 use Rattle.mailmap_entries.specs.Entries.{mapping_of}
-use Rattle.mailmap_tables.specs.Histories.{IsNormal}
+use Rattle.mailmap_histories.specs.Histories.{IsNormal}
 use Rattle.mailmap_grammar.specs.Lines.{good}
-use Rattle.mailmap_tables.proofs.Normal.{normal_then}
+use Rattle.mailmap_histories.proofs.Normal.{normal_then}
 use Rattle.mailmap_snapshot.proofs.Sources.{normal_none, gives_said, merged_whole, buffers_more}
 use Rattle.gix_mailmap.proofs.check.merged.Goals as goal
 

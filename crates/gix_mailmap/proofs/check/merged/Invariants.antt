@@ -1,6 +1,6 @@
 use Rattle.std.proofs.Common.{map, take}
 use Rattle.std.specs.List.{flat_map}
-use Rattle.mailmap_tables.specs.Histories.{IsNormal}
+use Rattle.mailmap_histories.specs.Histories.{IsNormal}
 use Rattle.mailmap_grammar.specs.Lines.{good}
 use Rattle.gix_mailmap.proofs.check.merged.Given as goal
 

@@ -3,7 +3,7 @@ use Rattle.std.specs.Iterator.{Yields}
 use Rattle.std.proofs.iter.Next.{Yields-more}
 use Rattle.std.proofs.lemmas.List.{map_push}
 use Rattle.mailmap_entries.specs.Entries.{mapping_of}
-use Rattle.mailmap_tables.specs.Histories.{accepted}
+use Rattle.mailmap_histories.specs.Histories.{accepted}
 use Rattle.mailmap_entries.specs.declared.entry.Entry.{Entry as Item}
 use Rattle.mailmap_tables.proofs.Collected.{accepted-taken, accepted-ignored, some_taken, on_err}
 use Rattle.mailmap_tables.proofs.batch.accepted_of.Goals as goal

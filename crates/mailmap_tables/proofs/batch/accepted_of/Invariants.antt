@@ -1,6 +1,6 @@
 use Rattle.std.proofs.Common.{◌≡◌, map}
 use Rattle.mailmap_entries.specs.Entries.{mapping_of}
-use Rattle.mailmap_tables.specs.Histories.{accepted}
+use Rattle.mailmap_histories.specs.Histories.{accepted}
 use Rattle.mailmap_tables.proofs.batch.accepted_of.Given as goal
 
 abbrev pub invariant-loop-entry : goal.invariant-loop-entry

@@ -3,10 +3,10 @@ use Rattle.std.specs.Cmp.{IsStrictWeakOrder}
 use Rattle.std.specs.Ordering.{is_lt}
 use Rattle.std.proofs.lemmas.List.Sorted.{ranks_by, answers_always}
 use Rattle.mailmap_entries.specs.Entries.{mapping_of}
-use Rattle.mailmap_tables.specs.Histories.{key, key_cmp}
+use Rattle.mailmap_histories.specs.Histories.{key, key_cmp}
 use Rattle.mailmap_tables.specs.Merging.{IsSorted, mapping_at, placed_at}
 use Rattle.mailmap_tables.specs.declared.batch.Placed.{Placed}
-use Rattle.mailmap_tables.proofs.Keys.{keys_total}
+use Rattle.mailmap_histories.proofs.Keys.{keys_total}
 use Rattle.mailmap_tables.proofs.Collected.{sorted_batch, if_ok_then}
 use Rattle.mailmap_tables.proofs.batch.sorted.Goals as goal
 

@@ -4,7 +4,7 @@ use Rattle.std.specs.Option.{option_cmp, option_or, option_copied}
 use Rattle.std.proofs.lemmas.List.{drop-map, map-append}
 use Rattle.mailmap_entries.specs.Folding.{text_cmp}
 use Rattle.mailmap_tables.specs.Groups.{Contents}
-use Rattle.mailmap_tables.specs.Histories.{Fields, is_accepted, no_fields}
+use Rattle.mailmap_histories.specs.Histories.{Fields, is_accepted, no_fields}
 use Rattle.mailmap_tables.specs.Merging.{IsAscending, IsNamed, Extends, EmailJoined, NamesJoined, give, mapping_at, name_text}
 use Rattle.mailmap_tables.specs.Named.{fields_given}
 use Rattle.mailmap_tables.specs.Pool.{spelled, group_of}
@@ -14,7 +14,7 @@ use Rattle.mailmap_tables.proofs.EmailPuts.{name_of, named_behind, names_ascend,
 use Rattle.mailmap_tables.proofs.FrontRuns.{all_mapped}
 use Rattle.mailmap_tables.proofs.Given.{fold-give}
 use Rattle.mailmap_tables.proofs.NamePlaces.{extends_through}
-use Rattle.mailmap_tables.proofs.Parts.{all_front}
+use Rattle.mailmap_histories.proofs.Parts.{all_front}
 use Rattle.mailmap_tables.proofs.merge.join_email.Goals as goal
 
 pub join_names-requires-clause-named : goal.join_names-requires-clause-named

@@ -2,7 +2,7 @@ use Rattle.std.proofs.Common.{◌≡◌, ◌∙◌, List, true, map, sym, subst}
 use Rattle.std.specs.List.{AllByRecursion}
 use Rattle.mailmap_entries.specs.Entries.{mapping_of}
 use Rattle.mailmap_tables.specs.Groups.{Contents}
-use Rattle.mailmap_tables.specs.Histories.{is_accepted, key, key_cmp}
+use Rattle.mailmap_histories.specs.Histories.{is_accepted, key, key_cmp}
 use Rattle.mailmap_tables.specs.Merging.{IsAscending, AllJoined, mapping_at, placed_at}
 use Rattle.mailmap_tables.specs.declared.batch.Placed.{Placed}
 use Rattle.mailmap_tables.proofs.Collected.{mapped_twice, if_ok_then}

@@ -3,7 +3,7 @@ use Rattle.std.specs.List.{fold}
 use Rattle.std.specs.Option.{option_or, option_copied}
 use Rattle.std.proofs.lemmas.List.{map_more}
 use Rattle.std.proofs.lemmas.List.Sums.{fold-append}
-use Rattle.mailmap_tables.specs.Histories.{no_fields}
+use Rattle.mailmap_histories.specs.Histories.{no_fields}
 use Rattle.mailmap_tables.specs.Merging.{give, mapping_at}
 use Rattle.mailmap_tables.specs.Named.{fields_given}
 use Rattle.mailmap_tables.proofs.Given.{copied-or}

@@ -1,4 +1,4 @@
-use Rattle.mailmap_tables.proofs.Parts.{first_alone}
+use Rattle.mailmap_histories.proofs.Parts.{first_alone}
 use Rattle.mailmap_tables.proofs.merge.name_run.Goals as goal
 
 pub loop-i-init : goal.loop-i-init

@@ -4,7 +4,7 @@ use Rattle.std.specs.Cmp.Lexicographic.{nat_list_cmp_total}
 use Rattle.std.proofs.lemmas.List.{drop-map}
 use Rattle.mailmap_entries.specs.Folding.{folded, text_cmp}
 use Rattle.mailmap_tables.specs.Groups.{email_key}
-use Rattle.mailmap_tables.proofs.Lookups.{IsParted-from_ascending}
+use Rattle.mailmap_tables.proofs.Lookups.{IsPartitioned-from_ascending}
 use Rattle.mailmap_tables.proofs.Places.{sorted_drop, found_from, missing_from}
 use Rattle.mailmap_entries.proofs.Search.{digits-le}
 use Rattle.mailmap_tables.proofs.search.search_email.Goals as goal
@@ -12,7 +12,7 @@ use Rattle.mailmap_tables.proofs.search.search_email.Goals as goal
 pub search-found-requires-clause-parted : goal.search-found-requires-clause-parted
 search-found-requires-clause-parted c =
     let groups = c.args.tables.now.groups in
-    IsParted-from_ascending nat_list_cmp_total email_key (folded c.args.email.now) (drop c.args.start groups)
+    IsPartitioned-from_ascending nat_list_cmp_total email_key (folded c.args.email.now) (drop c.args.start groups)
     (subst (IsStrictlySortedBy text_cmp) (drop-map email_key c.args.start groups) (sorted_drop text_cmp c.args.start (map email_key groups) c.requires.ascending))
 
 pub returns-in-Ok-clause-found : goal.returns-in-Ok-clause-found

@@ -7,13 +7,13 @@ use Rattle.mailmap_entries.specs.Folding.{folded, text_cmp}
 use Rattle.mailmap_tables.specs.Groups.{name_key, NameGroup}
 use Rattle.mailmap_tables.specs.Places.{IsFound, IsMissing}
 use Rattle.mailmap_tables.specs.Pool.{name_group}
-use Rattle.mailmap_tables.proofs.Lookups.{IsParted-from_ascending}
+use Rattle.mailmap_tables.proofs.Lookups.{IsPartitioned-from_ascending}
 use Rattle.mailmap_tables.proofs.Places.{found_from, missing_from, if_ok, if_missing}
 use Rattle.mailmap_tables.proofs.search.search_name.Goals as goal
 
 pub search-found-requires-clause-parted : goal.search-found-requires-clause-parted
 search-found-requires-clause-parted c =
-    IsParted-from_ascending nat_list_cmp_total name_key (folded c.args.name.now) (map (name_group c.args.tables.now.pool) c.args.names.now) c.requires.ascending
+    IsPartitioned-from_ascending nat_list_cmp_total name_key (folded c.args.name.now) (map (name_group c.args.tables.now.pool) c.args.names.now) c.requires.ascending
 
 pub returns-clause-found : goal.returns-clause-found
 returns-clause-found c =

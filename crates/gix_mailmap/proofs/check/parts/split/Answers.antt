@@ -1,5 +1,5 @@
 use Rattle.std.proofs.Common.{◌+◌, ◌-◌, arith, drop, length, length-drop, refl, rules, subst, sym, take, take_all}
-use Rattle.gix_mailmap.specs.Parts.{IsParted}
+use Rattle.gix_mailmap.specs.Parts.{IsSplit}
 use Rattle.gix_mailmap.proofs.Dividers.{fits, passes, parted, ended}
 use Rattle.gix_mailmap.proofs.check.parts.split.Goals as goal
 
@@ -14,7 +14,7 @@ returns-then-is_divider c =
     let input = c.args.input.now in
     let behind = c.loop-line.place + length c.in-Some.line.now in
     let parts = parted _ _ _ _ _ c.in-Some.ensures.steps c.loop-line.invariant (c.if-is_divider.ensures.0 refl) in
-    subst (IsParted input (take c.loop-line.place input)) (sym (take_all (length input - behind) (drop behind input) (omega (arith, length-drop behind input)))) parts
+    subst (IsSplit input (take c.loop-line.place input)) (sym (take_all (length input - behind) (drop behind input) (omega (arith, length-drop behind input)))) parts
 
 pub loop-line-preserved : goal.loop-line-preserved
 loop-line-preserved c = passes _ _ _ _ _ c.in-Some.ensures.steps c.loop-line.invariant (λ is. let yes = c.if-is_divider.ensures.1 is in cc)

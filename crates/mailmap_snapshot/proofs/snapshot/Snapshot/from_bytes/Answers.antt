@@ -1,6 +1,6 @@
 use Rattle.std.proofs.Common.{◌≡◌, ◌≢◌, ◌∙◌, [], ◌++◌, map, append-nil, sym, ap, subst}
 use Rattle.mailmap_entries.specs.Entries.{mapping_of}
-use Rattle.mailmap_tables.specs.Histories.{IsNormal, accepted}
+use Rattle.mailmap_histories.specs.Histories.{IsNormal, accepted}
 use Rattle.mailmap_grammar.specs.Lines.{good}
 use Rattle.mailmap_snapshot.proofs.Built.{yields_front, accepted_front, if_ok_map, on_err_map}
 use Rattle.mailmap_snapshot.proofs.snapshot.Snapshot.from_bytes.Goals as goal

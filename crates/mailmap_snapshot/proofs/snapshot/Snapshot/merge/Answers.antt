@@ -3,7 +3,7 @@ use Rattle.std.specs.List.{AllByRecursion}
 use Rattle.std.proofs.lemmas.List.{nil_from_length}
 use Rattle.mailmap_entries.specs.Entries.{mapping_of}
 use Rattle.mailmap_tables.specs.Groups.{listing}
-use Rattle.mailmap_tables.specs.Histories.{IsNormal, accepted, is_accepted}
+use Rattle.mailmap_histories.specs.Histories.{IsNormal, accepted, is_accepted}
 use Rattle.mailmap_entries.specs.declared.entry.Entry.{Entry as Item}
 use Rattle.mailmap_snapshot.proofs.Built.{normal_accepted, normal_unchanged, accepted_good}
 use Rattle.mailmap_tables.proofs.Grouped.{groups_normal}

@@ -1,6 +1,6 @@
 use Rattle.std.proofs.Common.{◌<◌, length, length-set, subst, sym, ◌∙◌, arith}
 use Rattle.std.proofs.lemmas.Option.{slice_get_within}
-use Rattle.mailmap_tables.specs.Histories.{IsNormal}
+use Rattle.mailmap_histories.specs.Histories.{IsNormal}
 use Rattle.mailmap_tables.proofs.Grouped.{groups_normal}
 use Rattle.mailmap_snapshot.proofs.Sources.{normal_start, normal_more, marks_more}
 use Rattle.mailmap_snapshot.proofs.snapshot.Snapshot.merge_sources.Goals as goal

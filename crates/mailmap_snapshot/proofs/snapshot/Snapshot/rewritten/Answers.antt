@@ -2,10 +2,10 @@ use Rattle.std.proofs.Common.{◌≡◌, ◌∙◌, ◌++◌, true, map, sym, ap
 use Rattle.std.specs.List.{AllByRecursion}
 use Rattle.mailmap_entries.specs.Entries.{mapping_of}
 use Rattle.mailmap_tables.specs.Groups.{AreGroups, Contents, listing}
-use Rattle.mailmap_tables.specs.Histories.{IsNormal, is_accepted}
+use Rattle.mailmap_histories.specs.Histories.{IsNormal, is_accepted}
 use Rattle.mailmap_snapshot.proofs.Complete.{no_groups}
 use Rattle.mailmap_tables.proofs.Grouped.{groups_accepted, groups_normal}
-use Rattle.mailmap_tables.proofs.Unique.{normal_unique}
+use Rattle.mailmap_histories.proofs.Unique.{normal_unique}
 use Rattle.mailmap_snapshot.proofs.snapshot.Snapshot.rewritten.Goals as goal
 
 pub joined-requires-clause-standing : goal.joined-requires-clause-standing

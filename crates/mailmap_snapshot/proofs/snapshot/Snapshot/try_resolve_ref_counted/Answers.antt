@@ -2,10 +2,10 @@ use Rattle.std.proofs.Common.{◌≡◌, length, sym, ap, ◌∙◌, arith}
 use Rattle.mailmap_tables.specs.Groups.{listing}
 use Rattle.mailmap_entries.specs.Search.{digits}
 use Rattle.mailmap_snapshot.specs.Signatures.{email_count, name_count}
-use Rattle.mailmap_tables.specs.Histories.{scan}
-use Rattle.mailmap_tables.proofs.Alike.{same_scan}
+use Rattle.mailmap_histories.specs.Histories.{scan}
+use Rattle.mailmap_histories.proofs.Alike.{same_scan}
 use Rattle.mailmap_snapshot.proofs.Counts.{email_count-listing}
-use Rattle.mailmap_tables.proofs.Normal.{alike_normal}
+use Rattle.mailmap_histories.proofs.Normal.{alike_normal}
 use Rattle.mailmap_snapshot.proofs.snapshot.Snapshot.try_resolve_ref_counted.Goals as goal
 
 pub returns-clause-history : goal.returns-clause-history

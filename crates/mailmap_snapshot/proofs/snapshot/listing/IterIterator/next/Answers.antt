@@ -1,7 +1,7 @@
 use Rattle.std.proofs.Common.{rules, ◌+◌, ◌++◌, ◌∷◌, length, sym, ap, ap₂, ◌∙◌}
 use Rattle.mailmap_entries.specs.Entries.{mapping_of}
 use Rattle.mailmap_tables.specs.Groups.{Contents}
-use Rattle.mailmap_snapshot.specs.Listings.{left_to_list}
+use Rattle.mailmap_snapshot.specs.Remaining.{left_to_list}
 use Rattle.mailmap_tables.specs.Pool.{spelled}
 use Rattle.mailmap_snapshot.proofs.Listed.{next_email, empty}
 use Rattle.mailmap_snapshot.proofs.snapshot.listing.IterIterator.next.Goals as goal

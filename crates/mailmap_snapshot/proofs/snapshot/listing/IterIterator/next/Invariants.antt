@@ -1,6 +1,6 @@
 use Rattle.std.proofs.Common.{◌≡◌, ◌-◌, length}
 use Rattle.std.specs.List.{AllByRecursion}
-use Rattle.mailmap_snapshot.specs.Listings.{left_to_list}
+use Rattle.mailmap_snapshot.specs.Remaining.{left_to_list}
 use Rattle.mailmap_tables.specs.Pool.{NameLies}
 use Rattle.mailmap_snapshot.proofs.snapshot.listing.IterIterator.next.Given as goal
 

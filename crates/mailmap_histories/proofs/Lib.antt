@@ -1,0 +1,9 @@
+pub mod Alike
+pub mod Ascending
+pub mod Exists
+pub mod Joined
+pub mod Keys
+pub mod Normal
+pub mod Parts
+pub mod Reorder
+pub mod Unique
