@@ -8,7 +8,7 @@ pub use Rattle.mailmap_histories.specs.Histories
 pub use Rattle.mailmap_signatures.specs.Times
 pub use Rattle.mailmap_signatures.specs.SignatureFields
 pub use Rattle.mailmap_snapshot.specs.Signatures
-pub use Rattle.mailmap_snapshot.specs.Listings
+pub use Rattle.mailmap_histories.specs.Listings
 pub use Rattle.mailmap_snapshot.specs.Answers
 pub use Rattle.mailmap_snapshot.specs.Writing
 pub use Rattle.mailmap_snapshot.specs.Sources

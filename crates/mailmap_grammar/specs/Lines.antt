@@ -1,5 +1,6 @@
 -- What the lines of a mailmap say.
 use Rattle.std.specs.List.{AllByRecursion}
+use Rattle.std.specs.Result.{result_ok}
 use Rattle.std.specs.Prelude.{◌≡◌, ◌≢◌, ◌⊎◌, ◌+◌, ◌==◌, ℕ, if◌then◌else◌, Bool, false, Option, Some, None, option_map, option_to_list, Result, Ok, Err, List, [], ◌∷◌, ◌++◌}
 use Rattle.mailmap_entries.specs.declared.entry.Entry.{Entry}
 use Rattle.mailmap_grammar.specs.declared.lines.Error.{Error}
@@ -175,15 +176,10 @@ readings buf = readings_from reading 1 (pieces buf)
 abbrev pub strict_readings : Text → List Reading
 strict_readings buf = readings_from strict_reading 1 (pieces buf)
 
--- the mapping, if the line has no fault
-abbrev pub is_good : Reading → Option Mapping
-is_good (Ok m) = Some m
-is_good (Err f) = None
-
 -- the mappings alone
 unfoldable pub good_of : List Reading → List Mapping
 good_of [] = []
-good_of (r ∷ rs) = option_to_list (is_good r) ++ good_of rs
+good_of (r ∷ rs) = option_to_list (result_ok r) ++ good_of rs
 
 -- what a buffer maps: the mappings of its lines, in order, without the faults
 abbrev pub good : Text → List Mapping

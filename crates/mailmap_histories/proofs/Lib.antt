@@ -7,3 +7,4 @@ pub mod Normal
 pub mod Parts
 pub mod Reorder
 pub mod Unique
+pub mod EqualListings

@@ -10,7 +10,7 @@ use denote.Ref.{Bor}
 use lib.Pointwise.{pointwise}
 use Rattle.mailmap_entries.specs.Entries.{text_writes}
 use Rattle.mailmap_entries.specs.Folding.{Text}
-use Rattle.mailmap_snapshot.specs.Listings.{same_optional}
+use Rattle.mailmap_histories.specs.Listings.{same_optional}
 
 -- ---- `eq` of two iterators
 

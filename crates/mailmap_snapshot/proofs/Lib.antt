@@ -6,4 +6,3 @@ pub mod Compared
 pub mod Left
 pub mod Sources
 pub mod Built
-pub mod EqualListings

@@ -8,7 +8,7 @@ pub use Rattle.mailmap_histories.specs.Histories
 pub use Rattle.mailmap_signatures.specs.Times
 pub use Rattle.mailmap_signatures.specs.SignatureFields
 pub mod Signatures
-pub mod Listings
+pub use Rattle.mailmap_histories.specs.Listings
 pub mod Remaining
 pub mod Answers
 pub mod Writing

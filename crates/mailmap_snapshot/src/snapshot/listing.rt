@@ -146,8 +146,8 @@ impl Snapshot {
 
 impl PartialEq for Snapshot {
     ghost use Rattle.std.specs.Prelude.{◌≡◌, ◌↔◌, IsTrue};
-    ghost use Rattle.mailmap_snapshot.specs.Listings.{same_entries};
-    ghost use Rattle.mailmap_snapshot.proofs.EqualListings.{partly_equal_entries};
+    ghost use Rattle.mailmap_histories.specs.Listings.{same_entries};
+    ghost use Rattle.mailmap_histories.proofs.EqualListings.{partly_equal_entries};
 
     ghost eq = { same_entries };
 
@@ -163,14 +163,14 @@ impl PartialEq for Snapshot {
 }
 
 impl Eq for Snapshot {
-    ghost use Rattle.mailmap_snapshot.proofs.EqualListings.{equal_entries};
+    ghost use Rattle.mailmap_histories.proofs.EqualListings.{equal_entries};
 
     ghost laws = { equal_entries };
 }
 
 impl Hash for Snapshot {
-    ghost use Rattle.mailmap_snapshot.specs.Listings.{entries_hashed};
-    ghost use Rattle.mailmap_snapshot.proofs.EqualListings.{equal_hashes};
+    ghost use Rattle.mailmap_histories.specs.Listings.{entries_hashed};
+    ghost use Rattle.mailmap_histories.proofs.EqualListings.{equal_hashes};
 
     ghost hash_input = { entries_hashed };
 

@@ -6,7 +6,7 @@ use Rattle.std.specs.Prelude.{nat_eq}
 use lib.Pointwise.{pointwise, pointwise_decides, bytes_decides}
 use Rattle.mailmap_entries.specs.Entries.{Mapping}
 use Rattle.mailmap_entries.specs.Folding.{Text}
-use Rattle.mailmap_snapshot.specs.Listings.{same_optional, same_entry, same_entries, entries_hashed}
+use Rattle.mailmap_histories.specs.Listings.{same_optional, same_entry, same_entries, entries_hashed}
 
 -- ---- equality decides sameness
 
