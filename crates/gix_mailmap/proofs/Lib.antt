@@ -1,4 +1,3 @@
-pub mod LineFeeds
 pub mod WhiteEnds
 pub mod WritableLines
 pub mod WritableValues
@@ -9,3 +8,4 @@ pub mod Drained
 pub mod Compacted
 pub mod Contacts
 pub mod Dividers
+pub mod ContactLines

@@ -6,7 +6,7 @@ use Rattle.mailmap_entries.specs.Folding.{Text}
 use Rattle.mailmap_grammar.specs.Lines.{Reading, Half, Absent, Unclosed, Closed, HoldsNo, cut, trimmed_half, non_empty, two_halves, first_half, line_reading, is_comment, unless_blank, reading, readings_from, pieces, good_of, good}
 use Rattle.mailmap_grammar.specs.Trimming.{trim}
 use Rattle.mailmap_grammar.proofs.Cut.{closed-cut}
-use Rattle.gix_mailmap.proofs.LineFeeds.{pieces-hold_no}
+use Rattle.mailmap_grammar.proofs.LineFeeds.{pieces-hold_no}
 use Rattle.mailmap_histories.proofs.Parts.{all_front, all_back, all_append}
 use Rattle.gix_mailmap.proofs.WhiteEnds.{trim-trim, HoldsNo-trim}
 

@@ -7,7 +7,7 @@ use Rattle.mailmap_entries.specs.Entries.{Mapping}
 use Rattle.mailmap_entries.specs.Folding.{Text}
 use Rattle.mailmap_histories.specs.Histories.{IsNormal, is_accepted}
 use Rattle.mailmap_grammar.specs.Lines.{Reading, reading, strict_reading, readings_from, pieces, readings, strict_readings, good, good_of}
-use Rattle.gix_mailmap.proofs.LineFeeds.{pieces-line}
+use Rattle.mailmap_grammar.proofs.LineFeeds.{pieces-line}
 use Rattle.mailmap_histories.proofs.Normal.{all_good}
 use Rattle.gix_mailmap.proofs.WrittenLine.{body, line-then, one_line, reading-line, strict_reading-line}
 

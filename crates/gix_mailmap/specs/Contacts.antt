@@ -1,10 +1,10 @@
 -- What contact lines are answered.
-use Rattle.std.specs.Prelude.{◌==◌, Bool, false, ◌&&◌, if◌then◌else◌, List, [], ◌∷◌, ◌++◌, unwrap_or}
-use Rattle.std.specs.List.{flat_map}
+use Rattle.std.specs.Prelude.{◌≡◌, ◌≢◌, ◌⊎◌, ◌==◌, Bool, false, ◌&&◌, if◌then◌else◌, List, [], ◌∷◌, ◌++◌, unwrap_or}
+use Rattle.std.specs.List.{AllByRecursion, AllZip, flat_map}
 use Rattle.mailmap_entries.specs.Entries.{Mapping}
 use Rattle.mailmap_entries.specs.Folding.{Text}
 use Rattle.mailmap_histories.specs.Histories.{Fields, fields_for}
-use Rattle.mailmap_grammar.specs.Lines.{Half, Absent, Unclosed, Closed, cut, good, trimmed_half, with_first}
+use Rattle.mailmap_grammar.specs.Lines.{Half, Absent, Unclosed, Closed, cut, good, trimmed_half, with_first, fed, HoldsNo}
 use Rattle.mailmap_grammar.specs.Trimming.{trim}
 
 -- a line feed comes next
@@ -17,6 +17,19 @@ feeds (b ∷ s) = b == 10
 unfoldable pub lines : Text → List Text
 lines [] = []
 lines (b ∷ s) = if b == 10 then [] ∷ lines s else if b == 13 && feeds s then lines s else with_first b (lines s)
+
+-- the line is the piece without the one carriage return that may end it
+abbrev pub IsBare : Text → Text → Type 0
+IsBare piece line = (piece ≡ line ++ 13 ∷ []) ⊎ ((piece ≡ line) × ((front : Text) → line ≡ front ++ 13 ∷ [] → ⊥))
+
+-- ls are the lines of s: the pieces that a line feed ends, each without its carriage return, and behind them the last piece as
+-- it stands, if no line feed ends it
+pub record AreLines (s : Text) (ls : List Text) : Type 0 where
+  pub ended : List Text
+  pub bare : List Text
+  pub each : AllZip IsBare ended bare
+  pub no_feed : AllByRecursion (HoldsNo 10) ended
+  pub whole : ((s ≡ fed ended) × (ls ≡ bare)) ⊎ ((last : Text) × (last ≢ []) × HoldsNo 10 last × (s ≡ fed ended ++ last) × (ls ≡ bare ++ last ∷ []))
 
 -- a name and an email as a contact line; without a blank where the name is empty
 abbrev pub contact : Text → Text → Text

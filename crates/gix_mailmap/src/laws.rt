@@ -1,18 +1,28 @@
 //! Laws of the definitions. Each function runs nothing: its contract is the law.
-ghost use Rattle.std.specs.Prelude.{◌≡◌};
+ghost use Rattle.std.specs.Prelude.{◌≡◌, ◌↔◌, List};
 ghost use Rattle.mailmap_entries.specs.Folding.{Text};
+ghost use Rattle.gix_mailmap.specs.Contacts.{AreLines, lines};
 ghost use Rattle.gix_mailmap.specs.Parts.{IsSplit};
 
 mod text;
 
-pub use mailmap_grammar::laws::{law_cut, law_reading, law_strict_reading, law_trim};
+pub use mailmap_grammar::laws::{
+    law_cut, law_pieces, law_reading, law_strict_reading, law_trim,
+};
 pub use mailmap_signatures::laws::law_time;
 pub use mailmap_histories::laws::{
-    law_condense, law_exists, law_reorder, law_scan, law_self, law_shortest, law_unique,
+    law_condense, law_equal, law_exists, law_headline, law_neighbours, law_of_email, law_one_email,
+    law_own_entries, law_reorder, law_repeated, law_scan, law_self, law_shortest, law_unique,
 };
 pub use text::{law_strict, law_text};
 
 /// An input is parted in one way.
 pub fn law_parts()
     ensures { (input p r q s : Text) → IsSplit input p r → IsSplit input q s → (p ≡ q) × (r ≡ s) }
+{}
+
+/// The lines of contacts are the pieces between line feeds, without the one carriage return that may stand before a line
+/// feed; the last piece, if no line feed ends it, is a line as it stands.
+pub fn law_lines()
+    ensures { (s : Text) (ls : List Text) → (lines s ≡ ls) ↔ AreLines s ls }
 {}

@@ -7,3 +7,4 @@ pub mod Rising
 pub mod SplitOnce
 pub mod Trimmed
 mod Whole
+pub mod LineFeeds

@@ -1,5 +1,5 @@
 -- What the lines of a mailmap say.
-use Rattle.std.specs.List.{AllByRecursion}
+use Rattle.std.specs.List.{AllByRecursion, flat_map}
 use Rattle.std.specs.Result.{result_ok}
 use Rattle.std.specs.Prelude.{◌≡◌, ◌≢◌, ◌⊎◌, ◌+◌, ◌==◌, ℕ, if◌then◌else◌, Bool, false, Option, Some, None, option_map, option_to_list, Result, Ok, Err, List, [], ◌∷◌, ◌++◌}
 use Rattle.mailmap_entries.specs.declared.entry.Entry.{Entry}
@@ -168,6 +168,10 @@ unfoldable pub pieces : Text → List Text
 pieces [] = []
 pieces (b ∷ s) = if b == 10 then [] ∷ pieces s else with_first b (pieces s)
 
+-- lines, each with a line feed behind it
+abbrev pub fed : List Text → Text
+fed ls = flat_map (λ l. l ++ 10 ∷ []) ls
+
 -- what a buffer says: its lines are numbered from 1, comments and blank lines too
 abbrev pub readings : Text → List Reading
 readings buf = readings_from reading 1 (pieces buf)
@@ -188,6 +192,12 @@ good buf = good_of (readings buf)
 -- no number of the text is b
 abbrev pub HoldsNo : ℕ → Text → Type 0
 HoldsNo b = AllByRecursion (λ x. x ≢ b)
+
+-- ls are the lines of s: none holds a line feed, and with their line feeds they are s; the last one, if it is not empty, may
+-- have none
+pub record ArePieces (s : Text) (ls : List Text) : Type 0 where
+  pub no_feed : AllByRecursion (HoldsNo 10) ls
+  pub whole : (s ≡ fed ls) ⊎ ((front : List Text) × (last : Text) × (ls ≡ front ++ last ∷ []) × (last ≢ []) × (s ≡ fed front ++ last))
 
 -- s is a, `<`, b, `>` and c, where the `<` is the first one, and the `>` the first one behind it
 pub record IsCut (s a b c : Text) : Type 0 where

@@ -1,7 +1,7 @@
 //! Laws of the definitions. Each function runs nothing: its contract is the law.
-ghost use Rattle.std.specs.Prelude.{◌≡◌, ◌↔◌, ℕ, Option};
+ghost use Rattle.std.specs.Prelude.{◌≡◌, ◌↔◌, ℕ, List, Option};
 ghost use Rattle.mailmap_entries.specs.Folding.{Text};
-ghost use Rattle.mailmap_grammar.specs.Lines.{cut, Closed, Unclosed, Absent, IsCut, IsUnclosed, HoldsNo, Reading, reading, strict_reading, IsRead, IsReadStrictly};
+ghost use Rattle.mailmap_grammar.specs.Lines.{cut, Closed, Unclosed, Absent, IsCut, IsUnclosed, HoldsNo, Reading, reading, strict_reading, IsRead, IsReadStrictly, pieces, ArePieces};
 ghost use Rattle.mailmap_grammar.specs.Trimming.{IsTrimmed, trim};
 
 /// Trimming takes the longest front and then the longest end of white space away, and that is one text.
@@ -25,4 +25,9 @@ pub fn law_reading()
 /// Strict reading has one case more: a second half whose `<` has no `>`.
 pub fn law_strict_reading()
     ensures { (n : ℕ) (line : Text) (o : Option Reading) → (strict_reading n line ≡ o) ↔ IsReadStrictly n line o }
+{}
+
+/// The lines of a buffer hold no line feed, and put together again they are the buffer.
+pub fn law_pieces()
+    ensures { (s : Text) (ls : List Text) → (pieces s ≡ ls) ↔ ArePieces s ls }
 {}

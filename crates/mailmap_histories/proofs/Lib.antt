@@ -8,3 +8,5 @@ pub mod Parts
 pub mod Reorder
 pub mod Unique
 pub mod EqualListings
+pub mod Building
+pub mod Shortest

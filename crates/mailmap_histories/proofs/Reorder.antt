@@ -16,10 +16,10 @@ both_equal Equal b = refl
 both_equal Greater b = refl
 
 -- a key's entries are those of its email with its name
-of_name : Option Text → List Mapping → List Mapping
+pub of_name : Option Text → List Mapping → List Mapping
 of_name name = filter (λ e. eq_by_cmp (option_cmp text_cmp) name (key e).1)
 
-by_email : (h : List Mapping) (k : Key) → of_key h k ≡ of_name k.1 (of_email h k.0)
+pub by_email : (h : List Mapping) (k : Key) → of_key h k ≡ of_name k.1 (of_email h k.0)
 unfolding of_name
 by_email h k =
     filter_agree (λ e. eq_by_cmp key_cmp k (key e)) _ (λ e. both_equal (text_cmp k.0 (key e).0) (option_cmp text_cmp k.1 (key e).1)) (accepted h)

@@ -9,22 +9,6 @@ use Rattle.mailmap_histories.specs.Histories.{IsNormal, accepted, is_accepted}
 use Rattle.mailmap_histories.proofs.Alike.{same_normal, alike_accepted}
 use Rattle.mailmap_histories.proofs.Parts.{filter_all}
 
-accepted_twice : (xs : List Mapping) → accepted (accepted xs) ≡ accepted xs
-accepted_twice xs = filter_all is_accepted (accepted xs) (recursion_from_All _ (accepted xs) (filter_passes is_accepted xs))
-
--- only the accepted entries count
-pub normal_accepted : (a xs n : List Mapping) → IsNormal (a ++ accepted xs) n → IsNormal (a ++ xs) n
-normal_accepted a xs n =
-    same_normal (a ++ accepted xs) (a ++ xs) n (alike_accepted (a ++ accepted xs) (a ++ xs)
-    (filter-append is_accepted a (accepted xs) ∙ ap (λ l. accepted a ++ l) (accepted_twice xs) ∙ sym (filter-append is_accepted a xs)))
-
--- where nothing is accepted nothing changes
-pub normal_unchanged : (a xs : List Mapping) → accepted xs ≡ [] → IsNormal a a → IsNormal (a ++ xs) a
-normal_unchanged a xs none d = normal_accepted a xs a (subst (λ l. IsNormal (a ++ l) a) (sym none) (subst (λ l. IsNormal l a) (sym (append-nil a)) d))
-
-pub accepted_good : (xs : List Mapping) → AllByRecursion (λ m. is_accepted m ≡ true) (accepted xs)
-accepted_good xs = recursion_from_All _ (accepted xs) (filter_passes is_accepted xs)
-
 -- ---- an iterator over a list
 
 pub yields_front : {S A B : Type 0} (v : A → B) (rest : S → List B) (xs : List A) (s t : S) → Yields (YieldsFirstBy v rest) s xs t → rest s ≡ map v xs ++ rest t

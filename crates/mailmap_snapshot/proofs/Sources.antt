@@ -1,6 +1,6 @@
 -- What merging an iterator says where it is known which entries it gives, and the history of sources step by step.
-use Rattle.std.proofs.Common.{◌≡◌, ◌≢◌, ◌+◌, ◌<◌, ℕ, Bool, true, cond, Option, Some, List, [], ◌∷◌, ◌++◌, map, take, drop, length, get_or, Result, Ok, Err, OnOk, OnErr, is_ok, set, slice_get, Bor, ⊎_elim, append-nil, length-set, length-take-le, refl, sym, ap, subst, ◌∙◌, arith, append_assoc, take-append-drop}
-use Rattle.std.specs.List.{flat_map}
+use Rattle.std.proofs.Common.{◌≡◌, ◌≢◌, ◌+◌, ◌<◌, ℕ, Bool, true, false, cond, Option, Some, List, [], ◌∷◌, ◌++◌, map, take, drop, length, get_or, Result, Ok, Err, OnOk, OnErr, is_ok, set, slice_get, Bor, ⊎_elim, append-nil, length-set, length-take-le, refl, sym, ap, ap₂, subst, ◌∙◌, arith, append_assoc, take-append-drop, take_all, ◌≤◌}
+use Rattle.std.specs.List.{AllByRecursion, flat_map}
 use Rattle.std.specs.Iterator.{Drains, Yields}
 use Rattle.std.proofs.lemmas.Iterator.{YieldsList, items_from_drains}
 use Rattle.std.proofs.lemmas.Iterator.Consumers.{YieldsList-so_far}
@@ -10,14 +10,14 @@ use Rattle.std.proofs.lemmas.List.{take_more, take_more_set, take-map, map-id, m
 use Rattle.std.proofs.lemmas.Option.{slice_get_read, get_or_from_slice_get}
 use Rattle.std.proofs.lemmas.List.Elements.{filter-append}
 use Rattle.mailmap_entries.specs.Entries.{Mapping, mapping_of}
+use Rattle.mailmap_histories.specs.Building.{IsMerged}
+use Rattle.mailmap_histories.proofs.Building.{is_merged}
 use Rattle.mailmap_histories.specs.Histories.{IsNormal, accepted, is_accepted}
 use Rattle.mailmap_entries.specs.Folding.{Text}
 use Rattle.mailmap_grammar.specs.Lines.{good}
 use Rattle.mailmap_snapshot.specs.Sources.{history, said_by}
 use Rattle.mailmap_entries.specs.declared.entry.Entry.{Entry}
 use Rattle.mailmap_snapshot.specs.declared.snapshot.sources.Source.{Source}
-use Rattle.mailmap_histories.proofs.Exists.{normal, is_normal}
-use Rattle.mailmap_histories.proofs.Normal.{normal_then, normal_nothing}
 
 -- the entries that an iterator gives say this list
 pub record Gives {S : Type 0} (steps : S → Option Entry → S → Type 0) (s : S) (said : List Mapping) : Type 0 where
@@ -47,11 +47,11 @@ front_ignored : (n : ℕ) (l : List Mapping) → accepted l ≡ [] → accepted 
 front_ignored n l none = front_none _ _ (sym (filter-append is_accepted (take n l) (drop n l)) ∙ ap accepted (take-append-drop n l) ∙ none)
 
 module _ {S : Type 0} {steps : S → Option Entry → S → Type 0} {s : S} {said : List Mapping} (gives : Gives steps s said) where
-  pub merged_whole : (old new : List Mapping) → ((xs : List Entry) × Drains steps s xs × IsNormal (old ++ map mapping_of xs) new) → IsNormal (old ++ said) new
-  merged_whole old new m = subst (λ l. IsNormal (old ++ l) new) (gives.whole m.0 m.1) m.2
+  pub merged_whole : (old new : List Mapping) → ((xs : List Entry) × Drains steps s xs × IsMerged old (map mapping_of xs) new) → IsMerged old said new
+  merged_whole old new m = subst (λ l. IsMerged old l new) (gives.whole m.0 m.1) m.2
 
 module _ {S E : Type 0} {steps : S → Option Entry → S → Type 0} {s : S} {said : List Mapping} (gives : Gives steps s said) where
-  pub merged_all : (r : Result (Unit {0}) E) (old new : List Mapping) → OnOk r ((xs : List Entry) × Drains steps s xs × IsNormal (old ++ map mapping_of xs) new) → OnOk r (IsNormal (old ++ said) new)
+  pub merged_all : (r : Result (Unit {0}) E) (old new : List Mapping) → OnOk r ((xs : List Entry) × Drains steps s xs × IsMerged old (map mapping_of xs) new) → OnOk r (IsMerged old said new)
   merged_all (Ok u) old new m = merged_whole gives old new m
   merged_all (Err e) old new m = tt
 
@@ -74,13 +74,9 @@ pub normal_start : (n : List Mapping) → IsNormal n n → IsNormal (n ++ histor
 unfolding history
 normal_start n d = subst (λ l. IsNormal l n) (sym (append-nil n)) d
 
--- nothing is the normal list of nothing
-pub normal_none : IsNormal [] []
-normal_none = subst (IsNormal []) (normal_nothing [] (normal []) refl (is_normal [])) (is_normal [])
-
 -- a merge of one more source is in the history if it was made, and changed nothing else
-merged_next : (h n m : List Mapping) (s : Source) (r : Result (Unit {0}) AllocError) → IsNormal h n → OnOk r (IsNormal (n ++ said_by s) m) → OnErr r (m ≡ n) → IsNormal (h ++ cond (is_ok r) (said_by s) []) m
-merged_next h n m s (Ok u) d ok err = normal_then h n (said_by s) m d ok
+merged_next : (h n m : List Mapping) (s : Source) (r : Result (Unit {0}) AllocError) → IsNormal h n → OnOk r (IsMerged n (said_by s) m) → OnErr r (m ≡ n) → IsNormal (h ++ cond (is_ok r) (said_by s) []) m
+merged_next h n m s (Ok u) d ok err = ok.history h d
 merged_next h n m s (Err e) d ok err = subst (λ l. IsNormal l m) (sym (append-nil h)) (subst (IsNormal h) (sym err) d)
 
 -- no merge of a source without an accepted entry is refused
@@ -93,7 +89,7 @@ abbrev pub MarksIdle : List Source → List Bool → ℕ → Type 0
 MarksIdle ss ms i = (k : ℕ) (s : Source) → k < i → slice_get ss k ≡ Some s → accepted (said_by s) ≡ [] → slice_get ms k ≡ Some true
 
 module _ (ss : List Source) (ms : List Bool) (i : ℕ) (s : Source) (r : Result (Unit {0}) AllocError) (b : Bool) (is : b ≡ is_ok r) (within : i < length ss) (same : length ms ≡ length ss) (here : s ≡ get_or ss i s) where
-  pub normal_more : (h n m : List Mapping) → IsNormal (h ++ history (take i ss) (take i ms)) n → OnOk r (IsNormal (n ++ said_by s) m) → OnErr r (m ≡ n)
+  pub normal_more : (h n m : List Mapping) → IsNormal (h ++ history (take i ss) (take i ms)) n → OnOk r (IsMerged n (said_by s) m) → OnErr r (m ≡ n)
       → IsNormal (h ++ history (take (i + 1) ss) (take (i + 1) (set ms i b))) m
   normal_more h n m d ok err =
       let sources : take (i + 1) ss ≡ take i ss ++ s ∷ [] = take_more ss i s within ∙ ap (λ x. take i ss ++ x ∷ []) (sym here) in
@@ -116,6 +112,20 @@ module _ (ss : List Source) (ms : List Bool) (i : ℕ) (s : Source) (r : Result 
       slice_get_read (set ms i b) (length (set ms i b)) k true refl (omega (arith, same, length-set ms i b))
       (sym (get_or-set_other ms i k b true other ∙ get_or_from_slice_get ms k true true (before k x low at none))))
       (cases_eq k i)
+
+-- the merges of all sources
+pub sources_merged : (ss : List Source) (ms : List Bool) (i : ℕ) (old new : List Mapping) → length ss ≤ i → length ms ≡ length ss → IsNormal old old
+    → IsNormal (old ++ history (take i ss) (take i ms)) new → IsMerged old (history ss ms) new
+sources_merged ss ms i old new all same own d =
+    let whole : history (take i ss) (take i ms) ≡ history ss ms = ap₂ history (take_all i ss all) (take_all i ms (omega (arith, same))) in
+    is_merged old (history ss ms) new own (subst (λ l. IsNormal (old ++ l) new) whole d)
+
+-- where none is marked as made, nothing is said
+pub none_said : (ss : List Source) (ms : List Bool) → AllByRecursion (λ m. m ≡ false) ms → history ss ms ≡ []
+unfolding history
+none_said [] ms none = refl
+none_said (s ∷ ss) [] none = refl
+none_said (s ∷ ss) (m ∷ ms) none = ap (λ b. cond b (said_by s) [] ++ history ss ms) none.0 ∙ none_said ss ms none.1
 
 -- ---- buffers
 

@@ -5,6 +5,7 @@ pub use Rattle.mailmap_grammar.specs.Trimming
 pub use Rattle.mailmap_grammar.specs.Lines
 pub use Rattle.mailmap_grammar.specs.CanonicalText
 pub use Rattle.mailmap_histories.specs.Histories
+pub use Rattle.mailmap_histories.specs.Building
 pub use Rattle.mailmap_signatures.specs.Times
 pub use Rattle.mailmap_signatures.specs.SignatureFields
 pub mod Signatures

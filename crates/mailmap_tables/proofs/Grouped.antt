@@ -16,6 +16,7 @@ use Rattle.std.proofs.lemmas.Map.Lookups.{exact_bytes}
 use Rattle.mailmap_entries.specs.Entries.{Mapping}
 use Rattle.mailmap_entries.specs.Folding.{Text, folded, text_cmp}
 use Rattle.mailmap_tables.specs.Groups.{NameGroup, EmailGroup, IsGroup, AreGroups, email_key, name_key, name_fields, name_row, own_rows, rows, listing}
+use Rattle.mailmap_histories.specs.Building.{IsListing, IsPaired}
 use Rattle.mailmap_histories.specs.Histories.{Fields, key, key_cmp, first, last, last_given, is_accepted, accepted, of_key, has_key, given_fields, last_fields, new_fields, no_fields, mapping_with, spelling, value, answered, scan, IsNormal}
 use Rattle.mailmap_histories.proofs.Alike.{Alike, alike_back, same_normal, picked-append}
 use Rattle.mailmap_histories.proofs.Ascending.{before, behind}
@@ -254,6 +255,14 @@ listing_spelled gs are = go [] gs refl
 -- the entries of groups are normal for themselves
 pub groups_normal : (gs : List EmailGroup) → AreGroups gs → IsNormal (listing gs) (listing gs)
 groups_normal gs are = self_normal (listing gs) (listing_sorted gs are.ascending are.each) (groups_accepted gs) (listing_spelled gs are)
+
+-- what they list is so, and each old name in it has a new email
+pub groups_listing : (gs : List EmailGroup) → AreGroups gs → IsListing (listing gs)
+groups_listing gs are = record { own = groups_normal gs are; paired = All-from_recursion IsPaired (listing gs) (listing_all IsPaired gs (each gs)) }
+  where
+    each : (xs : List EmailGroup) → AllByRecursion (λ g. AllByRecursion IsPaired (rows g)) xs
+    each [] = tt
+    each (g ∷ xs) = (all_append IsPaired (own_rows g) (map (name_row g.old_email) g.names) (own_all IsPaired g (λ _ named. absurd (true≢false (sym named)))) (all_rows IsPaired g.old_email g.names (λ n _. refl)), each xs)
 
 -- groups whose entries are alike a history are its normal list
 pub normal_of_groups : (h : List Mapping) (gs : List EmailGroup) → AreGroups gs → Alike h (listing gs) → IsNormal h (listing gs)

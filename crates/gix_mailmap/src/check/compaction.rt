@@ -16,7 +16,8 @@ pub fn compact(alloc: Global, buffers: &[&[u8]]) -> Result<Vec<u8>, AllocError>
     // the text of the normal list of what the buffers say
     ensures { IfOk result (λ v. IsCompacted (map (λ b. b.now) buffers.now) v.items) }
 {
-    match merged(alloc, buffers)?.write(alloc) {
+    let snapshot = merged(alloc, buffers)?;
+    match snapshot.write(alloc) {
         Ok(written) => Ok(written),
         Err(WriteError::Memory(error)) => Err(error),
         // a line can hold each entry that was read from one

@@ -1,7 +1,8 @@
 //! Making snapshots, and merging entries into them.
-ghost use Rattle.std.specs.Prelude.{◌≡◌, ◌≢◌, [], ◌++◌, List, map, IfOk, OnOk, OnErr};
+ghost use Rattle.std.specs.Prelude.{◌≡◌, ◌≢◌, [], List, map, IfOk, OnOk, OnErr};
 ghost use Rattle.std.specs.Iterator.{IsFinite, Drains, Yields};
 ghost use Rattle.mailmap_entries.specs.Entries.{mapping_of};
+ghost use Rattle.mailmap_histories.specs.Building.{IsMerged};
 ghost use Rattle.mailmap_histories.specs.Histories.{IsNormal, accepted};
 ghost use Rattle.mailmap_grammar.specs.Lines.{good};
 ghost use Rattle.mailmap_entries.specs.declared.entry.Entry.{Entry as Item};
@@ -47,7 +48,9 @@ impl Snapshot {
     ) -> Result<(), AllocError>
         requires can { I.can_next entries }
         requires finite { IsFinite (I.remaining entries) }
-        ensures ok { OnOk result ((xs : List Item) × Drains I.next_gives entries xs × IsNormal (self.old ++ map mapping_of xs) self.new) }
+        // The entries of `entries` come behind those that were listed, and behind any history that the snapshot stood for.
+        // Where none of them is accepted nothing changes.
+        ensures ok { OnOk result ((xs : List Item) × Drains I.next_gives entries xs × IsMerged self.old (map mapping_of xs) self.new) }
         ensures err { OnErr result (self.new ≡ self.old) }
 
         // Memory is asked for only once an entry is accepted.

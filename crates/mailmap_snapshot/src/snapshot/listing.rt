@@ -4,6 +4,7 @@ ghost use Rattle.std.specs.Iterator.{YieldsFirstBy, item_count};
 ghost use Rattle.std.specs.List.{AllByRecursion};
 ghost use Rattle.std.specs.Option.{option_to_list};
 ghost use Rattle.mailmap_entries.specs.Entries.{mapping_of};
+ghost use Rattle.mailmap_histories.specs.Building.{IsListing};
 ghost use Rattle.mailmap_tables.specs.Groups.{listing, name_row, own_rows};
 ghost use Rattle.mailmap_snapshot.specs.Remaining.{left_to_list};
 ghost use Rattle.mailmap_tables.specs.Pool.{EmailLies, NameLies, group_of, name_group};
@@ -122,14 +123,20 @@ impl Snapshot {
     /// ASCII letters, an email's own entry first. All entries of an email have its kept spelling. They lend their texts
     /// from the snapshot. It takes no memory.
     pub fn iter(&self) -> Iter<'_>
-        ensures { result ≡ self.now }
+        ensures listing { result ≡ self.now }
+
+        // whatever was merged, what a snapshot lists is its own normal list
+        ensures own { IsListing self.now }
     {
         Iter::new(&self.tables)
     }
 
     /// The entries of [`iter`](Snapshot::iter()) in a vector. `Err` where memory is refused.
     pub fn entries(&self, alloc: Global) -> Result<Vec<Entry<'_>>, AllocError>
-        ensures { IfOk result (λ v. map mapping_of v.items ≡ self.now) }
+        ensures listing { IfOk result (λ v. map mapping_of v.items ≡ self.now) }
+
+        // whatever was merged, what a snapshot lists is its own normal list
+        ensures own { IsListing self.now }
     {
         self.iter().collect(alloc)
     }

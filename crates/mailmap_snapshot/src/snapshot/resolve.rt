@@ -1,5 +1,6 @@
 //! Signatures with their mapped names and emails in place, owned or copied on write.
-ghost use Rattle.std.specs.Prelude.{◌≡◌, ◌↔◌, List, IsSome, IfOk, IfSome, OnErr};
+ghost use Rattle.std.specs.Prelude.{◌≡◌, ◌↔◌, ◌||◌, List, IsSome, IsTrue, is_some, IfOk, IfSome, OnErr};
+ghost use Rattle.std.specs.Cow.{cow_slice_items, IsOwnedSlice};
 ghost use Rattle.mailmap_signatures.specs.SignatureFields.{owned_fields, cow_fields};
 ghost use Rattle.mailmap_snapshot.specs.Answers.{mapped, IsResolved, OwnsMapped, IsEnriched, OwnsJust};
 ghost use Rattle.mailmap_entries.specs.Entries.{Mapping};
@@ -112,21 +113,42 @@ impl Snapshot {
     }
 }
 
-/// The signature with copies of the fields that a lookup found in the place of its own.
+/// The signature with copies of the fields that a lookup found in the place of its own. A lookup finds one of them at
+/// least.
 fn enriched_signature<'a>(
     alloc: Global,
     signature: SignatureRef<'a>,
     new: ResolvedSignature<'_>,
 ) -> Result<Signature<'a>, AllocError>
+    requires { IsTrue (is_some new.name || is_some new.email) }
     ensures fields { IfOk result (λ s. IsEnriched (shown new.entry) signature.entry (cow_fields s)) }
     ensures owned { IfOk result (OwnsJust (shown new.entry)) }
 {
-    let mut enriched = Signature::from(signature);
-    if let Some(new_name) = new.name {
-        enriched.name = CowSlice::Owned(Vec::from_slice(alloc, new_name)?);
+    let Signature { name, email, time } = signature.into();
+    match (new.email, new.name) {
+        (Some(new_email), Some(new_name)) => Ok(Signature {
+            email: owned(alloc, new_email)?,
+            name: owned(alloc, new_name)?,
+            time,
+        }),
+        (Some(new_email), None) => Ok(Signature {
+            email: owned(alloc, new_email)?,
+            name,
+            time,
+        }),
+        (None, Some(new_name)) => Ok(Signature {
+            email,
+            name: owned(alloc, new_name)?,
+            time,
+        }),
+        (None, None) => unreachable!(),
     }
-    if let Some(new_email) = new.email {
-        enriched.email = CowSlice::Owned(Vec::from_slice(alloc, new_email)?);
-    }
-    Ok(enriched)
+}
+
+// A copy of a text.
+fn owned<'a>(alloc: Global, text: &[u8]) -> Result<CowSlice<'a, u8>, AllocError>
+    ensures items { IfOk result (λ copy. cow_slice_items copy ≡ text.now) }
+    ensures owned { IfOk result IsOwnedSlice }
+{
+    Ok(CowSlice::Owned(Vec::from_slice(alloc, text)?))
 }

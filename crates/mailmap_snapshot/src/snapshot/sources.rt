@@ -1,6 +1,8 @@
 //! Merging from several sources, where want of memory skips a source and is told.
-ghost use Rattle.std.specs.Prelude.{◌≡◌, ◌≢◌, ℕ, [], ◌++◌, Some, true, length, slice_get, OnOk, OnErr};
-ghost use Rattle.mailmap_histories.specs.Histories.{IsNormal, accepted};
+ghost use Rattle.std.specs.Prelude.{◌≡◌, ◌≢◌, ℕ, [], Some, true, false, length, slice_get, OnOk, OnErr};
+ghost use Rattle.std.specs.List.{All};
+ghost use Rattle.mailmap_histories.specs.Building.{IsMerged};
+ghost use Rattle.mailmap_histories.specs.Histories.{accepted};
 ghost use Rattle.mailmap_snapshot.specs.Sources.{history, said_by};
 ghost use Rattle.mailmap_snapshot.specs.declared.snapshot.sources.Source.{Source as Said};
 
@@ -23,7 +25,10 @@ impl Snapshot {
     /// it was merged. Where memory was refused, that source changed nothing, and the next one is merged all the same.
     pub fn merge_sources(&mut self, sources: &[Source<'_>], made: &mut [bool])
         requires { length sources.now ≡ length made.old }
-        ensures normal { IsNormal (self.old ++ history sources.now made.new) self.new }
+        // What the sources say that are marked as made comes behind what was listed, and behind any history that the
+        // snapshot stood for. Where none of it is accepted nothing changes.
+        ensures merged { IsMerged self.old (history sources.now made.new) self.new }
+        ensures none_made { All (λ is_made. is_made ≡ false) made.new → self.new ≡ self.old }
 
         // A source without an accepted entry asks for no memory, so it is always made.
         ensures unrefused { (i : ℕ) (s : Said) → slice_get sources.now i ≡ Some s → accepted (said_by s) ≡ [] → slice_get made.new i ≡ Some true }
@@ -38,7 +43,7 @@ impl Snapshot {
 
     // Merges one source.
     fn merge_source(&mut self, source: &Source<'_>) -> Result<(), AllocError>
-        ensures ok { OnOk result (IsNormal (self.old ++ said_by source.now) self.new) }
+        ensures ok { OnOk result (IsMerged self.old (said_by source.now) self.new) }
         ensures err { OnErr result (self.new ≡ self.old) }
         ensures refused { OnErr result (accepted (said_by source.now) ≢ []) }
     {

@@ -2,6 +2,7 @@
 ghost use Rattle.std.specs.Prelude.{◌≡◌, ◌≤◌, ◌^◌, length, IfOk, IfErr, OnOk, MatchOption};
 ghost use Rattle.std.specs.List.{All};
 ghost use Rattle.mailmap_grammar.specs.CanonicalText.{IsWritable, text};
+ghost use Rattle.mailmap_histories.specs.Building.{IsListing};
 ghost use Rattle.mailmap_snapshot.specs.Writing.{IsFirstUnwritable, IsUnwrittenBy};
 
 use crate::snapshot::Snapshot;
@@ -49,12 +50,16 @@ impl Snapshot {
 
         // The first entry that no line can hold is named, and want of memory only where there is none.
         ensures err { IfErr result (IsUnwrittenBy self.now) }
+
+        // whatever was merged, what a snapshot lists is its own normal list, so its text reads back to it
+        ensures own { IsListing self.now }
     {
+        let entries = self.iter();
         if let Some(place) = self.first_unwritable() {
             return Err(WriteError::Unwritable { place });
         }
         let mut out = Vec::with_capacity(alloc, self.text_len().ok_or(AllocError)?)?;
-        for entry in self.iter() {
+        for entry in entries {
             push_line(&mut out, &entry)?;
         }
         Ok(out)

@@ -5,7 +5,7 @@ use Rattle.mailmap_entries.specs.Entries.{mapping_of}
 use Rattle.mailmap_tables.specs.Groups.{listing}
 use Rattle.mailmap_histories.specs.Histories.{IsNormal, accepted, is_accepted}
 use Rattle.mailmap_entries.specs.declared.entry.Entry.{Entry as Item}
-use Rattle.mailmap_snapshot.proofs.Built.{normal_accepted, normal_unchanged, accepted_good}
+use Rattle.mailmap_histories.proofs.Building.{normal_accepted, normal_unchanged, accepted_good, is_merged}
 use Rattle.mailmap_tables.proofs.Grouped.{groups_normal}
 use Rattle.mailmap_snapshot.proofs.snapshot.Snapshot.merge.Goals as goal
 
@@ -14,7 +14,8 @@ returns-then-is_empty-clause-ok g c =
     let w = c.in_ok-batch.ensures.ok in
     let items = c.in_ok-batch.batch.items in
     let none : accepted (map mapping_of w.0) ≡ [] = sym w.2 ∙ ap (map mapping_of) (nil_from_length items (omega (arith, eqb-true _ _ (sym c.if-is_empty.ensures), c.in_ok-batch.batch.ok.0))) in
-    (w.0, w.1, normal_unchanged c.args.self.now (map mapping_of w.0) none (subst (λ v. IsNormal v v) c.self.view_is (groups_normal _ c.self.invariant.groups)))
+    let own = subst (λ v. IsNormal v v) c.self.view_is (groups_normal _ c.self.invariant.groups) in
+    (w.0, w.1, is_merged c.args.self.now (map mapping_of w.0) c.args.self.now own (normal_unchanged c.args.self.now (map mapping_of w.0) none own))
 
 pub joined-requires-clause-accepted : goal.joined-requires-clause-accepted
 joined-requires-clause-accepted g c =
@@ -28,8 +29,9 @@ returns-clause-ok g c =
     let made = listing c.in_ok-tables.tables.groups in (
       w.0,
       w.1,
-      subst (IsNormal (c.args.self.now ++ map mapping_of w.0)) (sym (c.drop.view_is ∙ c.in_ok-self-inside.ensures))
+      is_merged c.args.self.now (map mapping_of w.0) _ (subst (λ v. IsNormal v v) c.self.view_is (groups_normal _ c.self.invariant.groups))
+          (subst (IsNormal (c.args.self.now ++ map mapping_of w.0)) (sym (c.drop.view_is ∙ c.in_ok-self-inside.ensures))
           (normal_accepted c.args.self.now (map mapping_of w.0) made
           (subst (λ v. IsNormal (v ++ accepted (map mapping_of w.0)) made) c.self.view_is
-          (subst (λ l. IsNormal (listing c.self.inside.tables.groups ++ l) made) (ap (map mapping_of) c.deref.ensures.value ∙ w.2) c.in_ok-tables.ensures.1))),
+          (subst (λ l. IsNormal (listing c.self.inside.tables.groups ++ l) made) (ap (map mapping_of) c.deref.ensures.value ∙ w.2) c.in_ok-tables.ensures.1)))),
     )

@@ -8,6 +8,7 @@ abbrev pub invariant-loop-i : goal.invariant-loop-i
 invariant-loop-i l =
     record {
       marks : length l.made ≡ length l.sources;
+      own : IsNormal l.fn.self l.fn.self;
       normal : IsNormal (l.fn.self ++ history (take l.i l.sources) (take l.i l.made)) l.self;
       unrefused : MarksIdle l.sources l.made l.i;
     }

@@ -11,8 +11,8 @@ use Rattle.mailmap_snapshot.proofs.snapshot.listing.SnapshotPartialEq.eq.Goals a
 pub returns-clause-value : goal.returns-clause-value
 returns-clause-value c =
     eq_from_yields_List (λ x y. y ≡ x) _ same_entry c.eq.result c.eq.ensures.ran
-    (YieldsList-from_first mapping_of (λ s. s) c.args.self.now c.iter.ensures)
-    (λ it e. YieldsList-from_first mapping_of (λ s. s) c.args.other.now (e ∙ c.iter-2.ensures))
+    (YieldsList-from_first mapping_of (λ s. s) c.args.self.now c.iter.ensures.listing)
+    (λ it e. YieldsList-from_first mapping_of (λ s. s) c.args.other.now (e ∙ c.iter-2.ensures.listing))
     (λ x y i. same_fields x.new_name y.new_name i && (same_fields x.new_email y.new_email i && (same_fields x.old_name y.old_name i && pointwise nat_eq x.old_email.now y.old_email.now)))
 
 pub returns-clause-same : goal.returns-clause-same
