@@ -2,6 +2,7 @@ pub mod Cut
 pub mod Good
 pub mod Grammar
 pub mod Pieces
+pub mod Plain
 pub mod Readings
 pub mod Rising
 pub mod SplitOnce

@@ -82,7 +82,7 @@ start-other (b ∷ s) other =
 encoded : (c : ℕ) → is_whitespace c ≡ true → decoded (encode_utf8 c) ≡ good c (length (encode_utf8 c))
 encoded c white = subst (λ s. decoded s ≡ good c (length (encode_utf8 c))) (append-nil (encode_utf8 c)) (reads c [] white)
 
-some_bytes : (c : ℕ) → 0 < length (encode_utf8 c)
+pub some_bytes : (c : ℕ) → 0 < length (encode_utf8 c)
 unfolding encode_utf8
 some_bytes c = grind (arith, nat_tests)
 

@@ -1,7 +1,7 @@
 //! How a text is cut into a name and an email in brackets.
-ghost use Rattle.std.specs.Prelude.{◌≡◌};
+ghost use Rattle.std.specs.Prelude.{◌≡◌, ◌<◌, ◌↔◌, IsTrue};
 ghost use Rattle.mailmap_grammar.specs.Lines.{cut, half_of, trimmed_half};
-ghost use Rattle.mailmap_grammar.specs.Trimming.{trim as spec_trim};
+ghost use Rattle.mailmap_grammar.specs.Trimming.{trim as spec_trim, IsVisibleLead};
 
 use bstr::ByteSlice;
 
@@ -39,8 +39,61 @@ pub fn parse_name_and_email(text: &[u8]) -> Half<'_>
 }
 
 /// The text without the white space of Unicode at its ends. Bytes that are no UTF-8 stay.
+#[inline]
 pub fn trim(text: &[u8]) -> &[u8]
     ensures { result.now ≡ spec_trim text.now }
 {
-    text.trim()
+    // Most texts have a blank at each end at most, and behind it a byte that shows that there is no more to trim.
+    let inner = without_last_blank(without_first_blank(text));
+    if is_plain(inner) {
+        return inner;
+    }
+    inner.trim()
+}
+
+#[inline(always)]
+fn without_first_blank(text: &[u8]) -> &[u8]
+    ensures { spec_trim result.now ≡ spec_trim text.now }
+{
+    if text.is_empty() || text[0] != b' ' {
+        return text;
+    }
+    &text[1..]
+}
+
+#[inline(always)]
+fn without_last_blank(text: &[u8]) -> &[u8]
+    ensures { spec_trim result.now ≡ spec_trim text.now }
+{
+    let len = text.len();
+    if len == 0 || text[len - 1] != b' ' {
+        return text;
+    }
+    &text[..len - 1]
+}
+
+// Whether it shows in the bytes at the ends that there is nothing to trim.
+#[inline(always)]
+fn is_plain(text: &[u8]) -> bool
+    ensures { IsTrue result → spec_trim text.now ≡ text.now }
+{
+    let len = text.len();
+    len == 0 || begins_visible(text[0]) && is_visible(text[len - 1])
+}
+
+// A byte that is a character of its own and no white space, or one with which no white space begins. Past ASCII white
+// space begins with 194, 225, 226 or 227.
+#[inline(always)]
+fn begins_visible(byte: u8) -> bool
+    ensures { IsTrue result → IsVisibleLead byte }
+{
+    32 < byte && byte < 128 || 195 <= byte && byte < 225 || 228 <= byte
+}
+
+// A byte that is a character of its own and no white space.
+#[inline(always)]
+fn is_visible(byte: u8) -> bool
+    ensures { IsTrue result ↔ (32 < byte) × (byte < 128) }
+{
+    32 < byte && byte < 128
 }

@@ -1,0 +1,98 @@
+-- What the bytes at the ends of a text say of its trimming.
+use Rattle.std.proofs.Common.{◌≡◌, ◌⊎◌, ◌+◌, ◌-◌, ◌/◌, ◌<◌, ◌≤◌, ℕ, suc, true, List, [], ◌∷◌, ◌++◌, length, take, drop, get_or, length-append, refl, sym, ap, subst, ◌∙◌, arith, ⊎_elim}
+use Rattle.std.proofs.Common.{take-append-drop}
+use Rattle.std.proofs.lemmas.Bool.{cases_lt}
+use Rattle.std.proofs.lemmas.Bool.Decides.{nat_tests}
+use Rattle.std.proofs.lemmas.List.{take_rest, drop_all, get_or-append-add}
+use Rattle.std.proofs.lemmas.Str.{encode_ascii}
+use Rattle.std.proofs.Math.Seq.{drop-cons}
+use Rattle.bstr.specs.Trim.{trim_end_by}
+use Rattle.std.specs.Char.{is_whitespace, encode_utf8}
+use Rattle.mailmap_grammar.specs.Trimming.{trim, IsVisibleLead, BeginsWhite, EndsWhite}
+use Rattle.mailmap_grammar.proofs.Trimmed.{trim-white_start, trim-white_end, start-other, end-other, some_bytes}
+
+blank : encode_utf8 32 ≡ 32 ∷ []
+blank = encode_ascii 32 (omega arith)
+
+-- a blank at the front goes
+pub first-blank : (s : List ℕ) → 0 < length s → get_or s 0 0 ≡ 32 → trim (take (length s - 1) (drop 1 s)) ≡ trim s
+first-blank [] some is = absurd (omega arith)
+first-blank (b ∷ r) some is =
+    ap trim (take_rest (b ∷ r) 1) ∙ sym (trim-white_start 32 r refl) ∙ ap (λ e. trim (e ++ r)) blank ∙ ap (λ x. trim (x ∷ r)) (sym is)
+
+-- a blank at the end goes
+pub last-blank : (s : List ℕ) → 0 < length s → get_or s (length s - 1) 0 ≡ 32 → trim (take (length s - 1) s) ≡ trim s
+last-blank s some is =
+    let n = length s - 1 in
+    let none : drop (suc n) s ≡ [] = drop_all (suc n) s (omega arith) in
+    let one : drop n s ≡ 32 ∷ [] = drop-cons s n 0 (omega arith) ∙ ap (λ x. x ∷ drop (suc n) s) is ∙ ap (λ r. 32 ∷ r) none in
+    let parts : take n s ++ encode_utf8 32 ≡ s = ap (λ r. take n s ++ r) (blank ∙ sym one) ∙ take-append-drop n s in
+    sym (trim-white_end 32 (take n s) refl) ∙ ap trim parts
+
+-- past ASCII, characters begin and end with bytes past ASCII
+high-last : (c : ℕ) → 128 ≤ c → 128 ≤ get_or (encode_utf8 c) (length (encode_utf8 c) - 1) 0
+unfolding encode_utf8
+high-last c high = grind (arith, nat_tests)
+
+visible-no_white : (c : ℕ) → 32 < c → c < 128 → is_whitespace c ≡ true → ⊥
+visible-no_white c low high white = grind (arith, nat_tests)
+
+white-high : (c : ℕ) → is_whitespace c ≡ true → 128 ≤ c → ((128 ≤ c) × (c < 192)) ⊎ ((4096 ≤ c) × (c < 16384))
+white-high c white high = grind (arith, nat_tests)
+
+lead-two : (c : ℕ) (rest : List ℕ) → 128 ≤ c → c < 192 → get_or (encode_utf8 c ++ rest) 0 0 ≡ 192 + c / 64
+unfolding encode_utf8
+lead-two c rest low high = grind (arith, nat_tests)
+
+lead-three : (c : ℕ) (rest : List ℕ) → 4096 ≤ c → c < 16384 → get_or (encode_utf8 c ++ rest) 0 0 ≡ 224 + c / 4096
+unfolding encode_utf8
+lead-three c rest low high = grind (arith, nat_tests)
+
+white-lead : (c : ℕ) (rest : List ℕ) → is_whitespace c ≡ true → 128 ≤ c → IsVisibleLead (get_or (encode_utf8 c ++ rest) 0 0) → ⊥
+white-lead c rest white high visible =
+    let f = get_or (encode_utf8 c ++ rest) 0 0 in
+    ⊎_elim
+    (λ two. let is = lead-two c rest two.0 two.1 in ⊎_elim (λ a. omega (arith, is)) (λ o. ⊎_elim (λ m. omega (arith, is)) (λ t. omega (arith, is)) o) visible)
+    (λ three. let is = lead-three c rest three.0 three.1 in ⊎_elim (λ a. omega (arith, is)) (λ o. ⊎_elim (λ m. omega (arith, is)) (λ t. omega (arith, is)) o) visible)
+    (white-high c white high)
+
+small-lead : (c : ℕ) → c < 128 → is_whitespace c ≡ true → IsVisibleLead c → ⊥
+small-lead c small white visible = ⊎_elim (λ a. visible-no_white c a.0 a.1 white) (λ o. ⊎_elim (λ m. omega arith) (λ t. omega arith) o) visible
+
+no-begin : (s : List ℕ) → IsVisibleLead (get_or s 0 0) → BeginsWhite s → ⊥
+no-begin s visible h =
+    let c = h.0 in
+    let e : get_or s 0 0 ≡ get_or (encode_utf8 c ++ h.1) 0 0 = ap (λ t. get_or t 0 0) h.3 in
+    ⊎_elim
+    (λ small.
+    let same : get_or (encode_utf8 c ++ h.1) 0 0 ≡ c = ap (λ t. get_or (t ++ h.1) 0 0) (encode_ascii c small) in
+    small-lead c small h.2 (subst IsVisibleLead (e ∙ same) visible))
+    (λ big. white-lead c h.1 h.2 big (subst IsVisibleLead e visible))
+    (cases_lt c 128)
+
+no-end : (s : List ℕ) → 32 < get_or s (length s - 1) 0 → get_or s (length s - 1) 0 < 128 → EndsWhite s → ⊥
+no-end s low high h =
+    let c = h.0 in
+    let bs = encode_utf8 c in
+    let some = some_bytes c in
+    let long : length s ≡ length h.1 + length bs = ap length h.3 ∙ length-append h.1 bs in
+    let place : length s - 1 ≡ length h.1 + (length bs - 1) = omega arith in
+    let e : get_or s (length s - 1) 0 ≡ get_or bs (length bs - 1) 0 =
+    ap (λ n. get_or s n 0) place ∙ ap (λ t. get_or t (length h.1 + (length bs - 1)) 0) h.3 ∙ get_or-append-add h.1 bs (length bs - 1) 0 in
+    ⊎_elim
+    (λ small.
+    let same : get_or bs (length bs - 1) 0 ≡ c = ap (λ t. get_or t (length t - 1) 0) (encode_ascii c small) in
+    visible-no_white c (omega arith) small h.2)
+    (λ big. omega (arith, high-last c big))
+    (cases_lt c 128)
+
+-- where both ends are of ASCII and no white space, nothing goes
+pub plain : (s : List ℕ) → IsVisibleLead (get_or s 0 0) → 32 < get_or s (length s - 1) 0 → get_or s (length s - 1) 0 < 128 → trim s ≡ s
+unfolding trim
+plain s a d e = ap (trim_end_by is_whitespace) (start-other s (no-begin s a)) ∙ end-other s (no-end s d e)
+
+pub plain-nil : (s : List ℕ) → length s ≡ 0 → trim s ≡ s
+unfolding trim
+plain-nil s none =
+    ap (trim_end_by is_whitespace) (start-other s (λ h. omega (arith, some_bytes h.0, length-append (encode_utf8 h.0) h.1, ap length h.3)))
+    ∙ end-other s (λ h. omega (arith, some_bytes h.0, length-append h.1 (encode_utf8 h.0), ap length h.3))
