@@ -21,6 +21,7 @@ pub enum Half<'a> {
 }
 
 /// Cuts a text at its first `<` and the first `>` behind it. This serves either half of a line, and contact lines.
+#[inline(always)]
 pub fn parse_name_and_email(text: &[u8]) -> Half<'_>
     ensures { half_of result ≡ trimmed_half (cut text.now) }
 {

@@ -289,6 +289,7 @@ impl<'a> Iterator for Walk<'a> {
 }
 
 /// What the line `text` says, as it stands in its buffer; `None` for a comment and for a blank line.
+#[inline(always)]
 fn read_line(
     text: &[u8],
     line: usize,
@@ -307,6 +308,7 @@ fn read_line(
 }
 
 /// What the trimmed line `input` says. A fault shows it as its input, under the number `line`.
+#[inline(always)]
 fn parse_line(input: &[u8], line: usize, strictness: Strictness) -> Result<Entry<'_>, Error<'_>>
     ensures { reading_of result ≡ line_reader strictness line input.now }
 {
