@@ -9,7 +9,7 @@ use Rattle.std.proofs.lemmas.Bool.{ltb-true}
 use Rattle.std.specs.Char.{to_ascii_lowercase}
 use Rattle.std.specs.Int.{from_be_bytes, w128}
 use Rattle.mailmap_entries.specs.Folding.{Text, folded, text_cmp}
-use Rattle.mailmap_tables.specs.Fronts.{front_number, AreBytes}
+use Rattle.mailmap_entries.specs.Fronts.{front_number, AreBytes}
 
 pos : (n : ℕ) → 0 < 256 ^ n
 pos zero = omega arith

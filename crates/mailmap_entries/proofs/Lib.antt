@@ -1,2 +1,4 @@
 pub mod Folding
+pub mod Fronts
+pub mod Lowercase
 pub mod Search

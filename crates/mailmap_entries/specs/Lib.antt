@@ -1,3 +1,4 @@
 pub mod Folding
+pub mod Fronts
 pub mod Entries
 pub mod Search

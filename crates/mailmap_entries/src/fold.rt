@@ -5,6 +5,8 @@ ghost use Rattle.std.specs.declared.cmp.Ordering.{Ordering as Answer};
 ghost use Rattle.mailmap_entries.specs.Folding.{folded, text_cmp, IsBelow};
 ghost use Rattle.mailmap_entries.specs.Search.{IsPartitioned, digits};
 
+pub mod front;
+
 use std::cmp::Ordering;
 use std::marker::Model;
 
@@ -17,6 +19,10 @@ pub fn cmp_ignore_ascii_case(a: &[u8], b: &[u8]) -> Ordering
     ensures less { (result ≡ Ordering.Less) ↔ IsBelow a.now b.now }
     ensures equal { (result ≡ Ordering.Equal) ↔ (folded a.now ≡ folded b.now) }
 {
+    // Keys that are alike are mostly spelled alike.
+    if a == b {
+        return Ordering::Equal;
+    }
     // Only bytes that differ need folding.
     for (x, y) in a.iter().zip(b) {
         if x != y {

@@ -3,7 +3,6 @@ pub mod Grouped
 pub mod Merging
 pub mod Pooled
 pub mod Together
-pub mod Fronts
 pub mod Lookups
 pub mod Places
 pub mod Runs

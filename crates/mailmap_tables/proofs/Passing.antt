@@ -1,16 +1,17 @@
 -- Standing emails that are passed on.
-use Rattle.std.proofs.Common.{◌≡◌, ◌+◌, ◌-◌, ◌≤◌, ◌<◌, ℕ, suc, List, [], ◌∷◌, ◌++◌, take, drop, get_or, length, map, Some, length-drop, sym, ap, subst, ◌∙◌, arith}
+use Rattle.std.proofs.Common.{◌≡◌, ◌+◌, ◌-◌, ◌≤◌, ◌<◌, ℕ, suc, List, [], ◌∷◌, ◌++◌, take, drop, get_or, length, map, Some, unwrap_or, length-drop, sym, ap, subst, ◌∙◌, arith}
 use Rattle.std.specs.List.{slice_get, flat_map}
 use Rattle.std.proofs.Math.Seq.{drop-cons, take-append_seam, drop-append_seam}
 use Rattle.std.proofs.lemmas.List.{take_more, get_or-drop, length-map}
 use Rattle.std.proofs.lemmas.Option.{slice_get_within, get_or_from_slice_get}
-use Rattle.mailmap_entries.specs.Folding.{Text}
+use Rattle.mailmap_entries.specs.Folding.{Text, folded}
+use Rattle.mailmap_entries.specs.Fronts.{IsFront}
 use Rattle.mailmap_tables.specs.Groups.{EmailGroup, NameGroup}
 use Rattle.mailmap_tables.specs.Merging.{Extends}
-use Rattle.mailmap_tables.specs.Pool.{RowsLie, EmailLies, group_of, name_group}
+use Rattle.mailmap_tables.specs.Pool.{RowsLie, EmailLies, group_of, name_group, spelled}
 use Rattle.mailmap_tables.specs.declared.tables.EmailRow.{EmailRow}
 use Rattle.mailmap_tables.specs.declared.tables.NameRow.{NameRow}
-use Rattle.mailmap_tables.proofs.Pooled.{spelled-append, options-append, name_groups-append, lies_more}
+use Rattle.mailmap_tables.proofs.Pooled.{spelled-append, options-append, name_groups-append, email_lies_more, slice_get-map_at}
 
 -- a row spells the same in a pool that has grown
 pub group_on : (a b : Text) → Extends a b → (row : EmailRow) (names : List NameRow) → RowsLie a row names → group_of b row names ≡ group_of a row names
@@ -59,8 +60,15 @@ left_behind a row names more count is =
     ap (λ k. drop k (gs ++ more)) (is ∙ sym (length-map names (name_group a))) ∙ drop-append_seam gs more
 
 pub email_lies_on : (a b : Text) → Extends a b → (r : EmailRow) → EmailLies (length a) r → EmailLies (length b) r
-email_lies_on a b e r lies = subst (λ p. EmailLies (length p) r) (sym e.1) (record {
-  old_email = lies_more a e.0 r.old_email lies.old_email;
-  new_name = λ s q. lies_more a e.0 s (lies.new_name s q);
-  new_email = λ s q. lies_more a e.0 s (lies.new_email s q);
-})
+email_lies_on a b e r lies = subst (λ p. EmailLies (length p) r) (sym e.1) (email_lies_more a e.0 r lies)
+
+-- and its own front
+pub front_on : (a b : Text) → Extends a b → (gs : List EmailGroup) (place front : ℕ) (text : Text) (row : EmailRow) (names : List NameRow) → EmailLies (length a) row
+    → slice_get gs place ≡ Some (group_of a row names) → slice_get (map (λ (g : EmailGroup). g.old_email) gs) place ≡ Some text → IsFront front (folded text) → IsFront front (folded (spelled b row.old_email))
+front_on a b e gs place front text row names lies group there is =
+    let g = group_of a row names in
+    let at : slice_get (map (λ (g : EmailGroup). g.old_email) gs) place ≡ Some (get_or gs place g).old_email = slice_get-map_at (λ (g : EmailGroup). g.old_email) gs place g (slice_get_within gs place g group) in
+    let here : text ≡ (get_or gs place g).old_email = ap (λ o. unwrap_or o text) (sym there ∙ at) in
+    let same : text ≡ spelled a row.old_email = here ∙ ap (λ (h : EmailGroup). h.old_email) (get_or_from_slice_get gs place g g group) in
+    let grown : spelled b row.old_email ≡ spelled a row.old_email = ap (λ p. spelled p row.old_email) e.1 ∙ spelled-append a e.0 row.old_email lies.old_email in
+    subst (λ t. IsFront front (folded t)) (same ∙ sym grown) is

@@ -3,9 +3,10 @@ use Rattle.std.proofs.Common.{◌≡◌, ◌+◌, ◌-◌, ◌≤◌, ◌<◌, g
 use Rattle.std.specs.Option.{ForSome, option_map_or}
 use Rattle.std.specs.List.{slice_get}
 use Rattle.std.specs.List.{AllByRecursion}
-use Rattle.std.proofs.lemmas.List.{take-append-le, drop-append-le, map-append, take-map, drop-map, drop-drop, length-map}
-use Rattle.mailmap_entries.specs.Folding.{Text}
-use Rattle.mailmap_tables.specs.Pool.{RowsLie, names_of, spelled, LiesIn, name_group, email_group, NameLies, EmailLies, Follow, end_of, AreTables, contents}
+use Rattle.std.proofs.lemmas.List.{take-append-le, drop-append-le, map-append, take-map, drop-map, drop-drop, length-map, map_push}
+use Rattle.mailmap_entries.specs.Folding.{Text, folded}
+use Rattle.mailmap_entries.specs.Fronts.{front_number}
+use Rattle.mailmap_tables.specs.Pool.{RowsLie, names_of, spelled, LiesIn, name_group, email_group, NameLies, EmailLies, Follow, end_of, front_of, AreTables, contents}
 use Rattle.mailmap_tables.specs.declared.tables.Span.{Span}
 use Rattle.mailmap_tables.specs.declared.tables.NameRow.{NameRow}
 use Rattle.mailmap_tables.specs.declared.tables.EmailRow.{EmailRow}
@@ -48,6 +49,17 @@ module _ (pool more : Text) where
   pub names_lie_more : (rs : List NameRow) → AllByRecursion (NameLies (length pool)) rs → AllByRecursion (NameLies (length (pool ++ more))) rs
   names_lie_more [] all = tt
   names_lie_more (r ∷ rs) all = (name_lies_more r all.0, names_lie_more rs all.1)
+
+  pub email_lies_more : (r : EmailRow) → EmailLies (length pool) r → EmailLies (length (pool ++ more)) r
+  email_lies_more r lies = record { old_email = lies_more r.old_email lies.old_email; new_name = λ s e. lies_more s (lies.new_name s e); new_email = λ s e. lies_more s (lies.new_email s e) }
+
+  emails_lie_more : (rs : List EmailRow) → AllByRecursion (EmailLies (length pool)) rs → AllByRecursion (EmailLies (length (pool ++ more))) rs
+  emails_lie_more [] all = tt
+  emails_lie_more (r ∷ rs) all = (email_lies_more r all.0, emails_lie_more rs all.1)
+
+  fronts-append : (rs : List EmailRow) → AllByRecursion (EmailLies (length pool)) rs → map (front_of (pool ++ more)) rs ≡ map (front_of pool) rs
+  fronts-append [] all = refl
+  fronts-append (r ∷ rs) all = λ i. front_number 16 (folded (spelled-append r.old_email all.0.old_email i)) ∷ fronts-append rs all.1 i
 
 -- ---- parts of a table of names
 
@@ -110,7 +122,16 @@ groups-append pool more names (r ∷ es) all lie = λ i. email_group-append pool
 
 -- ---- what the tables hold then
 
-module _ (pool : Text) (names : List NameRow) (emails : List EmailRow) (h : AreTables pool names emails) where
+module _ (pool : Text) (names : List NameRow) (emails : List EmailRow) {fronts : List ℕ} (h : AreTables pool names emails fronts) where
+  pub tables-text : (more : Text) → AreTables (pool ++ more) names emails fronts
+  tables-text more =
+      record {
+        names_lie = names_lie_more pool more names h.names_lie;
+        emails_lie = emails_lie_more pool more emails h.emails_lie;
+        ranges = h.ranges;
+        front_each = h.front_each ∙ sym (fronts-append pool more emails h.emails_lie);
+      }
+
   pub contents-text : (more : Text) → contents (pool ++ more) names emails ≡ record (contents pool names emails) { pool = pool ++ more }
   contents-text more i =
       record {
@@ -130,21 +151,23 @@ module _ (pool : Text) (names : List NameRow) (emails : List EmailRow) (h : AreT
         loose = (ap (map (name_group pool)) (drop-append-le (end_of 0 emails) names more end) ∙ map-append (name_group pool) (drop (end_of 0 emails) names) more) i;
       }
 
-  pub tables-names : (more : List NameRow) → AllByRecursion (NameLies (length pool)) more → AreTables pool (names ++ more) emails
+  pub tables-names : (more : List NameRow) → AllByRecursion (NameLies (length pool)) more → AreTables pool (names ++ more) emails fronts
   tables-names more all =
       record {
         names_lie = all_append _ names more h.names_lie all;
         emails_lie = h.emails_lie;
         ranges = follow_more 0 (length names) (length (names ++ more)) emails (omega (arith, length-append names more)) h.ranges;
+        front_each = h.front_each;
       }
 
   module _ (r : EmailRow) (from : r.names_start ≡ end_of 0 emails) (up : r.names_start ≤ r.names_end) where
-    pub tables-email : r.names_end ≤ length names → EmailLies (length pool) r → AreTables pool names (emails ++ r ∷ [])
-    tables-email to lies =
+    pub tables-email : r.names_end ≤ length names → EmailLies (length pool) r → (front : ℕ) → front ≡ front_of pool r → AreTables pool names (emails ++ r ∷ []) (fronts ++ front ∷ [])
+    tables-email to lies front is =
         record {
           names_lie = h.names_lie;
           emails_lie = all_append _ emails (r ∷ []) h.emails_lie (lies, tt);
           ranges = follow_push 0 (length names) emails r h.ranges from up to;
+          front_each = (λ i. h.front_each i ++ is i ∷ []) ∙ sym (map_push (front_of pool) emails r);
         }
 
     abbrev count : ℕ
@@ -211,7 +234,7 @@ slice_get-map_at f [] i d lt = absurd (omega arith)
 slice_get-map_at f (x ∷ xs) zero d lt = refl
 slice_get-map_at f (x ∷ xs) (suc i) d lt = slice_get-map_at f xs i d (omega arith)
 
-pub rows_lie_at : (pool : Text) (names : List NameRow) (emails : List EmailRow) → AreTables pool names emails → (i : ℕ) (r : EmailRow) → i < length emails → r ≡ get_or emails i r → RowsLie pool r (names_of names r)
+pub rows_lie_at : (pool : Text) (names : List NameRow) (emails : List EmailRow) {fronts : List ℕ} → AreTables pool names emails fronts → (i : ℕ) (r : EmailRow) → i < length emails → r ≡ get_or emails i r → RowsLie pool r (names_of names r)
 rows_lie_at pool names emails h i r lt read =
     record {
       email_lies = subst (EmailLies (length pool)) (sym read) (all_at (EmailLies (length pool)) emails i r h.emails_lie lt);

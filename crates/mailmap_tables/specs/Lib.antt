@@ -1,7 +1,7 @@
 pub use Rattle.mailmap_entries.specs.Folding
 pub use Rattle.mailmap_entries.specs.Entries
 pub use Rattle.mailmap_entries.specs.Search
-pub mod Fronts
+pub use Rattle.mailmap_entries.specs.Fronts
 pub mod Groups
 pub mod Pool
 pub mod Places

@@ -2,7 +2,8 @@
 use Rattle.std.specs.Prelude.{◌≡◌, ◌≤◌, ◌+◌, ◌-◌, ℕ, List, [], ◌∷◌, map, take, drop, length}
 use Rattle.std.specs.Option.{option_map, ForSome}
 use Rattle.std.specs.List.{AllByRecursion}
-use Rattle.mailmap_entries.specs.Folding.{Text}
+use Rattle.mailmap_entries.specs.Folding.{Text, folded}
+use Rattle.mailmap_entries.specs.Fronts.{front_number}
 use Rattle.mailmap_tables.specs.Groups.{NameGroup, EmailGroup, Contents}
 use Rattle.mailmap_tables.specs.declared.tables.Span.{Span}
 use Rattle.mailmap_tables.specs.declared.tables.NameRow.{NameRow}
@@ -56,10 +57,15 @@ abbrev pub end_of : ℕ → List EmailRow → ℕ
 end_of k [] = k
 end_of k (r ∷ rs) = end_of r.names_end rs
 
-pub record AreTables (pool : Text) (names : List NameRow) (emails : List EmailRow) : Type 0 where
+-- the number of the first sixteen bytes of an email
+abbrev pub front_of : Text → EmailRow → ℕ
+front_of pool r = front_number 16 (folded (spelled pool r.old_email))
+
+pub record AreTables (pool : Text) (names : List NameRow) (emails : List EmailRow) (fronts : List ℕ) : Type 0 where
   pub names_lie : AllByRecursion (NameLies (length pool)) names
   pub emails_lie : AllByRecursion (EmailLies (length pool)) emails
   pub ranges : Follow 0 (length names) emails
+  pub front_each : fronts ≡ map (front_of pool) emails
 
 abbrev pub contents : Text → List NameRow → List EmailRow → Contents
 contents pool names emails =

@@ -1,18 +1,19 @@
 //! A batch of entries on its way into a snapshot: its accepted entries, sorted by key.
-ghost use Rattle.std.specs.Prelude.{◌≡◌, ◌≢◌, ◌+◌, ◌<◌, ◌≤◌, [], ◌++◌, ◌∷◌, List, OnErr, IfOk, Some, take, drop, map, length, slice_index_or};
+ghost use Rattle.std.specs.Prelude.{◌≡◌, ◌≢◌, ◌+◌, ◌<◌, ◌≤◌, [], ◌++◌, ◌∷◌, List, OnErr, IfOk, Some, take, drop, map, length};
 ghost use Rattle.std.specs.Iterator.{IsFinite, Drains, Yields};
 ghost use Rattle.std.specs.Option.{option_copied, option_map, option_cmp};
 ghost use Rattle.std.specs.List.{AllByRecursion, enumerate_from, fold};
 ghost use Rattle.mailmap_entries.specs.Entries.{mapping_of};
 ghost use Rattle.mailmap_entries.specs.Folding.{folded, text_cmp};
 ghost use Rattle.mailmap_histories.specs.Histories.{accepted, is_accepted, key, key_cmp, no_fields};
-ghost use Rattle.mailmap_tables.specs.Fronts.{IsFront, front_number};
+ghost use Rattle.mailmap_entries.specs.Fronts.{IsFront, front_number};
 ghost use Rattle.mailmap_tables.specs.Merging.{IsSorted, IsAscending, mapping_at, placed_at, email_text, name_text};
 ghost use Rattle.mailmap_tables.specs.declared.batch.Placed.{Placed as At};
 ghost use Rattle.mailmap_entries.specs.declared.entry.Entry.{Entry as Item};
 
 use mailmap_entries::Entry;
 use mailmap_entries::fold::cmp_ignore_ascii_case;
+use mailmap_entries::fold::front::{compare_rests, front_number};
 use std::alloc::{AllocError, Global};
 use std::cmp::Ordering;
 use std::marker::Model;
@@ -66,12 +67,12 @@ pub(crate) fn sorted<'e, 'a>(
 
 // An entry with its place, and the first bytes of its old email as a number, which settles most comparisons.
 #[derive(Drop)]
-struct Fronted<'e, 'a> {
+struct FrontedEntry<'e, 'a> {
     front: u128,
     placed: Placed<'e, 'a>,
 }
 
-impl<'e, 'a> Model for Fronted<'e, 'a> {
+impl<'e, 'a> Model for FrontedEntry<'e, 'a> {
     ghost Value = { At };
 
     ghost view = { λ f. f.placed };
@@ -83,7 +84,7 @@ impl<'e, 'a> Model for Fronted<'e, 'a> {
 fn with_places<'e, 'a>(
     alloc: Global,
     entries: &'e [Entry<'a>],
-) -> Result<Vec<Fronted<'e, 'a>>, AllocError>
+) -> Result<Vec<FrontedEntry<'e, 'a>>, AllocError>
     ensures { IfOk result (λ batch. map placed_at batch.items ≡ enumerate_from 0 (map mapping_of entries.now)) }
 {
     let mut batch = Vec::with_capacity(alloc, entries.len())?;
@@ -93,51 +94,17 @@ fn with_places<'e, 'a>(
     Ok(batch)
 }
 
-fn with_front<'e, 'a>(placed: Placed<'e, 'a>) -> Fronted<'e, 'a>
+fn with_front<'e, 'a>(placed: Placed<'e, 'a>) -> FrontedEntry<'e, 'a>
     ensures { result ≡ placed.entry }
 {
     let front = front_number(placed.entry.old_email());
-    Fronted { front, placed }
-}
-
-// The first sixteen bytes of a text as a number, in which case doesn't count.
-fn front_number(text: &[u8]) -> u128
-    ensures { IsFront result (folded text.now) }
-{
-    let Some(front) = text.first_chunk::<16>() else {
-        return short_number(text);
-    };
-    let mut bytes = *front;
-    bytes.make_ascii_lowercase();
-    u128::from_be_bytes(bytes)
-}
-
-// The same, byte by byte, for a text that may be shorter.
-fn short_number(text: &[u8]) -> u128
-    ensures { IsFront result (folded text.now) }
-{
-    let mut number = 0;
-    for i in 0..16 {
-        number = number * 256 + folded_at(text, i) as u128;
-    }
-    number
-}
-
-// The byte at a place, without case, and 0 behind the end.
-fn folded_at(text: &[u8], i: usize) -> u8
-    ensures { result ≡ slice_index_or (folded text.now) i 0 }
-{
-    if i < text.len() {
-        text[i].to_ascii_lowercase()
-    } else {
-        0
-    }
+    FrontedEntry { front, placed }
 }
 
 // The entries with their places alone.
 fn without_fronts<'e, 'a>(
     alloc: Global,
-    batch: &[Fronted<'e, 'a>],
+    batch: &[FrontedEntry<'e, 'a>],
 ) -> Result<Vec<Placed<'e, 'a>>, AllocError>
     ensures { IfOk result (λ places. places.items ≡ batch.now) }
 {
@@ -149,7 +116,8 @@ fn without_fronts<'e, 'a>(
 }
 
 // By key. Most old emails differ in their first bytes.
-fn compare(a: &Fronted, b: &Fronted) -> Ordering
+#[inline(always)]
+fn compare(a: &FrontedEntry, b: &FrontedEntry) -> Ordering
     ensures { result ≡ key_cmp (key (mapping_at a.now)) (key (mapping_at b.now)) }
 {
     match a.front.cmp(&b.front) {
@@ -160,6 +128,7 @@ fn compare(a: &Fronted, b: &Fronted) -> Ordering
 
 // By old email, then without an old name first, then by old name, in the order in which case doesn't count. The old
 // emails are alike in their first bytes.
+#[inline(never)]
 fn compare_keys(a: &Entry, b: &Entry) -> Ordering
     requires { front_number 16 (email_text (mapping_of a.now)) ≡ front_number 16 (email_text (mapping_of b.now)) }
     ensures { result ≡ key_cmp (key (mapping_of a.now)) (key (mapping_of b.now)) }
@@ -168,17 +137,6 @@ fn compare_keys(a: &Entry, b: &Entry) -> Ordering
         Ordering::Equal => compare_names(a.old_name(), b.old_name()),
         unequal => unequal,
     }
-}
-
-// Behind their first sixteen bytes, which are alike.
-fn compare_rests(a: &[u8], b: &[u8]) -> Ordering
-    requires { front_number 16 (folded a.now) ≡ front_number 16 (folded b.now) }
-    ensures { result ≡ text_cmp (folded a.now) (folded b.now) }
-{
-    if a.len() < 16 || b.len() < 16 {
-        return cmp_ignore_ascii_case(a, b);
-    }
-    cmp_ignore_ascii_case(&a[16..], &b[16..])
 }
 
 fn compare_names(a: Option<&[u8]>, b: Option<&[u8]>) -> Ordering

@@ -326,7 +326,7 @@ fn pass_emails(
     out.push_names(standing.names_between(from, to))?;
     for place in from..to {
         let (row, _) = standing.email(place);
-        out.pass_email(row)?;
+        out.pass_email(row, standing.email_text(place).front)?;
     }
     Ok(())
 }

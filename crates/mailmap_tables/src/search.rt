@@ -10,6 +10,7 @@ ghost use Rattle.mailmap_tables.specs.Places.{IsFound, IsMissing};
 ghost use Rattle.mailmap_tables.specs.Pool.{LiesIn, NameLies, name_group};
 
 use crate::tables::{NameRow, Tables};
+use mailmap_entries::fold::front::Fronted;
 use mailmap_entries::fold::{Probe, Steps, search};
 use std::cmp::Ordering;
 use std::mem;
@@ -19,19 +20,19 @@ use std::mem;
 struct EmailProbe<'a> {
     tables: &'a Tables,
     start: usize,
-    email: &'a [u8],
+    email: Fronted<'a>,
     steps: Steps,
     ghost few: { length tables.now.groups < 2 ^ 64 },
 }
 
 impl Probe for EmailProbe<'_> {
-    ghost answers = { λ p. map (λ g. text_cmp (email_key g) (folded p.email.now)) (drop p.start p.tables.now.groups) };
+    ghost answers = { λ p. map (λ g. text_cmp (email_key g) (folded p.email.text.now)) (drop p.start p.tables.now.groups) };
 
     ghost asked = { λ p. p.steps };
 
     fn ask(&mut self, place: usize) -> Ordering {
         let known = self.tables.email_text(self.start + place);
-        self.steps.compare(known, self.email)
+        self.steps.compare_fronted(known, self.email)
     }
 }
 
@@ -100,7 +101,7 @@ pub fn search_email(
     let mut probe = EmailProbe {
         tables,
         start,
-        email,
+        email: Fronted::new(email),
         steps: mem::replace(steps, Steps::new()),
     };
     let found = search(len - start, &mut probe);

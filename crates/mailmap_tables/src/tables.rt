@@ -1,10 +1,13 @@
 //! The tables of a snapshot: one pool of bytes that holds each text, a flat table of emails and a flat table of names,
 //! whose rows say where their texts stand in the pool.
-ghost use Rattle.std.specs.Prelude.{◌≡◌, ◌≤◌, ◌<◌, ◌++◌, [], ◌∷◌, length, OnOk, IfOk, map, Some, slice_get, take, drop, ◌-◌};
+ghost use Rattle.std.specs.Prelude.{◌≡◌, ◌≤◌, ◌<◌, ◌++◌, [], ◌∷◌, length, OnOk, OnErr, IfOk, map, Some, slice_get, take, drop, ◌-◌};
 ghost use Rattle.std.specs.Option.{option_map, option_copied, ForSome};
 ghost use Rattle.std.specs.List.{AllByRecursion, HoldsAt, flat_map};
+ghost use Rattle.mailmap_entries.specs.Folding.{folded};
+ghost use Rattle.mailmap_entries.specs.Fronts.{IsFront};
 ghost use Rattle.mailmap_tables.specs.Pool.{end_of};
 
+use mailmap_entries::fold::front::{Fronted, front_number};
 use std::alloc::{AllocError, Global};
 use std::marker::Model;
 
@@ -40,6 +43,8 @@ pub struct Tables {
     pool: Vec<u8>,
     emails: Vec<EmailRow>,
     names: Vec<NameRow>,
+    // the first bytes of each email as a number, side by side: a search seldom reads more
+    fronts: Vec<u128>,
     // how many bytes of the pool no row names any more
     dead: usize,
 }
@@ -53,7 +58,7 @@ impl Model for Tables {
 
     ghost view = { λ t. contents t.pool.items t.names.items t.emails.items };
 
-    ghost invariant = { λ t. AreTables t.pool.items t.names.items t.emails.items };
+    ghost invariant = { λ t. AreTables t.pool.items t.names.items t.emails.items t.fronts.items };
 }
 
 impl Tables {
@@ -68,6 +73,7 @@ impl Tables {
             pool: Vec::new(alloc),
             emails: Vec::new(alloc),
             names: Vec::new(alloc),
+            fronts: Vec::new(alloc),
             dead: 0,
         }
     }
@@ -89,6 +95,7 @@ impl Tables {
             pool,
             emails: Vec::with_capacity(alloc, with_more(standing.emails.len(), rows))?,
             names: Vec::with_capacity(alloc, with_more(standing.names.len(), rows))?,
+            fronts: Vec::with_capacity(alloc, with_more(standing.emails.len(), rows))?,
             dead: standing.dead,
         })
     }
@@ -146,20 +153,23 @@ impl Tables {
           loose = [];
         }) }
     {
-        let names_start = last_end(&self.emails);
-        self.emails.push(EmailRow {
+        let row = EmailRow {
             old_email,
             new_name,
             new_email,
-            names_start,
+            names_start: last_end(&self.emails),
             names_end: self.names.len(),
-        })?;
+        };
+        let front = front_number(self.text(old_email));
+        push_row(&mut self.emails, &mut self.fronts, row, front)?;
         Ok(())
     }
 
-    /// Puts an email behind the others, which takes as many of the names that no email has taken yet as the row has.
-    pub fn pass_email(&mut self, row: EmailRow) -> Result<(), AllocError>
+    /// Puts an email with its front behind the others, which takes as many of the names that no email has taken yet as
+    /// the row has.
+    pub fn pass_email(&mut self, row: EmailRow, front: u128) -> Result<(), AllocError>
         requires lies { EmailLies (length self.old.pool) row }
+        requires front { IsFront front (folded (spelled self.old.pool row.old_email)) }
         requires up { row.names_start ≤ row.names_end }
         requires loose { row.names_end - row.names_start ≤ length self.old.loose }
         ensures { OnOk result (self.new ≡ record {
@@ -169,13 +179,31 @@ impl Tables {
         }) }
     {
         let names_start = last_end(&self.emails);
-        self.emails.push(EmailRow {
+        let passed = EmailRow {
             names_start,
             names_end: names_start + (row.names_end - row.names_start),
             ..row
-        })?;
+        };
+        push_row(&mut self.emails, &mut self.fronts, passed, front)?;
         Ok(())
     }
+}
+
+// Puts a row and its front behind the others, or neither.
+fn push_row(
+    emails: &mut Vec<EmailRow>,
+    fronts: &mut Vec<u128>,
+    row: EmailRow,
+    front: u128,
+) -> Result<(), AllocError>
+    ensures emails { OnOk result (emails.new.items ≡ emails.old.items ++ row ∷ []) }
+    ensures fronts { OnOk result (fronts.new.items ≡ fronts.old.items ++ front ∷ []) }
+    ensures neither { OnErr result ((emails.new.items ≡ emails.old.items) × (fronts.new.items ≡ fronts.old.items)) }
+{
+    emails.reserve(1)?;
+    fronts.push(front)?;
+    emails.push(row)?;
+    Ok(())
 }
 
 // So many, and room for more, but not for more than twice as many and a few.
@@ -266,13 +294,14 @@ impl Tables {
     ghost use Rattle.mailmap_tables.specs.Groups.{Contents, EmailGroup};
     ghost use Rattle.mailmap_tables.specs.Pool.{spelled, LiesIn};
 
-    /// The text of the email at a place.
-    pub fn email_text(&self, place: usize) -> &[u8]
+    /// The text of the email at a place, with its front.
+    #[inline(always)]
+    pub fn email_text(&self, place: usize) -> Fronted<'_>
         requires { place < length self.now.groups }
-        ensures { slice_get (map (λ (g : EmailGroup). g.old_email) self.now.groups) place ≡ Some result.now }
+        ensures { slice_get (map (λ (g : EmailGroup). g.old_email) self.now.groups) place ≡ Some result.text.now }
     {
         let row = self.emails[place];
-        self.text(row.old_email)
+        Fronted::with_front(self.text(row.old_email), self.fronts[place])
     }
 
     /// The text that a span names, if there is one.
@@ -294,6 +323,7 @@ impl Tables {
             pool: Vec::from_slice(alloc, &self.pool)?,
             emails: Vec::from_slice(alloc, &self.emails)?,
             names: Vec::from_slice(alloc, &self.names)?,
+            fronts: Vec::from_slice(alloc, &self.fronts)?,
             dead: self.dead,
         })
     }

@@ -1,5 +1,7 @@
-use Rattle.std.proofs.Common.{◌∙◌, sym, inl, inr, ⊎_elim, rules}
-use Rattle.mailmap_entries.proofs.Folding.{text_cmp-end, less-below, equal-folded}
+use Rattle.std.proofs.Common.{◌≡◌, ◌∙◌, sym, ap, inl, inr, ⊎_elim, rules}
+use Rattle.std.proofs.lemmas.Slice.Eq.{bytes_eq-Decides}
+use Rattle.mailmap_entries.specs.Folding.{folded, text_cmp}
+use Rattle.mailmap_entries.proofs.Folding.{same-equal, text_cmp-end, less-below, equal-folded}
 use Rattle.mailmap_entries.proofs.fold.cmp_ignore_ascii_case.Goals as goal
 
 pub returns-then-is_ne-clause-value : goal.returns-then-is_ne-clause-value
@@ -21,3 +23,14 @@ returns-clause-less c = less-below _ _ _ (returns-clause-value c)
 
 pub returns-clause-equal : goal.returns-clause-equal
 returns-clause-equal c = equal-folded _ _ _ (returns-clause-value c)
+
+pub returns-then-eq-clause-value : goal.returns-then-eq-clause-value
+returns-then-eq-clause-value c =
+    let same : c.args.a.now ≡ c.args.b.now = (bytes_eq-Decides c.args.a.now c.args.b.now).0 (sym c.eq.ensures ∙ c.if-eq.true) in
+    sym (same-equal (folded c.args.a.now)) ∙ ap (λ t. text_cmp (folded c.args.a.now) (folded t)) same
+
+pub returns-then-eq-clause-less : goal.returns-then-eq-clause-less
+returns-then-eq-clause-less c = less-below _ _ _ (returns-then-eq-clause-value c)
+
+pub returns-then-eq-clause-equal : goal.returns-then-eq-clause-equal
+returns-then-eq-clause-equal c = equal-folded _ _ _ (returns-then-eq-clause-value c)

@@ -4,7 +4,7 @@ use Rattle.std.specs.Ordering.{nat_cmp, ordering_then}
 use Rattle.mailmap_entries.specs.Folding.{text_cmp}
 use Rattle.mailmap_histories.specs.Histories.{key, key_cmp}
 use Rattle.mailmap_tables.specs.Merging.{mapping_at, email_text}
-use Rattle.mailmap_tables.proofs.Fronts.{front_settles, then_settled}
+use Rattle.mailmap_entries.proofs.Fronts.{front_settles, then_settled}
 use Rattle.mailmap_tables.proofs.batch.compare.Goals as goal
 
 pub returns-in_default : goal.returns-in_default

@@ -1,9 +1,11 @@
 use Rattle.std.proofs.Common.{◌≡◌, ◌+◌, ◌-◌, ◌∷◌, [], ◌++◌, map, take, drop, length, append-nil, sym, ap, subst, ◌∙◌, append_assoc, arith}
 use Rattle.std.proofs.lemmas.List.{length-map, length-append}
+use Rattle.mailmap_entries.specs.Folding.{folded}
+use Rattle.mailmap_entries.specs.Fronts.{IsFront}
 use Rattle.mailmap_tables.specs.Groups.{Contents}
-use Rattle.mailmap_tables.specs.Pool.{EmailLies, name_group, group_of}
+use Rattle.mailmap_tables.specs.Pool.{EmailLies, name_group, group_of, spelled}
 use Rattle.mailmap_tables.proofs.NamePlaces.{names_lie_on, name_groups_on}
-use Rattle.mailmap_tables.proofs.Passing.{passed_group, left_behind, email_lies_on, names_of_all, names_ahead, passed_more}
+use Rattle.mailmap_tables.proofs.Passing.{front_on, passed_group, left_behind, email_lies_on, names_of_all, names_ahead, passed_more}
 use Rattle.mailmap_tables.proofs.merge.pass_emails.Goals as goal
 
 pub push_names-requires : goal.push_names-requires
@@ -29,6 +31,15 @@ pub pass_email-requires-clause-lies : goal.pass_email-requires-clause-lies
 pass_email-requires-clause-lies c =
     let row = c.email.result.0 in
     subst (λ (v : Contents). EmailLies (length v.pool) row) (sym c.loop-place.invariant) (email_lies_on c.args.standing.now.pool c.args.out.now.pool c.requires.pool row c.email.ensures.lie.email_lies)
+
+pub pass_email-requires-clause-front : goal.pass_email-requires-clause-front
+pass_email-requires-clause-front c =
+    let standing = c.args.standing.now in
+    let row = c.email.result.0 in
+    let known = c.email_text.result in
+    subst (λ (v : Contents). IsFront known.front (folded (spelled v.pool row.old_email))) (sym c.loop-place.invariant)
+    (front_on standing.pool c.args.out.now.pool c.requires.pool standing.groups c.loop-place.place known.front known.text.now row c.email.result.1.now
+    c.email.ensures.lie.email_lies c.email.ensures.group c.email_text.ensures known.is_front)
 
 pub pass_email-requires-clause-loose : goal.pass_email-requires-clause-loose
 pass_email-requires-clause-loose c =

@@ -2,8 +2,8 @@ use Rattle.std.proofs.Common.{◌≡◌, ◌-◌, ◌∙◌, length, take, drop,
 use Rattle.std.proofs.lemmas.List.{length-map, drop-map}
 use Rattle.std.specs.Char.{to_ascii_lowercase}
 use Rattle.mailmap_entries.specs.Folding.{Text, folded, text_cmp}
-use Rattle.mailmap_tables.proofs.Fronts.{front_alike, folded_bytes}
-use Rattle.mailmap_tables.proofs.batch.compare_rests.Goals as goal
+use Rattle.mailmap_entries.proofs.Fronts.{front_alike, folded_bytes}
+use Rattle.mailmap_entries.proofs.fold.front.compare_rests.Goals as goal
 
 pub returns : goal.returns
 returns c =

@@ -1,13 +1,13 @@
 use Rattle.std.proofs.Common.{ap, map, ◌∙◌}
 use Rattle.std.specs.Char.{to_ascii_lowercase}
-use Rattle.mailmap_tables.specs.Fronts.{front_number}
-use Rattle.mailmap_tables.proofs.Fronts.{number_of, front_take, folded_bytes}
-use Rattle.mailmap_tables.proofs.batch.front_number.Goals as goal
+use Rattle.mailmap_entries.specs.Fronts.{front_number}
+use Rattle.mailmap_entries.proofs.Fronts.{number_of, front_take, folded_bytes}
+use Rattle.mailmap_entries.proofs.fold.front.front_number.Goals as goal
 
 pub returns : goal.returns
 returns c = record {
   bytes = folded_bytes c.args.text.now (λ i. (c.type_inv.text i).fits);
-  is = c.from_be_bytes.ensures ∙ number_of c.make_ascii_lowercase.new.self
-      ∙ ap (front_number 16) (c.make_ascii_lowercase.ensures.after ∙ ap (map to_ascii_lowercase) c.in-Some.ensures.cases.same)
+  is = c.from_be_bytes.ensures ∙ number_of c.lowercase.result
+      ∙ ap (front_number 16) (c.lowercase.ensures ∙ ap (map to_ascii_lowercase) c.in-Some.ensures.cases.same)
       ∙ front_take to_ascii_lowercase 16 c.args.text.now;
 }

@@ -1,8 +1,8 @@
 use Rattle.std.proofs.Common.{◌<◌, ◌+◌, ◌-◌, ◌*◌, ◌^◌, get_or, drop, ap, arith, ◌∙◌}
 use Rattle.mailmap_entries.specs.Folding.{folded}
-use Rattle.mailmap_tables.specs.Fronts.{front_number}
-use Rattle.mailmap_tables.proofs.Fronts.{front_more, front_fits, front_done, folded_bytes}
-use Rattle.mailmap_tables.proofs.batch.short_number.Goals as goal
+use Rattle.mailmap_entries.specs.Fronts.{front_number}
+use Rattle.mailmap_entries.proofs.Fronts.{front_more, front_fits, front_done, folded_bytes}
+use Rattle.mailmap_entries.proofs.fold.front.short_number.Goals as goal
 
 pub overflow_mul-number : goal.overflow_mul-number
 overflow_mul-number c =

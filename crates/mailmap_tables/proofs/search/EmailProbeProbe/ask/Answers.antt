@@ -6,5 +6,5 @@ use Rattle.mailmap_tables.proofs.search.EmailProbeProbe.ask.Goals as goal
 
 pub returns-clause-answer : goal.returns-clause-answer
 returns-clause-answer c =
-    read_behind (λ (g : EmailGroup). g.old_email) (λ t. text_cmp (folded t) (folded c.args.self.now.email.now)) c.args.self.now.start c.args.self.now.tables.now.groups c.args.place _ _ refl c.email_text-known.ensures
-    ∙ ap (λ a. Some a) (sym c.compare.ensures.value)
+    read_behind (λ (g : EmailGroup). g.old_email) (λ t. text_cmp (folded t) (folded c.args.self.now.email.text.now)) c.args.self.now.start c.args.self.now.tables.now.groups c.args.place _ _ refl c.email_text-known.ensures
+    ∙ ap (λ a. Some a) (sym c.compare_fronted.ensures.value)

@@ -1,10 +1,25 @@
-use Rattle.std.proofs.Common.{◌<◌, length, map, sym, ap, ◌∙◌, arith, Some}
+use Rattle.std.proofs.Common.{◌≡◌, ◌<◌, length, map, sym, ap, ◌∙◌, arith, Some, get_or}
 use Rattle.std.proofs.lemmas.List.{length-map, get_or-map}
 use Rattle.std.specs.List.{slice_get}
+use Rattle.mailmap_entries.specs.Folding.{folded}
+use Rattle.mailmap_entries.specs.Fronts.{front_number}
 use Rattle.mailmap_tables.specs.Groups.{Contents, EmailGroup}
-use Rattle.mailmap_tables.specs.Pool.{spelled, email_group}
+use Rattle.mailmap_tables.specs.Pool.{spelled, email_group, front_of}
 use Rattle.mailmap_tables.proofs.Pooled.{slice_get-map_at}
 use Rattle.mailmap_tables.proofs.tables.Tables.email_text.Goals as goal
+
+pub with_front-requires : goal.with_front-requires
+with_front-requires c =
+    let pool = c.self.inside.pool.items in
+    let emails = c.self.inside.emails.items in
+    let row = c.index-row.result.now in
+    let place = c.args.place in
+    let lt : place < length emails = omega (arith, c.requires, ap (λ (v : Contents). length v.groups) c.self.view_is, length-map emails (email_group pool c.self.inside.names.items)) in
+    let text : spelled pool row.old_email ≡ c.text.result.now = ap (λ (v : Contents). spelled v.pool row.old_email) c.self.view_is ∙ sym c.text.ensures in
+    c.index.ensures ∙ ap (λ l. get_or l place c.index.result.now) c.self.invariant.front_each
+    ∙ get_or-map (front_of pool) emails place row c.index.result.now lt
+    ∙ ap (front_of pool) (sym c.index-row.ensures)
+    ∙ ap (λ t. front_number 16 (folded t)) text
 
 pub returns : goal.returns
 returns c =
@@ -19,4 +34,4 @@ returns c =
     ∙ ap (λ (g : EmailGroup). Some g.old_email) (get_or-map group emails c.args.place row (group row) lt)
     ∙ ap (λ r. Some (group r).old_email) (sym c.index-row.ensures)
     ∙ ap (λ (v : Contents). Some (spelled v.pool row.old_email)) c.self.view_is
-    ∙ ap (λ t. Some t) (sym c.text.ensures)
+    ∙ ap (λ t. Some t) (sym c.text.ensures ∙ sym c.with_front.ensures.text)

@@ -1,6 +1,8 @@
-use Rattle.std.proofs.Common.{◌≡◌, ◌≤◌, ◌+◌, ◌-◌, arith, ◌∙◌, ap, ◌++◌, ◌∷◌, [], sym, subst, length, take, drop}
+use Rattle.std.proofs.Common.{◌≡◌, ◌≤◌, ◌+◌, ◌-◌, arith, ◌∙◌, ap, ◌++◌, ◌∷◌, [], sym, subst, subst₂, length, take, drop}
 use Rattle.std.proofs.lemmas.List.{length-map, length-drop}
-use Rattle.mailmap_tables.specs.Pool.{contents, EmailLies, end_of, name_group, group_of}
+use Rattle.mailmap_tables.specs.Pool.{AreTables, contents, spelled, EmailLies, end_of, name_group, group_of}
+use Rattle.mailmap_entries.specs.Folding.{folded}
+use Rattle.mailmap_entries.specs.Fronts.{front_number}
 use Rattle.mailmap_tables.specs.Groups.{Contents}
 use Rattle.mailmap_tables.proofs.Pooled.{contents-email, tables-email, end_within}
 use Rattle.mailmap_tables.proofs.tables.Tables.pass_email.Goals as goal
@@ -21,7 +23,9 @@ invariant_of-self-2 c =
       length-map (drop (end_of 0 emails) names) (name_group c.self.inside.pool.items),
       length-drop (end_of 0 emails) names,
     ) in
-    rw c.in_ok-push.ensures.items (tables-email _ _ _ c.self.invariant _ from (omega arith) to (record { old_email = lies.old_email; new_name = lies.new_name; new_email = lies.new_email }))
+    let front = c.requires.front.is ∙ ap (λ (v : Contents). front_number 16 (folded (spelled v.pool row.old_email))) (sym c.self.view_is) in
+    subst₂ (λ es fs. AreTables c.self.inside.pool.items names es fs) (sym c.in_ok-push_row.ensures.emails) (sym c.in_ok-push_row.ensures.fronts)
+    (tables-email _ _ _ c.self.invariant _ from (omega arith) to (record { old_email = lies.old_email; new_name = lies.new_name; new_email = lies.new_email }) _ front)
 
 pub returns : goal.returns
 returns c =
@@ -32,7 +36,7 @@ returns c =
     let from : c.last_end-names_start.result ≡ end_of 0 emails = c.last_end-names_start.ensures ∙ ap (end_of 0) c.deref.ensures.value in
     let count : c.last_end-names_start.result + (row.names_end - row.names_start) - c.last_end-names_start.result ≡ row.names_end - row.names_start = omega arith in
     let loose = (contents pool names emails).loose in
-    ap (λ es. contents pool names es) c.in_ok-push.ensures.items
+    ap (λ es. contents pool names es) c.in_ok-push_row.ensures.emails
     ∙ contents-email pool names emails c.self.invariant _ from (omega arith)
     ∙ (λ i. record {
       pool = pool;

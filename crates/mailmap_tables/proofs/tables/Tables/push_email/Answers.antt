@@ -1,7 +1,9 @@
-use Rattle.std.proofs.Common.{◌≡◌, ◌≤◌, arith, ◌∙◌, ap, ◌++◌, ◌∷◌, [], sym, subst, length, option_map}
+use Rattle.std.proofs.Common.{◌≡◌, ◌≤◌, arith, ◌∙◌, ap, ◌++◌, ◌∷◌, [], sym, subst, subst₂, length, option_map}
 use Rattle.std.specs.Option.{ForSome}
 use Rattle.std.proofs.lemmas.List.{take_all, drop_all}
-use Rattle.mailmap_tables.specs.Pool.{contents, spelled, LiesIn, end_of}
+use Rattle.mailmap_tables.specs.Pool.{AreTables, contents, spelled, LiesIn, end_of}
+use Rattle.mailmap_entries.specs.Folding.{folded}
+use Rattle.mailmap_entries.specs.Fronts.{front_number}
 use Rattle.mailmap_tables.specs.Groups.{Contents}
 use Rattle.mailmap_tables.specs.declared.tables.EmailRow.{EmailRow}
 use Rattle.mailmap_tables.proofs.Pooled.{contents-email, tables-email, takes_all, end_within}
@@ -13,13 +15,15 @@ invariant_of-self-2 c =
     let names = c.self.inside.names.items in
     let emails = c.self.inside.emails.items in
     let to : c.len.result ≡ length names = omega (arith, c.len.ensures, c.self.inside.names.ok.0) in
-    let from : c.last_end-names_start.result ≡ end_of 0 emails = c.last_end-names_start.ensures ∙ ap (end_of 0) c.deref.ensures.value in
+    let from : c.last_end.result ≡ end_of 0 emails = c.last_end.ensures ∙ ap (end_of 0) c.deref.ensures.value in
     let within : end_of 0 emails ≤ length names = end_within 0 (length names) emails c.self.invariant.ranges in
-    rw c.in_ok-push.ensures.items (tables-email _ _ _ c.self.invariant _ from (omega (arith, from, to, within)) (omega (arith, to)) (record {
+    let front = c.front_number-front.ensures.is ∙ ap (λ t. front_number 16 (folded t)) c.text.ensures ∙ ap (λ (v : Contents). front_number 16 (folded (spelled v.pool c.args.old_email))) back in
+    subst₂ (λ es fs. AreTables c.self.inside.pool.items names es fs) (sym c.in_ok-push_row.ensures.emails) (sym c.in_ok-push_row.ensures.fronts)
+    (tables-email _ _ _ c.self.invariant _ from (omega (arith, from, to, within)) (omega (arith, to)) (record {
       old_email = subst (λ (v : Contents). LiesIn (length v.pool) c.args.old_email) back c.requires.old_email_lies;
       new_name = subst (λ (v : Contents). ForSome c.args.new_name (LiesIn (length v.pool))) back c.requires.new_name_lies;
       new_email = subst (λ (v : Contents). ForSome c.args.new_email (LiesIn (length v.pool))) back c.requires.new_email_lies;
-    }))
+    }) _ front)
 
 pub returns : goal.returns
 returns c =
@@ -27,13 +31,13 @@ returns c =
     let names = c.self.inside.names.items in
     let emails = c.self.inside.emails.items in
     let to : c.len.result ≡ length names = omega (arith, c.len.ensures, c.self.inside.names.ok.0) in
-    let from : c.last_end-names_start.result ≡ end_of 0 emails = c.last_end-names_start.ensures ∙ ap (end_of 0) c.deref.ensures.value in
+    let from : c.last_end.result ≡ end_of 0 emails = c.last_end.ensures ∙ ap (end_of 0) c.deref.ensures.value in
     let within : end_of 0 emails ≤ length names = end_within 0 (length names) emails c.self.invariant.ranges in
-    let up : c.last_end-names_start.result ≤ c.len.result = omega (arith, from, to, within) in
-    let row : EmailRow = record { old_email = c.args.old_email; new_name = c.args.new_name; new_email = c.args.new_email; names_start = c.last_end-names_start.result; names_end = c.len.result } in
+    let up : c.last_end.result ≤ c.len.result = omega (arith, from, to, within) in
+    let row : EmailRow = record { old_email = c.args.old_email; new_name = c.args.new_name; new_email = c.args.new_email; names_start = c.last_end.result; names_end = c.len.result } in
     let all = takes_all pool names emails c.self.invariant row from up to in
     let loose = (contents pool names emails).loose in
-    ap (λ es. contents pool names es) c.in_ok-push.ensures.items
+    ap (λ es. contents pool names es) c.in_ok-push_row.ensures.emails
     ∙ contents-email pool names emails c.self.invariant _ from up
     ∙ (λ i. record {
       pool = pool;
