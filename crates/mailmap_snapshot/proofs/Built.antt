@@ -2,7 +2,7 @@
 use Rattle.std.proofs.Common.{◌≡◌, ◌≢◌, true, List, [], ◌∷◌, ◌++◌, map, Result, Ok, Err, append-nil, refl, sym, ap, subst, ◌∙◌}
 use Rattle.std.specs.Iterator.{Yields, YieldsFirstBy}
 use Rattle.std.specs.List.{AllByRecursion}
-use Rattle.std.specs.Result.{IfOk, OnErr}
+use Rattle.std.specs.Result.{OnErr, OnOk}
 use Rattle.std.proofs.lemmas.List.Elements.{filter-append, filter_passes, recursion_from_All}
 use Rattle.mailmap_entries.specs.Entries.{Mapping}
 use Rattle.mailmap_histories.specs.Histories.{IsNormal, accepted, is_accepted}
@@ -22,10 +22,10 @@ accepted_front xs ys some none = front (accepted xs) some (sym (filter-append is
     front [] n e = n refl
     front (x ∷ l) n e = cc
 
-pub if_ok_map : {T E : Type 0} (r : Result T E) (P Q : T → Type 0) → ((x : T) → P x → Q x) → IfOk r P → IfOk r Q
-if_ok_map (Ok x) P Q f p = f x p
-if_ok_map (Err e) P Q f p = tt
-
 pub on_err_map : {T E : Type 0} (r : Result T E) (P Q : Type 0) → (P → Q) → OnErr r P → OnErr r Q
 on_err_map (Ok x) P Q f p = tt
 on_err_map (Err e) P Q f p = f p
+
+pub on_ok_map : {T E : Type 0} (r : Result T E) (P Q : Type 0) → (P → Q) → OnOk r P → OnOk r Q
+on_ok_map (Ok x) P Q f p = f p
+on_ok_map (Err e) P Q f p = tt

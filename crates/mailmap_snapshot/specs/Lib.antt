@@ -10,7 +10,6 @@ pub use Rattle.mailmap_signatures.specs.Times
 pub use Rattle.mailmap_signatures.specs.SignatureFields
 pub mod Signatures
 pub use Rattle.mailmap_histories.specs.Listings
-pub mod Remaining
 pub mod Answers
 pub mod Writing
 pub mod Sources

@@ -19,3 +19,5 @@ pub mod RunPuts
 pub mod EmailsLoop
 pub mod SortedRuns
 pub mod WholeMerge
+pub mod Listed
+pub mod Complete

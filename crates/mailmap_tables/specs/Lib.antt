@@ -7,3 +7,4 @@ pub mod Pool
 pub mod Places
 pub mod Merging
 pub mod Named
+pub mod Remaining

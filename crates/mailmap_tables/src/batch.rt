@@ -25,8 +25,8 @@ pub(crate) struct Placed<'e, 'a> {
     pub(crate) entry: &'e Entry<'a>,
 }
 
-/// The accepted entries that an iterator gives.
-pub fn accepted_of<'a, I: Iterator<Item = Entry<'a>> + Drop>(
+// The accepted entries that an iterator gives.
+pub(crate) fn accepted_of<'a, I: Iterator<Item = Entry<'a>> + Drop>(
     alloc: Global,
     entries: I,
 ) -> Result<Vec<Entry<'a>>, AllocError>

@@ -2,7 +2,9 @@
 //! part of what it gives to users.
 #![tactic(auto)]
 
-pub mod batch;
+mod batch;
+pub mod listing;
 pub mod merge;
 pub mod search;
 pub mod tables;
+pub mod view;

@@ -1,20 +1,24 @@
 //! Joining a sorted batch with the standing tables: email by email, and within an email name by name. The standing rows
 //! between two emails of the batch are passed on without a look at their texts.
-ghost use Rattle.std.specs.Prelude.{◌≡◌, ◌≢◌, ◌+◌, ◌-◌, ◌<◌, ◌≤◌, [], ◌++◌, ◌∷◌, List, None, true, OnOk, IfOk, IfSome, Some, IsSome, IsTrue, ◌↔◌, take, drop, map, length, ℕ};
+ghost use Rattle.std.specs.Prelude.{◌≡◌, ◌≢◌, ◌+◌, ◌-◌, ◌<◌, ◌≤◌, [], ◌++◌, ◌∷◌, List, None, true, OnOk, OnErr, IfOk, IfSome, Some, IsSome, IsTrue, ◌↔◌, take, drop, map, length, ℕ};
 ghost use Rattle.std.specs.Option.{option_copied, option_map, option_or, ForSome};
 ghost use Rattle.std.specs.List.{AllByRecursion, HoldsAt, fold};
 ghost use Rattle.std.specs.List.Sorted.{IsStrictlySortedBy};
 ghost use Rattle.mailmap_entries.specs.Entries.{mapping_of};
 ghost use Rattle.mailmap_entries.specs.Folding.{folded, text_cmp};
 ghost use Rattle.mailmap_tables.specs.Groups.{Contents, AreGroups, IsComplete, name_key, email_key, listing};
-ghost use Rattle.mailmap_histories.specs.Histories.{IsNormal, is_accepted, key, key_cmp, no_fields};
+ghost use Rattle.std.specs.Iterator.{IsFinite, Drains, Yields};
+ghost use Rattle.mailmap_histories.specs.Histories.{IsNormal, accepted, is_accepted, key, key_cmp, no_fields};
+ghost use Rattle.mailmap_entries.specs.declared.entry.Entry.{Entry as Item};
 ghost use Rattle.mailmap_tables.specs.Merging.{IsAscending, first_email, IsNamed, mapping_at, placed_at, email_text, name_text, Extends, NamePut, NameRun, NamesPut, EmailRun, IsEarliest, give, EmailPut, RunPut, AllJoined};
 ghost use Rattle.mailmap_tables.specs.Pool.{spelled, LiesIn, NameLies, EmailLies, RowsLie, name_group, group_of};
 ghost use Rattle.mailmap_tables.specs.Named.{named_group, fields_given};
 
-use crate::batch::{Placed, sorted};
+use crate::batch::{Placed, accepted_of, sorted};
+use crate::listing::Iter;
 use crate::search::{place_email, place_name};
 use crate::tables::{EmailRow, NameRow, Span, Tables};
+use crate::view::View;
 use mailmap_entries::Entry;
 use std::alloc::{AllocError, Global};
 
@@ -313,7 +317,7 @@ fn earliest<'e, 'a>(batch: &[Placed<'e, 'a>]) -> Placed<'e, 'a>
 // Passes standing emails on, from one place up to another.
 fn pass_emails(
     out: &mut Tables,
-    standing: &Tables,
+    standing: &View<'_>,
     from: usize,
     to: usize,
 ) -> Result<(), AllocError>
@@ -335,7 +339,7 @@ fn pass_emails(
 // standing email.
 fn join_run(
     out: &mut Tables,
-    standing: &Tables,
+    standing: &View<'_>,
     from: usize,
     run: &[Placed<'_, '_>],
 ) -> Result<usize, AllocError>
@@ -379,20 +383,19 @@ fn bare_row(old_email: Span) -> EmailRow
     }
 }
 
-// The standing tables with a sorted batch behind them, whose texts have so many bytes.
+// The standing tables with a sorted batch behind them, put into `out`, which has their pool already.
 fn join_sorted(
-    alloc: Global,
-    standing: &Tables,
+    mut out: Tables,
+    standing: &View<'_>,
     batch: &[Placed<'_, '_>],
-    bytes: usize,
 ) -> Result<Tables, AllocError>
+    requires out { out ≡ record { pool = standing.now.pool; groups = []; loose = [] } }
     requires standing { AreGroups standing.now.groups }
     requires accepted { AllByRecursion (λ m. is_accepted m ≡ true) (map mapping_at batch.now) }
     requires ascending { IsAscending key_cmp (map key (map mapping_at batch.now)) }
     ensures joined { IfOk result (λ made. AllJoined standing.now.groups (map placed_at batch.now) made.groups) }
     ensures no_loose { IfOk result (λ made. made.loose ≡ []) }
 {
-    let mut out = Tables::over_pool(alloc, standing, batch.len(), bytes)?;
     let mut from = 0;
     let mut left = batch;
     while !left.is_empty() {
@@ -404,14 +407,73 @@ fn join_sorted(
     Ok(out)
 }
 
-/// The standing tables with entries behind them.
-pub fn joined(alloc: Global, standing: &Tables, entries: &[Entry<'_>]) -> Result<Tables, AllocError>
+// The standing tables with entries behind them.
+fn joined(alloc: Global, standing: &Tables, entries: &[Entry<'_>]) -> Result<Tables, AllocError>
     requires standing { AreGroups standing.now.groups }
     requires accepted { AllByRecursion (λ m. is_accepted m ≡ true) (map mapping_of entries.now) }
     ensures { IfOk result (λ made. IsComplete made × IsNormal (listing standing.now.groups ++ map mapping_of entries.now) (listing made.groups)) }
 {
     let batch = sorted(alloc, entries)?;
-    join_sorted(alloc, standing, &batch, texts_len(entries))
+    let out = Tables::over_pool(alloc, standing, batch.len(), texts_len(entries))?;
+    join_sorted(out, &standing.view(), &batch)
+}
+
+/// Merging.
+impl Tables {
+    /// Puts the accepted entries that an iterator gives behind those that the tables have. New tables are built aside and
+    /// put in place at the end, so that a refusal of memory leaves the tables as they were.
+    pub fn merge<'a, I: Iterator<Item = Entry<'a>> + Drop>(
+        &mut self,
+        entries: I,
+    ) -> Result<(), AllocError>
+        requires can { I.can_next entries }
+        requires finite { IsFinite (I.remaining entries) }
+        requires complete { IsComplete self.old }
+        ensures ok { OnOk result ((xs : List Item) × Drains I.next_gives entries xs
+            × IsComplete self.new × IsNormal (listing self.old.groups ++ map mapping_of xs) (listing self.new.groups)) }
+        ensures err { OnErr result (self.new ≡ self.old) }
+
+        // Memory is asked for only once an entry is accepted.
+        ensures refused { OnErr result ((xs : List Item) × (rest : I) × Yields I.next_gives entries xs rest × (accepted (map mapping_of xs) ≢ [])) }
+    {
+        let alloc = self.allocator();
+        let batch = accepted_of(alloc, entries)?;
+        if batch.is_empty() {
+            return Ok(());
+        }
+        let merged = joined(alloc, self, &batch)?;
+        *self = thinned(merged)?;
+        Ok(())
+    }
+}
+
+// Written anew where no more than half of the pool is in use, so that merges which replace don't make it grow without
+// end.
+fn thinned(tables: Tables) -> Result<Tables, AllocError>
+    requires { IsComplete tables }
+    ensures { IfOk result (λ made. IsComplete made × (listing made.groups ≡ listing tables.groups)) }
+{
+    if tables.is_half_dead() {
+        return rewritten(&tables);
+    }
+    Ok(tables)
+}
+
+// Tables that list the same, whose pool has the texts in use alone.
+fn rewritten(tables: &Tables) -> Result<Tables, AllocError>
+    requires { IsComplete tables.now }
+    ensures { IfOk result (λ made. IsComplete made × (listing made.groups ≡ listing tables.now.groups)) }
+{
+    let alloc = tables.allocator();
+    let entries = listed(alloc, tables)?;
+    joined(alloc, &Tables::new(alloc), entries.as_slice())
+}
+
+// What tables list.
+fn listed(alloc: Global, tables: &Tables) -> Result<Vec<Entry<'_>>, AllocError>
+    ensures { IfOk result (λ v. map mapping_of v.items ≡ listing tables.now.groups) }
+{
+    Iter::new(tables.view()).collect(alloc)
 }
 
 // How many bytes the texts of entries have, as far as they can be counted.

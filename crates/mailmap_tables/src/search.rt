@@ -10,6 +10,7 @@ ghost use Rattle.mailmap_tables.specs.Places.{IsFound, IsMissing};
 ghost use Rattle.mailmap_tables.specs.Pool.{LiesIn, NameLies, name_group};
 
 use crate::tables::{NameRow, Tables};
+use crate::view::View;
 use mailmap_entries::fold::front::Fronted;
 use mailmap_entries::fold::{Probe, Steps, search};
 use std::cmp::Ordering;
@@ -18,7 +19,7 @@ use std::mem;
 // How the emails of tables, from one place on, compare to an email.
 #[derive(Drop)]
 struct EmailProbe<'a> {
-    tables: &'a Tables,
+    tables: &'a View<'a>,
     start: usize,
     email: Fronted<'a>,
     steps: Steps,
@@ -39,7 +40,7 @@ impl Probe for EmailProbe<'_> {
 // How the names of an email compare to a name.
 #[derive(Drop)]
 struct NameProbe<'a> {
-    tables: &'a Tables,
+    tables: &'a View<'a>,
     names: &'a [NameRow],
     name: &'a [u8],
     steps: Steps,
@@ -59,7 +60,7 @@ impl Probe for NameProbe<'_> {
 }
 
 /// Where an email stands among those of the tables from `start` on, or where it would stand.
-pub(crate) fn place_email(tables: &Tables, start: usize, email: &[u8]) -> Result<usize, usize>
+pub(crate) fn place_email(tables: &View<'_>, start: usize, email: &[u8]) -> Result<usize, usize>
     requires start { start ≤ length tables.now.groups }
     requires ascending { IsStrictlySortedBy text_cmp (map email_key tables.now.groups) }
     ensures found { IfOk result (IsFound email_key (folded email.now) start tables.now.groups) }
@@ -78,12 +79,12 @@ pub(crate) fn place_name(tables: &Tables, names: &[NameRow], name: &[u8]) -> Res
     ensures missing { IfErr result
         (IsMissing name_key (folded name.now) 0 (map (name_group tables.now.pool) names.now)) }
 {
-    search_name(tables, names, name, &mut Steps::new())
+    search_name(&tables.view(), names, name, &mut Steps::new())
 }
 
 /// As [`place_email`], and counts the comparisons: at most as many as the emails that are searched have digits.
 pub fn search_email(
-    tables: &Tables,
+    tables: &View<'_>,
     start: usize,
     email: &[u8],
     steps: &mut Steps,
@@ -114,7 +115,7 @@ pub fn search_email(
 
 /// As [`place_name`], and counts the comparisons: at most as many as the number of the names has digits.
 pub fn search_name(
-    tables: &Tables,
+    tables: &View<'_>,
     names: &[NameRow],
     name: &[u8],
     steps: &mut Steps,

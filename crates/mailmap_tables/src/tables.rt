@@ -7,7 +7,8 @@ ghost use Rattle.mailmap_entries.specs.Folding.{folded};
 ghost use Rattle.mailmap_entries.specs.Fronts.{IsFront};
 ghost use Rattle.mailmap_tables.specs.Pool.{end_of};
 
-use mailmap_entries::fold::front::{Fronted, front_number};
+use crate::view::{View, last_end};
+use mailmap_entries::fold::front::front_number;
 use std::alloc::{AllocError, Global};
 use std::marker::Model;
 
@@ -160,7 +161,7 @@ impl Tables {
             names_start: last_end(&self.emails),
             names_end: self.names.len(),
         };
-        let front = front_number(self.text(old_email));
+        let front = front_number(self.view().text(old_email));
         push_row(&mut self.emails, &mut self.fronts, row, front)?;
         Ok(())
     }
@@ -212,106 +213,17 @@ fn with_more(len: usize, more: usize) -> usize {
 }
 
 impl Tables {
-    ghost use Rattle.mailmap_tables.specs.Groups.{Contents, EmailGroup, NameGroup};
-    ghost use Rattle.mailmap_tables.specs.Groups.{listing};
-    ghost use Rattle.mailmap_tables.specs.Pool.{spelled, LiesIn, NameLies, name_group, group_of, RowsLie};
+    ghost use Rattle.mailmap_tables.specs.Groups.{Contents};
 
-    /// The allocator that the tables keep.
-    pub fn allocator(&self) -> Global {
-        *self.pool.allocator()
-    }
-
-    /// The number of emails.
-    pub fn len(&self) -> usize
-        ensures { result ≡ length self.now.groups }
+    /// The tables, to be read.
+    pub fn view(&self) -> View<'_>
+        ensures { result ≡ self.now }
     {
-        self.emails.len()
-    }
-
-    /// The number of rows in both tables. No listing is longer.
-    pub fn row_count(&self) -> usize
-        ensures { length (listing self.now.groups) ≤ result }
-    {
-        self.emails.len() + self.names.len()
-    }
-
-    /// The text that a span names.
-    pub fn text(&self, span: Span) -> &[u8]
-        requires { LiesIn (length self.now.pool) span }
-        ensures { result.now ≡ spelled self.now.pool span }
-    {
-        &self.pool[span.start..span.start + span.len]
-    }
-
-    /// The email at a place, with its names.
-    pub fn email(&self, place: usize) -> (EmailRow, &[NameRow])
-        requires { place < length self.now.groups }
-        ensures up { result.0.names_start ≤ result.0.names_end }
-        ensures count { result.0.names_end - result.0.names_start ≡ length result.1.now }
-        ensures group { slice_get self.now.groups place ≡ Some (group_of self.now.pool result.0 result.1.now) }
-        ensures lie { RowsLie self.now.pool result.0 result.1.now }
-    {
-        let row = self.emails[place];
-        (row, part(&self.names, row.names_start, row.names_end))
-    }
-
-    /// The names of the emails from one place up to another.
-    pub fn names_between(&self, from: usize, to: usize) -> &[NameRow]
-        requires up { from ≤ to }
-        requires within { to ≤ length self.now.groups }
-        ensures names { map (name_group self.now.pool) result.now ≡ flat_map (λ (g : EmailGroup). g.names) (take (to - from) (drop from self.now.groups)) }
-        ensures lie { AllByRecursion (NameLies (length self.now.pool)) result.now }
-    {
-        part(
-            &self.names,
-            last_end(&self.emails[..from]),
-            last_end(&self.emails[..to]),
-        )
-    }
-}
-
-// Where the range of the last email's names ends.
-fn last_end(emails: &[EmailRow]) -> usize
-    ensures { result ≡ end_of 0 emails.now }
-{
-    match emails.last() {
-        Some(row) => row.names_end,
-        None => 0,
-    }
-}
-
-// The rows from one place up to another.
-fn part(names: &[NameRow], from: usize, to: usize) -> &[NameRow]
-    requires up { from ≤ to }
-    requires within { to ≤ length names.now }
-    ensures { result.now ≡ take (to - from) (drop from names.now) }
-{
-    &names[from..to]
-}
-
-// What lookups and the listing read.
-impl Tables {
-    ghost use Rattle.mailmap_tables.specs.Groups.{Contents, EmailGroup};
-    ghost use Rattle.mailmap_tables.specs.Pool.{spelled, LiesIn};
-
-    /// The text of the email at a place, with its front.
-    #[inline(always)]
-    pub fn email_text(&self, place: usize) -> Fronted<'_>
-        requires { place < length self.now.groups }
-        ensures { slice_get (map (λ (g : EmailGroup). g.old_email) self.now.groups) place ≡ Some result.text.now }
-    {
-        let row = self.emails[place];
-        Fronted::with_front(self.text(row.old_email), self.fronts[place])
-    }
-
-    /// The text that a span names, if there is one.
-    pub fn optional_text(&self, span: Option<Span>) -> Option<&[u8]>
-        requires { ForSome span (LiesIn (length self.now.pool)) }
-        ensures { option_copied result ≡ option_map (spelled self.now.pool) span }
-    {
-        match span {
-            Some(span) => Some(self.text(span)),
-            None => None,
+        View {
+            pool: &self.pool,
+            emails: &self.emails,
+            fronts: &self.fronts,
+            names: &self.names,
         }
     }
 
@@ -329,10 +241,15 @@ impl Tables {
     }
 }
 
-// How much of the pool is in use.
+// What a merge asks of the tables that stand.
 impl Tables {
-    /// Whether texts that no row names any more take half of the pool or more.
-    pub fn is_half_dead(&self) -> bool {
+    // The allocator that the tables keep.
+    pub(crate) fn allocator(&self) -> Global {
+        *self.pool.allocator()
+    }
+
+    // Whether texts that no row names any more take half of the pool or more.
+    pub(crate) fn is_half_dead(&self) -> bool {
         self.dead > 0 && self.dead >= self.pool.len().saturating_sub(self.dead)
     }
 }

@@ -10,9 +10,6 @@ ghost use Rattle.mailmap_entries.specs.declared.entry.Entry.{Entry as Item};
 use crate::snapshot::Snapshot;
 use mailmap_entries::Entry;
 use mailmap_grammar::parse_ignore_errors;
-use mailmap_tables::batch::accepted_of;
-use mailmap_tables::merge::joined;
-use mailmap_tables::tables::Tables;
 use std::alloc::{AllocError, Global};
 
 impl Snapshot {
@@ -56,35 +53,6 @@ impl Snapshot {
         // Memory is asked for only once an entry is accepted.
         ensures refused { OnErr result ((xs : List Item) × (rest : I) × Yields I.next_gives entries xs rest × (accepted (map mapping_of xs) ≢ [])) }
     {
-        let alloc = self.tables.allocator();
-        let batch = accepted_of(alloc, entries)?;
-        if batch.is_empty() {
-            return Ok(());
-        }
-        let tables = joined(alloc, &self.tables, &batch)?;
-        let merged = Snapshot { tables };
-        *self = merged.thinned()?;
-        Ok(())
-    }
-
-    // Written anew where no more than half of the pool is in use, so that merges which replace don't make it grow
-    // without end.
-    fn thinned(self) -> Result<Snapshot, AllocError>
-        ensures { IfOk result (λ made. made ≡ self) }
-    {
-        if self.tables.is_half_dead() {
-            return self.rewritten();
-        }
-        Ok(self)
-    }
-
-    // An equal snapshot, whose pool has the texts in use alone.
-    fn rewritten(&self) -> Result<Snapshot, AllocError>
-        ensures { IfOk result (λ made. made ≡ self.now) }
-    {
-        let alloc = self.tables.allocator();
-        let entries = self.entries(alloc)?;
-        let tables = joined(alloc, &Tables::new(alloc), entries.as_slice())?;
-        Ok(Snapshot { tables })
+        self.tables.merge(entries)
     }
 }

@@ -6,113 +6,15 @@ ghost use Rattle.std.specs.Option.{option_to_list};
 ghost use Rattle.mailmap_entries.specs.Entries.{mapping_of};
 ghost use Rattle.mailmap_histories.specs.Building.{IsListing};
 ghost use Rattle.mailmap_tables.specs.Groups.{listing, name_row, own_rows};
-ghost use Rattle.mailmap_snapshot.specs.Remaining.{left_to_list};
+ghost use Rattle.mailmap_tables.specs.Remaining.{left_to_list};
 ghost use Rattle.mailmap_tables.specs.Pool.{EmailLies, NameLies, group_of, name_group};
 
 use crate::snapshot::Snapshot;
 use mailmap_entries::Entry;
-use mailmap_tables::tables::{EmailRow, NameRow, Tables};
+pub use mailmap_tables::listing::Iter;
 use std::alloc::{AllocError, Global};
 use std::fmt;
 use std::hash::{Hash, Hasher};
-use std::marker::Model;
-
-/// The entries of a snapshot, in ascending order of their keys.
-///
-/// Contracts see it as the list of the entries that are left.
-#[derive(Drop)]
-pub struct Iter<'a> {
-    tables: &'a Tables,
-    // how many emails were reached, the last of them, and its names that are left
-    reached: usize,
-    old_email: &'a [u8],
-    names: &'a [NameRow],
-}
-
-impl<'a> Model for Iter<'a> {
-    ghost use Rattle.std.specs.Prelude.{List, length};
-    ghost use Rattle.std.specs.List.{AllByRecursion};
-    ghost use Rattle.mailmap_entries.specs.Entries.{Mapping};
-
-    ghost Value = { List Mapping };
-
-    ghost use Rattle.mailmap_snapshot.specs.Remaining.{left_to_list};
-    ghost use Rattle.mailmap_tables.specs.Pool.{NameLies};
-
-    ghost view = { λ s. left_to_list s.tables.now s.old_email.now s.names.now s.reached };
-
-    ghost invariant = { λ s. AllByRecursion (NameLies (length s.tables.now.pool)) s.names.now };
-}
-
-impl<'a> Iter<'a> {
-    fn new(tables: &'a Tables) -> Self
-        ensures { result ≡ listing tables.now.groups }
-    {
-        Iter {
-            tables,
-            reached: 0,
-            old_email: &[],
-            names: &[],
-        }
-    }
-}
-
-impl<'a> Iterator for Iter<'a> {
-    type Item = Entry<'a>;
-
-    ghost next_gives = { YieldsFirstBy mapping_of (λ s. s) };
-
-    ghost remaining = { item_count (λ s. s) };
-
-    fn next(&mut self) -> Option<Entry<'a>> {
-        let tables = self.tables;
-        while self.names.is_empty() && self.reached < tables.len() {
-            let (row, names) = tables.email(self.reached);
-            self.reached += 1;
-            self.old_email = tables.text(row.old_email);
-            self.names = names;
-            if let Some(entry) = own_entry(tables, row) {
-                return Some(entry);
-            }
-        }
-        let (name, names) = self.names.split_first()?;
-        self.names = names;
-        Some(name_entry(tables, self.old_email, name))
-    }
-}
-
-// The entry of an email for all its names, if a field was given for them.
-fn own_entry(tables: &Tables, row: EmailRow) -> Option<Entry<'_>>
-    requires { EmailLies (length tables.now.pool) row }
-    ensures { option_to_list (option_map mapping_of result) ≡ own_rows (group_of tables.now.pool row []) }
-{
-    let old_email = tables.text(row.old_email);
-    let new_name = tables.optional_text(row.new_name);
-    let new_email = tables.optional_text(row.new_email);
-    match (new_name, new_email) {
-        (None, None) => None,
-        (Some(new_name), None) => Some(Entry::change_name_by_email(new_name, old_email)),
-        (None, Some(new_email)) => Some(Entry::change_email_by_email(new_email, old_email)),
-        (Some(new_name), Some(new_email)) => Some(Entry::change_name_and_email_by_email(
-            new_name, new_email, old_email,
-        )),
-    }
-}
-
-// The entry of a name of an email.
-fn name_entry<'a>(tables: &'a Tables, old_email: &'a [u8], row: &NameRow) -> Entry<'a>
-    requires { NameLies (length tables.now.pool) row.now }
-    ensures { mapping_of result ≡ name_row old_email.now (name_group tables.now.pool row.now) }
-{
-    let old_name = tables.text(row.old_name);
-    let new_email = tables.text(row.new_email);
-    match tables.optional_text(row.new_name) {
-        Some(new_name) => Entry::change_name_and_email_by_name_and_email(
-            new_name, new_email, old_name, old_email,
-        ),
-        None => Entry::change_email_by_name_and_email(new_email, old_name, old_email),
-    }
-}
 
 /// The listing.
 impl Snapshot {
@@ -128,7 +30,7 @@ impl Snapshot {
         // whatever was merged, what a snapshot lists is its own normal list
         ensures own { IsListing self.now }
     {
-        Iter::new(&self.tables)
+        Iter::new(self.tables.view())
     }
 
     /// The entries of [`iter`](Snapshot::iter()) in a vector. `Err` where memory is refused.

@@ -13,11 +13,12 @@ use crate::snapshot::resolved::ResolvedSignature;
 use mailmap_entries::fold::Steps;
 use mailmap_signatures::actor::SignatureRef;
 use mailmap_tables::search::{search_email, search_name};
-use mailmap_tables::tables::{Span, Tables};
+use mailmap_tables::tables::Span;
+use mailmap_tables::view::View;
 
 /// What the emails and names of tables answer to a name and an email.
 fn look_up<'a>(
-    tables: &'a Tables,
+    tables: &View<'a>,
     name: &[u8],
     email: &[u8],
     steps: &mut Steps,
@@ -52,7 +53,7 @@ fn look_up<'a>(
 
 // What two fields that are kept for an email answer to a spelling of it.
 fn answer<'a>(
-    tables: &'a Tables,
+    tables: &View<'a>,
     old_email: Span,
     new_name: Option<Span>,
     new_email: Option<Span>,
@@ -118,6 +119,6 @@ impl Snapshot {
         ensures at_least { steps.old + min 1 (email_count self.now)
             + min 1 (name_count self.now signature.entry.email.now) ≤ steps.new }
     {
-        look_up(&self.tables, signature.name, signature.email, steps)
+        look_up(&self.tables.view(), signature.name, signature.email, steps)
     }
 }

@@ -70,7 +70,7 @@ impl Snapshot {
         ensures { MatchOption result (All IsWritable self.now) (IsFirstUnwritable self.now) }
     {
         // no listing has more entries than the tables have rows, so places can be counted
-        let _rows = self.tables.row_count();
+        let _rows = self.tables.view().row_count();
         let mut place = 0;
         for entry in self.iter() {
             if !is_writable(&entry) {

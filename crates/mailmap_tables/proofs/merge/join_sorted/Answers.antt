@@ -9,7 +9,7 @@ use Rattle.mailmap_tables.proofs.merge.join_sorted.Goals as goal
 pub loop-left-init : goal.loop-left-init
 loop-left-init c =
     let batch : IsBatch c.args.batch.now = record { accepted = c.requires.accepted; ascending = c.requires.ascending } in
-    (emails_start c.args.standing.now.groups (map placed_at c.args.batch.now) c.in_ok-out.out c.args.standing.now.pool c.requires.standing (batch_emails c.args.batch.now batch) c.in_ok-out.ensures, omega arith, batch)
+    (emails_start c.args.standing.now.groups (map placed_at c.args.batch.now) c.args.out c.args.standing.now.pool c.requires.standing (batch_emails c.args.batch.now batch) c.requires.out, omega arith, batch)
 
 pub join_run-requires-clause-run : goal.join_run-requires-clause-run
 join_run-requires-clause-run c =

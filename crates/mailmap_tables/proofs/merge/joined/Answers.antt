@@ -1,8 +1,8 @@
-use Rattle.std.proofs.Common.{◌≡◌, ◌∙◌, List, true, map, sym, subst}
+use Rattle.std.proofs.Common.{◌≡◌, ◌∙◌, ◌++◌, [], List, true, map, sym, ap, subst}
 use Rattle.std.specs.List.{AllByRecursion}
 use Rattle.mailmap_entries.specs.Entries.{mapping_of}
-use Rattle.mailmap_tables.specs.Groups.{Contents}
-use Rattle.mailmap_histories.specs.Histories.{is_accepted, key, key_cmp}
+use Rattle.mailmap_tables.specs.Groups.{AreGroups, Contents, listing}
+use Rattle.mailmap_histories.specs.Histories.{IsNormal, is_accepted, key, key_cmp}
 use Rattle.mailmap_tables.specs.Merging.{IsAscending, AllJoined, mapping_at, placed_at}
 use Rattle.mailmap_tables.specs.declared.batch.Placed.{Placed}
 use Rattle.mailmap_tables.proofs.Collected.{mapped_twice, if_ok_then}
@@ -24,10 +24,18 @@ join_sorted-requires-clause-ascending c =
 pub returns : goal.returns
 returns c =
     let items = c.in_ok-batch.batch.items in
-    let gs = c.args.standing.now.groups in
+    let gs = c.view.result.groups in
+    let stands : gs ≡ c.args.standing.now.groups = ap (λ (v : Contents). v.groups) c.view.ensures in
     let xs = map mapping_of c.args.entries.now in
     if_ok_then c.join_sorted.result _ _ _ (λ (made : Contents) j none. (
       record { groups = j.groups; no_loose = none },
-      joined_normal gs c.requires.standing xs c.requires.accepted (map placed_at items) c.in_ok-batch.ensures made.groups
-          (subst (λ (l : List Placed). AllJoined gs (map placed_at l) made.groups) c.deref.ensures.value j),
+      subst (λ g. IsNormal (listing g ++ xs) (listing made.groups)) stands
+          (joined_normal gs (subst AreGroups (sym stands) c.requires.standing) xs c.requires.accepted (map placed_at items) c.in_ok-batch.ensures made.groups
+          (subst (λ (l : List Placed). AllJoined gs (map placed_at l) made.groups) c.deref.ensures.value j)),
     )) c.join_sorted.ensures.joined c.join_sorted.ensures.no_loose
+
+pub join_sorted-requires-clause-standing : goal.join_sorted-requires-clause-standing
+join_sorted-requires-clause-standing c = subst (λ (v : Contents). AreGroups v.groups) (sym c.view.ensures) c.requires.standing
+
+pub join_sorted-requires-clause-out : goal.join_sorted-requires-clause-out
+join_sorted-requires-clause-out c = c.in_ok-out.ensures ∙ ap (λ (v : Contents). record { pool = v.pool; groups = []; loose = [] }) (sym c.view.ensures)

@@ -1,37 +1,18 @@
-use Rattle.std.proofs.Common.{eqb-true, ◌≡◌, ◌∙◌, ◌++◌, [], List, true, map, arith, sym, ap, subst}
-use Rattle.std.specs.List.{AllByRecursion}
-use Rattle.std.proofs.lemmas.List.{nil_from_length}
+use Rattle.std.proofs.Common.{◌++◌, map, subst}
 use Rattle.mailmap_entries.specs.Entries.{mapping_of}
+use Rattle.mailmap_histories.specs.Histories.{IsNormal}
+use Rattle.mailmap_histories.proofs.Building.{is_merged}
 use Rattle.mailmap_tables.specs.Groups.{listing}
-use Rattle.mailmap_histories.specs.Histories.{IsNormal, accepted, is_accepted}
-use Rattle.mailmap_entries.specs.declared.entry.Entry.{Entry as Item}
-use Rattle.mailmap_histories.proofs.Building.{normal_accepted, normal_unchanged, accepted_good, is_merged}
 use Rattle.mailmap_tables.proofs.Grouped.{groups_normal}
+use Rattle.mailmap_snapshot.proofs.Built.{on_ok_map}
 use Rattle.mailmap_snapshot.proofs.snapshot.Snapshot.merge.Goals as goal
-
-pub returns-then-is_empty-clause-ok : goal.returns-then-is_empty-clause-ok
-returns-then-is_empty-clause-ok g c =
-    let w = c.in_ok-batch.ensures.ok in
-    let items = c.in_ok-batch.batch.items in
-    let none : accepted (map mapping_of w.0) ≡ [] = sym w.2 ∙ ap (map mapping_of) (nil_from_length items (omega (arith, eqb-true _ _ (sym c.if-is_empty.ensures), c.in_ok-batch.batch.ok.0))) in
-    let own = subst (λ v. IsNormal v v) c.self.view_is (groups_normal _ c.self.invariant.groups) in
-    (w.0, w.1, is_merged c.args.self.now (map mapping_of w.0) c.args.self.now own (normal_unchanged c.args.self.now (map mapping_of w.0) none own))
-
-pub joined-requires-clause-accepted : goal.joined-requires-clause-accepted
-joined-requires-clause-accepted g c =
-    let w = c.in_ok-batch.ensures.ok in
-    subst (λ (l : List Item). AllByRecursion (λ m. is_accepted m ≡ true) (map mapping_of l)) (sym c.deref.ensures.value)
-    (subst (AllByRecursion (λ m. is_accepted m ≡ true)) (sym w.2) (accepted_good (map mapping_of w.0)))
 
 pub returns-clause-ok : goal.returns-clause-ok
 returns-clause-ok g c =
-    let w = c.in_ok-batch.ensures.ok in
-    let made = listing c.in_ok-tables.tables.groups in (
-      w.0,
-      w.1,
-      is_merged c.args.self.now (map mapping_of w.0) _ (subst (λ v. IsNormal v v) c.self.view_is (groups_normal _ c.self.invariant.groups))
-          (subst (IsNormal (c.args.self.now ++ map mapping_of w.0)) (sym (c.drop.view_is ∙ c.in_ok-self-inside.ensures))
-          (normal_accepted c.args.self.now (map mapping_of w.0) made
-          (subst (λ v. IsNormal (v ++ accepted (map mapping_of w.0)) made) c.self.view_is
-          (subst (λ l. IsNormal (listing c.self.inside.tables.groups ++ l) made) (ap (map mapping_of) c.deref.ensures.value ∙ w.2) c.in_ok-tables.ensures.1)))),
-    )
+    let new = listing c.merge.new.self.groups in
+    let own = subst (λ v. IsNormal v v) c.self.view_is (groups_normal _ c.self.invariant.groups) in
+    on_ok_map c.merge.result _ _ (λ d. (
+      d.0,
+      d.1,
+      is_merged c.args.self.now (map mapping_of d.0) new own (subst (λ v. IsNormal (v ++ map mapping_of d.0) new) c.self.view_is d.3),
+    )) c.merge.ensures.ok

@@ -17,7 +17,7 @@ invariant_of-self-2 c =
     let to : c.len.result ≡ length names = omega (arith, c.len.ensures, c.self.inside.names.ok.0) in
     let from : c.last_end.result ≡ end_of 0 emails = c.last_end.ensures ∙ ap (end_of 0) c.deref.ensures.value in
     let within : end_of 0 emails ≤ length names = end_within 0 (length names) emails c.self.invariant.ranges in
-    let front = c.front_number-front.ensures.is ∙ ap (λ t. front_number 16 (folded t)) c.text.ensures ∙ ap (λ (v : Contents). front_number 16 (folded (spelled v.pool c.args.old_email))) back in
+    let front = c.front_number-front.ensures.is ∙ ap (λ t. front_number 16 (folded t)) c.text.ensures ∙ ap (λ (v : Contents). front_number 16 (folded (spelled v.pool c.args.old_email))) (c.view.ensures ∙ back) in
     subst₂ (λ es fs. AreTables c.self.inside.pool.items names es fs) (sym c.in_ok-push_row.ensures.emails) (sym c.in_ok-push_row.ensures.fronts)
     (tables-email _ _ _ c.self.invariant _ from (omega (arith, from, to, within)) (omega (arith, to)) (record {
       old_email = subst (λ (v : Contents). LiesIn (length v.pool) c.args.old_email) back c.requires.old_email_lies;

@@ -7,7 +7,7 @@ use Rattle.std.proofs.lemmas.List.{drop_more, drop_all}
 use Rattle.std.proofs.lemmas.Option.{get_or_from_slice_get, slice_get_within}
 use Rattle.mailmap_entries.specs.Folding.{Text}
 use Rattle.mailmap_tables.specs.Groups.{Contents, EmailGroup, name_row, own_rows, listing}
-use Rattle.mailmap_snapshot.specs.Remaining.{left_to_list}
+use Rattle.mailmap_tables.specs.Remaining.{left_to_list}
 use Rattle.mailmap_tables.specs.Pool.{spelled, group_of}
 use Rattle.mailmap_tables.specs.declared.tables.EmailRow.{EmailRow}
 use Rattle.mailmap_tables.specs.declared.tables.NameRow.{NameRow}

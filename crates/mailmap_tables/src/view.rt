@@ -1,0 +1,133 @@
+//! Tables as lookups, listings and merges read them.
+ghost use Rattle.std.specs.Prelude.{◌≡◌, ◌≤◌, ◌<◌, get_or, length, map, Some, slice_get, take, drop, ◌-◌};
+ghost use Rattle.std.specs.Option.{option_map, option_copied, ForSome};
+ghost use Rattle.std.specs.List.{AllByRecursion, flat_map};
+ghost use Rattle.mailmap_tables.specs.Pool.{end_of};
+
+use crate::tables::{EmailRow, NameRow, Span};
+use mailmap_entries::fold::front::Fronted;
+use std::marker::Model;
+
+/// The pool and the tables, to be read: slices alone. There is no allocator in it, so what is handed a view and nothing
+/// else that has one can't take memory.
+#[derive(Drop)]
+pub struct View<'a> {
+    pub(crate) pool: &'a [u8],
+    pub(crate) emails: &'a [EmailRow],
+    pub(crate) fronts: &'a [u128],
+    pub(crate) names: &'a [NameRow],
+}
+
+impl<'a> Model for View<'a> {
+    ghost use Rattle.mailmap_tables.specs.Groups.{Contents};
+
+    ghost Value = { Contents };
+
+    ghost use Rattle.mailmap_tables.specs.Pool.{AreTables, contents};
+
+    ghost view = { λ t. contents t.pool.now t.names.now t.emails.now };
+
+    ghost invariant = { λ t. AreTables t.pool.now t.names.now t.emails.now t.fronts.now };
+}
+
+impl<'a> View<'a> {
+    ghost use Rattle.mailmap_tables.specs.Groups.{Contents, EmailGroup, NameGroup};
+    ghost use Rattle.mailmap_tables.specs.Groups.{listing};
+    ghost use Rattle.mailmap_tables.specs.Pool.{spelled, LiesIn, NameLies, name_group, group_of, RowsLie};
+
+    /// The number of emails.
+    pub fn len(&self) -> usize
+        ensures { result ≡ length self.now.groups }
+    {
+        self.emails.len()
+    }
+
+    /// The number of rows in both tables. No listing is longer.
+    pub fn row_count(&self) -> usize
+        ensures { length (listing self.now.groups) ≤ result }
+    {
+        self.emails.len() + self.names.len()
+    }
+
+    /// The text that a span names.
+    pub fn text(&self, span: Span) -> &'a [u8]
+        requires { LiesIn (length self.now.pool) span }
+        ensures { result.now ≡ spelled self.now.pool span }
+    {
+        &self.pool[span.start..span.start + span.len]
+    }
+
+    /// The text that a span names, if there is one.
+    pub fn optional_text(&self, span: Option<Span>) -> Option<&'a [u8]>
+        requires { ForSome span (LiesIn (length self.now.pool)) }
+        ensures { option_copied result ≡ option_map (spelled self.now.pool) span }
+    {
+        match span {
+            Some(span) => Some(self.text(span)),
+            None => None,
+        }
+    }
+
+    /// The text of the email at a place, with its front.
+    #[inline(always)]
+    pub fn email_text(&self, place: usize) -> Fronted<'a>
+        requires { place < length self.now.groups }
+        ensures { slice_get (map (λ (g : EmailGroup). g.old_email) self.now.groups) place ≡ Some result.text.now }
+    {
+        let row = at(self.emails, place);
+        Fronted::with_front(self.text(row.old_email), at(self.fronts, place))
+    }
+
+    /// The email at a place, with its names.
+    pub fn email(&self, place: usize) -> (EmailRow, &'a [NameRow])
+        requires { place < length self.now.groups }
+        ensures up { result.0.names_start ≤ result.0.names_end }
+        ensures count { result.0.names_end - result.0.names_start ≡ length result.1.now }
+        ensures group { slice_get self.now.groups place ≡ Some (group_of self.now.pool result.0 result.1.now) }
+        ensures lie { RowsLie self.now.pool result.0 result.1.now }
+    {
+        let row = at(self.emails, place);
+        (row, part(self.names, row.names_start, row.names_end))
+    }
+
+    /// The names of the emails from one place up to another.
+    pub fn names_between(&self, from: usize, to: usize) -> &'a [NameRow]
+        requires up { from ≤ to }
+        requires within { to ≤ length self.now.groups }
+        ensures names { map (name_group self.now.pool) result.now ≡ flat_map (λ (g : EmailGroup). g.names) (take (to - from) (drop from self.now.groups)) }
+        ensures lie { AllByRecursion (NameLies (length self.now.pool)) result.now }
+    {
+        part(
+            self.names,
+            last_end(&self.emails[..from]),
+            last_end(&self.emails[..to]),
+        )
+    }
+}
+
+// The one at a place.
+fn at<T: Copy>(rows: &[T], place: usize) -> T
+    requires { place < length rows.now }
+    ensures { result ≡ get_or rows.now place result }
+{
+    rows[place]
+}
+
+// Where the range of the last email's names ends.
+pub(crate) fn last_end(emails: &[EmailRow]) -> usize
+    ensures { result ≡ end_of 0 emails.now }
+{
+    match emails.last() {
+        Some(row) => row.names_end,
+        None => 0,
+    }
+}
+
+// The rows from one place up to another.
+fn part(names: &[NameRow], from: usize, to: usize) -> &[NameRow]
+    requires up { from ≤ to }
+    requires within { to ≤ length names.now }
+    ensures { result.now ≡ take (to - from) (drop from names.now) }
+{
+    &names[from..to]
+}
