@@ -1,6 +1,6 @@
 #!/usr/bin/env bash
-# Each .txt file here is a library on gix_mailmap that must not compile. Its first line names the error that the borrow
-# check is to give; this script wants that error of each, and no other.
+# Each .txt file here is a library on gix_mailmap that must not compile. Its first line names the error that the check is
+# to give; this script wants that error of each, and no other.
 set -euo pipefail
 here="$(cd "$(dirname "$0")" && pwd)"
 top="$(cd "$here/../.." && pwd)"
@@ -16,7 +16,7 @@ for crate in mailmap_entries mailmap_grammar mailmap_histories mailmap_signature
     [ ! -d "$top/crates/$crate/out" ] || cp -r "$top/crates/$crate/out" "$work/crates/$crate"
     grep "^$crate:" "$top/crates.txt" >> "$work/crates.txt"
 done
-echo 'case: gix_mailmap' >> "$work/crates.txt"
+echo 'case: gix_mailmap mailmap_tables' >> "$work/crates.txt"
 
 failed=0
 for case in "$here"/*.txt; do

@@ -22,6 +22,8 @@ ghost use Rattle.std.specs.Ordering.{nat_cmp};
 ghost use Rattle.mailmap_entries.specs.Entries.{mapping_of};
 ghost use Rattle.mailmap_grammar.specs.Lines.{reading_of, reading_by, line_reader, non_empty as spec_non_empty, by_both, readings, readings_from, strict_readings, pieces, fault_lines, good};
 
+mod derived;
+
 use crate::halves::{Half, parse_name_and_email, trim};
 use bstr::ByteSlice;
 use mailmap_entries::Entry;

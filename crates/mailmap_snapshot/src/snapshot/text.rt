@@ -5,6 +5,8 @@ ghost use Rattle.mailmap_grammar.specs.CanonicalText.{IsWritable, text};
 ghost use Rattle.mailmap_histories.specs.Building.{IsListing};
 ghost use Rattle.mailmap_snapshot.specs.Writing.{IsFirstUnwritable, IsUnwrittenBy};
 
+mod derived;
+
 use crate::snapshot::Snapshot;
 use mailmap_grammar::writing::{is_writable, len_with_line, push_line};
 use std::alloc::{AllocError, Global};
