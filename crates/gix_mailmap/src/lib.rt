@@ -7,9 +7,14 @@
 //! // the name `Jane Doe` and the email `jane@x`
 //! ```
 //!
-//! A [`Snapshot`] holds the entries that count: of two entries with the same old email and old name, where the case of
-//! ASCII letters doesn't count, the later one. The first spelling of an old email or an old name is kept. Entries
-//! without an old name give their fields to each name of the email that has no entry of its own.
+//! A [`Snapshot`] holds one entry for each old email and, beside it, one for each old name of that email, where the case of
+//! ASCII letters doesn't count. The first spelling of an old email or an old name is kept.
+//!
+//! - Entries without an old name join field by field: the name that was last given and the email that was last given
+//!   stand, each for itself. `P <a@x>` and then `<n@y> <a@x>` map to `P` and `n@y`.
+//! - Of entries with the same old name the last one stands, with both of its fields: `P <n@y> Jo <a@x>` and then
+//!   `<m@y> Jo <a@x>` map `Jo` to the email `m@y`, and leave the name.
+//! - A name that has an entry of its own takes nothing from those without an old name; each other name of the email does.
 //!
 //! What each function promises stands in its `ensures`; the definitions are those of `specs/`, and [`laws`] has what
 //! follows from them.

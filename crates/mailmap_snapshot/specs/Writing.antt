@@ -16,7 +16,7 @@ pub record IsFirstUnwritable (es : List Mapping) (place : ℕ) : Type 0 where
   pub here : slice_get es place ≡ Some entry
   pub unwritable : ¬ IsWritable entry
 
--- why these entries aren't written: the first that no line can hold, or want of memory where a line can hold each
+-- why these entries aren't written: the first that no line can hold, or out of memory where a line can hold each
 abbrev pub IsUnwrittenBy : List Mapping → WriteError → Type 0
 IsUnwrittenBy es (Unwritable place) = IsFirstUnwritable es place
 IsUnwrittenBy es (Memory error) = All IsWritable es

@@ -41,7 +41,7 @@ impl Snapshot {
         // nothing exactly where nothing is mapped
         ensures none { (result ≡ Ok None) ↔ (mapped self.now signature.entry ≡ None) }
         ensures some { IfOk result (λ answer. IfSome answer (λ s. IsResolved self.now signature.entry (owned_fields s))) }
-        // memory can be wanting only where something is mapped
+        // it runs out of memory only where something is mapped
         ensures refused { OnErr result (IsSome (mapped self.now signature.entry)) }
         // the same, by a history that the snapshot stands for
         ensures history_none { (h : List Mapping) → IsNormal h self.now → (result ≡ Ok None) ↔ (mapped h signature.entry ≡ None) }
@@ -100,7 +100,7 @@ impl Snapshot {
     ) -> Result<Signature<'a>, AllocError>
         ensures view { IfOk result (λ s. IsResolved self.now signature.entry (cow_fields s)) }
         ensures owned { IfOk result (OwnsMapped self.now signature.entry) }
-        // memory can be wanting only where something is mapped
+        // it runs out of memory only where something is mapped
         ensures refused { OnErr result (IsSome (mapped self.now signature.entry)) }
         // the same, by a history that the snapshot stands for
         ensures history { (h : List Mapping) → IsNormal h self.now → IfOk result (λ s. IsResolved h signature.entry (cow_fields s)) }

@@ -1,4 +1,4 @@
-//! Merging from several sources, where want of memory skips a source and is told.
+//! Merging from several sources, where running out of memory skips a source and is told.
 ghost use Rattle.std.specs.Prelude.{◌≡◌, ◌≢◌, ℕ, [], Some, true, false, length, slice_get, OnOk, OnErr};
 ghost use Rattle.std.specs.List.{All};
 ghost use Rattle.mailmap_histories.specs.Building.{IsMerged};

@@ -50,7 +50,7 @@ impl Snapshot {
         ensures ok { IfOk result (λ v. v.items ≡ text self.now) }
         ensures writable { OnOk result (All IsWritable self.now) }
 
-        // The first entry that no line can hold is named, and want of memory only where there is none.
+        // The first entry that no line can hold is named; out of memory is answered only where there is none.
         ensures err { IfErr result (IsUnwrittenBy self.now) }
 
         // whatever was merged, what a snapshot lists is its own normal list, so its text reads back to it
