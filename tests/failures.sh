@@ -11,6 +11,7 @@ printf 'Joe R. Developer <joe@example.com> <bugs@example.com>\n' > mailmap
 printf 'bob <BUGS@example.com>\n' > contacts
 mkdir folder
 head -c 40000000 /dev/zero > large
+head -c 7000000 /dev/zero > half
 install -m 000 mailmap unreadable
 
 runs=0
@@ -41,5 +42,9 @@ fails 'cannot read standard input' './mailmap_check --compact < folder'
 fails 'cannot write output' './mailmap_check mailmap > /dev/full'
 fails 'cannot write output' './mailmap_check --compact mailmap > /dev/full'
 fails 'cannot write output' './mailmap_check mailmap >&-'
-fails 'out of memory' 'ulimit -v 20000; ./mailmap_check mailmap < large'
+# What is read has to fit as well as what is made of it: of too little memory that is the one or the other.
+fails 'cannot read standard input' 'ulimit -v 20000; ./mailmap_check mailmap < large'
+fails 'cannot read standard input' 'ulimit -v 20000; ./mailmap_check --compact < large'
+fails 'cannot read file 2' 'ulimit -v 20000; ./mailmap_check mailmap large'
+fails 'out of memory' 'ulimit -v 20000; ./mailmap_check mailmap < half'
 echo "failures: each of $runs runs ends as it must"

@@ -1,1 +1,4 @@
+pub mod Files
+pub mod Outcome
 pub mod Run
+pub mod Task

@@ -4,5 +4,7 @@
 
 pub mod failure;
 pub mod files;
+pub mod outcome;
 pub mod run;
 pub mod streams;
+pub mod task;

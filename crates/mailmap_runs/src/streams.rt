@@ -1,19 +1,14 @@
 // All that a reader has, and a text to a writer.
-ghost use Rattle.std.specs.Prelude.{◌≡◌, ◌⊎◌, ℕ, IfErr, IfOk, IsErrOf, IsOkUnless, OnErr, OnOk, take};
+ghost use Rattle.std.specs.Prelude.{◌≡◌, ℕ, IfOk, IsOkUnless, OnErr, OnOk, take};
 ghost use Rattle.std.specs.Io.KnownBytes.{Appends, Consumes, IsAtEnd};
 
 use crate::failure::Failure;
 use std::alloc::Global;
 use std::io::{ErrorKind, Read, Write};
 
-// How many bytes one read asks for.
-const CHUNK: usize = 65536;
-
 /// All that a reader has left.
 ///
-/// A read that fails is answered with `failure`, and so is a reader that has met no end after
-/// 4294967295 reads. `Failure::Memory` is want of memory for what was read. `read_to_end` of std
-/// wouldn't tell that from a reader that fails for want of memory of its own.
+/// `failure` is the only error: whatever kept the reader from being read to its end, no memory for what was read too.
 pub fn read_all<R: Read>(
     alloc: Global,
     reader: &mut R,
@@ -21,19 +16,13 @@ pub fn read_all<R: Read>(
 ) -> Result<Vec<u8>, Failure>
     ensures all { IfOk result (λ bytes. Consumes (R.remaining reader.old) (R.remaining reader.new) bytes.items) }
     ensures end { OnOk result (IsAtEnd (R.remaining reader.new)) }
-    ensures err { IfErr result (λ e. (e ≡ failure) ⊎ (e ≡ Failure.Memory)) }
+    ensures only { IsOkUnless result failure }
 {
     let mut bytes = Vec::new(alloc);
-    let mut chunk = [0; CHUNK];
-    for _ in 0..u32::MAX {
-        match reader.read(&mut chunk) {
-            Ok(0) => return Ok(bytes),
-            Ok(count) => bytes.extend_from_slice(&chunk[..count])?,
-            Err(e) if e.kind() == ErrorKind::Interrupted => {}
-            Err(_) => return Err(failure),
-        }
+    match reader.read_to_end(&mut bytes) {
+        Ok(_) => Ok(bytes),
+        Err(_) => Err(failure),
     }
-    Err(failure)
 }
 
 /// Writes a text to its end, and flushes.

@@ -1,6 +1,0 @@
--- What was read so far is what the reader has lost.
-use Rattle.std.specs.Io.KnownBytes.{Consumes}
-use Rattle.mailmap_runs.proofs.streams.read_all.Given as goal
-
-abbrev pub invariant-loop : goal.invariant-loop
-invariant-loop g l = Consumes (g.R.Read.remaining l.initial.reader) (g.R.Read.remaining l.reader) l.bytes.items

@@ -1,0 +1,14 @@
+-- What reading files by their paths gives.
+use Rattle.std.specs.Prelude.{◌≡◌, ℕ, suc, ◌<◌, List, [], IfSome, Option, EachIndex, length, slice_index_or}
+
+-- These are all the bytes of a file that may be opened, where its bytes are known.
+abbrev pub IsRead : (List ℕ → Type 0) → (List ℕ → Option (List ℕ)) → List ℕ → List ℕ → Type 0
+IsRead may_open known path contents = may_open path × IfSome (known path) (λ bytes. contents ≡ bytes)
+
+-- These are the bytes of all files, in the order of their paths.
+abbrev pub AreRead : (List ℕ → Type 0) → (List ℕ → Option (List ℕ)) → List (List ℕ) → List (List ℕ) → Type 0
+AreRead may_open known paths contents = (length contents ≡ length paths) × EachIndex paths (λ k. IsRead may_open known (slice_index_or paths k []) (slice_index_or contents k []))
+
+-- The files before that of a number, which counts from 1, may all be opened.
+abbrev pub MayOpenBefore : (List ℕ → Type 0) → ℕ → List (List ℕ) → Type 0
+MayOpenBefore may_open number paths = (k : ℕ) → suc k < number → may_open (slice_index_or paths k [])

@@ -1,0 +1,95 @@
+//! What the arguments of `mailmap_check` ask for, and the doing of it.
+ghost use Rattle.std.specs.Prelude.{◌≡◌, ◌↔◌, ◌<◌, ◌≤◌, ℕ, IsErr, IsErrOf, OnOk, drop, length, map, string_bytes};
+ghost use Rattle.mailmap_runs.specs.Files.{MayOpenBefore};
+ghost use Rattle.mailmap_runs.specs.Run.{AnswersContacts, IsMailmap, Prints, PrintsFront};
+ghost use Rattle.mailmap_runs.specs.Task.{AsksToCompact, OfFiles};
+
+use crate::failure::Failure;
+use crate::files::{FileSystem, given, list_of, read_files};
+use crate::run::{run, run_compact};
+use std::alloc::Global;
+use std::io::{Read, Write};
+
+/// What is done with the mailmaps.
+#[derive(Clone, Copy, Debug, PartialEq, Eq)]
+pub enum Mode {
+    /// Contact lines are answered by them.
+    Answer,
+    /// They are written anew, as one.
+    Compact,
+}
+
+/// What the arguments ask for.
+#[derive(Clone, Copy)]
+pub struct Task<'a> {
+    /// What is done with the mailmaps.
+    pub mode: Mode,
+    /// The paths of their files. Where there is none, standard input has the mailmap.
+    pub paths: &'a [String],
+}
+
+/// What the arguments ask for, of which the first is the program's own name.
+///
+/// `--compact` counts right behind that name alone; elsewhere it is a path.
+pub fn task_of(arguments: &[String]) -> Task<'_>
+    ensures compact { (result.mode ≡ Mode.Compact) ↔ AsksToCompact (map string_bytes arguments.now) }
+    ensures answer_paths { result.mode ≡ Mode.Answer → result.paths.now ≡ drop 1 arguments.now }
+    ensures compact_paths { result.mode ≡ Mode.Compact → result.paths.now ≡ drop 2 arguments.now }
+{
+    let mode = Mode::Answer;
+    match arguments {
+        [_, first, paths @ ..] if first.as_str() == "--compact" => Task {
+            mode: Mode::Compact,
+            paths,
+        },
+        [_, paths @ ..] => Task { mode, paths },
+        [] => Task {
+            mode,
+            paths: arguments,
+        },
+    }
+}
+
+/// Does what is asked for.
+///
+/// All files are read, in their order, before anything else. The first failure ends the run.
+pub fn perform<F: FileSystem, R: Read, W: Write>(
+    system: &F,
+    alloc: Global,
+    task: Task<'_>,
+    input: &mut R,
+    output: &mut W,
+) -> Result<(), Failure>
+    // What is written is made of the files where some are given, and else of the input.
+    ensures answers { task.entry.mode ≡ Mode.Answer → OnOk result (Prints
+        (OfFiles (F.may_open system.now) (F.bytes system.now) (map string_bytes task.entry.paths.now)
+        (λ files. AnswersContacts files (R.remaining input.old)))
+        (W.contents output.old) (W.contents output.new)) }
+    ensures mailmap { task.entry.mode ≡ Mode.Compact → OnOk result (Prints
+        (OfFiles (F.may_open system.now) (F.bytes system.now) (map string_bytes task.entry.paths.now)
+        (λ files. IsMailmap files (R.remaining input.old)))
+        (W.contents output.old) (W.contents output.new)) }
+
+    // The number of a file that can't be read is its place among the paths, from 1 on.
+    ensures file { (number : ℕ) → IsErrOf result (Failure.File number) → (0 < number) × (number ≤ length task.entry.paths.now)
+        × MayOpenBefore (F.may_open system.now) number (map string_bytes task.entry.paths.now) }
+
+    // Output that breaks off is a front of it; at the other failures nothing is written.
+    ensures answers_break_off { task.entry.mode ≡ Mode.Answer → IsErrOf result Failure.Output → PrintsFront
+        (OfFiles (F.may_open system.now) (F.bytes system.now) (map string_bytes task.entry.paths.now)
+        (λ files. AnswersContacts files (R.remaining input.old)))
+        (W.contents output.old) (W.contents output.new) }
+    ensures mailmap_breaks_off { task.entry.mode ≡ Mode.Compact → IsErrOf result Failure.Output → PrintsFront
+        (OfFiles (F.may_open system.now) (F.bytes system.now) (map string_bytes task.entry.paths.now)
+        (λ files. IsMailmap files (R.remaining input.old)))
+        (W.contents output.old) (W.contents output.new) }
+    ensures silent { IsErr result → ¬ IsErrOf result Failure.Output → output.new ≡ output.old }
+{
+    let contents = read_files(system, alloc, task.paths)?;
+    let buffers = list_of(alloc, contents.as_slice())?;
+    let files = given(buffers.as_slice());
+    match task.mode {
+        Mode::Answer => run(alloc, files, input, output),
+        Mode::Compact => run_compact(alloc, files, input, output),
+    }
+}
