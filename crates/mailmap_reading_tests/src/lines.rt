@@ -191,41 +191,67 @@ fn many_opening_brackets_are_one_fault(rt: HostRuntime) {
     assert_parsed_alike(&rt, &buf, &[missing_closing_bracket(1, &buf)]);
 }
 
-/// The text of an item that is a fault.
-fn fault_text(alloc: Global, item: Option<Item<'_>>) -> Result<String, AllocError> {
-    match item {
-        Some(Err(fault)) => fault.to_string(alloc),
-        _ => Ok(String::new(alloc)),
-    }
-}
-
-/// Wants an item to be a fault of this text.
+/// Wants this text of an item, which is a fault.
 fn assert_fault(
     rt: &impl Abort,
     alloc: Global,
     item: Option<Item<'_>>,
     want: &str,
 ) -> Result<(), AllocError> {
-    let text = fault_text(alloc, item)?;
-    assert_eq!(rt; text.as_str(), want);
+    assert!(rt; matches!(&item, Some(Err(_))));
+    if let Some(Err(fault)) = item {
+        let text = fault.to_string(alloc)?;
+        assert_eq!(rt; text.as_str(), want);
+    }
+    Ok(())
+}
+
+/// Wants these texts of the faults of a buffer, between which there may be entries.
+fn assert_faults(
+    rt: &impl Abort,
+    alloc: Global,
+    buf: &[u8],
+    texts: &[&str],
+) -> Result<(), AllocError> {
+    let mut faults = parse(buf).filter(Result::is_err);
+    for text in texts {
+        assert_fault(rt, alloc, faults.next(), text)?;
+    }
+    assert!(rt; faults.next().is_none());
     Ok(())
 }
 
 #[test]
 fn each_fault_has_its_text(rt: HostRuntime) -> Result<(), AllocError> {
-    static TEXTS: [&str; 5] = [
-        "1: Emails without a name or email to map to are invalid",
-        "2: Missing closing bracket '>' in email",
-        "3: Email must not be empty",
-        "Line 4 does not contain an email",
-        "5: Missing closing bracket '>' in second email",
+    static ROWS: [(&[u8], &[&str]); 2] = [
+        (
+            b"<a@x>\nJane <a@x\nJane < > <b@x>\nplain",
+            &[
+                "1: Emails without a name or email to map to are invalid",
+                "2: Missing closing bracket '>' in email",
+                "3: Email must not be empty",
+                "Line 4 does not contain an email",
+            ],
+        ),
+        (
+            b"<a@x>\nJane <j@x>\nplain\nBob <b@x>",
+            &[
+                "1: Emails without a name or email to map to are invalid",
+                "Line 3 does not contain an email",
+            ],
+        ),
     ];
-    let mut items = parse_strict(b"<a@x>\nJane <a@x\nJane < > <b@x>\nplain\n<a@x> <b");
-    for text in &TEXTS {
-        assert_fault(&rt, rt.alloc(), items.next(), text)?;
+    for (buf, texts) in &ROWS {
+        assert_faults(&rt, rt.alloc(), buf, texts)?;
     }
-    assert!(rt; items.next().is_none());
     Ok(())
+}
+
+#[test]
+fn the_fault_of_an_unclosed_second_half_has_its_text(rt: HostRuntime) -> Result<(), AllocError> {
+    let mut items = parse_strict(b"a>b <a@x> <b");
+    let want = "1: Missing closing bracket '>' in second email";
+    assert_fault(&rt, rt.alloc(), items.next(), want)
 }
 
 /// Wants a fault of the first line to lend its number and this input.
