@@ -30,7 +30,7 @@ count() {
 }
 
 # The library: standard input says how many requests come before all calls.
-refused=104
+refused=130
 mkdir "$work/calls"
 for ((before = 0; before < refused; before++)); do
     echo "$before" > "$work/calls/$(printf '%03d' "$before")"
@@ -60,11 +60,23 @@ snapshot::Signature::try_clone
 actor::Signature::from_cow
 check::check
 check::compact
-the request behind the calls that take none
 END
 
+# The calls that take no memory made no request: the runs that refuse the request ahead of them and the one behind them
+# follow each other. So it is with those that accept or write nothing, and with the others.
+grep '^refused' "$printed" | tac > "$work/in_turn"
+none_between() {
+    [ "$(grep -xF -A1 "refused: $1" "$work/in_turn" | sed -n 2p)" = "refused: $2" ] || fail "requests between $1 and $2"
+}
+none_between \
+    "the request ahead of the calls that accept or write nothing" \
+    "the request behind the calls that accept or write nothing"
+none_between \
+    "the request behind the calls that accept or write nothing" \
+    "the request behind the calls that take none"
+
 # Where a request was refused and no call told of it, it was that of a collect: in entries, and in the merge that gives
-# texts up, which calls it. So the calls that take no memory made none.
+# texts up, which calls it.
 untold="$(sed -n '/^refused/p' "$printed" | sed '1,/^refused: [^n]/d' | grep -cx 'refused: nothing' || true)"
 [ "$untold" = 2 ] || fail "$untold refusals that no call told of"
 calls="$(grep '^refused' "$printed" | grep -cvx 'refused: nothing')"

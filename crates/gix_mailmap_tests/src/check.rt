@@ -37,7 +37,7 @@ fn contacts_are_answered_by_the_buffers(rt: HostRuntime) -> Result<(), AllocErro
         ),
         (
             &[TEAM],
-            b"JANE <Bugs@example.com>",
+            b"JANE <Bugs@example.com>\n",
             b"Jane Doe <jane@example.com>\n",
         ),
         (

@@ -1,19 +1,17 @@
 use mailmap_runs::failure::Failure;
 use std::test::Fail;
 
+/// A program prints them behind its own name.
 #[test]
-fn each_failure_prints_its_line(rt: HostRuntime) -> Result<(), Fail> {
+fn each_failure_has_its_text(rt: HostRuntime) -> Result<(), Fail> {
     static ROWS: [(Failure, &str); 4] = [
-        (
-            Failure::File { number: 2 },
-            "mailmap_check: cannot read file 2",
-        ),
-        (Failure::Input, "mailmap_check: cannot read standard input"),
-        (Failure::Memory, "mailmap_check: out of memory"),
-        (Failure::Output, "mailmap_check: cannot write output"),
+        (Failure::File { number: 2 }, "cannot read file 2"),
+        (Failure::Input, "cannot read standard input"),
+        (Failure::Memory, "out of memory"),
+        (Failure::Output, "cannot write output"),
     ];
-    for (failure, line) in &ROWS {
-        assert_eq!(rt; failure.to_string(rt.alloc())?.as_str(), *line);
+    for (failure, text) in &ROWS {
+        assert_eq!(rt; failure.to_string(rt.alloc())?.as_str(), *text);
     }
     Ok(())
 }

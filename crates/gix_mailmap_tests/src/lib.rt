@@ -23,4 +23,6 @@ mod run;
 #[cfg(test)]
 mod sources;
 #[cfg(test)]
+mod task;
+#[cfg(test)]
 mod text;

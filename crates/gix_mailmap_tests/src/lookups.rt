@@ -100,6 +100,27 @@ fn each_field_of_an_email_is_the_last_that_was_given(rt: HostRuntime) -> Result<
 }
 
 #[test]
+fn an_email_in_another_case_is_respelled(rt: HostRuntime) -> Result<(), AllocError> {
+    static TABLES: [Known; 2] = [
+        (
+            &[Name(b"P", b"x@y")],
+            &[
+                (b"Bob", b"X@y", Some((Some(b"P"), Some(b"x@y")))),
+                (b"Bob", b"x@y", Some((Some(b"P"), None))),
+            ],
+        ),
+        (
+            &[EmailOfName(b"n@y", b"Jane", b"x@y")],
+            &[
+                (b"Bob", b"X@y", Some((None, Some(b"x@y")))),
+                (b"Bob", b"x@y", None),
+            ],
+        ),
+    ];
+    assert_all_found(&rt, rt.alloc(), &TABLES)
+}
+
+#[test]
 fn the_first_spelling_of_an_email_stands_for_the_others(rt: HostRuntime) -> Result<(), AllocError> {
     static TABLES: [Known; 2] = [
         (

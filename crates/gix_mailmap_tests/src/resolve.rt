@@ -1,10 +1,11 @@
 use gix_mailmap::actor::SignatureRef;
 use gix_mailmap::date::Time;
 use gix_mailmap::snapshot::Signature;
-use gix_mailmap::{Entry, Snapshot, actor};
+use gix_mailmap::{Entry, Snapshot, actor, parse};
 use std::alloc::{AllocError, Global};
 use std::borrow::CowSlice;
 use std::process::Abort;
+use std::test::Fail;
 
 /// A text of an answer.
 #[derive(Clone, Copy, PartialEq, Eq, Debug)]
@@ -19,6 +20,12 @@ fn text_of<'a>(text: &'a CowSlice<'_, u8>) -> Text<'a> {
         CowSlice::Borrowed(text) => Text::Borrowed(*text),
     }
 }
+
+/// The time of Bob.
+const FIVE: Time = Time {
+    seconds: 5,
+    offset: 0,
+};
 
 /// Bob, by an email.
 fn bob(email: &str) -> SignatureRef<'_> {
@@ -43,7 +50,7 @@ fn assert_answer(
 ) {
     assert_text(rt, text_of(&answer.name), want_name);
     assert_text(rt, text_of(&answer.email), want_email);
-    assert_eq!(rt; answer.time.seconds, 5);
+    assert_eq!(rt; answer.time, FIVE);
 }
 
 /// Wants these texts of the answer of a snapshot to Bob and an email.
@@ -57,8 +64,16 @@ fn assert_answered(
 ) -> Result<(), AllocError> {
     let answer = snapshot.resolve_cow(alloc, bob(email))?;
     assert_answer(rt, &answer, want_name, want_email);
-    let owned = actor::Signature::from_cow(alloc, answer)?;
+    let copy = answer.try_clone(alloc)?;
+    assert_answer(rt, &copy, want_name, want_email);
+    assert_same(rt, &copy, &answer);
+    let owned = actor::Signature::from_cow(alloc, copy)?;
     assert_copied(rt, alloc, snapshot, bob(email), &owned)
+}
+
+/// Wants two answers to be equal.
+fn assert_same(rt: &impl Abort, one: &Signature<'_>, other: &Signature<'_>) {
+    assert_eq!(rt; one, other);
 }
 
 /// Wants this copy of an answer, where no text is to be borrowed.
@@ -138,8 +153,18 @@ fn assert_mapped(
     Ok(())
 }
 
+/// The snapshot of the entries of a buffer, which are collected first. It has to be the one that is read at once.
+fn collected(rt: &impl Abort, alloc: Global, buffer: &[u8]) -> Result<Snapshot, Fail> {
+    let parsed: Vec<Entry<'_>> = parse(buffer)
+        .map(|item| item.map_err(Fail::from))
+        .try_collect(alloc)?;
+    let snapshot = Snapshot::new(alloc, parsed.into_iter())?;
+    assert!(rt; snapshot == Snapshot::from_bytes(alloc, buffer)?);
+    Ok(snapshot)
+}
+
 #[test]
-fn a_blame_view_shows_proper_names(rt: HostRuntime) -> Result<(), AllocError> {
+fn a_blame_view_shows_proper_names(rt: HostRuntime) -> Result<(), Fail> {
     let buffer = b"
 Joe R. Developer <joe@example.com> <bugs@example.com>
 Jane Doe <jane@example.com> Jane <bugs@example.com>
@@ -154,8 +179,9 @@ Jane Doe <jane@example.com> Jane <bugs@example.com>
         offset: 28800,
     };
     let want = owned(rt.alloc(), b"Jane Doe", b"jane@example.com", time)?;
-    let snapshot = Snapshot::from_bytes(rt.alloc(), buffer)?;
-    assert_mapped(&rt, rt.alloc(), &snapshot, signature, want)
+    let snapshot = collected(&rt, rt.alloc(), buffer)?;
+    assert_mapped(&rt, rt.alloc(), &snapshot, signature, want)?;
+    Ok(())
 }
 
 /// Wants these seconds and this offset of the time of a signature.

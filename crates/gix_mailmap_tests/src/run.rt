@@ -3,6 +3,7 @@ ghost use Rattle.std.specs.Prelude.{◌≤◌, IfOk};
 use crate::check::assert_bytes;
 use mailmap_runs::failure::Failure;
 use mailmap_runs::run::{run, run_compact};
+use std::alloc::Global;
 use std::io::{Error, ErrorKind, Read, Write};
 use std::process::Abort;
 use std::{cmp, io};
@@ -51,12 +52,25 @@ impl Read for Source<'_> {
     }
 }
 
-// Takes bytes turn by turn, and all of them when the turns are over. A flush does what `flush` says.
+// Takes bytes turn by turn, and all of them when the turns are over. A flush does what `flush` says, and counts how many
+// bytes it found.
 #[derive(Drop)]
 struct Sink<'a> {
     taken: Vec<u8>,
     turns: &'a [Turn],
     flush: Turn,
+    flushed: usize,
+}
+
+impl<'a> Sink<'a> {
+    fn new(alloc: Global, turns: &'a [Turn], flush: Turn) -> Sink<'a> {
+        Sink {
+            taken: Vec::new(alloc),
+            turns,
+            flush,
+            flushed: 0,
+        }
+    }
 }
 
 impl Write for Sink<'_> {
@@ -73,6 +87,7 @@ impl Write for Sink<'_> {
 
     fn flush(&mut self) -> io::Result<()> {
         moved(self.flush, 0)?;
+        self.flushed = self.taken.len();
         Ok(())
     }
 }
@@ -115,7 +130,7 @@ fn a_reader_that_fails_is_input_and_nothing_is_written(rt: HostRuntime) {
     }
 }
 
-/// A writer that fails or takes no more is `Output`, and what it took is a front of the answers.
+/// A writer that fails or takes no more is `Output`, and what it took is a front of the answers. At the end it is flushed.
 #[test]
 fn a_writer_that_fails_is_output_and_holds_a_front(rt: HostRuntime) {
     static ROWS: [(&[Turn], Turn, Result<(), Failure>, &[u8]); 6] = [
@@ -138,15 +153,18 @@ fn a_writer_that_fails_is_output_and_holds_a_front(rt: HostRuntime) {
     ];
     for (turns, flush, result, written) in &ROWS {
         let mut input: &[u8] = b"--\nplain\n";
-        let mut output = Sink {
-            taken: Vec::new(rt.alloc()),
-            turns,
-            flush: *flush,
-        };
+        let mut output = Sink::new(rt.alloc(), turns, *flush);
         let ended = run(rt.alloc(), None, &mut input, &mut output);
         assert_ended(&rt, ended, *result);
         assert_bytes(&rt, &output.taken, written);
+        assert_flushed(&rt, &output, *result);
     }
+}
+
+/// Wants all that was taken to be flushed, where the run ended well.
+fn assert_flushed(rt: &impl Abort, output: &Sink<'_>, ended: Result<(), Failure>) {
+    let left = output.taken.len() != output.flushed;
+    assert!(rt; ended.is_err() || !left);
 }
 
 /// With files all of the input is contact lines, a line `--` too.
@@ -172,11 +190,7 @@ fn the_compactor_reads_its_input_only_without_files(rt: HostRuntime) {
             bytes: b"",
             turns: &[BREAKS],
         };
-        let mut output = Sink {
-            taken: Vec::new(rt.alloc()),
-            turns: &[],
-            flush: *flush,
-        };
+        let mut output = Sink::new(rt.alloc(), &[], *flush);
         let ended = run_compact(rt.alloc(), *files, &mut input, &mut output);
         assert_ended(&rt, ended, *result);
         assert_bytes(&rt, &output.taken, b"");

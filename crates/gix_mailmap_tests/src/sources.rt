@@ -9,7 +9,33 @@ fn assert_made(rt: &impl Abort, made: &[bool; 3]) {
     assert_eq!(rt; *made, [true, true, true]);
 }
 
-/// Wants the one name `M` of these three sources.
+/// Wants the one name `M` of these three sources, of which the second is a buffer.
+fn assert_merged_buffers(
+    rt: &impl Abort,
+    alloc: Global,
+    first: &[u8],
+    second: &[u8],
+    last: &[u8],
+) -> Result<(), AllocError> {
+    let sources = [
+        Source::Buffer(first),
+        Source::Buffer(second),
+        Source::Buffer(last),
+    ];
+    let mut snapshot = Snapshot::empty(alloc);
+    let mut made = [false; 3];
+    snapshot.merge_sources(&sources, &mut made);
+    assert_made(rt, &made);
+    assert_is_m(rt, alloc, &snapshot)
+}
+
+/// Wants the one name `M` of a snapshot.
+fn assert_is_m(rt: &impl Abort, alloc: Global, snapshot: &Snapshot) -> Result<(), AllocError> {
+    let want = [Entry::change_name_by_email(b"M", b"a@x")];
+    assert_lists(rt, alloc, snapshot, &want)
+}
+
+/// Wants the one name `M` of these three sources, of which the second has entries.
 fn assert_merged(
     rt: &impl Abort,
     alloc: Global,
@@ -26,8 +52,7 @@ fn assert_merged(
     let mut made = [false; 3];
     snapshot.merge_sources(&sources, &mut made);
     assert_made(rt, &made);
-    let want = [Entry::change_name_by_email(b"M", b"a@x")];
-    assert_lists(rt, alloc, &snapshot, &want)
+    assert_is_m(rt, alloc, &snapshot)
 }
 
 /// With ample memory all sources are made, also an empty one, and later ones count.
@@ -35,6 +60,7 @@ fn assert_merged(
 fn each_source_is_merged_behind_the_ones_before_it(rt: HostRuntime) -> Result<(), AllocError> {
     let alloc = rt.alloc();
     let n = Entry::change_name_by_email(b"N", b"a@x");
+    assert_merged_buffers(&rt, alloc, b"N <a@x>", b"", b"M <a@x>")?;
     assert_merged(&rt, alloc, b"N <a@x>", &[], b"M <a@x>")?;
     assert_merged(&rt, alloc, b"", &[n], b"M <A@x>")?;
     assert_merged(&rt, alloc, b"M <a@x>", &[], b"plain")

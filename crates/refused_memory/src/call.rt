@@ -26,10 +26,14 @@ pub enum Call {
     FromCow,
     Check,
     Compact,
-    /// The calls that take no memory.
+    /// The calls that accept or write nothing, and so take no memory, and the others that take none.
+    Nothing,
     Unrefusable,
-    /// A request before all calls, or right behind those that take no memory.
+    /// A request before all calls, right ahead of those that accept or write nothing, right behind them, and right behind
+    /// the others that take no memory.
     Before,
+    AheadOfNothing,
+    BehindNothing,
     Behind,
 }
 
@@ -54,8 +58,11 @@ impl fmt::Display for Call {
             Call::FromCow => "actor::Signature::from_cow",
             Call::Check => "check::check",
             Call::Compact => "check::compact",
+            Call::Nothing => "a call that accepts or writes nothing",
             Call::Unrefusable => "a call that takes no memory",
             Call::Before => "a request before all calls",
+            Call::AheadOfNothing => "the request ahead of the calls that accept or write nothing",
+            Call::BehindNothing => "the request behind the calls that accept or write nothing",
             Call::Behind => "the request behind the calls that take none",
         })
     }

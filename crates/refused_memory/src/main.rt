@@ -47,20 +47,15 @@ fn read_number(input: &mut impl Read) -> Option<usize> {
 // Makes so many requests, and then all calls.
 fn walk(run: &mut Run, alloc: Global, before: usize) -> Result<(), Wrong> {
     for _ in 0..before {
-        request(run, alloc, Call::Before)?;
+        run.request(alloc, Call::Before)?;
     }
     let team = refusable::build(run, alloc)?;
     judge(run, alloc, &team)?;
-    request(run, alloc, Call::Behind)
+    run.request(alloc, Call::Behind)
 }
 
 // Makes the calls on the snapshot of the team.
 fn judge(run: &mut Run, alloc: Global, team: &Snapshot) -> Result<(), Wrong> {
     refusable::judge(run, alloc, team)?;
     unrefusable::judge(run, alloc, team)
-}
-
-// Asks for memory once.
-fn request(run: &mut Run, alloc: Global, call: Call) -> Result<(), Wrong> {
-    run.judge_at_once(call, || Ok(Vec::<u8>::with_capacity(alloc, 1)?.is_empty()))
 }

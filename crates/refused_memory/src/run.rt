@@ -2,7 +2,7 @@
 
 use crate::call::Call;
 use gix_mailmap::{Entry, Snapshot};
-use std::alloc::AllocError;
+use std::alloc::{AllocError, Global};
 use std::fmt;
 use thiserror::Error;
 
@@ -52,6 +52,11 @@ impl Run {
             None => Ok(()),
             Some(_) => Err(Wrong::Want(call)),
         }
+    }
+
+    /// Asks for memory once.
+    pub fn request(&mut self, alloc: Global, call: Call) -> Result<(), Wrong> {
+        self.judge_at_once(call, || Ok(Vec::<u8>::with_capacity(alloc, 1)?.is_empty()))
     }
 
     /// Makes a call, and once more where memory was refused: then it must answer, and as with ample memory.

@@ -84,6 +84,13 @@ pub const NOBODY: SignatureRef<'static> = SignatureRef {
     time: "soon",
 };
 
+/// A signature whose email is known in its spelling, for another name alone.
+pub const BOB: SignatureRef<'static> = SignatureRef {
+    name: b"Bob",
+    email: b"x@y",
+    time: "5 +0000",
+};
+
 /// Whether this is what the team makes of Jane's signature.
 pub fn is_jane(answer: &actor::Signature) -> bool {
     answer.name.as_slice() == b"Jane Doe".as_slice()

@@ -1,15 +1,16 @@
-//! The calls that take no memory. They are made between two requests: in the run in which the second one is refused,
-//! each of them is made with the next request set to fail.
+//! The calls that take no memory. They stand between requests that the program makes itself: in the run in which the one
+//! behind them is refused, each of them is made with the next request set to fail. No other run has its refusal between
+//! the two, so the calls made no request.
 
 use crate::call::Call;
 use crate::refusable;
 use crate::run::{Run, Wrong, lists, wants};
-use crate::samples::{JANE, JANES_TIME, NOBODY, is_jane, owns_jane, team};
+use crate::samples::{BOB, JANE, JANES_TIME, NOBODY, is_jane, owns_jane, team};
 use gix_mailmap::actor::SignatureRef;
 use gix_mailmap::date::Time;
 use gix_mailmap::fold::{Steps, cmp_ignore_ascii_case};
 use gix_mailmap::lines::Error;
-use gix_mailmap::snapshot::{ResolvedSignature, Signature, WriteError};
+use gix_mailmap::snapshot::{ResolvedSignature, Signature, Source, WriteError};
 use gix_mailmap::{Entry, Snapshot, actor, check, parse, parse_ignore_errors, parse_strict};
 use std::alloc::{AllocError, Global};
 use std::borrow::CowSlice;
@@ -18,40 +19,64 @@ use std::hash::{DefaultHasher, Hash, Hasher};
 
 /// Makes the last requests before these calls, and then the calls.
 pub fn judge(run: &mut Run, alloc: Global, team: &Snapshot) -> Result<(), Wrong> {
-    let mut copy = refusable::clone(run, alloc, team)?;
-    let unwritable = unwritable(run, alloc)?;
+    let respelled = respelled(run, alloc)?;
     let jane = run.judge(
         Call::ResolveCow,
         || team.resolve_cow(alloc, JANE),
         owns_jane,
     )?;
-    let answers = moves(jane, alloc) && are_right(team, &mut copy, &unwritable, alloc);
+    accept_and_write_nothing(run, alloc, team)?;
+    let answers = moves(jane, alloc) && are_right(team, &respelled, alloc);
     wants(Call::Unrefusable, answers)
 }
 
-// A snapshot with an entry that no line can hold.
-fn unwritable(run: &mut Run, alloc: Global) -> Result<Snapshot, Wrong> {
-    let nameless = [Entry::change_name_by_email(b"N", b"")];
+// A snapshot that knows one email, for one name.
+fn respelled(run: &mut Run, alloc: Global) -> Result<Snapshot, Wrong> {
+    let jane = [Entry::change_email_by_name_and_email(b"n@y", b"Jane", b"x@y")];
     run.judge(
         Call::New,
-        || Snapshot::new(alloc, nameless.into_iter()),
-        |made| lists(made, &nameless),
+        || Snapshot::new(alloc, jane.into_iter()),
+        |made| lists(made, &jane),
     )
 }
 
-// Makes the calls on a snapshot, a copy of it and one that can't be written.
-fn are_right(team: &Snapshot, copy: &mut Snapshot, unwritable: &Snapshot, alloc: Global) -> bool {
+// A snapshot whose second entry no line can hold.
+fn unwritable(run: &mut Run, alloc: Global) -> Result<Snapshot, Wrong> {
+    let entries = [
+        Entry::change_name_by_email(b"N", b"a@x"),
+        Entry::change_email_by_email(b"n>y", b"b@x"),
+    ];
+    run.judge(
+        Call::New,
+        || Snapshot::new(alloc, entries.into_iter()),
+        |made| lists(made, &entries),
+    )
+}
+
+// What is built or merged without an accepted entry, and the text of a snapshot that can't be written: between two
+// requests.
+fn accept_and_write_nothing(run: &mut Run, alloc: Global, team: &Snapshot) -> Result<(), Wrong> {
+    let mut copy = refusable::clone(run, alloc, team)?;
+    let unwritable = unwritable(run, alloc)?;
+    run.request(alloc, Call::AheadOfNothing)?;
+    let answers = builds_nothing(alloc)
+        && merges_nothing(&mut copy)
+        && copy == *team
+        && cannot_write(&unwritable, alloc);
+    wants(Call::Nothing, answers)?;
+    run.request(alloc, Call::BehindNothing)
+}
+
+// Makes the other calls, on a snapshot and on one that knows one email for one name.
+fn are_right(team: &Snapshot, respelled: &Snapshot, alloc: Global) -> bool {
     parses()
         && cuts()
         && compares()
         && reads_times()
         && borrows()
         && looks_up(team)
-        && finds_nothing(team, alloc)
-        && builds_nothing(alloc)
-        && cannot_write(unwritable, alloc)
-        && merges_nothing(copy)
-        && *copy == *team
+        && finds_nothing(team, NOBODY, alloc)
+        && finds_nothing(respelled, BOB, alloc)
 }
 
 fn parses() -> bool {
@@ -138,14 +163,20 @@ fn is_jane_doe(answer: Option<ResolvedSignature<'_>>) -> bool {
     }
 }
 
-fn finds_nothing(snapshot: &Snapshot, alloc: Global) -> bool {
-    let Ok(kept) = snapshot.resolve_cow(alloc, NOBODY) else {
+fn finds_nothing(snapshot: &Snapshot, signature: SignatureRef<'_>, alloc: Global) -> bool {
+    let Ok(kept) = snapshot.resolve_cow(alloc, signature) else {
         return false;
     };
-    snapshot.try_resolve_ref(NOBODY).is_none()
-        && snapshot.try_resolve(alloc, NOBODY) == Ok(None)
-        && kept == Signature::from(NOBODY)
+    snapshot.try_resolve_ref(signature).is_none()
+        && snapshot.try_resolve(alloc, signature) == Ok(None)
+        && is_borrowed(&kept)
+        && kept == Signature::from(signature)
         && kept.try_clone(alloc) == Ok(kept)
+}
+
+fn is_borrowed(signature: &Signature<'_>) -> bool {
+    matches!(signature.name, CowSlice::Borrowed(_))
+        && matches!(signature.email, CowSlice::Borrowed(_))
 }
 
 // Texts that are owned are moved.
@@ -169,9 +200,12 @@ fn is_empty(made: Result<Snapshot, AllocError>) -> bool {
 }
 
 fn cannot_write(snapshot: &Snapshot, alloc: Global) -> bool {
-    snapshot.write(alloc) == Err(WriteError::Unwritable { place: 0 })
+    snapshot.write(alloc) == Err(WriteError::Unwritable { place: 1 })
 }
 
 fn merges_nothing(snapshot: &mut Snapshot) -> bool {
-    snapshot.merge([Entry::default()].into_iter()).is_ok()
+    let sources = [Source::Buffer(b"plain"), Source::Entries(&[])];
+    let mut made = [false; 2];
+    snapshot.merge_sources(&sources, &mut made);
+    made == [true, true] && snapshot.merge([Entry::default()].into_iter()).is_ok()
 }
