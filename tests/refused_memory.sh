@@ -40,7 +40,7 @@ try refused_memory "$refused" "$work/calls" --steps 1
 [ "$(count 'run=ended status=0 ' "$said")" = "$refused" ] || fail "a call answered wrongly"
 [ "$(sed -n 2p "$printed")" = "refused: nothing" ] || fail "the calls make more requests than are refused"
 
-# Each call was refused. That entries never wants memory is right: its collect asks again, for less.
+# Each call was refused. That entries is never out of memory is right: its collect asks again, for less.
 while read -r call; do
     grep -qxF "refused: $call" "$printed" || fail "no request of $call was refused"
 done << 'END'

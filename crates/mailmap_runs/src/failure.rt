@@ -9,10 +9,10 @@ use thiserror::Error;
 /// `mailmap_check: cannot read file 1`. Its exit status is then 2.
 #[derive(Clone, Copy, Debug, PartialEq, Eq, Error)]
 pub enum Failure {
-    /// A file that an argument names, counted from 1, whatever kept it from being read: want of memory for its bytes, too.
+    /// A file that an argument names, counted from 1, whatever kept it from being read: memory for its bytes, too.
     #[error("cannot read file {number}")]
     File { number: usize },
-    /// Standard input, whatever kept it from being read: want of memory for its bytes, too.
+    /// Standard input, whatever kept it from being read: memory for its bytes, too.
     #[error("cannot read standard input")]
     Input,
     /// Memory for the arguments, for the lists of files, or for the work on what was read.

@@ -51,7 +51,7 @@ impl<F: Files> FileSystem for System<'_, F> {
 ///
 /// A file that isn't there, is a folder or can't be read to its end, whatever the cause, is
 /// `Failure::File` with its place among the paths, counted from 1. The first one ends the reading.
-/// `Failure::Memory` is want of memory for the list alone.
+/// `Failure::Memory` is for the list alone.
 pub fn read_files<F: FileSystem>(
     system: &F,
     alloc: Global,

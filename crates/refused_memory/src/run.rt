@@ -9,11 +9,11 @@ use thiserror::Error;
 /// What a call did wrong.
 #[derive(Debug, Drop, Error)]
 pub enum Wrong {
-    /// It answered neither as with ample memory nor by want of memory.
+    /// It answered neither as with ample memory nor that it is out of memory.
     #[error("{0}: not the answer with ample memory")]
     Answer(Call),
-    /// It answered want of memory, and no request of it was refused.
-    #[error("{0}: want of memory, but no request was refused")]
+    /// It answered that it is out of memory, and no request of it was refused.
+    #[error("{0}: out of memory, but no request was refused")]
     Want(Call),
     /// It was refused, and left another snapshot than it found.
     #[error("{0}: refused, but the snapshot was changed")]
@@ -46,7 +46,7 @@ impl Run {
         Run { refused: None }
     }
 
-    /// Notes a call that answered want of memory. Behind the one refusal of a run that is wrong.
+    /// Notes a call that answered that it is out of memory. Behind the one refusal of a run that is wrong.
     pub fn refuse(&mut self, call: Call) -> Result<(), Wrong> {
         match self.refused.replace(call) {
             None => Ok(()),
