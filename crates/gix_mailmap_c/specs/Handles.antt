@@ -1,0 +1,29 @@
+-- What the calls on a handle do.
+use Rattle.std.specs.Prelude.{◌≡◌, ◌≢◌, ◌⊎◌, ℕ, Bool, true, false, List, [], Option, Some, None}
+use Rattle.mailmap_entries.specs.Entries.{Mapping}
+use Rattle.mailmap_histories.specs.Building.{IsMerged}
+use Rattle.mailmap_histories.specs.Histories.{IsNormal, accepted}
+use Rattle.gix_mailmap_c.specs.declared.held.Mailmap.{Mailmap}
+
+abbrev pub if_open : Bool → List Mapping → Option (List Mapping)
+if_open true entries = Some entries
+if_open false entries = None
+
+-- the listing of the snapshot that a handle holds, while it is open
+abbrev pub contents : Mailmap → Option (List Mapping)
+contents m = if_open m.is_open m.entries
+
+-- a call that gives this status and leaves the handle as it was
+abbrev pub Leaves : ℕ → Option (List Mapping) → Option (List Mapping) → ℕ → Type 0
+Leaves code old new status = (status ≡ code) × (new ≡ old)
+
+-- status 0: a closed handle holds what a text says; 2: memory was refused; 4: it was open, and is as it was
+abbrev pub Opens : List Mapping → Option (List Mapping) → Option (List Mapping) → ℕ → Type 0
+Opens said (Some n) new status = Leaves 4 (Some n) new status
+Opens said None new status = ((status ≡ 0) × ((n : List Mapping) × (new ≡ Some n) × IsNormal said n)) ⊎ Leaves 2 None new status
+
+-- status 0: what a text says is merged behind what the handle held; 2: memory was refused, which a text without an
+-- accepted entry asks for none of; 3: the handle is closed
+abbrev pub Adds : List Mapping → Option (List Mapping) → Option (List Mapping) → ℕ → Type 0
+Adds said (Some n) new status = ((status ≡ 0) × ((m : List Mapping) × (new ≡ Some m) × IsMerged n said m)) ⊎ ((accepted said ≢ []) × Leaves 2 (Some n) new status)
+Adds said None new status = Leaves 3 None new status

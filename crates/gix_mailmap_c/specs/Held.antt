@@ -1,0 +1,13 @@
+-- What a handle owns: while it is open the snapshot that it points to, as a box does.
+use Rattle.std.specs.Prelude.{Bool, true, false, List}
+use Rattle.mailmap_entries.specs.Entries.{Mapping}
+use base.Fml.{Fml, ftrue}
+use denote.RawPtr.{Ptr}
+use Rattle.std.specs.Box.Ownership.{box_owns}
+use Rattle.std.specs.Global.{Global}
+use Rattle.std.specs.contracts.impls.GlobalAllocator.TheImpl.{ghosts}
+use Rattle.mailmap_snapshot.specs.contracts.snapshot.Snapshot.{the_row}
+
+abbrev pub held : Global → Bool → Ptr → List Mapping → Fml
+held alloc true at entries = box_owns (ghosts.dealloc_token alloc) the_row at entries
+held alloc false at entries = ftrue

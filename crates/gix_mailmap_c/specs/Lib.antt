@@ -1,0 +1,4 @@
+pub mod Handed
+pub mod Held
+pub mod Handles
+pub mod Fields

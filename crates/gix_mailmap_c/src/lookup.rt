@@ -1,0 +1,95 @@
+//! What the mailmap of a handle makes of a name and an email.
+ghost use Rattle.std.specs.Prelude.{◌≡◌, IfSome, IfNone};
+ghost use Rattle.std.specs.Option.{option_copied};
+ghost use Rattle.mailmap_histories.specs.Histories.{fields_for};
+ghost use Rattle.gix_mailmap_c.specs.Handed.{ArePut};
+ghost use Rattle.gix_mailmap_c.specs.Handles.{contents};
+ghost use Rattle.gix_mailmap_c.specs.Fields.{IsAnswered, IsTold};
+
+use crate::buffers::put_both;
+use crate::field::Field;
+use crate::handle::{put_back, take};
+use crate::held::Mailmap;
+use crate::status::CLOSED;
+use gix_mailmap::Snapshot;
+use gix_mailmap::actor::SignatureRef;
+use std::alloc::Global;
+
+/// Looks a name and an email up: the proper ones are copied into `name_out` and `email_out`, and `new_name` and
+/// `new_email` tell how long they are, and whether the mailmap gave them. One that it doesn't give is the one asked for.
+///
+/// `DONE`; `SHORT`: one of the buffers is too short, both stay as they were, and the lengths are told; `CLOSED`: nothing
+/// is written. What stands behind an answer in its buffer stays as it was.
+#[unsafe(no_mangle)]
+pub extern "C" fn gix_mailmap_lookup(
+    alloc: Global,
+    m: &mut Mailmap,
+    name: &[u8],
+    email: &[u8],
+    name_out: &mut [u8],
+    new_name: &mut Field,
+    email_out: &mut [u8],
+    new_email: &mut Field,
+) -> u32
+    ensures kept { contents m.new ≡ contents m.old }
+    ensures told { IfSome (contents m.old) (λ n. let f = fields_for n name.now email.now in
+        IsTold f.name name.now new_name.new × IsTold f.email email.now new_email.new) }
+    ensures answer { IfSome (contents m.old) (λ n.
+        IsAnswered (fields_for n name.now email.now) name.now email.now name_out.old name_out.new email_out.old email_out.new result) }
+    ensures closed { IfNone (contents m.old) ((result ≡ 3) × (name_out.new ≡ name_out.old) × (new_name.new ≡ new_name.old)
+        × (email_out.new ≡ email_out.old) × (new_email.new ≡ new_email.old)) }
+{
+    let Some(snapshot) = take(alloc, m) else {
+        return CLOSED;
+    };
+    let status = answer(
+        &snapshot, name, email, name_out, new_name, email_out, new_email,
+    );
+    put_back(m, snapshot);
+    status
+}
+
+// Answers by a snapshot.
+fn answer(
+    snapshot: &Snapshot,
+    name: &[u8],
+    email: &[u8],
+    name_out: &mut [u8],
+    new_name: &mut Field,
+    email_out: &mut [u8],
+    new_email: &mut Field,
+) -> u32
+    ensures name { IsTold (fields_for snapshot.now name.now email.now).name name.now new_name.new }
+    ensures email { IsTold (fields_for snapshot.now name.now email.now).email email.now new_email.new }
+    ensures answer { IsAnswered (fields_for snapshot.now name.now email.now) name.now email.now name_out.old name_out.new email_out.old email_out.new result }
+{
+    let (proper_name, proper_email) = proper(snapshot, name, email);
+    *new_name = Field::of(proper_name, name);
+    *new_email = Field::of(proper_email, email);
+    put_both(
+        proper_name.unwrap_or(name),
+        name_out,
+        proper_email.unwrap_or(email),
+        email_out,
+    )
+}
+
+// The name and the email that a snapshot gives.
+fn proper<'a>(
+    snapshot: &'a Snapshot,
+    name: &[u8],
+    email: &[u8],
+) -> (Option<&'a [u8]>, Option<&'a [u8]>)
+    ensures name { option_copied result.0 ≡ (fields_for snapshot.now name.now email.now).name }
+    ensures email { option_copied result.1 ≡ (fields_for snapshot.now name.now email.now).email }
+{
+    let contact = SignatureRef {
+        name,
+        email,
+        time: "",
+    };
+    match snapshot.try_resolve_ref(contact) {
+        Some(found) => (found.name, found.email),
+        None => (None, None),
+    }
+}

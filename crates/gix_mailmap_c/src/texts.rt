@@ -1,0 +1,53 @@
+//! Calls that take a mailmap as text, and keep nothing.
+ghost use Rattle.std.specs.Prelude.{◌≡◌, ◌∷◌, []};
+ghost use Rattle.gix_mailmap.specs.Contacts.{answers_by};
+ghost use Rattle.mailmap_snapshot.specs.Writing.{IsCompacted};
+ghost use Rattle.gix_mailmap_c.specs.Handed.{IsHanded};
+
+use crate::buffers::put;
+use crate::status::REFUSED;
+use gix_mailmap::check;
+use std::alloc::Global;
+
+/// Answers each line of `contacts` by what `mailmap` maps, as [`check`](gix_mailmap::check::check()) does.
+///
+/// `DONE`: the answers stand at the front of `out`, and `needed` is their length. `SHORT`: `out` is too short for them,
+/// and `needed` is their length. `REFUSED`: `needed` is 0. The rest of `out` stays as it was.
+#[unsafe(no_mangle)]
+pub extern "C" fn gix_mailmap_check(
+    alloc: Global,
+    mailmap: &[u8],
+    contacts: &[u8],
+    out: &mut [u8],
+    needed: &mut usize,
+) -> u32
+    ensures { IsHanded (λ text. text ≡ answers_by (mailmap.now ∷ []) contacts.now) out.old out.new needed.new result }
+{
+    match check::check(alloc, &[mailmap], contacts) {
+        Ok(text) => put(text.as_slice(), out, needed),
+        Err(_) => {
+            *needed = 0;
+            REFUSED
+        }
+    }
+}
+
+/// Writes the mailmap that maps as `mailmap` does, as [`compact`](gix_mailmap::check::compact()) does. The status is as
+/// that of [`gix_mailmap_check`].
+#[unsafe(no_mangle)]
+pub extern "C" fn gix_mailmap_compact(
+    alloc: Global,
+    mailmap: &[u8],
+    out: &mut [u8],
+    needed: &mut usize,
+) -> u32
+    ensures { IsHanded (IsCompacted (mailmap.now ∷ [])) out.old out.new needed.new result }
+{
+    match check::compact(alloc, &[mailmap]) {
+        Ok(text) => put(text.as_slice(), out, needed),
+        Err(_) => {
+            *needed = 0;
+            REFUSED
+        }
+    }
+}

@@ -1,0 +1,94 @@
+/* gix_mailmap: mailmaps for git tools, proved.
+ *
+ * A mailmap says which names and emails stand for which. These calls read one, look contacts up in it and print it.
+ *
+ *     gix_mailmap map = GIX_MAILMAP_INIT;
+ *     uint8_t name[256], email[256];
+ *     gix_mailmap_field new_name, new_email;
+ *
+ *     if (gix_mailmap_open(&map, text, text_len) == GIX_MAILMAP_DONE
+ *         && gix_mailmap_lookup(&map, old_name, old_name_len, old_email, old_email_len, name, sizeof name, &new_name,
+ *                               email, sizeof email, &new_email) == GIX_MAILMAP_DONE)
+ *         printf("%.*s <%.*s>\n", (int)new_name.len, (char *)name, (int)new_email.len, (char *)email);
+ *     gix_mailmap_close(&map);
+ *
+ * Texts are bytes with a length. They need not be UTF-8, end with no NUL and may hold one. A text of length 0 needs a
+ * pointer that is not NULL, too. No text is kept: a mailmap has copies of its own.
+ *
+ * Buffers and handles belong to the caller. What a call writes must not overlap with anything else that it is given.
+ * What a call doesn't write stays as it was.
+ *
+ * Threads: calls on different handles, and those without one, may run side by side. A handle stays on the thread that
+ * opened it. No call may be made from a signal handler, or from the forked child of a process with threads.
+ *
+ * Memory comes from malloc, realloc and free of the program.
+ */
+#ifndef GIX_MAILMAP_H
+#define GIX_MAILMAP_H
+
+#include <stdbool.h>
+#include <stddef.h>
+#include <stdint.h>
+
+#ifdef __cplusplus
+extern "C" {
+#endif
+
+/* What a call returns. */
+enum {
+    GIX_MAILMAP_DONE = 0,    /* it did what it says */
+    GIX_MAILMAP_SHORT = 1,   /* a buffer is too short; all buffers are as they were, and the lengths are told */
+    GIX_MAILMAP_REFUSED = 2, /* out of memory; buffers and handle are as they were */
+    GIX_MAILMAP_CLOSED = 3,  /* the handle is closed; nothing was written */
+    GIX_MAILMAP_OPEN = 4     /* the handle is open already, and stays as it is */
+};
+
+/* A mailmap that is held. It begins as GIX_MAILMAP_INIT, and is neither copied nor changed but by the calls below. */
+typedef struct gix_mailmap {
+    void *at;
+    bool is_open;
+} gix_mailmap;
+
+#define GIX_MAILMAP_INIT { NULL, false }
+
+/* How long a text is, and whether the mailmap gives it. */
+typedef struct gix_mailmap_field {
+    size_t len;
+    bool is_given;
+} gix_mailmap_field;
+
+/* Opens a closed handle on the entries of a mailmap's text. Lines that can't be read are left out, as git leaves them.
+ * DONE; REFUSED; OPEN. But at DONE the handle stays as it was. */
+uint32_t gix_mailmap_open(gix_mailmap *map, const uint8_t *text, size_t text_len);
+
+/* Adds the entries of a text behind those that are held: where both have a key, the later entry counts.
+ * DONE; REFUSED: the mailmap is as it was; CLOSED. */
+uint32_t gix_mailmap_add(gix_mailmap *map, const uint8_t *text, size_t text_len);
+
+/* Looks a name and an email up. The proper ones are copied to the fronts of the two buffers; one that the mailmap
+ * doesn't give is the one asked for. Their lengths are told at DONE and at SHORT.
+ * DONE; SHORT: both buffers are as they were; CLOSED: nothing is written. */
+uint32_t gix_mailmap_lookup(gix_mailmap *map, const uint8_t *name, size_t name_len, const uint8_t *email,
+                            size_t email_len, uint8_t *name_out, size_t name_out_len, gix_mailmap_field *new_name,
+                            uint8_t *email_out, size_t email_out_len, gix_mailmap_field *new_email);
+
+/* Closes a handle, and frees its memory. A closed one stays closed. */
+void gix_mailmap_close(gix_mailmap *map);
+
+/* Answers each line of `contacts`, as `Jane <jane@x>`, by what the mailmap maps: a line for each line, with a line feed
+ * behind each. A line that is no contact is its own answer. `needed` is the length of all answers, and 0 at REFUSED.
+ * DONE; SHORT; REFUSED. */
+uint32_t gix_mailmap_check(const uint8_t *mailmap, size_t mailmap_len, const uint8_t *contacts, size_t contacts_len,
+                           uint8_t *out, size_t out_len, size_t *needed);
+
+/* Writes the mailmap that maps as `mailmap` does, without what later lines replaced. `needed` is its length, and 0 at
+ * REFUSED.
+ * DONE; SHORT; REFUSED. */
+uint32_t gix_mailmap_compact(const uint8_t *mailmap, size_t mailmap_len, uint8_t *out, size_t out_len,
+                             size_t *needed);
+
+#ifdef __cplusplus
+}
+#endif
+
+#endif
