@@ -40,7 +40,7 @@ try refused_memory "$refused" "$work/calls" --steps 1
 [ "$(count 'run=ended status=0 ' "$said")" = "$refused" ] || fail "a call answered wrongly"
 [ "$(sed -n 2p "$printed")" = "refused: nothing" ] || fail "the calls make more requests than are refused"
 
-# Each call was refused. That entries is never out of memory is right: its collect asks again, for less.
+# Each call was refused. That entries never wants memory is right: its collect asks again, for less.
 while read -r call; do
     grep -qxF "refused: $call" "$printed" || fail "no request of $call was refused"
 done << 'END'
@@ -81,41 +81,75 @@ untold="$(sed -n '/^refused/p' "$printed" | sed '1,/^refused: [^n]/d' | grep -cx
 [ "$untold" = 2 ] || fail "$untold refusals that no call told of"
 calls="$(grep '^refused' "$printed" | grep -cvx 'refused: nothing')"
 
-# The program, either way to run it: each file without a byte more among its arguments is one request more. The numbers
-# of files are those between which no list of them grows.
-refused=65
-mkdir "$work/runs"
+# The programs. Each file without a byte more among the arguments is two requests more, one for the argument and one to
+# read the file. The numbers of files are those between which no list of them grows; of the requests, the ones in a row
+# let each be refused from the reading of the arguments on, and behind the last ones nothing is refused.
+refused_in_turn='34 35 60 61'
+files_at_least=16
+files_at_most=29
 : > "$work/empty"
 printf 'Joe R. Developer <joe@example.com> <bugs@example.com>\n' > "$work/mailmap"
-for ((files = 34; files <= 62; files++)); do
-    for mode in check compact; do
+printf 'Joe R. Developer <joe@example.com>\n' > "$work/answered"
+printf 'not a contact\n' >> "$work/answered"
+printf ' Joe R. Developer <joe@example.com> <bugs@example.com>\n' > "$work/compacted"
+
+# add_cases MODE FIRST..: the runs of a mode, whose arguments begin so
+add_cases() {
+    local mode="$1" files
+    for ((files = files_at_least; files <= files_at_most; files++)); do
         printf 'bob <BUGS@example.com>\nnot a contact\n' > "$work/runs/$mode$files"
         {
-            if [ "$mode" = compact ]; then echo --compact; fi
+            printf '%s\n' "${@:2}"
             for ((file = 0; file < files; file++)); do echo empty; done
             echo mailmap
-        } > "$work/runs/$mode$files.args"
+        } | sed '/^$/d' > "$work/runs/$mode$files.args"
     done
-done
-try mailmap_check "$refused" "$work/runs" --data "empty=$work/empty" --data "mailmap=$work/mailmap"
-for mode in check compact; do
-    grep -q "^case=${mode}34 run=ended status=0 " "$said" || fail "mailmap_check: it makes more requests"
-done
+}
 
-# What has to be printed: at status 0 all, and at status 2 nothing, with one line on standard error.
-while read -r run; do
-    name="${run%% *}"
-    echo "== ${name#case=}"
-    case "$run" in
-    case=check*' run=ended status=0 '*) printf 'Joe R. Developer <joe@example.com>\nnot a contact\n' ;;
-    case=compact*' run=ended status=0 '*) printf ' Joe R. Developer <joe@example.com> <bugs@example.com>\n' ;;
-    *' run=ended status=2 '*) ;;
-    *) fail "mailmap_check: another status" ;;
-    esac
-done < <(grep '^case=' "$said") > "$work/expected"
-diff "$work/expected" "$printed" || fail "mailmap_check: other output"
-runs="$(count 'run=ended status=2 ' "$said")"
-[ "$(count '^mailmap_check: out of memory$' "$said")" = "$runs" ] || fail "mailmap_check: another line for a failure"
-[ "$(count '^mailmap_check' "$said")" = "$runs" ] || fail "mailmap_check: more than one line for a failure"
+# wants PROGRAM: judges a run of all cases. At status 0 all has to be printed, which is the text of the mode's name, and at
+# status 2 nothing, with one line on standard error.
+wants() {
+    local program="$1" run name runs
+    while read -r run; do
+        name="${run%% *}"
+        name="${name#case=}"
+        echo "== $name"
+        case "$run" in
+        *' run=ended status=0 '*) cat "$work/${name%%[0-9]*}" ;;
+        *' run=ended status=2 '*) ;;
+        *) fail "$program: another status" ;;
+        esac
+    done < <(grep '^case=' "$said") > "$work/expected"
+    diff "$work/expected" "$printed" || fail "$program: other output"
+    runs="$(count 'run=ended status=2 ' "$said")"
+    [ "$(count "^$program: \\(out of memory\\|cannot read standard input\\|cannot read file [1-9][0-9]*\\)\$" "$said")" = "$runs" ] \
+        || fail "$program: another line for a failure"
+    [ "$(count "^$program" "$said")" = "$runs" ] || fail "$program: more than one line for a failure"
+    grep "^$program: " "$said" >> "$work/lines" || true
+    refusals=$((refusals + runs))
+}
 
-echo "refused memory: $calls requests of the library's calls and $runs of mailmap_check, each refused, end as they must"
+# refuse PROGRAM: refuses the requests in turn. The last ones must be behind all requests of the fewest files.
+refuse() {
+    local program="$1" refused first
+    refusals=0
+    : > "$work/lines"
+    for refused in $refused_in_turn; do
+        try "$program" "$refused" "$work/runs" --data "empty=$work/empty" --data "mailmap=$work/mailmap"
+        wants "$program"
+    done
+    for first in "$work/runs"/*"$files_at_least"; do
+        grep -q "^case=${first##*/} run=ended status=0 " "$said" || fail "$program: it makes more requests"
+    done
+    for line in 'out of memory' 'cannot read standard input' 'cannot read file 1' "cannot read file $files_at_least"; do
+        grep -qxF "$program: $line" "$work/lines" || fail "$program: never says: $line"
+    done
+}
+
+mkdir "$work/runs"
+add_cases answered ''
+add_cases compacted --compact
+refuse mailmap_check
+checks="$refusals"
+
+echo "refused memory: $calls requests of the library's calls and $checks of mailmap_check, each refused, end as they must"
