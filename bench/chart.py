@@ -68,7 +68,8 @@ def panel(axes, cells, kind, contacts, key, text):
 def drawn(path, cells, key, title, text):
     """A row of panels for each number of contacts, a panel for each kind of map."""
     rows = sorted({c["contacts"] for c in cells})
-    figure, grid = pyplot.subplots(len(rows), len(KINDS), figsize=(10.5, 3 * len(rows) + 0.7), sharex=True, sharey=True, squeeze=False)
+    size = (10.5, 3 * len(rows) + 0.7)
+    figure, grid = pyplot.subplots(len(rows), len(KINDS), figsize=size, sharex=True, sharey=True, squeeze=False)
     for axes_row, contacts in zip(grid, rows):
         for axes, (kind, shown) in zip(axes_row, KINDS.items()):
             panel(axes, cells, kind, contacts, key, text)
@@ -77,7 +78,8 @@ def drawn(path, cells, key, title, text):
         axes.set_xlabel("lines of the map", fontsize=9)
     figure.suptitle(title, fontsize=11)
     handles, names = grid[0][0].get_legend_handles_labels()
-    figure.legend(handles, names, loc="upper center", bbox_to_anchor=(0.5, 0.95), ncol=len(names), frameon=False, fontsize=9)
+    above = dict(loc="upper center", bbox_to_anchor=(0.5, 0.95), ncol=len(names))
+    figure.legend(handles, names, frameon=False, fontsize=9, **above)
     figure.tight_layout(rect=(0, 0, 1, 0.95))
     figure.savefig(path, metadata={"Date": None})
     pyplot.close(figure)

@@ -86,7 +86,8 @@ def timed(programs, maps, sizes, seconds, only):
             (original, port), seen = times(programs, words, seconds)
             print(f"{what}, {kind}, {lines:,} lines: {port / original:.3f}", file=sys.stderr)
             calls = seen["contacts"] or seen["merges"] or lines
-            yield dict(what=what, map=kind, lines=lines, original=original, port=port, calls=calls, aim=aim(what, kind, lines))
+            cell = dict(what=what, map=kind, lines=lines, calls=calls, aim=aim(what, kind, lines))
+            yield dict(cell, original=original, port=port)
 
 
 def weighed(programs, maps, sizes, only):
@@ -101,7 +102,8 @@ def weighed(programs, maps, sizes, only):
                 if only in f"peak memory {kind} {lines}":
                     peaks = [run(measure, [program, "bench-build", str(path), "1"]).peak for program in programs]
                     original, port = [peak - start - length for peak, start in zip(peaks, starts)]
-                    yield dict(map=kind, lines=lines, file=length, original=original, port=port, aim=aim("peak", kind, lines))
+                    cell = dict(map=kind, lines=lines, file=length, aim=aim("peak", kind, lines))
+                    yield dict(cell, original=original, port=port)
 
 
 def measured(programs, maps, sizes, seconds, only=""):
@@ -121,7 +123,8 @@ def times_table(calls):
 
 
 def memory_table(building):
-    head = ["peak memory of building", " lines", " file", " original beyond it", " port beyond it", " port / original", " aim"]
+    beyond = [" original beyond it", " port beyond it"]
+    head = ["peak memory of building", " lines", " file", *beyond, " port / original", " aim"]
     rows = []
     for c in building:
         row = [c["map"], f"{c['lines']:,}", mebibytes(c["file"]), mebibytes(c["original"]), mebibytes(c["port"])]
@@ -138,7 +141,7 @@ GROWTHS = {
 
 
 def growth_table(calls):
-    """The port's time for one line, lookup or merge as the map grows, and how often that of the smallest map it becomes."""
+    """The port's time for one line, lookup or merge as the map grows, and how often that of the smallest it gets."""
     rows = []
     for (what, (named, bound)), kind in itertools.product(GROWTHS.items(), KINDS):
         cells = [c for c in calls if (c["what"], c["map"]) == (what, kind)]
@@ -150,7 +153,8 @@ def growth_table(calls):
         times = {c["lines"]: duration(c["port"] / c["calls"]) for c in cells}
         row = [named, kind, *[times.get(lines, "") for lines in SIZES], *[f"{factor:.1f}" for factor in factors]]
         rows.append(row + [f"{at_most:.1f} ({bound})"])
-    return table(["what", "map", *[f" {lines:,} lines" for lines in SIZES], " original grows by", " port grows by", " aim"], rows)
+    grown = [" original grows by", " port grows by", " aim"]
+    return table(["what", "map", *[f" {lines:,} lines" for lines in SIZES], *grown], rows)
 
 
 def main():

@@ -6,8 +6,8 @@
 
 ORIGINAL is a program over the original crate; compare.py and peers.py say how it is called. Before it, `rt run` builds
 crates/mailmap_bench and `make build` mailmap_check. The maps are made where they aren't there yet (bench/out/maps, some
-700 MB with the million lines). `--seconds` is what each cell may take, 4 where it is not given; each program runs twice at
-least. It needs `cc`, git, Debian's libgit2-dev and python3-matplotlib, and nothing else running on the machine.
+330 MB with the million lines). `--seconds` is what each cell may take, 4 where it is not given; each program runs twice
+at least. It needs `cc`, git, Debian's libgit2-dev and python3-matplotlib, and nothing else running on the machine.
 """
 import argparse
 import json
@@ -42,7 +42,7 @@ def tables(figures):
     """The tables of docs/BENCHMARKS.md, by the names between which they stand there."""
     m, processes = figures["machine"], figures["processes"]
     return {
-        "machine": f"{m['processor']}, {m['system']}, git {m['git']}, libgit2 {m['libgit2']}; measured in {m['minutes']} minutes.",
+        "machine": "{processor}, {system}; git {git}, libgit2 {libgit2}; measured in {minutes} minutes.".format(**m),
         "processes": peers.times_table(processes),
         "process memory": peers.memory_table(processes),
         "answers": peers.answers_table(processes),

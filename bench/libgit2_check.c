@@ -1,4 +1,4 @@
-// Answers the contacts on standard input by a mailmap, as mailmap_check does, with libgit2's git_mailmap. peers.py times it.
+// Answers the contacts on standard input by a mailmap, as mailmap_check does, by libgit2's git_mailmap. peers.py times it.
 //
 //     cc -O2 -o libgit2_check libgit2_check.c -lgit2
 //     libgit2_check MAP < contacts
