@@ -1,147 +1,160 @@
 #!/usr/bin/env python3
-"""Sets mailmap_bench and the original side by side, on the same maps, and prints what docs/BENCHMARKS.md shows.
+"""Sets mailmap_bench and the original side by side, call by call, on the same maps.
 
-    compare.py ORIGINAL PORT MAPS [--runs R] [--only WORD]
+    compare.py ORIGINAL PORT MAPS [--seconds S] [--without-million] [--only WORD]
 
 ORIGINAL and PORT are programs that know the bench- modes, and MAPS is a folder that make_maps.py filled. For each cell
-the two programs run in turn, R times each (7 where it is not given). A time is the shortest of all runs, since other
-work on the machine only ever adds to it. `ratio` is the original's time divided by the port's: 2 is twice as fast.
+the two programs run in turn, at least twice each and for S seconds (4 where it is not given). A time is the shortest of
+all runs, since other work on the machine only ever adds to it. `port / original` is the port's time divided by the
+original's: 0.5 is twice as fast. The aim of a cell stands behind it, where it has one.
 
-Peak memory is the largest resident set of one building run. `beyond the buffer` leaves out what the same program takes
-to start, which is a walk over an empty file, and the length of the map's file, which both hold in memory.
+Peak memory is the largest resident set of one building run. `beyond the file` leaves out what the same program takes
+for a walk over an empty file, and the length of the map's file, which both hold in memory.
+
+figures.py runs this, too, and puts the tables into docs/BENCHMARKS.md.
 """
 import argparse
-import os
+import itertools
+import math
 import re
-import subprocess
 import sys
-import tempfile
-import time
 from pathlib import Path
 
-KINDS = ["mixed", "sorted", "hundred"]
-SIZES = [1_000, 100_000, 1_000_000]
-MERGE_SIZE = 10_000
+from measuring import KINDS, MILLION, Failed, built, duration, mebibytes, output, ratio, rounds, run, scratch, table
+
+SIZES = [1_000, 10_000, 100_000, MILLION]
+MERGE_SIZES = [1_000, 10_000]
 WHOLE_SIZE = 100_000
 # how often a run repeats what it times, by the number of lines
-REPEATS = {1_000: 400, 10_000: 40, 100_000: 5, 1_000_000: 2}
+REPEATS = {1_000: 400, 10_000: 40, 100_000: 5, MILLION: 2}
+# port to original at 100,000 lines, by the kind of map
+AIMS = {
+    "build": {"mixed": 0.35, "sorted": 0.7, "hundred": 0.25},
+    "compact": {"mixed": 0.35, "sorted": 0.5, "hundred": 0.3},
+    "peak": {"mixed": 0.5, "sorted": 0.5, "hundred": 0.2},
+}
 
 
-def output(words):
-    done = subprocess.run(words, stdin=subprocess.DEVNULL, stdout=subprocess.PIPE, stderr=subprocess.PIPE, text=True)
-    if done.returncode != 0:
-        raise RuntimeError(f"{' '.join(words)}: {done.stderr.strip()}")
-    return done.stdout
+def aim(what, kind, lines):
+    if what == "walk":
+        return 0.6
+    if what.startswith("lookups"):
+        return 0.35
+    if what == "one merge per entry":
+        return 0.05 if lines == 10_000 else None
+    return AIMS[what][kind] if what in AIMS and lines == WHOLE_SIZE else None
+
+
+def cells(maps, sizes):
+    """What is timed, each as what it is, the kind of map, its lines and the words that the programs take."""
+    for kind in KINDS:
+        for lines in sizes:
+            stem, repeats = f"{maps}/{kind}-{lines}", str(REPEATS[lines])
+            yield "walk", kind, lines, ["bench-parse", f"{stem}.mailmap", repeats]
+            yield "build", kind, lines, ["bench-build", f"{stem}.mailmap", repeats]
+            for contacts in ["hits", "misses"]:
+                words = ["bench-lookup", f"{stem}.mailmap", f"{stem}.{contacts}", repeats]
+                yield f"lookups, {contacts}", kind, lines, words
+            if lines in MERGE_SIZES:
+                yield "one merge per entry", kind, lines, ["bench-merge1", f"{stem}.mailmap"]
+            if lines == WHOLE_SIZE:
+                yield "check", kind, lines, ["bench-check", f"{stem}.mailmap", f"{stem}.hits", repeats]
+                yield "compact", kind, lines, ["bench-compact", f"{stem}.mailmap", repeats]
 
 
 def fields(line):
     return {key: int(value) for key, value in re.findall(r"(\w+)=(\d+)", line)}
 
 
-def peak(words):
-    """The largest resident set of a run, in bytes, as the system counted it when the run had printed its line.
-
-    The line goes into a full pipe, so the program stands still behind all its work until it has been asked.
-    """
-    reader, writer = os.pipe()
-    os.set_blocking(writer, False)
-    filled = 0
-    try:
-        while True:
-            filled += os.write(writer, b"\0" * 4096)
-    except BlockingIOError:
-        os.set_blocking(writer, True)
-    child = subprocess.Popen(words, stdin=subprocess.DEVNULL, stdout=writer)
-    os.close(writer)
-    still, largest = 0, 0
-    while still < 20:
-        status = Path(f"/proc/{child.pid}/status").read_text()
-        if "VmHWM" not in status:
-            raise RuntimeError(f"{' '.join(words)}: ended early")
-        still = still + 1 if "State:\tS" in status else 0
-        largest = int(re.search(r"VmHWM:\s*(\d+)", status).group(1)) * 1024
-        time.sleep(0.005)
-    with os.fdopen(reader, "rb") as pipe:
-        said = pipe.read()[filled:]
-    if child.wait() != 0 or not said:
-        raise RuntimeError(f"{' '.join(words)}: status {child.returncode}")
-    return largest
+def times(programs, words, seconds):
+    """The shortest time of each program; both have to find the same number of items, entries, hits or merges."""
+    best, seen = [math.inf, math.inf], [None, None]
+    for _ in rounds(seconds):
+        for place, program in enumerate(programs):
+            found = fields(output([program, *words]))
+            best[place] = min(best[place], found["min_ns"])
+            seen[place] = {key: found.get(key) for key in ("items", "entries", "hits", "merges", "contacts")}
+    for key, count in seen[0].items():
+        if count is not None and count != seen[1][key]:
+            raise Failed(f"{' '.join(words)}: {key} differ, {count} and {seen[1][key]}")
+    return best, seen[0]
 
 
-class Cell:
-    def __init__(self, what, kind, size, words):
-        self.what, self.kind, self.size, self.words = what, kind, size, words
-
-    def times(self, programs, runs):
-        best = [None, None]
-        seen = [None, None]
-        for _ in range(runs):
-            for place, program in enumerate(programs):
-                found = fields(output([program] + self.words))
-                nanos = found["min_ns"]
-                best[place] = nanos if best[place] is None else min(best[place], nanos)
-                seen[place] = {key: found[key] for key in ("items", "entries", "hits", "merges") if key in found}
-        for key in seen[0]:
-            if seen[0][key] != seen[1].get(key):
-                raise RuntimeError(f"{' '.join(self.words)}: {key} differ, {seen[0][key]} and {seen[1].get(key)}")
-        return best
+def timed(programs, maps, sizes, seconds, only):
+    for what, kind, lines, words in cells(maps, sizes):
+        if only in f"{what} {kind} {lines}":
+            (original, port), seen = times(programs, words, seconds)
+            print(f"{what}, {kind}, {lines:,} lines: {port / original:.3f}", file=sys.stderr)
+            calls = seen["contacts"] or seen["merges"] or lines
+            cell = dict(what=what, map=kind, lines=lines, calls=calls, aim=aim(what, kind, lines))
+            yield dict(cell, original=original, port=port)
 
 
-def cells(maps):
-    for kind in KINDS:
-        for size in SIZES:
-            path = str(maps / f"{kind}-{size}")
-            repeats = str(REPEATS[size])
-            yield Cell("walk", kind, size, ["bench-parse", f"{path}.mailmap", repeats])
-            yield Cell("build", kind, size, ["bench-build", f"{path}.mailmap", repeats])
-            for contacts in ["hits", "misses"]:
-                words = ["bench-lookup", f"{path}.mailmap", f"{path}.{contacts}", repeats]
-                yield Cell(f"lookups, {contacts}", kind, size, words)
-        path = str(maps / f"{kind}-{MERGE_SIZE}.mailmap")
-        yield Cell("one merge per entry", kind, MERGE_SIZE, ["bench-merge1", path])
-        path = str(maps / f"{kind}-{WHOLE_SIZE}")
-        repeats = str(REPEATS[WHOLE_SIZE])
-        words = ["bench-check", f"{path}.mailmap", f"{path}.hits", repeats]
-        yield Cell("check", kind, WHOLE_SIZE, words)
-        yield Cell("compact", kind, WHOLE_SIZE, ["bench-compact", f"{path}.mailmap", repeats])
+def weighed(programs, maps, sizes, only):
+    """The peak memory of building, beyond the file and the program's start."""
+    with scratch() as folder:
+        measure = built("measure", folder, "-static")
+        starts = [run(measure, [program, "bench-parse", "/dev/null", "1"]).peak for program in programs]
+        for kind in KINDS:
+            for lines in sizes:
+                path = Path(maps) / f"{kind}-{lines}.mailmap"
+                length = path.stat().st_size
+                if only in f"peak memory {kind} {lines}":
+                    peaks = [run(measure, [program, "bench-build", str(path), "1"]).peak for program in programs]
+                    original, port = [peak - start - length for peak, start in zip(peaks, starts)]
+                    cell = dict(map=kind, lines=lines, file=length, aim=aim("peak", kind, lines))
+                    yield dict(cell, original=original, port=port)
 
 
-def duration(nanos):
-    for unit, size in [("s", 1e9), ("ms", 1e6), ("µs", 1e3)]:
-        if nanos >= size:
-            return f"{nanos / size:.3g} {unit}" if nanos < 1000 * size else f"{nanos / size:.0f} {unit}"
-    return f"{nanos} ns"
+def measured(programs, maps, sizes, seconds, only=""):
+    return {
+        "calls": list(timed(programs, maps, sizes, seconds, only)),
+        "building": list(weighed(programs, maps, sizes, only)),
+    }
 
 
-def row(*columns):
-    print("| " + " | ".join(columns) + " |", flush=True)
+def times_table(calls):
+    head = ["what", "map", " lines", " original", " port", " port / original", " aim"]
+    rows = []
+    for c in calls:
+        row = [c["what"], c["map"], f"{c['lines']:,}", duration(c["original"]), duration(c["port"])]
+        rows.append(row + ratio(c["port"], c["original"], c["aim"]))
+    return table(head, rows)
 
 
-def compare_times(programs, maps, runs, only):
-    row("what", "map", "lines", "original", "port", "ratio")
-    row("---", "---", "--:", "--:", "--:", "--:")
-    for cell in cells(maps):
-        if only in f"{cell.what} {cell.kind} {cell.size}":
-            original, port = cell.times(programs, runs)
-            ratio = f"{original / port:.2f}"
-            row(cell.what, cell.kind, f"{cell.size:,}", duration(original), duration(port), ratio)
+def memory_table(building):
+    beyond = [" original beyond it", " port beyond it"]
+    head = ["peak memory of building", " lines", " file", *beyond, " port / original", " aim"]
+    rows = []
+    for c in building:
+        row = [c["map"], f"{c['lines']:,}", mebibytes(c["file"]), mebibytes(c["original"]), mebibytes(c["port"])]
+        rows.append(row + ratio(max(c["port"], 1), max(c["original"], 1), c["aim"]))
+    return table(head, rows)
 
 
-def compare_peaks(programs, maps):
-    print()
-    row("peak memory of building", "lines", "file", "original beyond it", "port beyond it", "port / original")
-    row("---", "--:", "--:", "--:", "--:", "--:")
-    with tempfile.NamedTemporaryFile() as empty:
-        starts = [peak([program, "bench-parse", empty.name, "1"]) for program in programs]
-    for kind in KINDS:
-        for size in SIZES:
-            path = maps / f"{kind}-{size}.mailmap"
-            length = path.stat().st_size
-            both = []
-            for program, start in zip(programs, starts):
-                both.append(peak([program, "bench-build", str(path), "1"]) - start - length)
-            texts = [f"{n / 2**20:.1f} MiB" for n in [length, *both]]
-            row(kind, f"{size:,}", *texts, f"{both[1] / both[0]:.2f}" if both[0] > 0 else "-")
+# what grows, as a row names it, and the most by which it may grow
+GROWTHS = {
+    "build": ("build, a line", "log n"),
+    "lookups, hits": ("a lookup", "log n"),
+    "one merge per entry": ("a merge of one entry", "n"),
+}
+
+
+def growth_table(calls):
+    """The port's time for one line, lookup or merge as the map grows, and how often that of the smallest it gets."""
+    rows = []
+    for (what, (named, bound)), kind in itertools.product(GROWTHS.items(), KINDS):
+        cells = [c for c in calls if (c["what"], c["map"]) == (what, kind)]
+        if len(cells) < 2:
+            continue
+        first, last = cells[0], cells[-1]
+        factors = [last[who] / last["calls"] / (first[who] / first["calls"]) for who in ("original", "port")]
+        at_most = last["lines"] / first["lines"] if bound == "n" else math.log(last["lines"], first["lines"])
+        times = {c["lines"]: duration(c["port"] / c["calls"]) for c in cells}
+        row = [named, kind, *[times.get(lines, "") for lines in SIZES], *[f"{factor:.1f}" for factor in factors]]
+        rows.append(row + [f"{at_most:.1f} ({bound})"])
+    grown = [" original grows by", " port grows by", " aim"]
+    return table(["what", "map", *[f" {lines:,} lines" for lines in SIZES], *grown], rows)
 
 
 def main():
@@ -149,17 +162,17 @@ def main():
     parser.add_argument("original")
     parser.add_argument("port")
     parser.add_argument("maps", type=Path)
-    parser.add_argument("--runs", type=int, default=7)
+    parser.add_argument("--seconds", type=float, default=4)
+    parser.add_argument("--without-million", action="store_true")
     parser.add_argument("--only", default="", help="measure only the cells whose name has this word")
     given = parser.parse_args()
-    programs = [given.original, given.port]
-    compare_times(programs, given.maps, given.runs, given.only)
-    if given.only in "peak memory":
-        compare_peaks(programs, given.maps)
+    sizes = [lines for lines in SIZES if lines < MILLION or not given.without_million]
+    found = measured([given.original, given.port], given.maps, sizes, given.seconds, given.only)
+    print("\n\n".join([times_table(found["calls"]), memory_table(found["building"]), growth_table(found["calls"])]))
 
 
 if __name__ == "__main__":
     try:
         main()
-    except RuntimeError as error:
+    except Failed as error:
         sys.exit(f"compare.py: {error}")

@@ -3,15 +3,17 @@
 
     make_maps.py FOLDER [LINES ..]      LINES: 1000 10000 100000 1000000 where none is given
 
-For each number of lines it writes into FOLDER three maps and two lists of contacts for each map:
+For each number of lines it writes into FOLDER three maps and four lists of contacts for each map:
 
     mixed-LINES.mailmap       the emails in random order, one to three lines an email
     sorted-LINES.mailmap      the same lines, in the order of their old emails
     hundred-LINES.mailmap     a hundred lines an email, each for another old name, in random order
     KIND-LINES.hits           contacts that are mapped, in random order, some of them in other letters
     KIND-LINES.misses         contacts whose email no line of the map has, with the same domains and like names
+    KIND-LINES.1000.contacts, KIND-LINES.100000.contacts
+                              so many contacts, hits and misses in turn, again and again where there are fewer
 
-At most 100,000 contacts are written. The generator has a seed, so the same call writes the same bytes everywhere.
+At most 100,000 hits and misses are written. Beside these there is an empty map, empty-0.mailmap, with contacts. The generator has a seed, so the same call writes the same bytes everywhere.
 """
 import itertools
 import random
@@ -138,23 +140,37 @@ def written(rng, path, entries, others):
     path.write_text("\n".join(text) + "\n", encoding="utf-8")
 
 
-def contacts(rng, folder, stem, entries):
-    hits = [entries[rng.randrange(len(entries))] for _ in range(min(len(entries), MOST_CONTACTS))]
-    text = []
-    for email, name, _ in hits:
-        email = in_other_letters(rng, email) if rng.random() < 0.2 else email
-        text.append(f"{name} <{email}>\n")
-    (folder / f"{stem}.hits").write_text("".join(text), encoding="utf-8")
-    text = []
-    for number in range(len(hits)):
+def missed(rng, count):
+    """Contacts with emails that no map has."""
+    for number in range(count):
         person = Person(rng, number)
-        text.append(f"{person.name()} <{person.email('x')}>\n")
-    (folder / f"{stem}.misses").write_text("".join(text), encoding="utf-8")
+        yield f"{person.name()} <{person.email('x')}>\n"
+
+
+def contacts(rng, folder, stem, entries):
+    chosen = [entries[rng.randrange(len(entries))] for _ in range(min(len(entries), MOST_CONTACTS))]
+    hits = []
+    for email, name, _ in chosen:
+        email = in_other_letters(rng, email) if rng.random() < 0.2 else email
+        hits.append(f"{name} <{email}>\n")
+    misses = list(missed(rng, len(hits)))
+    (folder / f"{stem}.hits").write_text("".join(hits), encoding="utf-8")
+    (folder / f"{stem}.misses").write_text("".join(misses), encoding="utf-8")
+    counted(folder, stem, [line for pair in zip(hits, misses) for line in pair])
+
+
+def counted(folder, stem, some):
+    """Writes a list of contacts of each length."""
+    for count in [1_000, MOST_CONTACTS]:
+        text = "".join(itertools.islice(itertools.cycle(some), count))
+        (folder / f"{stem}.{count}.contacts").write_text(text, encoding="utf-8")
 
 
 def main():
     folder = Path(sys.argv[1])
     folder.mkdir(parents=True, exist_ok=True)
+    (folder / "empty-0.mailmap").write_bytes(b"")
+    counted(folder, "empty-0", list(missed(random.Random(0), MOST_CONTACTS)))
     for lines in [int(word) for word in sys.argv[2:]] or [1_000, 10_000, 100_000, 1_000_000]:
         rng = random.Random(lines)
         others = lines // 64

@@ -5,7 +5,6 @@ pub mod WrittenExamples
 pub mod WrittenLine
 pub mod WrittenText
 pub mod Drained
-pub mod Compacted
 pub mod Contacts
 pub mod Dividers
 pub mod ContactLines

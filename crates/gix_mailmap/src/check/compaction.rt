@@ -3,7 +3,6 @@ ghost use Rattle.std.specs.Prelude.{IfOk, map};
 ghost use Rattle.mailmap_snapshot.specs.Writing.{IsCompacted};
 
 use crate::check::merged;
-use mailmap_snapshot::snapshot::WriteError;
 use std::alloc::{AllocError, Global};
 
 /// The mailmap that maps as the buffers do, one after another: each key has one line, and the lines are in the order of
@@ -17,10 +16,6 @@ pub fn compact(alloc: Global, buffers: &[&[u8]]) -> Result<Vec<u8>, AllocError>
     ensures { IfOk result (λ v. IsCompacted (map (λ b. b.now) buffers.now) v.items) }
 {
     let snapshot = merged(alloc, buffers)?;
-    match snapshot.write(alloc) {
-        Ok(written) => Ok(written),
-        Err(WriteError::Memory(error)) => Err(error),
-        // a line can hold each entry that was read from one
-        Err(WriteError::Unwritable { .. }) => unreachable!(),
-    }
+    // a line can hold each entry that was read from one
+    snapshot.write_lines(alloc)
 }

@@ -56,12 +56,24 @@ impl Snapshot {
         // whatever was merged, what a snapshot lists is its own normal list, so its text reads back to it
         ensures own { IsListing self.now }
     {
-        let entries = self.iter();
         if let Some(place) = self.first_unwritable() {
             return Err(WriteError::Unwritable { place });
         }
+        Ok(self.write_lines(alloc)?)
+    }
+
+    /// The text that [`Snapshot::write`] gives, for a caller who knows that a line can hold each entry: none is looked at
+    /// for that again. Whatever buffers build is such a snapshot, as `law_text` says in its clause `builds`.
+    ///
+    /// `Err` where memory is refused.
+    ///
+    /// Behind a merge of `parse_ignore_errors(b"N <a@x>")` into an empty snapshot it gives ` N <a@x>`.
+    pub fn write_lines(&self, alloc: Global) -> Result<Vec<u8>, AllocError>
+        requires { All IsWritable self.now }
+        ensures { IfOk result (λ v. v.items ≡ text self.now) }
+    {
         let mut out = Vec::with_capacity(alloc, self.text_len().ok_or(AllocError)?)?;
-        for entry in entries {
+        for entry in self.iter() {
             push_line(&mut out, &entry)?;
         }
         Ok(out)
@@ -69,12 +81,14 @@ impl Snapshot {
 
     // The place of the first entry that no line can hold.
     fn first_unwritable(&self) -> Option<usize>
-        ensures { MatchOption result (All IsWritable self.now) (IsFirstUnwritable self.now) }
+        ensures place { MatchOption result (All IsWritable self.now) (IsFirstUnwritable self.now) }
+        ensures own { IsListing self.now }
     {
         // no listing has more entries than the tables have rows, so places can be counted
         let _rows = self.tables.view().row_count();
+        let entries = self.iter();
         let mut place = 0;
-        for entry in self.iter() {
+        for entry in entries {
             if !is_writable(&entry) {
                 return Some(place);
             }

@@ -5,8 +5,8 @@ use Rattle.mailmap_entries.specs.Entries.{mapping_of}
 use Rattle.mailmap_snapshot.proofs.Left.{first_left, next_left, one_more, none_left}
 use Rattle.mailmap_snapshot.proofs.snapshot.Snapshot.first_unwritable.Goals as goal
 
-pub returns-then-not-is_writable : goal.returns-then-not-is_writable
-returns-then-not-is_writable c =
+pub returns-then-not-is_writable-clause-place : goal.returns-then-not-is_writable-clause-place
+returns-then-not-is_writable-clause-place c =
     let es = c.args.self.now in
     let e = mapping_of c.in-Some.entry in
     let left = c.loop-entry.invariant.left ∙ c.in-Some.ensures.steps in
@@ -28,7 +28,7 @@ loop-entry-preserved c =
       before = one_more IsWritable c.loop-entry.place es e c.next.new.self left c.loop-entry.invariant.before writable;
     }
 
-pub returns : goal.returns
-returns c =
+pub returns-clause-place : goal.returns-clause-place
+returns-clause-place c =
     All-from_recursion IsWritable c.args.self.now
     (none_left IsWritable c.loop-entry.place c.args.self.now (c.loop-entry.invariant.left ∙ c.in-None.ensures.steps.0) c.loop-entry.invariant.before)

@@ -1,0 +1,180 @@
+#!/usr/bin/env python3
+"""Sets mailmap_check beside its peers, as whole processes, on the same maps and contacts.
+
+    peers.py ORIGINAL PORT MAPS [--seconds S] [--without-million] [--only WORD]
+
+PORT is mailmap_check and MAPS a folder that make_maps.py filled. ORIGINAL is a program over the original crate: called
+as `ORIGINAL check MAP < contacts` it answers what `mailmap_check MAP < contacts` does. The other peers are git, as
+`git -c mailmap.file=MAP check-mailmap --stdin`, and libgit2, by libgit2_check.c; that needs `cc` and libgit2's header
+(Debian's libgit2-dev).
+
+A cell is a map and a list of contacts. All programs run in turn, at least twice each and for S seconds (4 where it is
+not given). A time is the shortest of all runs, from the start of the process to its end, and the peak the largest
+resident set, as the system counted them (measure.c). All write into a file in memory: into a pipe git would flush each
+answer. Past twenty seconds of processor time a program is stopped, and the cell says so; it is not tried with more
+contacts then. The answers of each peer are compared with the port's, line by line.
+
+figures.py runs this, too, and puts the tables into docs/BENCHMARKS.md.
+"""
+import argparse
+import os
+import signal
+import sys
+from itertools import zip_longest
+from pathlib import Path
+
+from measuring import KINDS, MILLION, Failed, built, duration, mebibytes, output, ratio, rounds, run, scratch, table
+
+SIZES = [1_000, 10_000, 100_000, MILLION]
+CONTACTS = [1_000, 100_000]
+PORT, ORIGINAL, GIT, LIBGIT2 = NAMES = ["mailmap_check", "original", "git", "libgit2"]
+LIMIT = 20
+# of the port to the fastest peer, from 1,000 lines on; of the port's peak to git's, at 100,000 lines
+TIME_AIM = 0.6
+PEAK_AIMS = {"mixed": 1.2, "hundred": 1.8}
+
+
+class Peers:
+    """The programs, and a folder for what they need and write."""
+
+    def __init__(self, original, port, folder):
+        self.original, self.port, self.folder = original, port, folder
+        self.measure = built("measure", folder, "-static")
+        self.libgit2 = built("libgit2_check", folder, "-lgit2")
+        self.out = f"{folder}/answers"
+        # git wants a repository, and nobody's settings
+        self.settings = {**os.environ, "GIT_CONFIG_NOSYSTEM": "1", "GIT_CONFIG_GLOBAL": "/dev/null"}
+        output(["git", "init", "-q", f"{folder}/repository"], env=self.settings)
+
+    def versions(self):
+        libgit2 = output([self.libgit2, "--version"]).strip()
+        return {"git": output(["git", "--version"]).split()[2], "libgit2": libgit2}
+
+    def words(self, name, mailmap):
+        """The command line of a peer."""
+        git = ["git", "-C", f"{self.folder}/repository", "-c", f"mailmap.file={mailmap}", "check-mailmap", "--stdin"]
+        return {
+            PORT: [self.port, mailmap],
+            ORIGINAL: [self.original, "check", mailmap],
+            GIT: git,
+            LIBGIT2: [self.libgit2, mailmap],
+        }[name]
+
+    def run(self, name, mailmap, contacts):
+        return run(self.measure, self.words(name, mailmap), contacts, self.out, LIMIT, env=self.settings)
+
+
+def lines_of(path):
+    return Path(path).read_bytes().split(b"\n")
+
+
+def fault(ended):
+    """What a cell says of a program that did not end well."""
+    if ended.status == 128 + signal.SIGXCPU:
+        return f"> {LIMIT} s"
+    return f"status {ended.status}"
+
+
+def cell(peers, mailmap, contacts, seconds, names):
+    """Each peer's shortest time, its largest peak and how many of its answers differ from the port's, or its fault."""
+    found, answers = {}, None
+    for number in rounds(seconds):
+        for name in names:
+            if "fault" in found.get(name, {}):
+                continue
+            ended = peers.run(name, mailmap, contacts)
+            if ended.status != 0:
+                found[name] = {"fault": fault(ended)}
+                continue
+            if number == 0:
+                said = lines_of(peers.out)
+                answers = answers or said
+                differing = sum(a != b for a, b in zip_longest(answers, said))
+                found[name] = {"time": ended.nanos, "peak": ended.peak, "differing": differing}
+            found[name]["time"] = min(found[name]["time"], ended.nanos)
+            found[name]["peak"] = max(found[name]["peak"], ended.peak)
+    if "fault" in found[PORT]:
+        raise Failed(f"{PORT} {mailmap}: {found[PORT]['fault']}")
+    return found
+
+
+def measured(original, port, maps, sizes, seconds, only=""):
+    """The cells, and the versions of the peers."""
+    with scratch() as folder:
+        peers = Peers(os.path.abspath(original), os.path.abspath(port), folder)
+        cells = []
+        for kind, lines in [("empty", 0), *((kind, lines) for kind in KINDS for lines in sizes)]:
+            stem = f"{os.path.abspath(maps)}/{kind}-{lines}"
+            faults = {}
+            for contacts in CONTACTS:
+                if only not in f"{kind} {lines} {contacts}":
+                    continue
+                names = [name for name in NAMES if name not in faults]
+                found = {**faults, **cell(peers, f"{stem}.mailmap", f"{stem}.{contacts}.contacts", seconds, names)}
+                faults = {name: told for name, told in found.items() if "fault" in told}
+                cells.append(dict(map=kind, lines=lines, contacts=contacts, peers=found))
+                print(f"{kind}, {lines:,} lines, {contacts:,} contacts: {', '.join(times(found))}", file=sys.stderr)
+        return {"processes": cells, "versions": peers.versions()}
+
+
+def shown(found, key, text):
+    """What a row says of each program: its figure, or its fault."""
+    return [found[name].get("fault") or text(found[name][key]) for name in NAMES]
+
+
+def times(found):
+    return shown(found, "time", duration)
+
+
+def times_table(cells):
+    head = ["map", " lines", " contacts", *[f" {name}" for name in NAMES], "fastest peer", " port / it", " aim"]
+    rows = []
+    for c in cells:
+        found = c["peers"]
+        fastest = min((name for name in NAMES[1:] if "time" in found[name]), key=lambda name: found[name]["time"])
+        aim = TIME_AIM if c["lines"] >= 1_000 else None
+        row = [c["map"], f"{c['lines']:,}", f"{c['contacts']:,}", *times(found), fastest]
+        rows.append(row + ratio(found[PORT]["time"], found[fastest]["time"], aim))
+    return table(head, rows)
+
+
+def memory_table(cells):
+    head = ["peak memory of", " lines", " contacts", *[f" {name}" for name in NAMES], " port / git", " aim"]
+    rows = []
+    for c in cells:
+        found = c["peers"]
+        aim = PEAK_AIMS.get(c["map"]) if c["lines"] == 100_000 else None
+        row = [c["map"], f"{c['lines']:,}", f"{c['contacts']:,}", *shown(found, "peak", mebibytes)]
+        rows.append(row + (ratio(found[PORT]["peak"], found[GIT]["peak"], aim) if "peak" in found[GIT] else ["", ""]))
+    return table(head, rows)
+
+
+def answers_table(cells):
+    head = ["answers to 100,000 contacts that differ from the port's", " lines", *[f" {name}" for name in NAMES[1:]]]
+    rows = []
+    for c in cells:
+        if c["contacts"] == CONTACTS[-1]:
+            told = shown(c["peers"], "differing", "{:,}".format)[1:]
+            rows.append([c["map"], f"{c['lines']:,}", *told])
+    return table(head, rows)
+
+
+def main():
+    parser = argparse.ArgumentParser(description=__doc__, formatter_class=argparse.RawDescriptionHelpFormatter)
+    parser.add_argument("original")
+    parser.add_argument("port")
+    parser.add_argument("maps", type=Path)
+    parser.add_argument("--seconds", type=float, default=4)
+    parser.add_argument("--without-million", action="store_true")
+    parser.add_argument("--only", default="", help="measure only the cells whose name has this word")
+    given = parser.parse_args()
+    sizes = [lines for lines in SIZES if lines < MILLION or not given.without_million]
+    cells = measured(given.original, given.port, given.maps, sizes, given.seconds, given.only)["processes"]
+    print("\n\n".join([times_table(cells), memory_table(cells), answers_table(cells)]))
+
+
+if __name__ == "__main__":
+    try:
+        main()
+    except Failed as error:
+        sys.exit(f"peers.py: {error}")
