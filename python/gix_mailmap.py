@@ -18,7 +18,7 @@ import os
 import sys
 from ctypes import POINTER, Structure, byref, c_bool, c_size_t, c_uint8, c_uint32, c_void_p
 from types import TracebackType
-from typing import Iterator, NamedTuple, Optional
+from typing import Callable, Iterator, NamedTuple, Optional
 
 __all__ = ["Answer", "Closed", "Entry", "Mailmap", "check", "compact"]
 
@@ -111,12 +111,12 @@ def _wanted(status: int) -> None:
         raise RuntimeError(f"gix_mailmap: status {status}")
 
 
-def _room(length: int) -> ctypes.Array:
+def _room(length: int) -> ctypes.Array[c_uint8]:
     """A buffer of a length, at an address also where that is 0."""
     return (c_uint8 * max(length, 1))()
 
 
-def _written(call, *arguments) -> bytes:
+def _written(call: Callable[..., int], *arguments: object) -> bytes:
     """The text that a call writes into a buffer, whose length it tells."""
     length = 4096
     while True:
