@@ -21,8 +21,8 @@ lib:
 	rm -rf $(LIB)/c && mkdir $(LIB)/c
 	cp $(LIB)/libgix_mailmap_c.a $(LIB)/c/libgix_mailmap.a
 	cd $(LIB)/c && ar x $(HEAP) && ar rs libgix_mailmap.a *.o 2> /dev/null
-	$(CC) -shared -o $(LIB)/c/libgix_mailmap.so -Wl,-soname,libgix_mailmap.so -Wl,--whole-archive $(LIB)/c/libgix_mailmap.a \
-	    -Wl,--no-whole-archive
+	$(CC) -shared -o $(LIB)/c/libgix_mailmap.so -Wl,-soname,libgix_mailmap.so \
+	    -Wl,--version-script,include/gix_mailmap.map -Wl,--whole-archive $(LIB)/c/libgix_mailmap.a -Wl,--no-whole-archive
 
 test:
 	tests/refused_memory.sh

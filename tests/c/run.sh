@@ -1,7 +1,8 @@
 #!/usr/bin/env bash
-# Builds the C tests against the static library in the folder that the first argument names, and runs them: as they are,
-# and under the address and undefined-behaviour sanitizers where the compiler has them. Then it builds and runs a program
-# in C++ over the header, where there is a compiler for that.
+# Tests the libraries in the folder that the first argument names. The shared one has to show what the header declares, and
+# nothing else. The C tests are built against the static one and run: as they are, and under the address and
+# undefined-behaviour sanitizers where the compiler has them. Then comes a program in C++ over the header, where there is a
+# compiler for that.
 set -euo pipefail
 library="$(cd "$1" && pwd)"
 here="$(cd "$(dirname "$0")" && pwd)"
@@ -10,6 +11,13 @@ trap 'rm -rf "$work"' EXIT
 cc="${CC:-cc}"
 strict=(-Wall -Wextra -Wpedantic -Werror -g -I "$here/../../include")
 wrapped=(-Wl,--wrap=malloc -Wl,--wrap=realloc)
+
+declared="$(grep -o '^[a-z].*gix_mailmap_[a-z]*(' "$here/../../include/gix_mailmap.h" | grep -o 'gix_mailmap_[a-z]*' | sort)"
+shown="$(nm -D --defined-only "$library/libgix_mailmap.so" | awk '{ print $NF }' | sort)"
+if [ "$declared" != "$shown" ]; then
+    printf 'the header declares:\n%s\nthe shared library shows:\n%s\n' "$declared" "$shown"
+    exit 1
+fi
 
 # every call with every status, and the stored answers of the original; the words go to the compiler
 tests() {
