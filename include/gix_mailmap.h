@@ -37,7 +37,7 @@ extern "C" {
 /* What a call returns. */
 enum {
     GIX_MAILMAP_DONE = 0,    /* it did what it says */
-    GIX_MAILMAP_SHORT = 1,   /* a buffer is too short; all buffers are as they were, and what is told is told */
+    GIX_MAILMAP_SHORT = 1,   /* a buffer is too short; all buffers are as they were */
     GIX_MAILMAP_REFUSED = 2, /* out of memory; buffers and handle are as they were */
     GIX_MAILMAP_CLOSED = 3,  /* the handle is closed; nothing was written */
     GIX_MAILMAP_OPEN = 4,    /* the handle is open already, and stays as it is */
