@@ -16,6 +16,7 @@ from __future__ import annotations
 import ctypes
 import os
 import sys
+import weakref
 from ctypes import POINTER, Structure, byref, c_bool, c_size_t, c_uint8, c_uint32, c_void_p
 from types import TracebackType
 from typing import Callable, Iterator, NamedTuple, Optional
@@ -151,6 +152,7 @@ class Mailmap:
         """Opens the mailmaps `texts`, later ones behind earlier ones. Lines that can't be read are left out, as git leaves
         them. Raises MemoryError."""
         self._handle = _Handle()
+        self._close = weakref.finalize(self, _library.gix_mailmap_close, ctypes.pointer(self._handle))
         self._room = 256
         _wanted(_library.gix_mailmap_open(byref(self._handle), *_in(b"")))
         for text in texts:
@@ -216,7 +218,7 @@ class Mailmap:
 
     def close(self) -> None:
         """Closes the mailmap, and frees its memory. A closed one stays closed."""
-        _library.gix_mailmap_close(byref(self._handle))
+        self._close()
 
     @property
     def is_open(self) -> bool:
@@ -238,10 +240,6 @@ class Mailmap:
         trace: Optional[TracebackType],
     ) -> None:
         self.close()
-
-    def __del__(self) -> None:
-        if hasattr(self, "_handle"):
-            self.close()
 
 
 def _entry(told: _Listed, texts: bytes) -> Entry:
