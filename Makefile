@@ -1,5 +1,6 @@
 # make run: maps the sample contacts by the sample mailmap. make test: the gate. make edits: the wrong bodies that the
-# gate leaves out for its time. make install: the program, under PREFIX.
+# gate leaves out for its time. make lib: the libraries for C. make install: the program, the libraries, their header, what
+# pkg-config reads and the module for Python, under PREFIX.
 PREFIX ?= /usr/local
 PROGRAM = crates/mailmap_check/out/mailmap_check
 DUMP = crates/mailmap_dump/out/mailmap_dump
@@ -7,7 +8,7 @@ DUMP = crates/mailmap_dump/out/mailmap_dump
 LIB = crates/gix_mailmap_c/out
 HEAP = $(dir $(shell rt doc))c/liblibc_c.a
 
-.PHONY: build run test edits install lib
+.PHONY: build run test edits install install_lib lib
 build:
 	cd crates/mailmap_check && rt run < stdin > /dev/null
 
@@ -20,8 +21,8 @@ lib:
 	rm -rf $(LIB)/c && mkdir $(LIB)/c
 	cp $(LIB)/libgix_mailmap_c.a $(LIB)/c/libgix_mailmap.a
 	cd $(LIB)/c && ar x $(HEAP) && ar rs libgix_mailmap.a *.o 2> /dev/null
-	$(CC) -shared -o $(LIB)/c/libgix_mailmap.so -Wl,-soname,libgix_mailmap.so -Wl,--whole-archive $(LIB)/c/libgix_mailmap.a \
-	    -Wl,--no-whole-archive
+	$(CC) -shared -o $(LIB)/c/libgix_mailmap.so -Wl,-soname,libgix_mailmap.so \
+	    -Wl,--version-script,include/gix_mailmap.map -Wl,--whole-archive $(LIB)/c/libgix_mailmap.a -Wl,--no-whole-archive
 
 test:
 	tests/refused_memory.sh
@@ -33,9 +34,21 @@ test:
 	tests/not_compiling/run.sh
 	$(MAKE) lib
 	tests/c/run.sh $(LIB)/c
+	tests/python/run.sh $(LIB)/c
+	tests/c/installed.sh
 
 edits:
 	tests/more_must_fail.sh
 
-install: build
+install: build lib
 	install -D -m 755 $(PROGRAM) $(DESTDIR)$(PREFIX)/bin/mailmap_check
+	$(MAKE) install_lib
+
+# what `make lib` has built
+install_lib:
+	install -D -m 644 include/gix_mailmap.h $(DESTDIR)$(PREFIX)/include/gix_mailmap.h
+	install -D -m 644 $(LIB)/c/libgix_mailmap.a $(DESTDIR)$(PREFIX)/lib/libgix_mailmap.a
+	install -D -m 755 $(LIB)/c/libgix_mailmap.so $(DESTDIR)$(PREFIX)/lib/libgix_mailmap.so
+	install -D -m 644 python/gix_mailmap.py $(DESTDIR)$(PREFIX)/share/gix_mailmap/python/gix_mailmap.py
+	install -d $(DESTDIR)$(PREFIX)/lib/pkgconfig
+	sed 's|@PREFIX@|$(PREFIX)|' include/gix_mailmap.pc.in > $(DESTDIR)$(PREFIX)/lib/pkgconfig/gix_mailmap.pc

@@ -37,10 +37,11 @@ extern "C" {
 /* What a call returns. */
 enum {
     GIX_MAILMAP_DONE = 0,    /* it did what it says */
-    GIX_MAILMAP_SHORT = 1,   /* a buffer is too short; all buffers are as they were, and the lengths are told */
+    GIX_MAILMAP_SHORT = 1,   /* a buffer is too short; all buffers are as they were */
     GIX_MAILMAP_REFUSED = 2, /* out of memory; buffers and handle are as they were */
     GIX_MAILMAP_CLOSED = 3,  /* the handle is closed; nothing was written */
-    GIX_MAILMAP_OPEN = 4     /* the handle is open already, and stays as it is */
+    GIX_MAILMAP_OPEN = 4,    /* the handle is open already, and stays as it is */
+    GIX_MAILMAP_NO_ENTRY = 5 /* the mailmap has no entry at this place; nothing was written */
 };
 
 /* A mailmap that is held. It begins as GIX_MAILMAP_INIT, and is neither copied nor changed but by the calls below. */
@@ -57,6 +58,16 @@ typedef struct gix_mailmap_field {
     bool is_given;
 } gix_mailmap_field;
 
+/* An entry: where its texts begin in the buffer of texts, and of each how long it is and whether there is one. They
+ * stand one behind another in this order. One that isn't there has length 0, and an old email is always there. */
+typedef struct gix_mailmap_listed {
+    size_t start;
+    gix_mailmap_field new_name;
+    gix_mailmap_field new_email;
+    gix_mailmap_field old_name;
+    gix_mailmap_field old_email;
+} gix_mailmap_listed;
+
 /* Opens a closed handle on the entries of a mailmap's text. Lines that can't be read are left out, as git leaves them.
  * DONE; REFUSED; OPEN. But at DONE the handle stays as it was. */
 uint32_t gix_mailmap_open(gix_mailmap *map, const uint8_t *text, size_t text_len);
@@ -71,6 +82,23 @@ uint32_t gix_mailmap_add(gix_mailmap *map, const uint8_t *text, size_t text_len)
 uint32_t gix_mailmap_lookup(gix_mailmap *map, const uint8_t *name, size_t name_len, const uint8_t *email,
                             size_t email_len, uint8_t *name_out, size_t name_out_len, gix_mailmap_field *new_name,
                             uint8_t *email_out, size_t email_out_len, gix_mailmap_field *new_email);
+
+/* Tells how many entries the mailmap lists, and how many bytes all their texts have together (SIZE_MAX where that is
+ * more than a size_t holds). It goes over all entries.
+ * DONE; CLOSED. */
+uint32_t gix_mailmap_len(gix_mailmap *map, size_t *entries_len, size_t *texts_len);
+
+/* Lists the mailmap: one entry for each old email that has something for all its names, and for each old name of it, in
+ * ascending order of old emails and, in each, of old names. Entry i is told in entries[i], and its texts stand in `texts`
+ * from its `start` on. `entries_len` counts entries, `texts_len` bytes; gix_mailmap_len tells how many are needed.
+ * DONE; SHORT: `entries` or `texts` is too short, and both are as they were; CLOSED: nothing is written. */
+uint32_t gix_mailmap_list(gix_mailmap *map, gix_mailmap_listed *entries, size_t entries_len, uint8_t *texts,
+                          size_t texts_len);
+
+/* Tells the entry at a place of the list, counted from 0, and copies its texts to the front of `texts`, so its `start` is
+ * 0. It goes over the entries before that place: for all of them gix_mailmap_list is the call.
+ * DONE; SHORT: `texts` is as it was, and the entry is told; NO_ENTRY; CLOSED: nothing is written. */
+uint32_t gix_mailmap_entry(gix_mailmap *map, size_t place, gix_mailmap_listed *entry, uint8_t *texts, size_t texts_len);
 
 /* Closes a handle, and frees its memory. A closed one stays closed. */
 void gix_mailmap_close(gix_mailmap *map);

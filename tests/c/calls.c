@@ -108,6 +108,76 @@ static void looked_up(gix_mailmap *map)
     WANT(holds(&name, "") && holds(&email, ""));
 }
 
+/* the fields of an entry, by their lengths: -1 for one that isn't there */
+static bool is_listed(gix_mailmap_listed e, size_t start, long new_name, long new_email, long old_name, long old_email)
+{
+    return e.start == start && is_field(e.new_name, new_name < 0 ? 0 : (size_t)new_name, new_name >= 0)
+           && is_field(e.new_email, new_email < 0 ? 0 : (size_t)new_email, new_email >= 0)
+           && is_field(e.old_name, old_name < 0 ? 0 : (size_t)old_name, old_name >= 0)
+           && is_field(e.old_email, (size_t)old_email, true);
+}
+
+/* an entry that no call has written */
+static const gix_mailmap_listed UNTOLD = {99, {98, true}, {97, false}, {96, true}, {95, false}};
+
+static bool is_untold(gix_mailmap_listed e)
+{
+    return e.start == 99 && is_field(e.new_name, 98, true) && is_field(e.new_email, 97, false)
+           && is_field(e.old_name, 96, true) && is_field(e.old_email, 95, false);
+}
+
+static void listed(gix_mailmap *map)
+{
+    size_t entries_len = 77, texts_len = 78;
+    WANT(gix_mailmap_len(map, &entries_len, &texts_len) == GIX_MAILMAP_DONE && entries_len == 2 && texts_len == 26);
+
+    gix_mailmap_listed entries[3] = {UNTOLD, UNTOLD, UNTOLD};
+    buffer texts = filled();
+    WANT(gix_mailmap_list(map, entries, 2, texts.bytes, 26) == GIX_MAILMAP_DONE);
+    WANT(is_listed(entries[0], 0, 8, 6, -1, 4) && is_listed(entries[1], 18, 3, -1, -1, 5) && is_untold(entries[2]));
+    WANT(holds(&texts, "Jane Doejane@xjd@yJoejoe@x"));
+
+    /* too little room for either keeps both */
+    entries[0] = entries[1] = UNTOLD;
+    texts = filled();
+    WANT(gix_mailmap_list(map, entries, 1, texts.bytes, 64) == GIX_MAILMAP_SHORT);
+    WANT(gix_mailmap_list(map, entries, 3, texts.bytes, 25) == GIX_MAILMAP_SHORT);
+    WANT(is_untold(entries[0]) && is_untold(entries[1]) && holds(&texts, ""));
+
+    WANT(gix_mailmap_entry(map, 1, &entries[2], texts.bytes, 8) == GIX_MAILMAP_DONE);
+    WANT(is_listed(entries[2], 0, 3, -1, -1, 5) && holds(&texts, "Joejoe@x"));
+    texts = filled();
+    entries[2] = UNTOLD;
+    WANT(gix_mailmap_entry(map, 0, &entries[2], texts.bytes, 17) == GIX_MAILMAP_SHORT);
+    WANT(is_listed(entries[2], 0, 8, 6, -1, 4) && holds(&texts, ""));
+    entries[2] = UNTOLD;
+    WANT(gix_mailmap_entry(map, 2, &entries[2], texts.bytes, 64) == GIX_MAILMAP_NO_ENTRY);
+    WANT(gix_mailmap_entry(map, SIZE_MAX, &entries[2], texts.bytes, 64) == GIX_MAILMAP_NO_ENTRY);
+    WANT(is_untold(entries[2]) && holds(&texts, ""));
+}
+
+static void listing_of_a_closed_one(gix_mailmap *map)
+{
+    size_t entries_len = 77, texts_len = 78;
+    gix_mailmap_listed entry = UNTOLD;
+    buffer texts = filled();
+    WANT(gix_mailmap_len(map, &entries_len, &texts_len) == GIX_MAILMAP_CLOSED && entries_len == 77 && texts_len == 78);
+    WANT(gix_mailmap_list(map, &entry, 1, texts.bytes, 64) == GIX_MAILMAP_CLOSED);
+    WANT(gix_mailmap_entry(map, 0, &entry, texts.bytes, 64) == GIX_MAILMAP_CLOSED);
+    WANT(is_untold(entry) && holds(&texts, ""));
+}
+
+static void listing_of_an_empty_one(gix_mailmap *map)
+{
+    size_t entries_len = 77, texts_len = 78;
+    gix_mailmap_listed entry = UNTOLD;
+    buffer texts = filled();
+    WANT(gix_mailmap_len(map, &entries_len, &texts_len) == GIX_MAILMAP_DONE && entries_len == 0 && texts_len == 0);
+    WANT(gix_mailmap_list(map, &entry, 0, texts.bytes, 0) == GIX_MAILMAP_DONE);
+    WANT(gix_mailmap_entry(map, 0, &entry, texts.bytes, 64) == GIX_MAILMAP_NO_ENTRY);
+    WANT(is_untold(entry) && holds(&texts, ""));
+}
+
 static void lookup_of_a_closed_one(gix_mailmap *map)
 {
     buffer name = filled(), email = filled();
@@ -121,11 +191,13 @@ static void handle(void)
 {
     gix_mailmap map = GIX_MAILMAP_INIT;
     lookup_of_a_closed_one(&map);
+    listing_of_a_closed_one(&map);
     WANT(gix_mailmap_add(&map, TEXT(MAP)) == GIX_MAILMAP_CLOSED);
     gix_mailmap_close(&map);
     WANT(gix_mailmap_open(&map, TEXT(MAP)) == GIX_MAILMAP_DONE);
     WANT(gix_mailmap_open(&map, TEXT("Other <jd@y>")) == GIX_MAILMAP_OPEN);
     looked_up(&map);
+    listed(&map);
     WANT(gix_mailmap_add(&map, TEXT("JD <jd@y>\nnot an entry\n")) == GIX_MAILMAP_DONE);
     buffer name = filled(), email = filled();
     gix_mailmap_field new_name, new_email;
@@ -135,8 +207,10 @@ static void handle(void)
     gix_mailmap_close(&map);
     WANT(!map.is_open);
     lookup_of_a_closed_one(&map);
+    listing_of_a_closed_one(&map);
     gix_mailmap_close(&map);
     WANT(gix_mailmap_open(&map, TEXT("")) == GIX_MAILMAP_DONE);
+    listing_of_an_empty_one(&map);
     gix_mailmap_close(&map);
 }
 
@@ -165,6 +239,12 @@ static bool refuses(long number)
     WANT(gix_mailmap_lookup(&map, TEXT("q"), TEXT("q@z"), name.bytes, 64, &new_name, email.bytes, 64, &new_email)
          == GIX_MAILMAP_DONE);
     WANT(holds(&name, added == GIX_MAILMAP_DONE ? "New" : "q") && new_name.is_given == (added == GIX_MAILMAP_DONE));
+    size_t entries_len, texts_len;
+    WANT(gix_mailmap_len(&map, &entries_len, &texts_len) == GIX_MAILMAP_DONE);
+    WANT(entries_len == (added == GIX_MAILMAP_DONE ? 3 : 2));
+    gix_mailmap_listed entries[3];
+    WANT(gix_mailmap_list(&map, entries, 3, out.bytes, 64) == GIX_MAILMAP_DONE);
+    WANT(gix_mailmap_entry(&map, 1, entries, out.bytes, 64) == GIX_MAILMAP_DONE);
     gix_mailmap_close(&map);
     WANT(requests == behind);
     bool is_refused = checked == GIX_MAILMAP_REFUSED || compacted == GIX_MAILMAP_REFUSED || opened != GIX_MAILMAP_DONE

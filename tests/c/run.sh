@@ -1,28 +1,43 @@
 #!/usr/bin/env bash
-# Builds the C test against the static library in the folder that the first argument names, and runs it: as it is, and
-# under the address and undefined-behaviour sanitizers where the compiler has them. Then it compiles the header as C++,
-# where there is a compiler for that.
+# Tests the libraries in the folder that the first argument names. The shared one has to show what the header declares, and
+# nothing else. The C tests are built against the static one and run: as they are, and under the address and
+# undefined-behaviour sanitizers where the compiler has them. Then comes a program in C++ over the header, where there is a
+# compiler for that.
 set -euo pipefail
 library="$(cd "$1" && pwd)"
 here="$(cd "$(dirname "$0")" && pwd)"
 work="$(mktemp -d)"
 trap 'rm -rf "$work"' EXIT
 cc="${CC:-cc}"
-flags=(-std=c11 -Wall -Wextra -Wpedantic -Werror -g -I "$here/../../include")
+strict=(-Wall -Wextra -Wpedantic -Werror -g -I "$here/../../include")
 wrapped=(-Wl,--wrap=malloc -Wl,--wrap=realloc)
 
-"$cc" "${flags[@]}" "$here/calls.c" "$library/libgix_mailmap.a" "${wrapped[@]}" -o "$work/calls"
-"$work/calls"
+declared="$(grep -o '^[a-z].*gix_mailmap_[a-z]*(' "$here/../../include/gix_mailmap.h" | grep -o 'gix_mailmap_[a-z]*' | sort)"
+shown="$(nm -D --defined-only "$library/libgix_mailmap.so" | awk '{ print $NF }' | sort)"
+if [ "$declared" != "$shown" ]; then
+    printf 'the header declares:\n%s\nthe shared library shows:\n%s\n' "$declared" "$shown"
+    exit 1
+fi
 
+# every call with every status, and the stored answers of the original; the words go to the compiler
+tests() {
+    "$cc" -std=c11 "${strict[@]}" "$@" "$here/calls.c" "$library/libgix_mailmap.a" "${wrapped[@]}" -o "$work/calls"
+    "$work/calls"
+    "$cc" -std=c11 "${strict[@]}" "$@" "$here/stored.c" "$library/libgix_mailmap.a" -o "$work/stored"
+    "$here/../original/compare.py" "$work/stored" "$work/stored" check compact entries resolve
+}
+
+tests
 sanitizers=(-fsanitize=address,undefined -fno-sanitize-recover=all)
 echo 'int main(void) { return 0; }' > "$work/empty.c"
 if "$cc" "${sanitizers[@]}" "$work/empty.c" -o "$work/empty" 2> "$work/said" && "$work/empty"; then
-    "$cc" "${flags[@]}" "${sanitizers[@]}" "$here/calls.c" "$library/libgix_mailmap.a" "${wrapped[@]}" -o "$work/calls"
-    "$work/calls"
+    tests "${sanitizers[@]}"
 else
     echo 'calls from C: no sanitizers here'
 fi
 
 if [ -n "$(command -v c++)" ]; then
-    c++ -Wall -Wextra -Wpedantic -Werror -fsyntax-only -x c++ "$here/../../include/gix_mailmap.h"
+    c++ "${strict[@]}" "$here/uses.cpp" "$library/libgix_mailmap.a" -o "$work/uses"
+    "$work/uses"
+    echo 'calls from C++: passed'
 fi

@@ -1,7 +1,9 @@
 #!/usr/bin/env python3
 """Runs mailmap_check and mailmap_dump on buffers, hostile ones among them, and wants the answers of the Rust original.
 
-    compare.py MAILMAP_CHECK MAILMAP_DUMP
+    compare.py MAILMAP_CHECK MAILMAP_DUMP [MODE ..]
+
+With modes, it runs the cases of these alone.
 
 A line of cases.jsonl is one case: its mode, the buffers, the standard input, and the status and the output of the
 original; the texts are in hex. The buffers were made by a seeded generator, hostile and realistic ones. The answers are
@@ -37,19 +39,22 @@ def run(programs, case, folder):
 
 def main():
     programs = [str(Path(word).resolve()) for word in sys.argv[1:3]]
+    modes = sys.argv[3:]
     cases = [json.loads(line) for line in open(Path(__file__).with_name("cases.jsonl"), encoding="ascii")]
-    agreed = Counter()
+    agreed, failed = Counter(), 0
     with tempfile.TemporaryDirectory() as folder:
         for number, case in enumerate(cases, 1):
+            if modes and case["mode"] not in modes:
+                continue
             done = run(programs, case, Path(folder))
             if (done.returncode, done.stdout.hex(), done.stderr) == (case["status"], case["answer"], b""):
                 agreed[case["mode"]] += 1
             else:
+                failed += 1
                 print(f"case {number}, {case['mode']}: {done.stdout.hex()} and not {case['answer']}")
-    modes = ", ".join(f"{count} of {mode}" for mode, count in agreed.items())
-    failed = len(cases) - agreed.total()
-    print(f"beside the original: {agreed.total()} cases agree, {failed} differ ({modes})")
-    sys.exit(1 if failed else 0)
+    counts = ", ".join(f"{count} of {mode}" for mode, count in agreed.items())
+    print(f"beside the original: {agreed.total()} cases agree, {failed} differ ({counts})")
+    sys.exit(1 if failed or not agreed else 0)
 
 
 main()

@@ -2,3 +2,4 @@ pub mod Handed
 pub mod Held
 pub mod Handles
 pub mod Fields
+pub mod Listed

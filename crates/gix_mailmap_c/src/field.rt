@@ -1,10 +1,11 @@
 //! What is told of a text beside its bytes.
 ghost use Rattle.std.specs.Prelude.{◌≡◌, length, unwrap_or, is_some};
 ghost use Rattle.std.specs.Option.{option_copied};
+ghost use Rattle.gix_mailmap_c.specs.Listed.{field_of};
 
 /// How long a text is, and whether the mailmap gives it.
 #[repr(C)]
-#[derive(Drop)]
+#[derive(Clone, Copy)]
 pub struct Field {
     pub len: usize,
     pub is_given: bool,
@@ -20,5 +21,11 @@ impl Field {
             len: given.unwrap_or(other).len(),
             is_given: given.is_some(),
         }
+    }
+    /// Of a text that may be missing.
+    pub(crate) fn of_optional(text: Option<&[u8]>) -> Field
+        ensures { result ≡ field_of (option_copied text.entry) }
+    {
+        Field::of(text, &[])
     }
 }

@@ -7,6 +7,7 @@ mod buffers;
 pub mod field;
 pub mod handle;
 mod held;
+pub mod listing;
 pub mod lookup;
 pub mod status;
 pub mod texts;

@@ -33,6 +33,19 @@ impl Snapshot {
         Iter::new(self.tables.view())
     }
 
+    /// How many entries [`iter`](Snapshot::iter()) gives. It goes over all of them, and takes no memory.
+    pub fn len(&self) -> usize
+        ensures { result ≡ length self.now }
+    {
+        // no listing has more entries than the tables have rows, so they can be counted
+        let _rows = self.tables.view().row_count();
+        let mut count = 0;
+        for _entry in self.iter() {
+            count += 1;
+        }
+        count
+    }
+
     /// The entries of [`iter`](Snapshot::iter()) in a vector. `Err` where memory is refused.
     pub fn entries(&self, alloc: Global) -> Result<Vec<Entry<'_>>, AllocError>
         ensures listing { IfOk result (λ v. map mapping_of v.items ≡ self.now) }

@@ -1,0 +1,95 @@
+-- Lists that are put into a buffer, one behind another.
+use Rattle.std.proofs.Common.{◌≡◌, ℕ, Option, zero, suc, ◌+◌, ◌<◌, ◌≤◌, List, [], ◌∷◌, ◌++◌, length, take, drop, None, refl, sym, ap, subst, ◌∙◌, append_assoc, append-nil, arith, length-append}
+use Rattle.std.specs.List.{slice_get}
+use Rattle.std.proofs.Math.ListN.{set}
+use Rattle.std.proofs.lemmas.List.{take_more_set, drop-set-lt, drop-drop, take-append-drop}
+use Rattle.mailmap_entries.specs.Entries.{Mapping}
+use Rattle.gix_mailmap_c.specs.Handed.{IsWritten}
+use Rattle.mailmap_entries.specs.Folding.{Text}
+use Rattle.gix_mailmap_c.specs.Listed.{IsBehind, all_told, entry_text, given}
+
+module _ {X : Type 0} where
+  -- a part of `all` stands at the front of the buffer, up to the place, and the others are left; behind the place the buffer
+  -- is as it was
+  pub record Copied (left all : List X) (end : ℕ) (now old : List X) : Type 0 where
+    pub until : end + length left ≡ length all
+    pub front : take end now ++ left ≡ all
+    pub rest : drop end now ≡ drop end old
+
+  pub copied_none : (all old : List X) → Copied all all 0 old old
+  copied_none all old = record { until = omega arith; front = refl; rest = refl }
+
+  -- what is the same from a place on is so from a later one on
+  later : (n k e : ℕ) (xs ys : List X) → e ≡ n + k → drop n xs ≡ drop n ys → drop e xs ≡ drop e ys
+  later n k e xs ys at same =
+      ap (λ p. drop p xs) at ∙ sym (drop-drop k n xs) ∙ ap (drop k) same ∙ drop-drop k n ys ∙ ap (λ p. drop p ys) (sym at)
+
+  pub copied_more : (s left all : List X) (end next : ℕ) (now new old : List X) → Copied (s ++ left) all end now old → IsBehind s end now new next → Copied left all next new old
+  copied_more s left all end next now new old c b =
+      record {
+        until = omega (arith, c.until, b.until, length-append s left);
+        front = ap (λ l. l ++ left) b.front ∙ append_assoc (take end now) s left ∙ c.front;
+        rest = b.rest ∙ later end (length s) next now old b.until c.rest;
+      }
+
+  pub copied_all : (all : List X) (end : ℕ) (now old : List X) → Copied [] all end now old → now ≡ all ++ drop (length all) old
+  copied_all all end now old c =
+      let whole : end ≡ length all = omega (arith, c.until) in
+      sym (take-append-drop end now)
+      ∙ ap (λ l. l ++ drop end now) (sym (append-nil (take end now)) ∙ c.front)
+      ∙ ap (λ l. all ++ l) (c.rest ∙ ap (λ p. drop p old) whole)
+
+  -- one list behind another
+  pub behind_both : (s t a m b : List X) (start mid end : ℕ) → IsBehind s start a m mid → IsBehind t mid m b end → IsBehind (s ++ t) start a b end
+  behind_both s t a m b start mid end p q =
+      record {
+        until = omega (arith, p.until, q.until, length-append s t);
+        front = q.front ∙ ap (λ l. l ++ t) p.front ∙ append_assoc (take start a) s t;
+        rest = q.rest ∙ later mid (length t) end m a q.until p.rest;
+      }
+
+  -- an element that is set
+  pub behind_set : (xs : List X) (place : ℕ) (x : X) → place < length xs → IsBehind (x ∷ []) place xs (set xs place x) (place + 1)
+  behind_set xs place x lt =
+      record {
+        until = refl;
+        front = take_more_set xs place x lt;
+        rest = drop-set-lt (place + 1) xs place x (omega arith);
+      }
+
+  -- where nothing is left behind a place, no later place has anything
+  pub nothing_at : (n k : ℕ) (xs : List X) → drop n xs ≡ [] → n ≤ k → slice_get xs k ≡ None
+  nothing_at n k [] e le = refl
+  nothing_at zero k (x ∷ xs) e le = cc
+  nothing_at (suc n) zero (x ∷ xs) e le = absurd (omega arith)
+  nothing_at (suc n) (suc k) (x ∷ xs) e le = nothing_at n k xs e (omega arith)
+
+-- a list at the front of a buffer
+pub behind_written : (s old new : List ℕ) (end : ℕ) → length s ≤ length old → IsBehind s 0 old new end → IsWritten s old new
+behind_written s old new end fits b =
+    let at : end ≡ length s = omega (arith, b.until) in
+    record {
+      fits = fits;
+      written = sym (take-append-drop end new) ∙ ap (λ l. l ++ drop end new) b.front ∙ ap (λ l. s ++ l) (b.rest ∙ ap (λ p. drop p old) at);
+    }
+
+-- as many are told as there are
+pub length-all_told : (start : ℕ) (ms : List Mapping) → length (all_told start ms) ≡ length ms
+length-all_told start [] = refl
+length-all_told start (m ∷ ms) = ap suc (length-all_told (start + length (entry_text m)) ms)
+
+-- there is room for one more
+pub told_room : (start place n : ℕ) (left rest all : List Mapping) (m : Mapping) → left ≡ m ∷ rest → place + length (all_told start left) ≡ length (all_told 0 all) → length all ≤ n → place < n
+told_room start place n left rest all m e until room =
+    omega (arith, length-all_told start left, length-all_told 0 all, ap length e, until, room)
+
+-- the four texts of an entry, one behind another
+pub behind_entry : (m : Mapping) (name email old : Option Text) (last : Text) → name ≡ m.new_name → email ≡ m.new_email → old ≡ m.old_name → last ≡ m.old_email
+    → (o p q r s : Text) (a b c d e : ℕ) → IsBehind (given name) a o p b → IsBehind (given email) b p q c → IsBehind (given old) c q r d → IsBehind last d r s e
+    → IsBehind (entry_text m) a o s e
+behind_entry m name email old last n k l t o p q r s a b c d e first second third fourth =
+    let P : Text → Type 0 = λ text. IsBehind text a o s e in
+    let two = behind_both (given name) (given email) o p q a b c first second in
+    let three = behind_both (given name ++ given email) (given old) o q r a c d two third in
+    let four = behind_both (given name ++ given email ++ given old) last o r s a d e three fourth in
+    subst P (λ i. given (n i) ++ given (k i) ++ given (l i) ++ t i) four

@@ -1,0 +1,173 @@
+//! What the mailmap of a handle lists.
+ghost use Rattle.std.specs.Prelude.{◌≡◌, ◌≤◌, ◌+◌, ◌^◌, Some, length, min, option_map, unwrap_or, slice_get, IfSome, IfNone, MatchOption};
+ghost use Rattle.std.specs.Option.{option_copied};
+ghost use Rattle.mailmap_entries.specs.Entries.{mapping_of};
+ghost use Rattle.gix_mailmap_c.specs.Handles.{contents};
+ghost use Rattle.gix_mailmap_c.specs.Listed.{all_text, entry_text, told_at, Lists, Tells};
+
+mod copying;
+
+use crate::field::Field;
+use crate::handle::{put_back, take};
+use crate::held::Mailmap;
+use crate::listing::copying::{copy_entry, copy_texts, len_with_texts, tell};
+use crate::status::{CLOSED, DONE, NO_ENTRY, SHORT};
+use gix_mailmap::{Entry, Snapshot};
+use std::alloc::Global;
+
+/// An entry as it is told: where its texts begin among those that are written, and of each how long it is and whether
+/// there is one. They stand one behind another in this order; an old email is always there.
+#[repr(C)]
+#[derive(Clone, Copy)]
+pub struct Listed {
+    pub start: usize,
+    pub new_name: Field,
+    pub new_email: Field,
+    pub old_name: Field,
+    pub old_email: Field,
+}
+
+impl Listed {
+    /// Of an entry whose texts begin at `start`.
+    pub(crate) fn of(start: usize, entry: &Entry<'_>) -> Listed
+        ensures { result ≡ told_at start (mapping_of entry.now) }
+    {
+        Listed {
+            start,
+            new_name: Field::of_optional(entry.new_name()),
+            new_email: Field::of_optional(entry.new_email()),
+            old_name: Field::of_optional(entry.old_name()),
+            old_email: Field::of_optional(Some(entry.old_email())),
+        }
+    }
+}
+
+/// Tells how many entries the mailmap lists, and how long all their texts are: the largest number where they are longer
+/// than that.
+///
+/// `DONE`, or `CLOSED`: nothing is told. It goes over all entries.
+#[unsafe(no_mangle)]
+pub extern "C" fn gix_mailmap_len(
+    alloc: Global,
+    m: &mut Mailmap,
+    entries_len: &mut usize,
+    texts_len: &mut usize,
+) -> u32
+    ensures kept { contents m.new ≡ contents m.old }
+    ensures told { IfSome (contents m.old) (λ n. (result ≡ 0) × (entries_len.new ≡ length n) × (texts_len.new ≡ min usize.MAX (length (all_text n)))) }
+    ensures closed { IfNone (contents m.old) ((result ≡ 3) × (entries_len.new ≡ entries_len.old) × (texts_len.new ≡ texts_len.old)) }
+{
+    let Some(snapshot) = take(alloc, m) else {
+        return CLOSED;
+    };
+    *entries_len = snapshot.len();
+    *texts_len = texts_len_of(&snapshot).unwrap_or(usize::MAX);
+    put_back(m, snapshot);
+    DONE
+}
+
+/// Tells all entries, in the order of [`Snapshot::iter`], and writes their texts, one entry's behind another's.
+///
+/// `DONE`; `SHORT`: there is too little room for the entries or for their texts, and both stay as they were; `CLOSED`:
+/// nothing is written. What stands behind the last entry, and behind the last text, stays as it was.
+#[unsafe(no_mangle)]
+pub extern "C" fn gix_mailmap_list(
+    alloc: Global,
+    m: &mut Mailmap,
+    entries: &mut [Listed],
+    texts: &mut [u8],
+) -> u32
+    ensures kept { contents m.new ≡ contents m.old }
+    ensures listed { IfSome (contents m.old) (λ n. Lists n entries.old entries.new texts.old texts.new result) }
+    ensures closed { IfNone (contents m.old) ((result ≡ 3) × (entries.new ≡ entries.old) × (texts.new ≡ texts.old)) }
+{
+    let Some(snapshot) = take(alloc, m) else {
+        return CLOSED;
+    };
+    let status = list(&snapshot, entries, texts);
+    put_back(m, snapshot);
+    status
+}
+
+/// Tells the entry at a place of the listing, counted from 0, and writes its texts. It goes over those before it.
+///
+/// `DONE`; `SHORT`: there is too little room for the texts, which stay as they were, and the entry is told; `NO_ENTRY`:
+/// the mailmap lists no more than `place` entries, and nothing is written; `CLOSED`: nothing is written.
+#[unsafe(no_mangle)]
+pub extern "C" fn gix_mailmap_entry(
+    alloc: Global,
+    m: &mut Mailmap,
+    place: usize,
+    entry: &mut Listed,
+    texts: &mut [u8],
+) -> u32
+    ensures kept { contents m.new ≡ contents m.old }
+    ensures entry { IfSome (contents m.old) (λ n. Tells (slice_get n place) entry.old entry.new texts.old texts.new result) }
+    ensures closed { IfNone (contents m.old) ((result ≡ 3) × (entry.new ≡ entry.old) × (texts.new ≡ texts.old)) }
+{
+    let Some(snapshot) = take(alloc, m) else {
+        return CLOSED;
+    };
+    let status = tell_one(&snapshot, place, entry, texts);
+    put_back(m, snapshot);
+    status
+}
+
+// How long the texts of all entries are, if a length can be that large.
+fn texts_len_of(snapshot: &Snapshot) -> Option<usize>
+    ensures { let len = length (all_text snapshot.now) in MatchOption result (2 ^ 64 ≤ len) (λ n. n ≡ len) }
+{
+    let mut len = 0;
+    for entry in snapshot.iter() {
+        len = len_with_texts(len, &entry)?;
+    }
+    Some(len)
+}
+
+// Lists a snapshot.
+fn list(snapshot: &Snapshot, entries: &mut [Listed], texts: &mut [u8]) -> u32
+    ensures { Lists snapshot.now entries.old entries.new texts.old texts.new result }
+{
+    if snapshot.len() > entries.len() {
+        return SHORT;
+    }
+    match texts_len_of(snapshot) {
+        Some(len) if len <= texts.len() => {
+            tell(snapshot, entries);
+            copy_texts(snapshot, texts);
+            DONE
+        }
+        _ => SHORT,
+    }
+}
+
+// Tells one entry of a snapshot.
+fn tell_one(snapshot: &Snapshot, place: usize, told: &mut Listed, texts: &mut [u8]) -> u32
+    ensures { Tells (slice_get snapshot.now place) told.old told.new texts.old texts.new result }
+{
+    let Some(entry) = entry_at(snapshot, place) else {
+        return NO_ENTRY;
+    };
+    *told = Listed::of(0, &entry);
+    match len_with_texts(0, &entry) {
+        Some(len) if len <= texts.len() => {
+            copy_entry(&entry, texts, 0);
+            DONE
+        }
+        _ => SHORT,
+    }
+}
+
+// The entry at a place of the listing.
+fn entry_at(snapshot: &Snapshot, place: usize) -> Option<Entry<'_>>
+    ensures { option_map mapping_of result ≡ slice_get snapshot.now place }
+{
+    let mut passed = 0;
+    for entry in snapshot.iter() {
+        if passed == place {
+            return Some(entry);
+        }
+        passed += 1;
+    }
+    None
+}

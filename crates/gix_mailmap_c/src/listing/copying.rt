@@ -1,0 +1,88 @@
+//! Entries told, and their texts copied, one behind another.
+ghost use Rattle.std.specs.Prelude.{◌≡◌, ◌≤◌, ◌<◌, ◌+◌, ◌^◌, length, MatchOption};
+ghost use Rattle.std.specs.Option.{option_copied};
+ghost use Rattle.mailmap_entries.specs.Entries.{mapping_of};
+ghost use Rattle.gix_mailmap_c.specs.Listed.{all_text, entry_text, given, AreTold, IsAllWritten, IsBehind};
+
+use crate::listing::Listed;
+use gix_mailmap::{Entry, Snapshot};
+
+/// A length and that of an entry's texts together, if a length can be that large.
+pub(crate) fn len_with_texts(len: usize, entry: &Entry<'_>) -> Option<usize>
+    ensures { let all = len + length (entry_text (mapping_of entry.now)) in MatchOption result (2 ^ 64 ≤ all) (λ n. n ≡ all) }
+{
+    let len = len_with_text(len, entry.new_name())?;
+    let len = len_with_text(len, entry.new_email())?;
+    let len = len_with_text(len, entry.old_name())?;
+    len_with_text(len, Some(entry.old_email()))
+}
+
+// A length and that of a text together, if there is a text.
+fn len_with_text(len: usize, text: Option<&[u8]>) -> Option<usize>
+    ensures { let all = len + length (given (option_copied text.entry)) in MatchOption result (2 ^ 64 ≤ all) (λ n. n ≡ all) }
+{
+    match text {
+        Some(text) => len.checked_add(text.len()),
+        None => Some(len),
+    }
+}
+
+/// Tells each entry of a snapshot.
+pub(crate) fn tell(snapshot: &Snapshot, told: &mut [Listed])
+    requires room { length snapshot.now ≤ length told.old }
+    requires countable { length (all_text snapshot.now) < 2 ^ 64 }
+    ensures { AreTold snapshot.now told.old told.new }
+{
+    let mut place = 0;
+    let mut start = 0;
+    for entry in snapshot.iter() {
+        let one = Listed::of(start, &entry);
+        told[place] = one;
+        place += 1;
+        start += texts_len(&entry);
+    }
+}
+
+// How long the texts of an entry are together.
+fn texts_len(entry: &Entry<'_>) -> usize
+    requires { length (entry_text (mapping_of entry.now)) < 2 ^ 64 }
+    ensures { result ≡ length (entry_text (mapping_of entry.now)) }
+{
+    match len_with_texts(0, entry) {
+        Some(len) => len,
+        None => unreachable!(),
+    }
+}
+
+/// Copies the texts of all entries of a snapshot to the front of a buffer.
+pub(crate) fn copy_texts(snapshot: &Snapshot, out: &mut [u8])
+    requires { length (all_text snapshot.now) ≤ length out.old }
+    ensures { IsAllWritten snapshot.now out.old out.new }
+{
+    let mut end = 0;
+    for entry in snapshot.iter() {
+        end = copy_entry(&entry, out, end);
+    }
+}
+
+/// Copies the texts of an entry to a place of a buffer, and gives the place behind them.
+pub(crate) fn copy_entry(entry: &Entry<'_>, out: &mut [u8], start: usize) -> usize
+    requires { start + length (entry_text (mapping_of entry.now)) ≤ length out.old }
+    ensures { IsBehind (entry_text (mapping_of entry.now)) start out.old out.new result }
+{
+    let end = copy_text(entry.new_name(), out, start);
+    let end = copy_text(entry.new_email(), out, end);
+    let end = copy_text(entry.old_name(), out, end);
+    copy_text(Some(entry.old_email()), out, end)
+}
+
+// Copies a text, if there is one.
+fn copy_text(text: Option<&[u8]>, out: &mut [u8], start: usize) -> usize
+    requires { start + length (given (option_copied text)) ≤ length out.old }
+    ensures { IsBehind (given (option_copied text.entry)) start out.old out.new result }
+{
+    let text = text.unwrap_or(&[]);
+    let end = start + text.len();
+    out[start..end].copy_from_slice(text);
+    end
+}

@@ -1,0 +1,248 @@
+/* What mailmap_check and mailmap_dump print, by the calls of gix_mailmap.h alone: tests/original/compare.py runs it on the
+ * stored answers of the original.
+ *
+ *     stored FILE..            answers each line of standard input
+ *     stored --compact FILE..  the mailmap of all FILEs
+ *     stored entries FILE..    its entries, in hex
+ *     stored resolve FILE..    what it makes of the lines NAME EMAIL, in hex, of standard input
+ */
+#include "gix_mailmap.h"
+#include <stdio.h>
+#include <stdlib.h>
+#include <string.h>
+
+typedef struct {
+    uint8_t *bytes;
+    size_t len;
+} text;
+
+static void must(bool holds, const char *what)
+{
+    if (!holds) {
+        fprintf(stderr, "stored: %s\n", what);
+        exit(3);
+    }
+}
+
+/* a buffer of its very length, so that a byte too many is seen by the address sanitizer */
+static text buffer(size_t len)
+{
+    text made = {malloc(len ? len : 1), len};
+    must(made.bytes != NULL, "out of memory");
+    return made;
+}
+
+static void append(text *all, const void *bytes, size_t len)
+{
+    all->bytes = realloc(all->bytes, all->len + len + 1);
+    must(all->bytes != NULL, "out of memory");
+    if (len > 0)
+        memcpy(all->bytes + all->len, bytes, len);
+    all->len += len;
+}
+
+static text read_all(FILE *file)
+{
+    text all = buffer(0);
+    char part[4096];
+    size_t len;
+    while ((len = fread(part, 1, sizeof part, file)) > 0)
+        append(&all, part, len);
+    return all;
+}
+
+static gix_mailmap merged(char **paths)
+{
+    gix_mailmap map = GIX_MAILMAP_INIT;
+    must(gix_mailmap_open(&map, (const uint8_t *)"", 0) == GIX_MAILMAP_DONE, "open");
+    for (; *paths; paths++) {
+        FILE *file = fopen(*paths, "rb");
+        must(file != NULL, "cannot read a file");
+        text read = read_all(file);
+        fclose(file);
+        must(gix_mailmap_add(&map, read.bytes, read.len) == GIX_MAILMAP_DONE, "add");
+        free(read.bytes);
+    }
+    return map;
+}
+
+static void put_hex(const uint8_t *bytes, gix_mailmap_field field, char behind)
+{
+    if (!field.is_given)
+        putchar('-');
+    else if (field.len == 0)
+        putchar('.');
+    for (size_t i = 0; field.is_given && i < field.len; i++)
+        printf("%02x", bytes[i]);
+    putchar(behind);
+}
+
+typedef struct {
+    gix_mailmap_listed *entries;
+    size_t len;
+    text texts;
+} list;
+
+static list listed(gix_mailmap *map)
+{
+    list made;
+    size_t texts_len;
+    must(gix_mailmap_len(map, &made.len, &texts_len) == GIX_MAILMAP_DONE, "len");
+    made.entries = malloc((made.len ? made.len : 1) * sizeof *made.entries);
+    made.texts = buffer(texts_len);
+    must(gix_mailmap_list(map, made.entries, made.len, made.texts.bytes, texts_len) == GIX_MAILMAP_DONE, "list");
+    return made;
+}
+
+static void free_list(list l)
+{
+    free(l.entries);
+    free(l.texts.bytes);
+}
+
+/* the same entry by its place alone */
+static void same_alone(gix_mailmap *map, size_t place, const gix_mailmap_listed *e, const uint8_t *texts)
+{
+    size_t len = e->new_name.len + e->new_email.len + e->old_name.len + e->old_email.len;
+    text alone = buffer(len);
+    gix_mailmap_listed told;
+    must(gix_mailmap_entry(map, place, &told, alone.bytes, len) == GIX_MAILMAP_DONE, "entry");
+    must(told.start == 0 && memcmp(alone.bytes, texts + e->start, len) == 0, "an entry and its place in the list differ");
+    must(told.new_name.is_given == e->new_name.is_given && told.old_name.len == e->old_name.len, "told apart");
+    free(alone.bytes);
+}
+
+static void put_entries(gix_mailmap *map)
+{
+    list l = listed(map);
+    for (size_t i = 0; i < l.len; i++) {
+        const gix_mailmap_listed *e = &l.entries[i];
+        const uint8_t *at = l.texts.bytes + e->start;
+        same_alone(map, i, e, l.texts.bytes);
+        printf("E ");
+        put_hex(at, e->new_name, ' ');
+        put_hex(at + e->new_name.len, e->new_email, ' ');
+        put_hex(at + e->new_name.len + e->new_email.len, e->old_name, ' ');
+        put_hex(at + e->new_name.len + e->new_email.len + e->old_name.len, e->old_email, '\n');
+    }
+    gix_mailmap_listed none;
+    must(gix_mailmap_entry(map, l.len, &none, l.texts.bytes, 0) == GIX_MAILMAP_NO_ENTRY, "an entry behind the last");
+    free_list(l);
+}
+
+/* what is listed, as a mailmap */
+static text as_mailmap(gix_mailmap *map)
+{
+    list l = listed(map);
+    text all = buffer(0);
+    for (size_t i = 0; i < l.len; i++) {
+        const gix_mailmap_listed *e = &l.entries[i];
+        const uint8_t *at = l.texts.bytes + e->start;
+        append(&all, " ", 1);
+        append(&all, at, e->new_name.len);
+        at += e->new_name.len;
+        if (e->new_email.is_given) {
+            append(&all, " <", 2);
+            append(&all, at, e->new_email.len);
+            append(&all, "> ", 2);
+            at += e->new_email.len;
+        }
+        append(&all, at, e->old_name.len);
+        append(&all, " <", 2);
+        append(&all, at + e->old_name.len, e->old_email.len);
+        append(&all, ">\n", 2);
+    }
+    free_list(l);
+    return all;
+}
+
+static void put_compacted(text mailmap)
+{
+    size_t needed;
+    uint8_t none;
+    gix_mailmap_compact(mailmap.bytes, mailmap.len, &none, 0, &needed);
+    text out = buffer(needed);
+    must(gix_mailmap_compact(mailmap.bytes, mailmap.len, out.bytes, out.len, &needed) == GIX_MAILMAP_DONE, "compact");
+    fwrite(out.bytes, 1, out.len, stdout);
+    free(out.bytes);
+}
+
+static void put_answers(text mailmap, text contacts)
+{
+    size_t needed;
+    uint8_t none;
+    gix_mailmap_check(mailmap.bytes, mailmap.len, contacts.bytes, contacts.len, &none, 0, &needed);
+    text out = buffer(needed);
+    must(gix_mailmap_check(mailmap.bytes, mailmap.len, contacts.bytes, contacts.len, out.bytes, out.len, &needed)
+         == GIX_MAILMAP_DONE, "check");
+    fwrite(out.bytes, 1, out.len, stdout);
+    free(out.bytes);
+}
+
+static text unhexed(const char *digits)
+{
+    size_t len = strcmp(digits, ".") == 0 ? 0 : strlen(digits) / 2;
+    text made = buffer(len);
+    for (size_t i = 0; i < len; i++) {
+        unsigned byte;
+        must(sscanf(digits + 2 * i, "%2x", &byte) == 1, "no hex");
+        made.bytes[i] = (uint8_t)byte;
+    }
+    return made;
+}
+
+static void put_resolved(gix_mailmap *map, text name, text email)
+{
+    gix_mailmap_field new_name = {0, false}, new_email = {0, false};
+    uint8_t no_name, no_email;
+    uint32_t status = gix_mailmap_lookup(map, name.bytes, name.len, email.bytes, email.len, &no_name, 0, &new_name,
+                                         &no_email, 0, &new_email);
+    must(status == GIX_MAILMAP_SHORT || new_name.len + new_email.len == 0, "lookup");
+    text name_out = buffer(new_name.len), email_out = buffer(new_email.len);
+    must(gix_mailmap_lookup(map, name.bytes, name.len, email.bytes, email.len, name_out.bytes, name_out.len, &new_name,
+                            email_out.bytes, email_out.len, &new_email) == GIX_MAILMAP_DONE, "lookup");
+    put_hex(name_out.bytes, new_name, ' ');
+    put_hex(email_out.bytes, new_email, '\n');
+    free(name_out.bytes);
+    free(email_out.bytes);
+}
+
+static void put_all_resolved(gix_mailmap *map, text pairs)
+{
+    append(&pairs, "", 1);
+    for (char *line = strtok((char *)pairs.bytes, "\n"); line; line = strtok(NULL, "\n")) {
+        char *second = strchr(line, ' ');
+        must(second != NULL, "a name and an email are wanted");
+        *second++ = 0;
+        second[strcspn(second, " ")] = 0; /* a time may stand behind the email */
+        text name = unhexed(line), email = unhexed(second);
+        put_resolved(map, name, email);
+        free(name.bytes);
+        free(email.bytes);
+    }
+    free(pairs.bytes);
+}
+
+int main(int count, char **words)
+{
+    bool is_mode = count > 1 && (strcmp(words[1], "--compact") == 0 || strcmp(words[1], "entries") == 0
+                                 || strcmp(words[1], "resolve") == 0);
+    const char *mode = is_mode ? words[1] : "check";
+    gix_mailmap map = merged(words + (is_mode ? 2 : 1));
+    if (strcmp(mode, "entries") == 0) {
+        put_entries(&map);
+    } else if (strcmp(mode, "resolve") == 0) {
+        put_all_resolved(&map, read_all(stdin));
+    } else {
+        text mailmap = as_mailmap(&map);
+        text contacts = strcmp(mode, "check") == 0 ? read_all(stdin) : buffer(0);
+        if (strcmp(mode, "check") == 0)
+            put_answers(mailmap, contacts);
+        else
+            put_compacted(mailmap);
+        free(contacts.bytes);
+        free(mailmap.bytes);
+    }
+    gix_mailmap_close(&map);
+    return 0;
+}

@@ -1,0 +1,87 @@
+"""The calls of gix_mailmap.py, and what they raise."""
+import gc
+import unittest
+
+import gix_mailmap
+from gix_mailmap import Answer, Closed, Entry, Mailmap
+
+MAP = b"Jane Doe <jane@x> <jd@y>\nJoe <joe@x>\n"
+JANE = Entry(b"Jane Doe", b"jane@x", None, b"jd@y")
+JOE = Entry(b"Joe", None, None, b"joe@x")
+
+
+class Texts(unittest.TestCase):
+    def test_check(self):
+        self.assertEqual(gix_mailmap.check(MAP, b"jd <JD@y>\r\nplain"), b"Jane Doe <jane@x>\nplain\n")
+        self.assertEqual(gix_mailmap.check(b"", b""), b"")
+
+    def test_an_answer_longer_than_the_first_buffer(self):
+        lines = b"plain line\n" * 10_000
+        self.assertEqual(gix_mailmap.check(MAP, lines), lines)
+
+    def test_compact(self):
+        self.assertEqual(gix_mailmap.compact(b"N <a@x>\nM <A@x>"), b" M <a@x>\n")
+
+    def test_text_that_is_no_bytes(self):
+        with self.assertRaises(TypeError):
+            gix_mailmap.compact("N <a@x>")
+
+
+class Handles(unittest.TestCase):
+    def test_lookup(self):
+        with Mailmap(MAP) as mailmap:
+            self.assertEqual(mailmap.lookup(b"jd", b"JD@Y"), Answer(b"Jane Doe", b"jane@x", True, True))
+            self.assertEqual(mailmap.lookup(b"q", b"q@z"), Answer(b"q", b"q@z", False, False))
+            self.assertEqual(mailmap.lookup(b"", b""), Answer(b"", b"", False, False))
+            long, nul = b"n" * 100_000, b"a\0b"
+            self.assertEqual(mailmap.lookup(long, nul), Answer(long, nul, False, False))
+
+    def test_later_texts_count(self):
+        with Mailmap(MAP, b"JD <jd@y>\nnot an entry\n") as mailmap:
+            self.assertEqual(mailmap.lookup(b"jd", b"jd@y"), Answer(b"JD", b"jane@x", True, True))
+            mailmap.add(b"J <jd@y>")
+            self.assertEqual(mailmap.lookup(b"jd", b"jd@y").name, b"J")
+
+    def test_entries(self):
+        with Mailmap(MAP) as mailmap:
+            self.assertEqual(mailmap.entries(), [JANE, JOE])
+            self.assertEqual(list(mailmap), [JANE, JOE])
+            self.assertEqual((len(mailmap), mailmap[0], mailmap[1], mailmap[-1]), (2, JANE, JOE, JOE))
+            for place in (2, -3, 2**63, 2**64):
+                with self.assertRaises(IndexError):
+                    mailmap[place]
+
+    def test_an_entry_longer_than_the_first_buffer(self):
+        name = b"n" * 1000
+        with Mailmap(name + b" <n@x>") as mailmap:
+            self.assertEqual(mailmap[0], Entry(name, None, None, b"n@x"))
+
+    def test_an_empty_one(self):
+        with Mailmap() as mailmap:
+            self.assertEqual((mailmap.entries(), len(mailmap)), ([], 0))
+
+    def test_a_closed_one(self):
+        with Mailmap(MAP) as mailmap:
+            self.assertTrue(mailmap.is_open)
+        self.assertFalse(mailmap.is_open)
+        mailmap.close()
+        calls = [
+            lambda: mailmap.lookup(b"jd", b"jd@y"),
+            lambda: mailmap.add(MAP),
+            mailmap.entries,
+            lambda: len(mailmap),
+            lambda: mailmap[0],
+            lambda: list(mailmap),
+        ]
+        for call in calls:
+            with self.assertRaises(Closed):
+                call()
+
+    def test_one_that_is_dropped(self):
+        for _ in range(100):
+            Mailmap(MAP)
+        gc.collect()
+
+
+if __name__ == "__main__":
+    unittest.main()

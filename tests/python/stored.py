@@ -1,0 +1,69 @@
+"""The stored answers of the original, by gix_mailmap.py.
+
+    stored.py CASES
+
+Those to walks over lines are left out: no call tells lines one by one.
+"""
+import json
+import sys
+from collections import Counter
+
+import gix_mailmap
+from gix_mailmap import Mailmap
+
+
+def shown(text):
+    return "-" if text is None else text.hex() or "."
+
+
+def line(entry):
+    """An entry as a line of a mailmap."""
+    new_email = b"" if entry.new_email is None else b" <" + entry.new_email + b"> "
+    return b" " + (entry.new_name or b"") + new_email + (entry.old_name or b"") + b" <" + entry.old_email + b">\n"
+
+
+def entries(mailmap):
+    listed = mailmap.entries()
+    assert [mailmap[place] for place in range(len(mailmap))] == listed
+    return "".join(f"E {' '.join(shown(text) for text in entry)}\n" for entry in listed).encode()
+
+
+def resolved(mailmap, pairs):
+    answers = ""
+    for pair in pairs.decode().splitlines():
+        name, email = (bytes.fromhex(digits.replace(".", "")) for digits in pair.split()[:2])
+        found = mailmap.lookup(name, email)
+        assert (found.is_name_given or found.name == name) and (found.is_email_given or found.email == email)
+        name, email = found.name if found.is_name_given else None, found.email if found.is_email_given else None
+        answers += f"{shown(name)} {shown(email)}\n"
+    return answers.encode()
+
+
+def answer(mode, mailmap, text):
+    if mode == "entries":
+        return entries(mailmap)
+    if mode == "resolve":
+        return resolved(mailmap, text)
+    whole = b"".join(line(entry) for entry in mailmap)
+    return gix_mailmap.compact(whole) if mode == "compact" else gix_mailmap.check(whole, text)
+
+
+def main():
+    agreed, failed = Counter(), 0
+    for number, case in enumerate(map(json.loads, open(sys.argv[1], encoding="ascii")), 1):
+        mode = case["mode"]
+        if mode == "parse":
+            continue
+        with Mailmap(*map(bytes.fromhex, case["files"])) as mailmap:
+            given = answer(mode, mailmap, bytes.fromhex(case["input"]))
+        if given.hex() == case["answer"] and case["status"] == 0:
+            agreed[mode] += 1
+        else:
+            failed += 1
+            print(f"case {number}, {mode}: {given.hex()} and not {case['answer']}")
+    modes = ", ".join(f"{count} of {mode}" for mode, count in agreed.items())
+    print(f"beside the original, by Python: {agreed.total()} cases agree, {failed} differ ({modes})")
+    sys.exit(1 if failed or not agreed else 0)
+
+
+main()
