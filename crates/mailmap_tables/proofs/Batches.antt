@@ -174,7 +174,7 @@ least_spells xs ps p good moved among least = ap (λ l. spelling l (folded p.1.o
 -- ---- a stable sort by key
 
 -- what neither stands below nor above
-neither : (o : Ordering) → (not (is_lt o) && not (is_lt (ordering_reverse o))) ≡ is_eq o
+pub neither : (o : Ordering) → (not (is_lt o) && not (is_lt (ordering_reverse o))) ≡ is_eq o
 neither Less = refl
 neither Equal = refl
 neither Greater = refl
@@ -215,15 +215,3 @@ keyed_from_stable {X} f qs ps stable k = keyed qs ∙ ap (λ l. accepted (map f 
     by [] [] e d = e ∙ sym d
     by (x ∷ l) m e d = from x (passes qs x l e)
     by [] (y ∷ m) e d = from y (passes ps y m d)
-
-map-enumerate_from : {X Y : Type 0} (f : X → Y) (n : ℕ) (xs : List X) → map (λ p. f p.1) (enumerate_from n xs) ≡ map f xs
-map-enumerate_from f n [] = refl
-map-enumerate_from f n (x ∷ xs) = ap (λ l. f x ∷ l) (map-enumerate_from f (n + 1) xs)
-
--- the same of items with their places
-pub keyed_from_sort_by : {X : Type 0} (f : X → Mapping) (xs : List X) (ps : List (ℕ × X)) → IsStableBy (λ p q. is_lt (key_cmp (key (f p.1)) (key (f q.1)))) (enumerate_from 0 xs) ps → (k : Key) → of_key (map f xs) k ≡ of_key (map (λ p. f p.1) ps) k
-keyed_from_sort_by f xs ps stable k = ap (λ l. of_key l k) (sym (map-enumerate_from f 0 xs)) ∙ keyed_from_stable (λ p. f p.1) (enumerate_from 0 xs) ps stable k
-
--- the same of entries with their places
-pub keyed_from_sort : (xs : List Mapping) (ps : List (ℕ × Mapping)) → IsStableBy (λ p q. is_lt (key_cmp (key p.1) (key q.1))) (enumerate_from 0 xs) ps → (k : Key) → of_key xs k ≡ of_key (map (λ p. p.1) ps) k
-keyed_from_sort xs ps stable k = ap (λ l. of_key l k) (sym (map-itself xs)) ∙ keyed_from_sort_by (λ e. e) xs ps stable k

@@ -1,17 +1,12 @@
 -- What a loop that collects the accepted entries of an iterator has when it has seen one more.
-use Rattle.std.proofs.Common.{◌≡◌, ◌≢◌, ◌+◌, ◌<◌, ◌≤◌, ℕ, suc, length, get_or, arith, true, false, cond, List, [], ◌∷◌, ◌++◌, map, Result, Ok, Err, Ordering, append-nil, refl, sym, ap, subst, ◌∙◌}
+use Rattle.std.proofs.Common.{◌≡◌, ◌≢◌, ◌+◌, ◌<◌, ◌≤◌, ℕ, suc, length, get_or, arith, true, false, cond, List, [], ◌∷◌, ◌++◌, map, Result, Ok, Err, Ordering, append-nil, refl, sym, ap, ◌∙◌}
 use Rattle.std.specs.Result.{IfOk, OnErr, OnOk}
 use Rattle.std.specs.List.{AllByRecursion, enumerate_from}
-use Rattle.std.specs.List.Sorted.{IsPermutation, IsSortedBy, IsStableBy}
 use Rattle.std.specs.Ordering.{is_lt}
 use Rattle.std.proofs.lemmas.List.Elements.{filter-append}
-use Rattle.std.proofs.lemmas.List.Sorted.{IsPermutation-map, sorted_far, ranks_by}
 use Rattle.mailmap_entries.specs.Entries.{Mapping}
-use Rattle.mailmap_histories.specs.Histories.{accepted, is_accepted, key, key_cmp, of_key}
-use Rattle.mailmap_tables.specs.Merging.{IsAscending, IsSorted, mapping_at, placed_at}
-use Rattle.mailmap_tables.specs.declared.batch.Placed.{Placed}
-use Rattle.mailmap_tables.proofs.Batches.{keyed_from_stable}
-use Rattle.mailmap_histories.proofs.Keys.{keys_total}
+use Rattle.mailmap_histories.specs.Histories.{accepted, is_accepted}
+use Rattle.mailmap_tables.specs.Merging.{IsAscending}
 
 pub accepted-taken : (h : List Mapping) (e : Mapping) → is_accepted e ≡ true → accepted (h ++ e ∷ []) ≡ accepted h ++ e ∷ []
 accepted-taken h e good = filter-append is_accepted h (e ∷ []) ∙ ap (λ b. accepted h ++ cond b (e ∷ []) []) good
@@ -46,7 +41,7 @@ module _ {X K : Type 0} (R : K → K → Ordering) (by : X → K) where
   all_from x [] h = tt
   all_from x (y ∷ xs) h = (h 0 (omega arith), all_from x xs (λ k lt. h (suc k) (omega arith)))
 
-  ascending_from : (xs : List X) → ((i j : ℕ) (d : X) → i ≤ j → j < length xs → is_lt (R (by (get_or xs j d)) (by (get_or xs i d))) ≡ false) → IsAscending R (map by xs)
+  pub ascending_from : (xs : List X) → ((i j : ℕ) (d : X) → i ≤ j → j < length xs → is_lt (R (by (get_or xs j d)) (by (get_or xs i d))) ≡ false) → IsAscending R (map by xs)
   ascending_from [] h = tt
   ascending_from (x ∷ xs) h = (all_from x xs (λ k lt. h 0 (suc k) x (omega arith) (omega arith)), ascending_from xs (λ i j d le lt. h (suc i) (suc j) d (omega arith) (omega arith)))
 
@@ -54,21 +49,9 @@ pub mapped_twice : {X Y Z : Type 0} (f : X → Y) (g : Y → Z) (xs : List X) �
 mapped_twice f g [] = refl
 mapped_twice f g (x ∷ xs) = ap (λ l. g (f x) ∷ l) (mapped_twice f g xs)
 
-numbered : (n : ℕ) (xs : List Mapping) → map (λ p. p.1) (enumerate_from n xs) ≡ xs
+pub numbered : (n : ℕ) (xs : List Mapping) → map (λ p. p.1) (enumerate_from n xs) ≡ xs
 numbered n [] = refl
 numbered n (x ∷ xs) = ap (λ l. x ∷ l) (numbered (n + 1) xs)
-
-pub sorted_batch : (xs : List Mapping) (old new : List Placed) → map placed_at old ≡ enumerate_from 0 xs → IsPermutation old new
-    → IsSortedBy (λ p q. is_lt (key_cmp (key (mapping_at p)) (key (mapping_at q)))) new → IsStableBy (λ p q. is_lt (key_cmp (key (mapping_at p)) (key (mapping_at q)))) old new → IsSorted xs (map placed_at new)
-sorted_batch xs old new is moved sorted stable =
-    record {
-      moved = subst (λ l. IsPermutation l (map placed_at new)) is (IsPermutation-map placed_at old new moved);
-      keyed = λ k. ap (λ l. of_key l k) (sym (numbered 0 xs) ∙ ap (map (λ p. p.1)) (sym is) ∙ mapped_twice placed_at (λ p. p.1) old)
-          ∙ keyed_from_stable mapping_at old new stable k
-          ∙ ap (λ l. of_key l k) (sym (mapped_twice placed_at (λ p. p.1) new));
-      ascending = subst (IsAscending key_cmp) (sym (mapped_twice placed_at (λ p. key p.1) new))
-          (ascending_from key_cmp (λ p. key (mapping_at p)) new (λ i j d le lt. sorted_far _ (ranks_by keys_total (λ p. key (mapping_at p))) new sorted i j d le lt));
-    }
 
 pub on_ok_then : {T E : Type 0} (r : Result T E) (P Q : Type 0) → (P → Q) → OnOk r P → OnOk r Q
 on_ok_then (Ok x) P Q f p = f p

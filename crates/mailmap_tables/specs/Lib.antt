@@ -6,5 +6,6 @@ pub mod Groups
 pub mod Pool
 pub mod Places
 pub mod Merging
+pub mod Sorting
 pub mod Named
 pub mod Remaining

@@ -1,19 +1,22 @@
 //! A batch of entries on its way into a snapshot: its accepted entries, sorted by key.
-ghost use Rattle.std.specs.Prelude.{◌≡◌, ◌≢◌, ◌+◌, ◌<◌, ◌≤◌, [], ◌++◌, ◌∷◌, List, OnErr, IfOk, Some, take, drop, map, length};
+ghost use Rattle.std.specs.Prelude.{◌≡◌, ◌≢◌, ◌+◌, ◌<◌, ◌≤◌, [], ◌++◌, ◌∷◌, List, OnOk, OnErr, IfOk, Some, take, drop, map, length};
 ghost use Rattle.std.specs.Iterator.{IsFinite, Drains, Yields};
-ghost use Rattle.std.specs.Option.{option_copied, option_map, option_cmp};
+ghost use Rattle.std.specs.Option.{ForSome, option_copied, option_map, option_cmp};
+ghost use Rattle.std.specs.Ordering.{nat_cmp};
 ghost use Rattle.std.specs.List.{AllByRecursion, enumerate_from, fold};
 ghost use Rattle.mailmap_entries.specs.Entries.{mapping_of};
-ghost use Rattle.mailmap_entries.specs.Folding.{folded, text_cmp};
+ghost use Rattle.mailmap_entries.specs.Folding.{Text, folded, text_cmp};
 ghost use Rattle.mailmap_histories.specs.Histories.{accepted, is_accepted, key, key_cmp, no_fields};
 ghost use Rattle.mailmap_entries.specs.Fronts.{IsFront, front_number};
 ghost use Rattle.mailmap_tables.specs.Merging.{IsSorted, IsAscending, mapping_at, placed_at, email_text, name_text};
+ghost use Rattle.mailmap_tables.specs.Sorting.{IsArranged, IsDone, IsRun, email_front};
 ghost use Rattle.mailmap_tables.specs.declared.batch.Placed.{Placed as At};
 ghost use Rattle.mailmap_entries.specs.declared.entry.Entry.{Entry as Item};
 
+use crate::merge::email_run;
 use mailmap_entries::Entry;
 use mailmap_entries::fold::cmp_ignore_ascii_case;
-use mailmap_entries::fold::front::{compare_rests, front_number};
+use mailmap_entries::fold::front::front_number;
 use std::alloc::{AllocError, Global};
 use std::cmp::Ordering;
 use std::marker::Model;
@@ -60,12 +63,48 @@ pub(crate) fn sorted<'e, 'a>(
 ) -> Result<Vec<Placed<'e, 'a>>, AllocError>
     ensures { IfOk result (λ batch. IsSorted (map mapping_of entries.now) (map placed_at batch.items)) }
 {
+    if let Some(batch) = ascending(alloc, entries)? {
+        return Ok(batch);
+    }
     let mut batch = with_places(alloc, entries)?;
-    batch.sort_by(compare)?;
-    without_fronts(alloc, &batch)
+    batch.sort_by(compare_fronts)?;
+    in_runs(alloc, &batch)
 }
 
-// An entry with its place, and the first bytes of its old email as a number, which settles most comparisons.
+// The entries in order, if their old emails came in the order of their fronts already.
+fn ascending<'e, 'a>(
+    alloc: Global,
+    entries: &'e [Entry<'a>],
+) -> Result<Option<Vec<Placed<'e, 'a>>>, AllocError>
+    ensures { IfOk result (λ found. ForSome found (λ batch. IsSorted (map mapping_of entries.now) (map placed_at batch.items))) }
+{
+    let mut runs = Runs::new(alloc, entries.len())?;
+    for (index, entry) in entries.iter().enumerate() {
+        let front = front_number(entry.old_email());
+        if front < runs.front {
+            return Ok(None);
+        }
+        runs.push(front, Placed { index, entry })?;
+    }
+    Ok(Some(runs.finish()?))
+}
+
+// The entries in order, which stand in the order of their fronts.
+fn in_runs<'e, 'a>(
+    alloc: Global,
+    batch: &[FrontedEntry<'e, 'a>],
+) -> Result<Vec<Placed<'e, 'a>>, AllocError>
+    requires { IsAscending nat_cmp (map email_front batch.now) }
+    ensures { IfOk result (λ done. IsArranged batch.now done.items) }
+{
+    let mut runs = Runs::new(alloc, batch.len())?;
+    for fronted in batch {
+        runs.push(fronted.front, fronted.placed)?;
+    }
+    runs.finish()
+}
+
+// An entry with its place, and the front of its old email.
 #[derive(Drop)]
 struct FrontedEntry<'e, 'a> {
     front: u128,
@@ -101,40 +140,163 @@ fn with_front<'e, 'a>(placed: Placed<'e, 'a>) -> FrontedEntry<'e, 'a>
     FrontedEntry { front, placed }
 }
 
-// The entries with their places alone.
-fn without_fronts<'e, 'a>(
-    alloc: Global,
-    batch: &[FrontedEntry<'e, 'a>],
-) -> Result<Vec<Placed<'e, 'a>>, AllocError>
-    ensures { IfOk result (λ places. places.items ≡ batch.now) }
+// By the first bytes of the old emails alone.
+#[inline(always)]
+fn compare_fronts(a: &FrontedEntry, b: &FrontedEntry) -> Ordering
+    ensures { result ≡ nat_cmp (email_front a.now) (email_front b.now) }
 {
-    let mut places = Vec::with_capacity(alloc, batch.len())?;
-    for keyed in batch {
-        places.push(keyed.placed)?;
-    }
-    Ok(places)
+    a.front.cmp(&b.front)
 }
 
-// By key. Most old emails differ in their first bytes.
+// Entries that come in the order of their fronts: those of the last front as they came, and the others in order.
+#[derive(Drop)]
+struct Runs<'e, 'a> {
+    done: Vec<Placed<'e, 'a>>,
+    run: Vec<Placed<'e, 'a>>,
+    front: u128,
+}
+
+impl<'e, 'a> Runs<'e, 'a> {
+    // No entry yet, and room for so many.
+    fn new(alloc: Global, len: usize) -> Result<Runs<'e, 'a>, AllocError>
+        ensures none { IfOk result (λ runs. IsRun [] runs.done.items runs.run.items runs.front) }
+        ensures front { IfOk result (λ runs. runs.front ≡ 0) }
+    {
+        Ok(Runs {
+            done: Vec::with_capacity(alloc, len)?,
+            run: Vec::new(alloc),
+            front: 0,
+        })
+    }
+
+    // Puts an entry behind the others.
+    #[inline(always)]
+    fn push(&mut self, front: u128, placed: Placed<'e, 'a>) -> Result<(), AllocError>
+        requires front { IsFront front (email_text (mapping_at placed)) }
+        requires up { self.old.front ≤ front }
+        ensures pushed { OnOk result ((seen : List At) → IsRun seen self.old.done.items self.old.run.items self.old.front → IsRun (seen ++ placed.entry ∷ []) self.new.done.items self.new.run.items self.new.front) }
+        ensures front { OnOk result (self.new.front ≡ front) }
+    {
+        if self.front < front {
+            self.close()?;
+            self.front = front;
+        }
+        self.run.push(placed)?;
+        Ok(())
+    }
+
+    // Puts the last run in order, too.
+    fn close(&mut self) -> Result<(), AllocError>
+        ensures closed { OnOk result ((seen : List At) → IsRun seen self.old.done.items self.old.run.items self.old.front → IsDone seen self.new.done.items self.old.front) }
+        ensures empty { OnOk result (self.new.run.items ≡ []) }
+    {
+        sort_run(&mut self.run)?;
+        self.done.extend_from_slice(&self.run)?;
+        self.run.clear();
+        Ok(())
+    }
+
+    // All entries in order.
+    fn finish(mut self) -> Result<Vec<Placed<'e, 'a>>, AllocError>
+        ensures { IfOk result (λ done. (seen : List At) → IsRun seen self.entry.done.items self.entry.run.items self.entry.front → IsArranged seen done.items) }
+    {
+        self.close()?;
+        Ok(self.done)
+    }
+}
+
+// Longer runs are mostly of one email.
+const FEW: usize = 8;
+
+// Puts a run in order.
+fn sort_run(run: &mut Vec<Placed<'_, '_>>) -> Result<(), AllocError>
+    ensures { OnOk result (IsArranged run.old.items run.new.items) }
+{
+    if FEW < run.len() && email_run(run, run[0].entry.old_email()) == run.len() {
+        return sort_names(run);
+    }
+    run.sort_by(compare)
+}
+
+// Puts entries of one email in order. Most names differ in their first bytes.
+fn sort_names(run: &mut Vec<Placed<'_, '_>>) -> Result<(), AllocError>
+    requires { (email : Text) × AllByRecursion (λ p. email_text (mapping_at p) ≡ email) run.old.items }
+    ensures { OnOk result (IsArranged run.old.items run.new.items) }
+{
+    let alloc = *run.allocator();
+    let mut named = with_names(alloc, run)?;
+    named.sort_by(compare_named)?;
+    *run = without_names(alloc, &named)?;
+    Ok(())
+}
+
+// An entry with its place, and the front of its old name, 0 where there is none.
+#[derive(Drop)]
+struct NamedEntry<'e, 'a> {
+    front: u128,
+    placed: Placed<'e, 'a>,
+}
+
+impl<'e, 'a> Model for NamedEntry<'e, 'a> {
+    ghost Value = { At };
+
+    ghost view = { λ f. f.placed };
+
+    ghost invariant = { λ f. IsFront f.front (name_text (mapping_at f.placed)) };
+}
+
+// The entries with the fronts of their names.
+fn with_names<'e, 'a>(
+    alloc: Global,
+    run: &[Placed<'e, 'a>],
+) -> Result<Vec<NamedEntry<'e, 'a>>, AllocError>
+    ensures { IfOk result (λ named. named.items ≡ run.now) }
+{
+    let mut named = Vec::with_capacity(alloc, run.len())?;
+    for placed in run {
+        named.push(with_name(*placed))?;
+    }
+    Ok(named)
+}
+
+fn with_name<'e, 'a>(placed: Placed<'e, 'a>) -> NamedEntry<'e, 'a>
+    ensures { result ≡ placed.entry }
+{
+    let front = front_number(placed.entry.old_name().unwrap_or(&[]));
+    NamedEntry { front, placed }
+}
+
+// The entries alone.
+fn without_names<'e, 'a>(
+    alloc: Global,
+    named: &[NamedEntry<'e, 'a>],
+) -> Result<Vec<Placed<'e, 'a>>, AllocError>
+    ensures { IfOk result (λ run. run.items ≡ named.now) }
+{
+    let mut run = Vec::with_capacity(alloc, named.len())?;
+    for entry in named {
+        run.push(entry.placed)?;
+    }
+    Ok(run)
+}
+
+// By old name alone, and first by its front.
 #[inline(always)]
-fn compare(a: &FrontedEntry, b: &FrontedEntry) -> Ordering
-    ensures { result ≡ key_cmp (key (mapping_at a.now)) (key (mapping_at b.now)) }
+fn compare_named(a: &NamedEntry, b: &NamedEntry) -> Ordering
+    ensures { result ≡ option_cmp text_cmp (key (mapping_at a.now)).1 (key (mapping_at b.now)).1 }
 {
     match a.front.cmp(&b.front) {
-        Ordering::Equal => compare_keys(a.placed.entry, b.placed.entry),
+        Ordering::Equal => compare_names(a.placed.entry.old_name(), b.placed.entry.old_name()),
         unequal => unequal,
     }
 }
 
-// By old email, then without an old name first, then by old name, in the order in which case doesn't count. The old
-// emails are alike in their first bytes.
-#[inline(never)]
-fn compare_keys(a: &Entry, b: &Entry) -> Ordering
-    requires { front_number 16 (email_text (mapping_of a.now)) ≡ front_number 16 (email_text (mapping_of b.now)) }
-    ensures { result ≡ key_cmp (key (mapping_of a.now)) (key (mapping_of b.now)) }
+// By old email, then without an old name first, then by old name, in the order in which case doesn't count.
+fn compare(a: &Placed, b: &Placed) -> Ordering
+    ensures { result ≡ key_cmp (key (mapping_at a.now)) (key (mapping_at b.now)) }
 {
-    match compare_rests(a.old_email(), b.old_email()) {
-        Ordering::Equal => compare_names(a.old_name(), b.old_name()),
+    match cmp_ignore_ascii_case(a.entry.old_email(), b.entry.old_email()) {
+        Ordering::Equal => compare_names(a.entry.old_name(), b.entry.old_name()),
         unequal => unequal,
     }
 }

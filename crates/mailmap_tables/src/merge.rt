@@ -153,7 +153,7 @@ fn name_run(batch: &[Placed<'_, '_>], name: &[u8]) -> usize
 }
 
 // How many entries at the front have this old email, which the first one has.
-fn email_run(batch: &[Placed<'_, '_>], email: &[u8]) -> usize
+pub(crate) fn email_run(batch: &[Placed<'_, '_>], email: &[u8]) -> usize
     requires { HoldsAt (λ p. email_text (mapping_at p) ≡ folded email.now) batch.now 0 }
     ensures within { result ≤ length batch.now }
     ensures same { AllByRecursion (λ p. email_text (mapping_at p) ≡ folded email.now) (take result batch.now) }

@@ -1,23 +1,33 @@
-use Rattle.std.proofs.Common.{◌≡◌, Bool, map, sym, ap, subst, ◌∙◌, rules}
+use Rattle.std.proofs.Common.{◌≡◌, Bool, map, sym, ap, subst, rules}
 use Rattle.std.specs.Cmp.{IsStrictWeakOrder}
-use Rattle.std.specs.Ordering.{is_lt}
+use Rattle.std.specs.Ordering.{is_lt, nat_cmp}
+use Rattle.std.proofs.lemmas.Cmp.{nat_cmp_total}
 use Rattle.std.proofs.lemmas.List.Sorted.{ranks_by, answers_always}
 use Rattle.mailmap_entries.specs.Entries.{mapping_of}
-use Rattle.mailmap_histories.specs.Histories.{key, key_cmp}
-use Rattle.mailmap_tables.specs.Merging.{IsSorted, mapping_at, placed_at}
+use Rattle.mailmap_tables.specs.Merging.{IsAscending, IsSorted, placed_at}
+use Rattle.mailmap_tables.specs.Sorting.{IsArranged, email_front}
 use Rattle.mailmap_tables.specs.declared.batch.Placed.{Placed}
-use Rattle.mailmap_histories.proofs.Keys.{keys_total}
-use Rattle.mailmap_tables.proofs.Collected.{sorted_batch, if_ok_then}
+use Rattle.mailmap_tables.proofs.Arranged.{arranged_by_fronts, fronts_ascend, sorted_from}
+use Rattle.mailmap_tables.proofs.Collected.{if_ok_map}
 use Rattle.mailmap_tables.proofs.batch.sorted.Goals as goal
+
+abbrev by_front : Placed → Placed → Bool
+by_front p q = is_lt (nat_cmp (email_front p) (email_front q))
+
+order : IsStrictWeakOrder by_front
+order = ranks_by nat_cmp_total email_front
+
+pub in_runs-requires : goal.in_runs-requires
+in_runs-requires c =
+    let compares = answers_always _ (λ a r. is_lt r ≡ by_front a.0.now a.1.0.now) _ (λ f a r f' k. let e : r ≡ nat_cmp (email_front a.0.now) (email_front a.1.0.now) = search rules in ap is_lt e) in
+    subst (λ l. IsAscending nat_cmp (map email_front l)) (sym c.deref.ensures.value) (fronts_ascend c.sort_by.new.self.items (c.in_ok-sort_by.ensures.sorted by_front order compares))
 
 pub returns : goal.returns
 returns c =
-    let xs = c.args.entries.now in
-    let old = c.in_ok-batch.batch.items in
-    let new = c.sort_by.new.self.items in
-    let lt : Placed → Placed → Bool = λ p q. is_lt (key_cmp (key (mapping_at p)) (key (mapping_at q))) in
-    let order : IsStrictWeakOrder lt = ranks_by keys_total (λ p. key (mapping_at p)) in
-    let compares = answers_always _ (λ a r. is_lt r ≡ lt a.0.now a.1.0.now) _ (λ f a r f' k. let e : r ≡ key_cmp (key (mapping_at a.0.now)) (key (mapping_at a.1.0.now)) = search rules in ap is_lt e) in
-    let in_order : IsSorted (map mapping_of xs) (map placed_at new) = sorted_batch (map mapping_of xs) old new c.in_ok-batch.ensures c.sort_by.ensures.permutation (c.in_ok-sort_by.ensures.sorted lt order compares) (c.sort_by.ensures.stable lt order compares) in
-    if_ok_then c.without_fronts.result (λ places. places.items ≡ c.deref.result.now) (λ places. places.items ≡ c.deref.result.now) (λ places. IsSorted (map mapping_of xs) (map placed_at places.items))
-    (λ places same _. subst (λ ps. IsSorted (map mapping_of xs) (map placed_at ps)) (sym (same ∙ c.deref.ensures.value)) in_order) c.without_fronts.ensures c.without_fronts.ensures
+    let xs = map mapping_of c.args.entries.now in
+    let old = c.in_ok-batch-2.batch.items in
+    let mid = c.sort_by.new.self.items in
+    let compares = answers_always _ (λ a r. is_lt r ≡ by_front a.0.now a.1.0.now) _ (λ f a r f' k. let e : r ≡ nat_cmp (email_front a.0.now) (email_front a.1.0.now) = search rules in ap is_lt e) in
+    if_ok_map c.in_runs.result _ (λ batch. IsSorted xs (map placed_at batch.items))
+    (λ batch arranged. sorted_from xs old batch.items c.in_ok-batch-2.ensures (arranged_by_fronts old mid batch.items c.sort_by.ensures.permutation (c.sort_by.ensures.stable by_front order compares) (subst (λ l. IsArranged l batch.items) c.deref.ensures.value arranged)))
+    c.in_runs.ensures
