@@ -1,7 +1,8 @@
 # make run: maps the sample contacts by the sample mailmap. make test: the gate. make edits: the wrong bodies that the
-# gate leaves out for its time. make install: the program, under PREFIX.
+# gate leaves out for its time. make install: the programs and their manual pages, under PREFIX.
 PREFIX ?= /usr/local
 PROGRAM = crates/mailmap_check/out/mailmap_check
+VERIFIER = crates/mailmap_verify/out/mailmap_verify
 DUMP = crates/mailmap_dump/out/mailmap_dump
 # the libraries for C, and the part of the toolchain's that they stand on
 LIB = crates/gix_mailmap_c/out
@@ -9,7 +10,9 @@ HEAP = $(dir $(shell rt doc))c/liblibc_c.a
 
 .PHONY: build run test edits install lib
 build:
+	@echo 'Proves everything first: about 7 minutes on four processors the first time.'
 	cd crates/mailmap_check && rt run < stdin > /dev/null
+	cd crates/mailmap_verify && rt run -- --help > /dev/null
 
 run: build
 	$(PROGRAM) sample/mailmap < sample/contacts
@@ -29,7 +32,10 @@ test:
 	$(MAKE) build
 	cd crates/mailmap_dump && rt run > /dev/null
 	tests/original/compare.py $(PROGRAM) $(DUMP)
-	tests/failures.sh $(PROGRAM)
+	tests/verify/run.py $(VERIFIER)
+	tests/failures.sh $(PROGRAM) $(VERIFIER)
+	tests/examples.py $(PROGRAM) $(VERIFIER)
+	tests/manual.sh
 	tests/not_compiling/run.sh
 	$(MAKE) lib
 	tests/c/run.sh $(LIB)/c
@@ -39,3 +45,6 @@ edits:
 
 install: build
 	install -D -m 755 $(PROGRAM) $(DESTDIR)$(PREFIX)/bin/mailmap_check
+	install -D -m 755 $(VERIFIER) $(DESTDIR)$(PREFIX)/bin/mailmap_verify
+	install -D -m 644 man/mailmap_check.1 $(DESTDIR)$(PREFIX)/share/man/man1/mailmap_check.1
+	install -D -m 644 man/mailmap_verify.1 $(DESTDIR)$(PREFIX)/share/man/man1/mailmap_verify.1
