@@ -4,7 +4,7 @@ set -euo pipefail
 cd "$(dirname "$0")/../man"
 for page in *.1; do
     if [ -n "$(command -v mandoc)" ]; then
-        said="$(mandoc -Tlint -Wwarning "$page" 2>&1 || true)"
+        said="$(mandoc -Tlint "$page" 2>&1 || true)"
     elif [ -n "$(command -v man)" ]; then
         said="$(man --warnings -E UTF-8 -l "$page" 2>&1 > /dev/null)"
     else
