@@ -1,8 +1,9 @@
 # make run: maps the sample contacts by the sample mailmap. make test: the gate. make edits: the wrong bodies that the
-# gate leaves out for its time. make lib: the libraries for C. make install: the program, the libraries, their header, what
-# pkg-config reads and the module for Python, under PREFIX.
+# gate leaves out for its time. make lib: the libraries for C. make install: the programs and their manual pages, the
+# libraries, their header, what pkg-config reads and the module for Python, under PREFIX.
 PREFIX ?= /usr/local
 PROGRAM = crates/mailmap_check/out/mailmap_check
+VERIFIER = crates/mailmap_verify/out/mailmap_verify
 DUMP = crates/mailmap_dump/out/mailmap_dump
 # the libraries for C, and the part of the toolchain's that they stand on
 LIB = crates/gix_mailmap_c/out
@@ -10,7 +11,9 @@ HEAP = $(dir $(shell rt doc))c/liblibc_c.a
 
 .PHONY: build run test edits install install_lib lib
 build:
+	@echo 'Proves everything first: about 7 minutes on four processors the first time.'
 	cd crates/mailmap_check && rt run < stdin > /dev/null
+	cd crates/mailmap_verify && rt run -- --help > /dev/null
 
 run: build
 	$(PROGRAM) sample/mailmap < sample/contacts
@@ -30,7 +33,10 @@ test:
 	$(MAKE) build
 	cd crates/mailmap_dump && rt run > /dev/null
 	tests/original/compare.py $(PROGRAM) $(DUMP)
-	tests/failures.sh $(PROGRAM)
+	tests/verify/run.py $(VERIFIER)
+	tests/failures.sh $(PROGRAM) $(VERIFIER)
+	tests/examples.py $(PROGRAM) $(VERIFIER)
+	tests/manual.sh
 	tests/not_compiling/run.sh
 	$(MAKE) lib
 	tests/c/run.sh $(LIB)/c
@@ -42,6 +48,9 @@ edits:
 
 install: build lib
 	install -D -m 755 $(PROGRAM) $(DESTDIR)$(PREFIX)/bin/mailmap_check
+	install -D -m 755 $(VERIFIER) $(DESTDIR)$(PREFIX)/bin/mailmap_verify
+	install -D -m 644 man/mailmap_check.1 $(DESTDIR)$(PREFIX)/share/man/man1/mailmap_check.1
+	install -D -m 644 man/mailmap_verify.1 $(DESTDIR)$(PREFIX)/share/man/man1/mailmap_verify.1
 	$(MAKE) install_lib
 
 # what `make lib` has built

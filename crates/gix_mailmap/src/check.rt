@@ -82,8 +82,10 @@ fn resolved<'a>(snapshot: &'a Snapshot, name: &'a [u8], email: &'a [u8]) -> (&'a
     }
 }
 
-// Appends a contact: the name and a blank, unless it is empty, and the email in brackets.
-fn push_contact(text: &mut Vec<u8>, name: &[u8], email: &[u8]) -> Result<(), AllocError>
+/// Appends a contact as a line shows it: the name and a blank, unless it is empty, and the email in brackets.
+///
+/// The name `Jane` and the email `j@x` are `Jane <j@x>`. Where memory is refused, a front of it may have been appended.
+pub fn push_contact(text: &mut Vec<u8>, name: &[u8], email: &[u8]) -> Result<(), AllocError>
     ensures { OnOk result (text.new.items ≡ text.old.items ++ contact name.now email.now) }
 {
     text.extend_from_slice(name)?;

@@ -1,5 +1,6 @@
 //! Tests of snapshots, what they list, find, write and answer to signatures and contacts, of sources that are merged, and
-//! of the two runs of `mailmap_check`. Those of lines, entries and signatures are in `mailmap_reading_tests`.
+//! of the runs of `mailmap_check` and `mailmap_verify`. Those of lines, entries and signatures are in
+//! `mailmap_reading_tests`.
 #![tactic(auto)]
 
 #[cfg(test)]
@@ -17,6 +18,8 @@ mod listings;
 #[cfg(test)]
 mod lookups;
 #[cfg(test)]
+mod report;
+#[cfg(test)]
 mod resolve;
 #[cfg(test)]
 mod run;
@@ -26,3 +29,5 @@ mod sources;
 mod task;
 #[cfg(test)]
 mod text;
+#[cfg(test)]
+mod verifying;

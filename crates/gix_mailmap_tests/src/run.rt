@@ -10,14 +10,14 @@ use std::{cmp, io};
 
 // What a fake reader or writer does at one call: it moves at most so many bytes, or fails.
 #[derive(Clone, Copy)]
-enum Turn {
+pub(crate) enum Turn {
     Moves(usize),
     Fails(ErrorKind),
 }
 
-const ALL: Turn = Turn::Moves(usize::MAX);
+pub(crate) const ALL: Turn = Turn::Moves(usize::MAX);
 
-const BREAKS: Turn = Turn::Fails(ErrorKind::BrokenPipe);
+pub(crate) const BREAKS: Turn = Turn::Fails(ErrorKind::BrokenPipe);
 
 const INTERRUPTED: Turn = Turn::Fails(ErrorKind::Interrupted);
 
@@ -33,9 +33,9 @@ fn moved(turn: Turn, len: usize) -> io::Result<usize>
 
 // Gives its bytes turn by turn, and is at its end when the turns are over.
 #[derive(Drop)]
-struct Source<'a> {
-    bytes: &'a [u8],
-    turns: &'a [Turn],
+pub(crate) struct Source<'a> {
+    pub(crate) bytes: &'a [u8],
+    pub(crate) turns: &'a [Turn],
 }
 
 impl Read for Source<'_> {
@@ -55,15 +55,15 @@ impl Read for Source<'_> {
 // Takes bytes turn by turn, and all of them when the turns are over. A flush does what `flush` says, and counts how many
 // bytes it found.
 #[derive(Drop)]
-struct Sink<'a> {
-    taken: Vec<u8>,
+pub(crate) struct Sink<'a> {
+    pub(crate) taken: Vec<u8>,
     turns: &'a [Turn],
     flush: Turn,
     flushed: usize,
 }
 
 impl<'a> Sink<'a> {
-    fn new(alloc: Global, turns: &'a [Turn], flush: Turn) -> Sink<'a> {
+    pub(crate) fn new(alloc: Global, turns: &'a [Turn], flush: Turn) -> Sink<'a> {
         Sink {
             taken: Vec::new(alloc),
             turns,

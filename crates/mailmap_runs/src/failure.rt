@@ -21,6 +21,9 @@ pub enum Failure {
     /// Standard output, whatever kept it from being written.
     #[error("cannot write output")]
     Output,
+    /// More than one file behind `--prune`, which prints one mailmap. Nothing is read then.
+    #[error("--prune takes one FILE at most")]
+    TooManyFiles,
 }
 
 impl From<AllocError> for Failure {

@@ -70,8 +70,8 @@ pub fn read_files<F: FileSystem>(
     Ok(contents)
 }
 
-// The bytes of the file that is the `number`-th among the arguments.
-fn read_file<F: FileSystem>(
+/// The bytes of a file. Where it can't be read, whatever the cause, it is `Failure::File` with this number.
+pub fn read_file<F: FileSystem>(
     system: &F,
     alloc: Global,
     path: &str,

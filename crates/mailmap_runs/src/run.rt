@@ -4,7 +4,7 @@
 //! really failed. So `Failure::Input` and `Failure::Memory` may come at any input, and
 //! `Failure::Output` at any text. Nor does a clause say what a real file or stream holds: the clauses
 //! on bytes speak of readers and writers whose bytes are known, as those over memory.
-ghost use Rattle.std.specs.Prelude.{◌≡◌, ◌⊎◌, ℕ, IfErr, IfOk, IsErrOf, IsNone, None, IsSome, OnOk, Some};
+ghost use Rattle.std.specs.Prelude.{◌≡◌, ◌⊎◌, IfErr, IfOk, IsErr, IsErrOf, IsNone, None, IsSome, OnOk, Some};
 ghost use Rattle.std.specs.Io.KnownBytes.{IsAtEnd};
 ghost use Rattle.mailmap_runs.specs.Run.{bytes_of, AnswersContacts, IsMailmap, Prints, PrintsFront};
 
@@ -17,8 +17,7 @@ use std::io::{Read, Write};
 /// Answers contact lines by mailmaps.
 ///
 /// `files` holds the bytes of the mailmaps, and then all of `input` is contact lines. With `None` a
-/// line `--` parts `input` into one mailmap and the contact lines. The first failure ends the run;
-/// it is never `Failure::File`.
+/// line `--` parts `input` into one mailmap and the contact lines. The first failure ends the run.
 pub fn run<R: Read, W: Write>(
     alloc: Global,
     files: Option<&[&[u8]]>,
@@ -36,8 +35,8 @@ pub fn run<R: Read, W: Write>(
     // Output that breaks off holds a front of the answers; at the other failures nothing is written.
     ensures breaks_off { IsErrOf result Failure.Output
         → PrintsFront (AnswersContacts (bytes_of files.entry) (R.remaining input.old)) (W.contents output.old) (W.contents output.new) }
-    ensures silent { IsErrOf result Failure.Input ⊎ IsErrOf result Failure.Memory → output.new ≡ output.old }
-    ensures no_file { (number : ℕ) → IsErrOf result (Failure.File number) → ⊥ }
+    ensures silent { IsErr result → ¬ IsErrOf result Failure.Output → output.new ≡ output.old }
+    ensures only { IfErr result (λ e. (e ≡ Failure.Input) ⊎ (e ≡ Failure.Memory) ⊎ (e ≡ Failure.Output)) }
 {
     let bytes = read_all(alloc, input, Failure::Input)?;
     let answers = answers_of(alloc, files, bytes.as_slice())?;
@@ -58,7 +57,7 @@ fn answers_of(alloc: Global, files: Option<&[&[u8]]>, input: &[u8]) -> Result<Ve
 /// Writes mailmaps anew, as one.
 ///
 /// `files` holds the bytes of the mailmaps, and then `input` isn't read. With `None` all of `input`
-/// is the one mailmap. The first failure ends the run; it is never `Failure::File`.
+/// is the one mailmap. The first failure ends the run.
 pub fn run_compact<R: Read, W: Write>(
     alloc: Global,
     files: Option<&[&[u8]]>,
@@ -78,8 +77,8 @@ pub fn run_compact<R: Read, W: Write>(
     // Output that breaks off holds a front of the mailmap; at the other failures nothing is written.
     ensures breaks_off { IsErrOf result Failure.Output
         → PrintsFront (IsMailmap (bytes_of files.entry) (R.remaining input.old)) (W.contents output.old) (W.contents output.new) }
-    ensures silent { IsErrOf result Failure.Input ⊎ IsErrOf result Failure.Memory → output.new ≡ output.old }
-    ensures no_file { (number : ℕ) → IsErrOf result (Failure.File number) → ⊥ }
+    ensures silent { IsErr result → ¬ IsErrOf result Failure.Output → output.new ≡ output.old }
+    ensures only { IfErr result (λ e. (e ≡ Failure.Input) ⊎ (e ≡ Failure.Memory) ⊎ (e ≡ Failure.Output)) }
 {
     let mailmap = match files {
         Some(buffers) => compact(alloc, buffers)?,

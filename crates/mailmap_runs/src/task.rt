@@ -74,6 +74,9 @@ pub fn perform<F: FileSystem, R: Read, W: Write>(
     ensures file { (number : ℕ) → IsErrOf result (Failure.File number) → (0 < number) × (number ≤ length task.entry.paths.now)
         × MayOpenBefore (F.may_open system.now) number (map string_bytes task.entry.paths.now) }
 
+    // Any number of files will do.
+    ensures any_number { ¬ IsErrOf result Failure.TooManyFiles }
+
     // Output that breaks off is a front of it; at the other failures nothing is written.
     ensures answers_break_off { task.entry.mode ≡ Mode.Answer → IsErrOf result Failure.Output → PrintsFront
         (OfFiles (F.may_open system.now) (F.bytes system.now) (map string_bytes task.entry.paths.now)

@@ -1,0 +1,19 @@
+use Rattle.std.proofs.Common.{◌≡◌, ◌==◌, ◌∙◌, ℕ, List, [], ◌∷◌, Option, false, length, map, string_bytes, sym}
+use Rattle.std.proofs.lemmas.Result.{IfOk-weaker}
+use Rattle.mailmap_runs.specs.Files.{AreRead}
+use Rattle.mailmap_reports.specs.Task.{AreMailmaps}
+use Rattle.mailmap_reports.proofs.answer.read_mailmaps.Goals as goal
+
+-- where there is a path, the mailmaps are the files'
+of_files : {X : Type 0} (may_open : List ℕ → Type 0) (known : List ℕ → Option (List ℕ)) (path : X → List ℕ) (input : Option (List ℕ)) (xs : List X) (mailmaps : List (List ℕ))
+    → (length xs == 0) ≡ false → AreRead may_open known (map path xs) mailmaps → AreMailmaps may_open known (map path xs) input mailmaps
+of_files may_open known path input [] mailmaps none read = cc
+of_files may_open known path input (x ∷ xs) mailmaps some read = read
+
+pub returns-then-not-is_empty-clause-ok : goal.returns-then-not-is_empty-clause-ok
+returns-then-not-is_empty-clause-ok g c =
+    let some : c.is_empty.result ≡ false = cc (c.if-not-is_empty.true) in
+    IfOk-weaker c.read_files.result _ _
+    (λ contents. of_files (g.F.FileSystem.may_open c.args.system.now) (g.F.FileSystem.bytes c.args.system.now) string_bytes (g.R.Read.remaining c.args.input.now) c.args.paths.now (map (λ m. m.items) contents.items)
+    (sym c.is_empty.ensures ∙ some))
+    c.read_files.ensures.ok

@@ -1,0 +1,51 @@
+-- What findings look like: a line for each.
+use Rattle.std.specs.Prelude.{ℕ, List, [], ◌∷◌, ◌++◌, codes, decimal, slice_index_or, unwrap_or}
+use Rattle.std.specs.List.{flat_map}
+use Rattle.gix_mailmap.specs.Folding.{Text}
+use Rattle.gix_mailmap.specs.Lines.{Kind, no_email, missing_closing_bracket, empty_email, nothing_to_map, unclosed_second}
+use Rattle.gix_mailmap.specs.Contacts.{contact}
+use Rattle.gix_mailmap.specs.Defects.{Contact, Defect, faulty, ignored_text, no_effect, itself_mapped}
+use Rattle.gix_mailmap.specs.Findings.{Told}
+use Rattle.mailmap_runs.specs.declared.outcome.Outcome.{Outcome}
+use Rattle.mailmap_runs.specs.declared.outcome.Outcome.TheVariants.{Clean, Found}
+
+-- how the file of a buffer is shown: by its path, or where no path is given as standard input
+abbrev pub file_name : List Text → ℕ → Text
+file_name [] buffer = codes "<stdin>"
+file_name (path ∷ paths) buffer = slice_index_or (path ∷ paths) buffer []
+
+-- FILE:LINE
+abbrev pub place_text : List Text → ℕ → ℕ → Text
+place_text paths buffer line = file_name paths buffer ++ 58 ∷ decimal line
+
+-- what a fault is called
+abbrev pub fault_text : Kind → Text
+fault_text no_email = codes "no email in brackets"
+fault_text missing_closing_bracket = codes "the first '<' has no '>'"
+fault_text empty_email = codes "the first email is empty"
+fault_text nothing_to_map = codes "an email alone maps nothing"
+fault_text unclosed_second = codes "the second '<' has no '>'"
+
+-- NAME <EMAIL>; a name that is missing or empty is left out with its blank
+abbrev pub contact_text : Contact → Text
+contact_text c = contact (unwrap_or c.name []) c.email
+
+-- what was found
+abbrev pub defect_text : List Text → Defect → Text
+defect_text paths (faulty f) = codes "error: " ++ fault_text f.kind
+defect_text paths (ignored_text text) = codes "warning: ignored text: " ++ text
+defect_text paths (no_effect beside) = codes "warning: no effect beside " ++ place_text paths beside.buffer beside.line
+defect_text paths (itself_mapped c to) = codes "warning: " ++ contact_text c ++ codes " is itself mapped, to " ++ contact_text to
+
+-- the line of a finding, with its line feed
+abbrev pub finding_line : List Text → Told → Text
+finding_line paths f = place_text paths f.place.buffer f.place.line ++ codes ": " ++ defect_text paths f.defect ++ 10 ∷ []
+
+-- the lines of all findings, in their order
+abbrev pub report : List Text → List Told → Text
+report paths findings = flat_map (finding_line paths) findings
+
+-- whether something was found
+abbrev pub outcome_of : List Told → Outcome
+outcome_of [] = Clean
+outcome_of (f ∷ findings) = Found

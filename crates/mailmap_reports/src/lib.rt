@@ -1,0 +1,7 @@
+//! What the program `mailmap_verify` does: what its arguments ask for, and the doing of it, over any reader, writer and
+//! file system. What it shares with `mailmap_check` is in `mailmap_runs`.
+#![tactic(auto)]
+
+pub mod answer;
+pub mod report;
+pub mod task;

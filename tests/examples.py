@@ -1,0 +1,70 @@
+#!/usr/bin/env python3
+"""Runs the examples of the documents, and wants what they show.
+
+    examples.py PROGRAM..
+
+The programs are called by their names in the examples. An example is a block ```console of a document. Its lines `$ COMMAND` are run one after another
+in a folder of its own, and the lines behind each are what it prints. `$ cat FILE` of a file that isn't there yet writes
+it: what is shown of it is what it holds.
+"""
+import os
+import re
+import subprocess
+import sys
+import tempfile
+from pathlib import Path
+
+DOCUMENTS = ["README.md", "docs/VERIFY.md"]
+BLOCK = re.compile(r"^```console\n(.*?)^```$", re.MULTILINE | re.DOTALL)
+
+
+def steps(block):
+    """The commands, each with the text behind it."""
+    parts = re.split(r"^\$ (.*)\n", block, flags=re.MULTILINE)
+    return list(zip(parts[1::2], parts[2::2]))
+
+
+def run(command, status, folder, path):
+    """What a command prints and its status, behind one that ended with `status`."""
+    done = subprocess.run(
+        ["bash", "-c", f"(exit {status}); {command}"],
+        cwd=folder,
+        env={**os.environ, "PATH": path},
+        stdout=subprocess.PIPE,
+        stderr=subprocess.STDOUT,
+    )
+    return done.stdout.decode(), done.returncode
+
+
+def differences(block, path):
+    with tempfile.TemporaryDirectory() as folder:
+        status = 0
+        for command, shown in steps(block):
+            written = re.fullmatch(r"cat (\S+)", command)
+            if written and not Path(folder, written[1]).exists():
+                Path(folder, written[1]).write_text(shown)
+                status = 0
+                continue
+            printed, status = run(command, status, folder, path)
+            if printed != shown:
+                yield f"$ {command}\n{printed}and not\n{shown}"
+
+
+def main():
+    folders = [str(Path(program).resolve().parent) for program in sys.argv[1:]]
+    path = ":".join([*folders, os.environ["PATH"]])
+    failed = count = 0
+    for document in DOCUMENTS:
+        blocks = BLOCK.findall((Path(__file__).parent.parent / document).read_text())
+        if not blocks:
+            sys.exit(f"{document}: no example")
+        for block in blocks:
+            count += 1
+            for difference in differences(block, path):
+                failed += 1
+                print(f"{document}: {difference}")
+    print(f"examples: {count} blocks of {len(DOCUMENTS)} documents, {failed} commands print something else")
+    sys.exit(1 if failed else 0)
+
+
+main()

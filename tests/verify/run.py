@@ -1,0 +1,99 @@
+#!/usr/bin/env python3
+"""Runs mailmap_verify on mailmaps, hostile ones among them, and wants each byte that it prints, and its status.
+
+    run.py MAILMAP_VERIFY
+
+A line of cases.jsonl is one case: its mailmaps, which are the files m1, m2 and so on, what is printed of them, and the
+status; where there is one file, also what `--prune` prints of it. The texts are in hex. The mailmaps were made by a
+generator with a seed, of few names and emails, so that lines meet. The answers are those of a model that was written
+from the definitions alone, and asks each question of whole histories: a line has no effect if the history without it
+has the same list of mappings, tried line by line.
+"""
+import json
+import os
+import re
+import subprocess
+import sys
+import tempfile
+from pathlib import Path
+
+from hostile import hostile
+
+failed = 0
+
+
+def run(program, words, stdin=b""):
+    done = subprocess.run([program, *words], input=stdin, capture_output=True)
+    return done.returncode, done.stdout, done.stderr
+
+
+def wants(what, done, status, printed, said=b""):
+    global failed
+    if done != (status, printed, said):
+        failed += 1
+        print(f"{what}: {done[0]} {done[1][:400]} {done[2][:400]}\n    and not {status} {printed[:400]} {said[:400]}")
+
+
+def as_standard_input(printed):
+    """What is printed of the one file m1, where standard input has it."""
+    begun = re.sub(rb"^m1:", b"<stdin>:", printed, flags=re.MULTILINE)
+    return re.sub(rb"(: warning: no effect beside )m1:(?=[0-9]+$)", rb"\1<stdin>:", begun, flags=re.MULTILINE)
+
+
+def wants_case(program, what, files, status, printed, pruned):
+    """The files as they are named; and where there is one, it as standard input, pruned, and pruned again."""
+    names = [f"m{number}" for number in range(1, len(files) + 1)]
+    for name, file in zip(names, files):
+        Path(name).write_bytes(file)
+    wants(what, run(program, names), status, printed)
+    if pruned is None:
+        return
+    wants(f"{what}, standard input", run(program, [], files[0]), status, as_standard_input(printed))
+    wants(f"{what}, pruned", run(program, ["--prune", "m1"]), 0, pruned)
+    wants(f"{what}, standard input pruned", run(program, ["--prune"], files[0]), 0, pruned)
+    wants(f"{what}, pruned twice", run(program, ["--prune"], pruned), 0, pruned)
+
+
+def stored(program):
+    cases = [json.loads(line) for line in open(Path(__file__).with_name("cases.jsonl"), encoding="ascii")]
+    for number, case in enumerate(cases, 1):
+        files = [bytes.fromhex(file) for file in case["files"]]
+        pruned = bytes.fromhex(case["pruned"]) if "pruned" in case else None
+        wants_case(program, f"case {number}", files, case["status"], bytes.fromhex(case["stdout"]), pruned)
+    return len(cases)
+
+
+def file_names(program):
+    """Files are shown by the bytes of the arguments, as often as they are given."""
+    names = ["a b:c", "./ä", "--help", "a b:c"]
+    for name in names:
+        Path(name).write_bytes(b"plain\n")
+    printed = b"".join(name.encode() + b":1: error: no email in brackets\n" for name in names)
+    wants("names of files", run(program, names), 1, printed)
+    wants("a file named as an option", run(program, ["./--prune"]), 2, b"", b"mailmap_verify: cannot read file 1\n")
+
+
+def usage(program):
+    """Help is printed on standard output, whatever stands behind it."""
+    status, printed, said = run(program, ["--help"])
+    wants("help", (status, printed[:22], said), 0, b"usage: mailmap_verify ")
+    wants("help, and a file", run(program, ["--help", "missing"]), 0, printed)
+
+
+def main():
+    program = str(Path(sys.argv[1]).resolve())
+    hostile_count = 0
+    with tempfile.TemporaryDirectory() as folder:
+        os.chdir(folder)
+        count = stored(program)
+        for what, mailmap, printed, pruned in hostile():
+            wants_case(program, what, [mailmap], 1 if printed else 0, printed, pruned)
+            hostile_count += 1
+        file_names(program)
+        usage(program)
+        os.chdir("/")
+    print(f"findings: {count} stored mailmaps and {hostile_count} hostile ones, {failed} runs differ")
+    sys.exit(1 if failed else 0)
+
+
+main()
