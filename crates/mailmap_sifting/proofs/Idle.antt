@@ -1,11 +1,10 @@
 -- When an entry changes nothing: by what is said before it and behind it of its own key and email.
 use Rattle.std.proofs.Common.{◌≡◌, Bool, true, false, true≢false, ◌&&◌, ◌||◌, if◌then◌else◌, List, [], ◌∷◌, ◌++◌, Option, Some, None, is_some, refl, sym, ap, subst, ◌∙◌}
 use Rattle.std.specs.Bool.{Decides}
-use Rattle.std.specs.Cmp.{Equal-is, tied_itself}
+use Rattle.std.specs.Cmp.{Equal-is}
 use Rattle.std.specs.List.{AllByRecursion, cons_option, filter_map}
 use Rattle.std.specs.Option.{option_and_then, option_flatten, option_map, option_or}
-use Rattle.std.specs.Ordering.{eq_by_cmp, is_eq}
-use Rattle.std.proofs.lemmas.Bool.{cases_Bool}
+use Rattle.std.specs.Ordering.{eq_by_cmp}
 use Rattle.std.proofs.lemmas.Bool.Decides.{Decides-and, Decides-like}
 use Rattle.std.proofs.lemmas.List.Elements.{filter_passes, recursion_from_All}
 use Rattle.std.proofs.lemmas.Map.Lookups.{exact_bytes}
@@ -13,12 +12,12 @@ use lib.Pointwise.{bytes_decides}
 use Rattle.mailmap_entries.specs.Entries.{Mapping}
 use Rattle.mailmap_entries.specs.Folding.{Text, folded, text_cmp}
 use Rattle.mailmap_histories.specs.Alike.{Alike, first_name}
-use Rattle.mailmap_histories.specs.Histories.{Fields, Key, key, key_cmp, first, last, last_given, is_accepted, accepted, has_key, new_fields, of_key, last_fields, spelling}
+use Rattle.mailmap_histories.specs.Histories.{Fields, Key, key, key_cmp, first, last, is_accepted, accepted, has_key, new_fields, of_key, last_fields, spelling}
 use Rattle.mailmap_histories.specs.Listings.{same_optional}
 use Rattle.mailmap_histories.proofs.Alike.{same_normal, alike_back, key_parts}
 use Rattle.mailmap_histories.proofs.Exists.{normal, is_normal}
 use Rattle.mailmap_histories.proofs.Joined.{alike_trans}
-use Rattle.mailmap_histories.proofs.Keys.{keys_exact, keys_total}
+use Rattle.mailmap_histories.proofs.Keys.{keys_exact}
 use Rattle.mailmap_histories.proofs.Normal.{alike_normal, known}
 use Rattle.mailmap_sifting.specs.Sifting.{IsIdle}
 use Rattle.mailmap_sifting.specs.Summaries.{KeySummary, key_summary, summary, own_summary, joined_summary, is_first_kept, is_last_kept, same_fields, are_last_kept, is_value_kept, is_idle}

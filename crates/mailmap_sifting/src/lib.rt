@@ -2,6 +2,7 @@
 //! no part of what it gives to users.
 #![tactic(auto)]
 
+pub mod laws;
 mod placed;
 
 pub use placed::{Place, PlacedEntry};
