@@ -8,13 +8,13 @@ use Rattle.std.specs.Ordering.{eq_by_cmp}
 use Rattle.std.proofs.lemmas.Bool.Decides.{Decides-and, Decides-like}
 use Rattle.std.proofs.lemmas.List.Elements.{filter_passes, recursion_from_All}
 use Rattle.std.proofs.lemmas.Map.Lookups.{exact_bytes}
-use lib.Pointwise.{bytes_decides}
 use Rattle.mailmap_entries.specs.Entries.{Mapping}
 use Rattle.mailmap_entries.specs.Folding.{Text, folded, text_cmp}
 use Rattle.mailmap_histories.specs.Alike.{Alike, first_name}
 use Rattle.mailmap_histories.specs.Histories.{Fields, Key, key, key_cmp, first, last, is_accepted, accepted, has_key, new_fields, of_key, last_fields, spelling}
 use Rattle.mailmap_histories.specs.Listings.{same_optional}
 use Rattle.mailmap_histories.proofs.Alike.{same_normal, alike_back, key_parts}
+use Rattle.mailmap_histories.proofs.EqualListings.{optional_decides}
 use Rattle.mailmap_histories.proofs.Exists.{normal, is_normal}
 use Rattle.mailmap_histories.proofs.Joined.{alike_trans}
 use Rattle.mailmap_histories.proofs.Keys.{keys_exact}
@@ -35,12 +35,6 @@ pub alike_idle : (a : List Mapping) (e : Mapping) (c : List Mapping) → Alike (
 alike_idle a e c alike n = (same_normal (a ++ e ∷ c) (a ++ c) n alike, same_normal (a ++ c) (a ++ e ∷ c) n (alike_back (a ++ e ∷ c) (a ++ c) alike))
 
 -- ---- the parts of the test
-
-optional_decides : (o p : Option Text) → Decides (same_optional o p) (o ≡ p)
-optional_decides None None = (λ e. refl, λ e. refl)
-optional_decides None (Some y) = (λ e. absurd (true≢false (sym e)), λ e. cc)
-optional_decides (Some x) None = (λ e. absurd (true≢false (sym e)), λ e. cc)
-optional_decides (Some x) (Some y) = (λ e. ap (λ t. Some t) ((bytes_decides x y).0 e), λ e. (bytes_decides x y).1 (cc))
 
 first_decides : (before : Option Text) (own : Text) (behind : Option Text) → Decides (is_first_kept before (Some own) behind) (option_or before (Some own) ≡ option_or before behind)
 first_decides (Some x) own behind = (λ e. refl, λ e. refl)

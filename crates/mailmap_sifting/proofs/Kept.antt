@@ -19,7 +19,7 @@ use Rattle.mailmap_sifting.specs.Summaries.{is_idle, summary}
 use Rattle.mailmap_sifting.proofs.Idle.{alike_idle, idle_decides}
 use Rattle.mailmap_sifting.proofs.Sublists.{sublist_itself, sublist_keep, sublist_skip, sublist_trans}
 
-abbrev Placed : Type 0
+abbrev pub Placed : Type 0
 Placed = List PlacedMapping
 
 -- an entry that is kept, with what comes behind it
@@ -47,18 +47,18 @@ sifted_normal _ _ n (again xs some kept p s) =
 
 -- ---- a pass that lets nothing go
 
-pass_length : (kept xs out : Placed) → IsPass kept xs out → length out ≤ length kept + length xs
+pub pass_length : (kept xs out : Placed) → IsPass kept xs out → length out ≤ length kept + length xs
 pass_length _ _ _ (done kept) = omega arith
 pass_length _ _ _ (goes kept x xs out idle p) = omega (arith, pass_length kept xs out p)
 pass_length _ _ _ (stays kept x xs out busy p) = omega (arith, pass_length (kept ++ x ∷ []) xs out p, length-append kept (x ∷ []))
 
 -- behind those that were kept, none of xs can go
-abbrev NoneIdle : Placed → Placed → Type 0
+abbrev pub NoneIdle : Placed → Placed → Type 0
 NoneIdle kept [] = Unit {0}
 NoneIdle kept (x ∷ xs) = (IsIdle (entries kept) x.entry (entries xs) → ⊥) × NoneIdle (kept ++ x ∷ []) xs
 
 -- as long as both together, what a pass leaves is both, and none could go
-pass_whole : (kept xs out : Placed) → IsPass kept xs out → length kept + length xs ≤ length out → (out ≡ kept ++ xs) × NoneIdle kept xs
+pub pass_whole : (kept xs out : Placed) → IsPass kept xs out → length kept + length xs ≤ length out → (out ≡ kept ++ xs) × NoneIdle kept xs
 pass_whole _ _ _ (done kept) long = (sym (append-nil kept), tt)
 pass_whole _ _ _ (goes kept x xs out idle p) long = absurd (omega (arith, pass_length kept xs out p, long))
 pass_whole _ _ _ (stays kept x xs out busy p) long =
