@@ -10,7 +10,7 @@ use Rattle.mailmap_histories.specs.Listings.{same_optional, same_entry, same_ent
 
 -- ---- equality decides sameness
 
-optional_decides : (o p : Option Text) → Decides (same_optional o p) (o ≡ p)
+pub optional_decides : (o p : Option Text) → Decides (same_optional o p) (o ≡ p)
 optional_decides None None = (λ e. refl, λ e. refl)
 optional_decides None (Some y) = (λ e. absurd (true≢false (sym e)), λ e. cc)
 optional_decides (Some x) None = (λ e. absurd (true≢false (sym e)), λ e. cc)

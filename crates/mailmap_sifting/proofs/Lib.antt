@@ -1,0 +1,4 @@
+pub mod Summaries
+pub mod Idle
+pub mod Sublists
+pub mod Kept

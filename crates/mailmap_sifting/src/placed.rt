@@ -1,0 +1,19 @@
+//! Entries with the places where they stand.
+
+use mailmap_entries::Entry;
+
+/// Where a line stands: its buffer, counted from 0, and its number in that buffer, counted from 1.
+///
+/// The first line of the second of two buffers is `Place { buffer: 1, line: 1 }`.
+#[derive(Clone, Copy, Debug, PartialEq, Eq)]
+pub struct Place {
+    pub buffer: usize,
+    pub line: usize,
+}
+
+/// An entry, and the place of its line.
+#[derive(Clone, Copy, Debug)]
+pub struct PlacedEntry<'a> {
+    pub place: Place,
+    pub entry: Entry<'a>,
+}
