@@ -6,12 +6,16 @@ ghost use Rattle.gix_mailmap.specs.Parts.{IsSplit};
 
 mod text;
 
+pub use mailmap_findings::laws::{law_in_order, law_pruned, law_whole_lines};
 pub use mailmap_grammar::laws::{law_cut, law_pieces, law_reading, law_strict_reading, law_trim};
 pub use mailmap_histories::laws::{
     law_condense, law_equal, law_exists, law_headline, law_neighbours, law_of_email, law_one_email,
     law_own_entries, law_reorder, law_repeated, law_scan, law_self, law_shortest, law_unique,
 };
 pub use mailmap_signatures::laws::law_time;
+pub use mailmap_sifting::laws::{
+    law_each_key_stays, law_none_can_go, law_same_listing, law_settled, law_some_stay,
+};
 pub use text::{law_strict, law_text};
 
 /// An input is parted in one way.
