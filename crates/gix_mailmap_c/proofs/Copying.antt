@@ -4,7 +4,6 @@ use Rattle.std.specs.List.{slice_get}
 use Rattle.std.proofs.Math.ListN.{set}
 use Rattle.std.proofs.lemmas.List.{take_more_set, drop-set-lt, drop-drop, take-append-drop}
 use Rattle.mailmap_entries.specs.Entries.{Mapping}
-use Rattle.gix_mailmap_c.specs.Handed.{IsWritten}
 use Rattle.mailmap_entries.specs.Folding.{Text}
 use Rattle.gix_mailmap_c.specs.Listed.{IsBehind, all_told, entry_text, given}
 
@@ -15,9 +14,6 @@ module _ {X : Type 0} where
     pub until : end + length left ≡ length all
     pub front : take end now ++ left ≡ all
     pub rest : drop end now ≡ drop end old
-
-  pub copied_none : (all old : List X) → Copied all all 0 old old
-  copied_none all old = record { until = omega arith; front = refl; rest = refl }
 
   -- what is the same from a place on is so from a later one on
   later : (n k e : ℕ) (xs ys : List X) → e ≡ n + k → drop n xs ≡ drop n ys → drop e xs ≡ drop e ys
@@ -63,15 +59,6 @@ module _ {X : Type 0} where
   nothing_at zero k (x ∷ xs) e le = cc
   nothing_at (suc n) zero (x ∷ xs) e le = absurd (omega arith)
   nothing_at (suc n) (suc k) (x ∷ xs) e le = nothing_at n k xs e (omega arith)
-
--- a list at the front of a buffer
-pub behind_written : (s old new : List ℕ) (end : ℕ) → length s ≤ length old → IsBehind s 0 old new end → IsWritten s old new
-behind_written s old new end fits b =
-    let at : end ≡ length s = omega (arith, b.until) in
-    record {
-      fits = fits;
-      written = sym (take-append-drop end new) ∙ ap (λ l. l ++ drop end new) b.front ∙ ap (λ l. s ++ l) (b.rest ∙ ap (λ p. drop p old) at);
-    }
 
 -- as many are told as there are
 pub length-all_told : (start : ℕ) (ms : List Mapping) → length (all_told start ms) ≡ length ms

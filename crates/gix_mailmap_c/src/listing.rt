@@ -1,9 +1,8 @@
 //! What the mailmap of a handle lists.
-ghost use Rattle.std.specs.Prelude.{◌≡◌, ◌≤◌, ◌+◌, ◌^◌, Some, length, min, option_map, unwrap_or, slice_get, IfSome, IfNone, MatchOption};
-ghost use Rattle.std.specs.Option.{option_copied};
+ghost use Rattle.std.specs.Prelude.{◌≡◌, ◌≤◌, ◌^◌, length, min, option_map, slice_get, IfSome, IfNone, MatchOption};
 ghost use Rattle.mailmap_entries.specs.Entries.{mapping_of};
 ghost use Rattle.gix_mailmap_c.specs.Handles.{contents};
-ghost use Rattle.gix_mailmap_c.specs.Listed.{all_text, entry_text, told_at, Lists, Tells};
+ghost use Rattle.gix_mailmap_c.specs.Listed.{all_text, told_at, Lists, Tells};
 
 mod copying;
 

@@ -25,6 +25,7 @@ pub(crate) fn assert_lists(
 ) -> Result<(), AllocError> {
     let entries = snapshot.entries(alloc)?;
     assert_entries(rt, &entries, want);
+    assert_eq!(rt; snapshot.len(), want.len());
     Ok(())
 }
 
