@@ -21,10 +21,8 @@ pub(crate) fn told_of_entry<'a>(
     if stays {
         return told_of_contact(sifted, proper_contact(entry));
     }
-    match sifted.beside(entry) {
-        None => None,
-        Some(beside) => Some(Kind::NoEffect { beside }),
-    }
+    let beside = sifted.beside(entry)?;
+    Some(Kind::NoEffect { beside })
 }
 
 // That the contact is mapped to another one.

@@ -16,10 +16,7 @@ pub(crate) fn told_of_reading<'a>(line: &Line<'a>) -> Option<Kind<'a>>
     match read_line(line.text, line.place.line, Strictness::Strict) {
         None => None,
         Some(Err(error)) => Some(Kind::Fault(error)),
-        Some(Ok(_)) => match ignored_text(line.text) {
-            None => None,
-            Some(text) => Some(Kind::IgnoredText(text)),
-        },
+        Some(Ok(_)) => ignored_text(line.text).map(Kind::IgnoredText),
     }
 }
 
