@@ -196,7 +196,7 @@ pub enum Error<'a> {
     #[error("{line}: Emails without a name or email to map to are invalid")]
     NothingToMap { line: usize, input: &'a [u8] },
     /// The second `<` has no `>` behind it, as in `Jane <a@x> <b`. `input` is what stands behind the `>` that closes the
-    /// first half, with its white space. Of the calls here [`parse_strict`] alone makes this fault.
+    /// first half, with its white space. Only what is read strictly has this fault: by [`parse_strict`] or [`read_line`].
     #[error("{line}: Missing closing bracket '>' in second email")]
     UnclosedSecond { line: usize, input: &'a [u8] },
 }
@@ -239,10 +239,12 @@ struct Walk<'a> {
     strictness: Strictness,
 }
 
-/// Whether a second half that has its `<` and not its `>` is a fault.
-#[derive(Clone, Copy)]
-enum Strictness {
+/// Whether a second half that has its `<` and not its `>`, as in `Jane <a@x> <b`, is a fault.
+#[derive(Clone, Copy, Debug)]
+pub enum Strictness {
+    /// It is ignored, as [`parse`] does.
     Lenient,
+    /// It is [`Error::UnclosedSecond`], as of [`parse_strict`].
     Strict,
 }
 
@@ -291,8 +293,11 @@ impl<'a> Iterator for Walk<'a> {
 }
 
 /// What the line `text` says, as it stands in its buffer; `None` for a comment and for a blank line.
+///
+/// `line` is the number that a fault shows. A line feed or a carriage return at the end of `text` says nothing, as other
+/// white space there. Of `Jane <j@x>` this gives the entry of `Jane` by `j@x`.
 #[inline(always)]
-fn read_line(
+pub fn read_line(
     text: &[u8],
     line: usize,
     strictness: Strictness,

@@ -1,0 +1,171 @@
+-- All lines that are told to have no effect can be deleted at once: the entries of the others are those that stay.
+use Rattle.std.proofs.Common.{◌≡◌, ◌≢◌, Bool, true, false, true≢false, if◌then◌else◌, Option, Some, None, option_to_list, is_some, List, [], ◌∷◌, ◌++◌, Ok, Err, map, filter, ap, refl, subst, sym, ◌∙◌}
+use Rattle.std.specs.Prelude.{◌||◌, ◌&&◌, ◌↔◌, Contains, is_none, not}
+use Rattle.std.specs.List.{AllByRecursion, cons_option, flat_map, list_any}
+use Rattle.std.specs.Option.{option_and_then, option_map}
+use Rattle.std.proofs.lemmas.Bool.{and_right, or_right}
+use Rattle.std.proofs.lemmas.List.Elements.{All-contains_itself, recursion_from_All}
+use Rattle.std.proofs.lemmas.List.Folds.{list_any-append}
+use Rattle.mailmap_entries.specs.Entries.{Mapping}
+use Rattle.mailmap_entries.specs.Folding.{Text}
+use Rattle.mailmap_grammar.specs.Lines.{Reading, good, non_empty, strict_reading}
+use Rattle.mailmap_histories.specs.Histories.{IsNormal, is_accepted, key}
+use Rattle.mailmap_sifting.specs.Sifting.{IsSifted, PlacedMapping, entries, last_place}
+use Rattle.mailmap_sifting.specs.declared.placed.Place.{Place}
+use Rattle.mailmap_sifting.proofs.Kept.{last_stays, sifted_normal, sifted_sublist}
+use Rattle.mailmap_findings.specs.Findings.{AreFindings, Contact, Finding, Told, contact, findings, has_no_effect, ignored, ignored_text, is_idle, is_left, line_findings, mapped, no_effect, same_contact, told_of_contact, told_of_entry, told_of_line, told_of_reading, itself_mapped}
+use Rattle.mailmap_findings.specs.Places.{Line, entry, lines, placed, placed_entry, same_place, stands_at}
+use Rattle.mailmap_findings.specs.Steps.{AreApart}
+use Rattle.mailmap_findings.proofs.Accepted.{placed_accepted}
+use Rattle.mailmap_findings.proofs.Placing.{apart_lines}
+use Rattle.mailmap_findings.proofs.Pruned.{placed_left}
+use Rattle.mailmap_findings.proofs.Read.{good-lines}
+use Rattle.mailmap_findings.proofs.Walking.{differs, same_itself, starts}
+
+-- ---- tests
+
+and_true : (b : Bool) → b && true ≡ b
+and_true true = refl
+and_true false = refl
+
+or_false : (b : Bool) → b || false ≡ b
+or_false true = refl
+or_false false = refl
+
+not_not : (b : Bool) → not (not b) ≡ b
+not_not true = refl
+not_not false = refl
+
+filter_same : (p q : Line → Bool) (ls : List Line) → AllByRecursion (λ l. p l ≡ q l) ls → filter p ls ≡ filter q ls
+filter_same p q [] all = refl
+filter_same p q (l ∷ ls) all = ap (λ b. if b then l ∷ filter p ls else filter p ls) all.0 ∙ ap (λ xs. if q l then l ∷ xs else xs) (filter_same p q ls all.1)
+
+-- ---- what is told of a line
+
+abbrev told_at : Place → List Told → List Finding
+told_at place ts = map (λ t. record { place = place; told = t }) ts
+
+-- whether a finding says that the line at this place has no effect
+abbrev idle_at : Place → Finding → Bool
+idle_at place f = has_no_effect f.told && same_place f.place place
+
+any_here : (place : Place) (ts : List Told) → list_any (idle_at place) (told_at place ts) ≡ list_any has_no_effect ts
+any_here place [] = refl
+any_here place (t ∷ ts) =
+    ap (λ b. (has_no_effect t && b) || list_any (idle_at place) (told_at place ts)) (same_itself place)
+    ∙ ap (λ b. b || list_any (idle_at place) (told_at place ts)) (and_true (has_no_effect t))
+    ∙ ap (λ b. has_no_effect t || b) (any_here place ts)
+
+none_there : (place there : Place) (ts : List Told) → there ≢ place → list_any (idle_at place) (told_at there ts) ≡ false
+none_there place there [] other = refl
+none_there place there (t ∷ ts) other =
+    ap (λ b. b || list_any (idle_at place) (told_at there ts)) (and_right (has_no_effect t) (same_place there place) (differs there place other))
+    ∙ none_there place there ts other
+
+text_none : (o : Option Text) → list_any has_no_effect (option_to_list (option_map ignored_text o)) ≡ false
+text_none None = refl
+text_none (Some t) = refl
+
+reading_none : (line : Text) (o : Option Reading) → list_any has_no_effect (option_to_list (told_of_reading line o)) ≡ false
+reading_none line None = refl
+reading_none line (Some (Err f)) = refl
+reading_none line (Some (Ok e)) = text_none (non_empty (ignored line))
+
+contact_none : (c to : Contact) → list_any has_no_effect (option_to_list (told_of_contact c to)) ≡ false
+contact_none c to = elim (same_contact c to) as (λ b. list_any has_no_effect (option_to_list (if b then None else Some (itself_mapped c to))) ≡ false) [ true ↦ refl | false ↦ refl ]
+
+place_some : (o : Option Place) → is_some o ≡ true → list_any has_no_effect (option_to_list (option_map no_effect o)) ≡ true
+place_some None e = absurd (true≢false (sym e))
+place_some (Some p) e = refl
+
+-- an entry of this key stays
+abbrev IfStays : List PlacedMapping → Option Mapping → Type 0
+IfStays kept None = Unit {0}
+IfStays kept (Some e) = is_some (last_place kept (key e)) ≡ true
+
+module _ (h : List Mapping) (kept : List PlacedMapping) where
+  entry_any : (stays : Bool) (e : Mapping) → IfStays kept (Some e) → list_any has_no_effect (option_to_list (told_of_entry h kept stays e)) ≡ not stays
+  entry_any true e beside = contact_none (contact e) (mapped h (contact e))
+  entry_any false e beside = place_some (last_place kept (key e)) beside
+
+  line_any : (l : Line) → IfStays kept (entry l) → list_any has_no_effect (told_of_line h kept (stands_at kept l.place) l) ≡ not (is_left kept l)
+  line_any l beside =
+      let stays = stands_at kept l.place in
+      list_any-append has_no_effect (option_to_list (told_of_reading l.text (strict_reading l.place.line l.text))) (option_to_list (option_and_then (told_of_entry h kept stays) (entry l)))
+      ∙ ap (λ b. b || list_any has_no_effect (option_to_list (option_and_then (told_of_entry h kept stays) (entry l)))) (reading_none l.text (strict_reading l.place.line l.text))
+      ∙ elim (entry l) as (λ o. IfStays kept o → list_any has_no_effect (option_to_list (option_and_then (told_of_entry h kept stays) o)) ≡ not (is_none o || stays)) [
+        | None ↦ λ _. refl
+        | Some e ↦ λ is. entry_any stays e is
+      ] beside
+
+  none_elsewhere : (place : Place) (ls : List Line) → AllByRecursion (λ l. l.place ≢ place) ls → list_any (idle_at place) (flat_map (findings h kept) ls) ≡ false
+  none_elsewhere place [] all = refl
+  none_elsewhere place (l ∷ ls) all =
+      list_any-append (idle_at place) (findings h kept l) (flat_map (findings h kept) ls)
+      ∙ ap (λ b. b || list_any (idle_at place) (flat_map (findings h kept) ls)) (none_there place l.place (told_of_line h kept (stands_at kept l.place) l) all.0)
+      ∙ none_elsewhere place ls all.1
+
+  behind_line : (l : Line) (fs : List Finding) (ls : List Line) → AllByRecursion (λ m. m.place ≢ l.place) ls
+      → AllByRecursion (λ m. list_any (idle_at m.place) fs ≡ not (is_left kept m)) ls → AllByRecursion (λ m. list_any (idle_at m.place) (findings h kept l ++ fs) ≡ not (is_left kept m)) ls
+  behind_line l fs [] apart all = tt
+  behind_line l fs (m ∷ ls) apart all = (
+    list_any-append (idle_at m.place) (findings h kept l) fs
+    ∙ ap (λ b. b || list_any (idle_at m.place) fs) (none_there m.place l.place (told_of_line h kept (stands_at kept l.place) l) (λ e. apart.0 (sym e)))
+    ∙ all.0,
+    behind_line l fs ls apart.1 all.1,
+  )
+
+  told_idle : (ls : List Line) → AreApart ls → AllByRecursion (λ l. IfStays kept (entry l)) ls → AllByRecursion (λ l. list_any (idle_at l.place) (flat_map (findings h kept) ls) ≡ not (is_left kept l)) ls
+  told_idle [] apart stay = tt
+  told_idle (l ∷ ls) apart stay = (
+    list_any-append (idle_at l.place) (findings h kept l) (flat_map (findings h kept) ls)
+    ∙ ap (λ b. list_any (idle_at l.place) (findings h kept l) || b) (none_elsewhere l.place ls apart.0)
+    ∙ or_false (list_any (idle_at l.place) (findings h kept l))
+    ∙ any_here l.place (told_of_line h kept (stands_at kept l.place) l)
+    ∙ line_any l stay.0,
+    behind_line l (flat_map (findings h kept) ls) ls apart.0 (told_idle ls apart.1 stay.1),
+  )
+
+  not_told : (fs : List Finding) (ls : List Line) → AllByRecursion (λ l. list_any (idle_at l.place) fs ≡ not (is_left kept l)) ls → AllByRecursion (λ l. not (list_any (idle_at l.place) fs) ≡ is_left kept l) ls
+  not_told fs [] all = tt
+  not_told fs (l ∷ ls) all = (ap not all.0 ∙ not_not (is_left kept l), not_told fs ls all.1)
+
+-- ---- the lines that are not told
+
+module _ (kept : List PlacedMapping) where
+  lines_stay : (ls : List Line) → AllByRecursion (λ x. is_some (last_place kept (key x.entry)) ≡ true) (placed ls) → AllByRecursion (λ l. IfStays kept (entry l)) ls
+  lines_stay [] = λ all. tt
+  lines_stay (l ∷ ls) =
+      elim (entry l) as (λ o. AllByRecursion (λ x. is_some (last_place kept (key x.entry)) ≡ true) (cons_option (option_map (λ e. record { place = l.place; entry = e }) o) (placed ls))
+          → IfStays kept o × AllByRecursion (λ m. IfStays kept (entry m)) ls) [
+        | None ↦ λ all. (tt, lines_stay ls all)
+        | Some e ↦ λ all. (all.0, lines_stay ls all.1)
+      ]
+
+each_stays : (xs kept : List PlacedMapping) → IsSifted xs kept → AllByRecursion (λ x. is_accepted x.entry ≡ true) xs → AllByRecursion (λ x. is_some (last_place kept (key x.entry)) ≡ true) xs
+each_stays xs kept sifted accepted = both xs (recursion_from_All (Contains xs) xs (All-contains_itself xs)) accepted
+  where
+    both : (ys : List PlacedMapping) → AllByRecursion (Contains xs) ys → AllByRecursion (λ x. is_accepted x.entry ≡ true) ys → AllByRecursion (λ x. is_some (last_place kept (key x.entry)) ≡ true) ys
+    both [] inside good = tt
+    both (y ∷ ys) inside good = (last_stays xs kept y sifted inside.0 good.0, both ys inside.1 good.1)
+
+pub left_entries : (buffers : List Text) (found : List Finding) (are : AreFindings buffers found) → placed (filter (λ l. not (is_idle found l)) (lines buffers)) ≡ are.kept
+left_entries buffers found are =
+    let ls = lines buffers in
+    let h = entries (placed ls) in
+    let kept = are.kept in
+    let told : List Finding = flat_map (findings h kept) ls in
+    let apart = apart_lines 0 buffers in
+    let stay = lines_stay kept ls (each_stays (placed ls) kept are.sifted (placed_accepted ls)) in
+    ap (λ fs. placed (filter (λ (l : Line). not (is_idle fs l)) ls)) are.whole
+    ∙ ap placed (filter_same (λ (l : Line). not (is_idle told l)) (is_left kept) ls (not_told h kept told ls (told_idle h kept ls apart stay)))
+    ∙ placed_left kept ls kept (starts kept ls (record { sublist = sifted_sublist (placed ls) kept are.sifted; apart = apart }))
+
+pub same_listing : (buffers : List Text) (found : List Finding) (n : List Mapping) → AreFindings buffers found
+    → IsNormal (flat_map good buffers) n ↔ IsNormal (entries (placed (filter (λ l. not (is_idle found l)) (lines buffers)))) n
+same_listing buffers found n are =
+    let there = sifted_normal (placed (lines buffers)) are.kept n are.sifted in
+    let e : entries (placed (filter (λ (l : Line). not (is_idle found l)) (lines buffers))) ≡ entries are.kept = ap entries (left_entries buffers found are) in (
+      λ d. subst (λ g. IsNormal g n) (sym e) (there.0 (subst (λ g. IsNormal g n) (sym (good-lines 0 buffers)) d)),
+      λ d. subst (λ g. IsNormal g n) (good-lines 0 buffers) (there.1 (subst (λ g. IsNormal g n) e d)),
+    )

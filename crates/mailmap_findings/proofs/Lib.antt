@@ -1,0 +1,13 @@
+pub mod WholeLines
+pub mod Placing
+pub mod Entries
+pub mod Accepted
+pub mod Mapped
+pub mod Walking
+pub mod Wholes
+pub mod Read
+pub mod Renumbered
+pub mod Pruned
+pub mod Verified
+pub mod Ordered
+pub mod Deleted

@@ -1,0 +1,21 @@
+-- What a history makes of a contact.
+use Rattle.std.proofs.Common.{◌≡◌, Option, Some, None, List, [], unwrap_or, refl, sym, ap, ◌∙◌}
+use Rattle.std.specs.Option.{option_map}
+use Rattle.mailmap_entries.specs.Entries.{Mapping}
+use Rattle.mailmap_entries.specs.Folding.{Text}
+use Rattle.mailmap_histories.specs.Histories.{Fields, no_fields, scan}
+use Rattle.mailmap_findings.specs.Findings.{Contact, mapped, replaced}
+
+same_name : (name : Option Text) → option_map (unwrap_or None) name ≡ name
+same_name None = refl
+same_name (Some name) = refl
+
+module _ (h : List Mapping) (c : Contact) (name : Text) (is : name ≡ unwrap_or c.name []) where
+  made : (o : Option Fields) → o ≡ scan h name c.email → replaced (unwrap_or o no_fields) c ≡ mapped h c
+  made o found = ap (λ x. replaced (unwrap_or x no_fields) c) (found ∙ ap (λ n. scan h n c.email) is)
+
+  pub mapped-none : None ≡ scan h name c.email → c ≡ mapped h c
+  mapped-none found = (λ i. record { name = sym (same_name c.name) i; email = c.email }) ∙ made None found
+
+  pub mapped-some : (f : Fields) → Some f ≡ scan h name c.email → replaced f c ≡ mapped h c
+  mapped-some f found = made (Some f) found

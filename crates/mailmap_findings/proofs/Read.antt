@@ -1,0 +1,98 @@
+-- What lines say with their line feeds is what the pieces between line feeds say, and their entries are those of the buffers.
+use Rattle.std.proofs.Common.{◌≡◌, ◌⊎◌, ◌+◌, ◌==◌, ℕ, true, false, cond, Option, Some, None, option_to_list, Ok, Err, List, [], ◌∷◌, ◌++◌, map, inl, inr, ⊎_elim, append_assoc, append-nil, refl, sym, ap, ◌∙◌}
+use Rattle.std.specs.List.{cons_option, flat_map}
+use Rattle.std.specs.Option.{option_and_then, option_map}
+use Rattle.std.specs.Result.{result_ok}
+use Rattle.std.specs.Char.{encode_utf8}
+use Rattle.std.proofs.lemmas.Bool.{cond_both, eqb-true}
+use Rattle.std.proofs.lemmas.List.{map-append}
+use Rattle.std.proofs.lemmas.List.Concat.{flat_map-append}
+use Rattle.std.proofs.lemmas.List.Elements.{filter_map-append}
+use Rattle.mailmap_entries.specs.Entries.{Mapping}
+use Rattle.mailmap_entries.specs.Folding.{Text}
+use Rattle.mailmap_grammar.specs.Lines.{Reading, reading_by, line_reading, strict_line_reading, unless_blank, reading, strict_reading, readings_from, strict_readings, pieces, with_first, good, good_of}
+use Rattle.mailmap_grammar.proofs.Trimmed.{trim-white_end}
+use Rattle.mailmap_sifting.specs.Sifting.{PlacedMapping, entries}
+use Rattle.mailmap_findings.specs.Places.{Line, entry, placed, placed_entry, placed_from, whole_lines, lines_from, lines}
+
+-- a line feed at the end says nothing
+reading_by-feed : (says : ℕ → Text → Reading) (n : ℕ) (z : Text) → reading_by says n (z ++ 10 ∷ []) ≡ reading_by says n z
+unfolding encode_utf8
+reading_by-feed says n [] = ap (unless_blank says n) (trim-white_end 10 [] refl)
+reading_by-feed says n (b ∷ z) = ap (λ t. cond (b == 35) None (unless_blank says n t)) (trim-white_end 10 (b ∷ z) refl)
+
+-- a line is its piece, with a line feed or without
+abbrev IsPieceOf : Text → Text → Type 0
+IsPieceOf w p = (w ≡ p) ⊎ (w ≡ p ++ 10 ∷ [])
+
+abbrev ArePiecesOf : List Text → List Text → Type 0
+ArePiecesOf [] [] = Unit {0}
+ArePiecesOf [] (p ∷ ps) = ⊥
+ArePiecesOf (w ∷ ws) [] = ⊥
+ArePiecesOf (w ∷ ws) (p ∷ ps) = IsPieceOf w p × ArePiecesOf ws ps
+
+first_byte : (b : ℕ) (ws ps : List Text) → ArePiecesOf ws ps → ArePiecesOf (with_first b ws) (with_first b ps)
+first_byte b [] [] are = (inl refl, tt)
+first_byte b [] (p ∷ ps) are = absurd are
+first_byte b (w ∷ ws) [] are = absurd are
+first_byte b (w ∷ ws) (p ∷ ps) are = (⊎_elim (λ e. inl (ap (λ t. b ∷ t) e)) (λ e. inr (ap (λ t. b ∷ t) e)) are.0, are.1)
+
+are_pieces : (s : Text) → ArePiecesOf (whole_lines s) (pieces s)
+unfolding whole_lines pieces
+are_pieces [] = tt
+are_pieces (b ∷ s) =
+    elim (b == 10) as (λ t. b == 10 ≡ t → ArePiecesOf (cond t ((b ∷ []) ∷ whole_lines s) (with_first b (whole_lines s))) (cond t ([] ∷ pieces s) (with_first b (pieces s)))) [
+      | true ↦ λ feed. (inr (ap (λ x. x ∷ []) (eqb-true b 10 feed)), are_pieces s)
+      | false ↦ λ other. first_byte b (whole_lines s) (pieces s) (are_pieces s)
+    ] refl
+
+same_reading : (says : ℕ → Text → Reading) (n : ℕ) (w p : Text) → IsPieceOf w p → reading_by says n w ≡ reading_by says n p
+same_reading says n w p is = ⊎_elim (λ e. ap (reading_by says n) e) (λ e. ap (reading_by says n) e ∙ reading_by-feed says n p) is
+
+-- ---- all that lines say
+
+abbrev pub said : (ℕ → Text → Option Reading) → List Line → List Reading
+said read ls = flat_map (λ l. option_to_list (read l.place.line l.text)) ls
+
+said-placed : (says : ℕ → Text → Reading) (buffer n : ℕ) (ws ps : List Text) → ArePiecesOf ws ps → said (reading_by says) (placed_from buffer n ws) ≡ readings_from (reading_by says) n ps
+unfolding placed_from readings_from
+said-placed says buffer n [] [] are = refl
+said-placed says buffer n [] (p ∷ ps) are = absurd are
+said-placed says buffer n (w ∷ ws) [] are = absurd are
+said-placed says buffer n (w ∷ ws) (p ∷ ps) are =
+    ap (λ o. option_to_list o ++ said (reading_by says) (placed_from buffer (n + 1) ws)) (same_reading says n w p are.0)
+    ∙ ap (λ rs. option_to_list (reading_by says n p) ++ rs) (said-placed says buffer (n + 1) ws ps are.1)
+
+pub said-buffer : (says : ℕ → Text → Reading) (s : Text) → said (reading_by says) (lines (s ∷ [])) ≡ readings_from (reading_by says) 1 (pieces s)
+unfolding lines_from
+said-buffer says s = ap (said (reading_by says)) (append-nil (placed_from 0 1 (whole_lines s))) ∙ said-placed says 0 1 (whole_lines s) (pieces s) (are_pieces s)
+
+-- ---- the entries
+
+good_first : (o : Option Reading) (l : Line) (ls : List Line) (rs : List Reading) → entry l ≡ option_and_then result_ok o → entries (placed ls) ≡ good_of rs
+    → entries (placed (l ∷ ls)) ≡ good_of (option_to_list o ++ rs)
+unfolding good_of
+good_first None l ls rs is e = ap (λ x. entries (cons_option (option_map (λ m. record { place = l.place; entry = m }) x) (placed ls))) is ∙ e
+good_first (Some (Ok m)) l ls rs is e = ap (λ x. entries (cons_option (option_map (λ m. record { place = l.place; entry = m }) x) (placed ls))) is ∙ ap (λ es. m ∷ es) e
+good_first (Some (Err f)) l ls rs is e = ap (λ x. entries (cons_option (option_map (λ m. record { place = l.place; entry = m }) x) (placed ls))) is ∙ e
+
+good-placed : (buffer n : ℕ) (ws ps : List Text) → ArePiecesOf ws ps → entries (placed (placed_from buffer n ws)) ≡ good_of (readings_from reading n ps)
+unfolding placed_from readings_from good_of entry
+good-placed buffer n [] [] are = refl
+good-placed buffer n [] (p ∷ ps) are = absurd are
+good-placed buffer n (w ∷ ws) [] are = absurd are
+good-placed buffer n (w ∷ ws) (p ∷ ps) are =
+    good_first (reading n p) (record { place = record { buffer = buffer; line = n }; text = w }) (placed_from buffer (n + 1) ws) (readings_from reading (n + 1) ps)
+    (ap (option_and_then result_ok) (same_reading line_reading n w p are.0))
+    (good-placed buffer (n + 1) ws ps are.1)
+
+entries-append : (xs ys : List Line) → entries (placed (xs ++ ys)) ≡ entries (placed xs) ++ entries (placed ys)
+entries-append xs ys = ap entries (filter_map-append placed_entry xs ys) ∙ map-append (λ (x : PlacedMapping). x.entry) (placed xs) (placed ys)
+
+pub good-lines : (buffer : ℕ) (ss : List Text) → entries (placed (lines_from buffer ss)) ≡ flat_map good ss
+unfolding lines_from
+good-lines buffer [] = refl
+good-lines buffer (s ∷ ss) =
+    entries-append (placed_from buffer 1 (whole_lines s)) (lines_from (buffer + 1) ss)
+    ∙ ap (λ es. es ++ entries (placed (lines_from (buffer + 1) ss))) (good-placed buffer 1 (whole_lines s) (pieces s) (are_pieces s))
+    ∙ ap (λ es. good s ++ es) (good-lines (buffer + 1) ss)

@@ -1,0 +1,32 @@
+-- The lines that bstr gives are those of the definition.
+use Rattle.std.proofs.Common.{◌≡◌, ◌==◌, ℕ, suc, List, [], ◌∷◌, take, drop, sym, ap, ◌∙◌, arith, ⊎_elim}
+use Rattle.std.proofs.lemmas.Bool.{cases_Bool, cond-true, cond-false}
+use Rattle.bstr.specs.Text.{line_len, lines_of}
+use Rattle.bstr.proofs.lemmas.LineLemmas.{lines-nil, lines-step}
+use Rattle.mailmap_grammar.specs.Lines.{with_first}
+use Rattle.mailmap_findings.specs.Places.{whole_lines}
+
+-- one more byte in front of the first line
+one_more : (b : ℕ) (s : List ℕ) → (b ∷ take (line_len s) s) ∷ lines_of (drop (line_len s) s) ≡ with_first b (lines_of s)
+unfolding line_len
+one_more b [] = ap (λ ls. (b ∷ []) ∷ ls) lines-nil ∙ sym (ap (with_first b) lines-nil)
+one_more b (c ∷ s) = sym (ap (with_first b) (lines-step (c ∷ s) (omega arith)))
+
+pub lines-whole : (s : List ℕ) → lines_of s ≡ whole_lines s
+unfolding line_len whole_lines
+lines-whole [] = lines-nil
+lines-whole (b ∷ s) = ⊎_elim
+    (λ feed.
+    let len : line_len (b ∷ s) ≡ 1 = cond-true _ _ _ feed in
+    lines-step (b ∷ s) (omega arith)
+    ∙ ap (λ n. take n (b ∷ s) ∷ lines_of (drop n (b ∷ s))) len
+    ∙ ap (λ ls. (b ∷ []) ∷ ls) (lines-whole s)
+    ∙ sym (cond-true _ _ _ feed))
+    (λ other.
+    let len : line_len (b ∷ s) ≡ suc (line_len s) = cond-false _ _ _ other in
+    lines-step (b ∷ s) (omega arith)
+    ∙ ap (λ n. take n (b ∷ s) ∷ lines_of (drop n (b ∷ s))) len
+    ∙ one_more b s
+    ∙ ap (with_first b) (lines-whole s)
+    ∙ sym (cond-false _ _ _ other))
+    (cases_Bool (b == 10))

@@ -1,0 +1,95 @@
+-- Lines as they stand: together they are their buffer, and some of them are the lines of what they are together.
+use Rattle.std.proofs.Common.{◌≡◌, ◌≢◌, ◌⊎◌, ◌==◌, ℕ, Bool, true, false, if◌then◌else◌, List, [], ◌∷◌, ◌++◌, map, filter, inl, inr, ⊎_elim, append-nil, append_assoc, refl, sym, ap, subst, ◌∙◌}
+use Rattle.std.specs.List.{AllByRecursion, flat_map}
+use Rattle.std.proofs.lemmas.Bool.{cond-true, cond-false, cond_both, ne_eqb, eqb-false, eqb-true}
+use Rattle.mailmap_entries.specs.Folding.{Text}
+use Rattle.mailmap_grammar.specs.Lines.{HoldsNo, with_first}
+use Rattle.mailmap_findings.specs.Places.{Line, whole_lines}
+
+abbrev pub joined : List Text → Text
+joined ts = flat_map (λ t. t) ts
+
+-- ---- together they are their buffer
+
+joined-with_first : (b : ℕ) (ts : List Text) → joined (with_first b ts) ≡ b ∷ joined ts
+joined-with_first b [] = refl
+joined-with_first b (t ∷ ts) = refl
+
+pub joined-whole_lines : (s : Text) → joined (whole_lines s) ≡ s
+unfolding whole_lines
+joined-whole_lines [] = refl
+joined-whole_lines (b ∷ s) =
+    cond_both (b == 10) _ _ (λ ts. joined ts ≡ b ∷ s) (λ feed. ap (λ t. b ∷ t) (joined-whole_lines s))
+    (λ other. joined-with_first b (whole_lines s) ∙ ap (λ t. b ∷ t) (joined-whole_lines s))
+
+-- ---- which texts are the lines of what they are together
+
+-- a line feed at the end, and nowhere else
+abbrev IsEnded : Text → Type 0
+IsEnded t = (front : Text) × HoldsNo 10 front × (t ≡ front ++ 10 ∷ [])
+
+-- no line feed
+abbrev IsOpen : Text → Type 0
+IsOpen t = (t ≢ []) × HoldsNo 10 t
+
+-- each is a line with its line feed, but a last one may have none
+abbrev pub AreWhole : List Text → Type 0
+AreWhole [] = Unit {0}
+AreWhole (t ∷ ts) = (IsEnded t ⊎ (IsOpen t × (ts ≡ []))) × AreWhole ts
+
+first_byte : (b : ℕ) (ts : List Text) → b ≢ 10 → AreWhole ts → AreWhole (with_first b ts)
+first_byte b [] other are = (inr (((λ e. cc), (other, tt)), refl), tt)
+first_byte b (t ∷ ts) other are = (
+  ⊎_elim (λ w. inl (b ∷ w.0, (other, w.1), ap (λ x. b ∷ x) w.2)) (λ w. inr (((λ e. cc), (other, w.0.1)), w.1)) are.0,
+  are.1,
+)
+
+pub are_whole : (s : Text) → AreWhole (whole_lines s)
+unfolding whole_lines
+are_whole [] = tt
+are_whole (b ∷ s) =
+    cond_both (b == 10) _ _ AreWhole (λ feed. (inl ([], tt, ap (λ x. x ∷ []) (eqb-true b 10 feed)), are_whole s))
+    (λ other. first_byte b (whole_lines s) (eqb-false b 10 other) (are_whole s))
+
+lines-ended : (front rest : Text) → HoldsNo 10 front → whole_lines ((front ++ 10 ∷ []) ++ rest) ≡ (front ++ 10 ∷ []) ∷ whole_lines rest
+unfolding whole_lines
+lines-ended [] rest free = refl
+lines-ended (b ∷ front) rest free = cond-false _ _ _ (ne_eqb b 10 free.0) ∙ ap (with_first b) (lines-ended front rest free.1)
+
+lines-open : (t : Text) → HoldsNo 10 t → t ≢ [] → whole_lines t ≡ t ∷ []
+unfolding whole_lines
+lines-open [] free some = absurd (some refl)
+lines-open (b ∷ []) free some = cond-false _ _ _ (ne_eqb b 10 free.0)
+lines-open (b ∷ c ∷ t) free some = cond-false _ _ _ (ne_eqb b 10 free.0) ∙ ap (with_first b) (lines-open (c ∷ t) free.1 (λ e. cc))
+
+lines-nil : whole_lines [] ≡ []
+unfolding whole_lines
+lines-nil = refl
+
+pub whole_lines-joined : (ts : List Text) → AreWhole ts → whole_lines (joined ts) ≡ ts
+whole_lines-joined [] are = lines-nil
+whole_lines-joined (t ∷ ts) are = ⊎_elim
+    (λ w.
+    ap (λ x. whole_lines (x ++ joined ts)) w.2
+    ∙ lines-ended w.0 (joined ts) w.1
+    ∙ ap (λ xs. (w.0 ++ 10 ∷ []) ∷ xs) (whole_lines-joined ts are.1)
+    ∙ ap (λ x. x ∷ ts) (sym w.2))
+    (λ w. ap (λ xs. whole_lines (t ++ joined xs)) w.1 ∙ ap whole_lines (append-nil t) ∙ lines-open t w.0.1 w.0.0 ∙ ap (λ xs. t ∷ xs) (sym w.1))
+    are.0
+
+-- ---- some of them
+
+abbrev pub texts : List Line → List Text
+texts ls = map (λ l. l.text) ls
+
+none_left : (test : Line → Bool) (ls : List Line) → texts ls ≡ [] → texts (filter test ls) ≡ []
+none_left test [] e = refl
+none_left test (l ∷ ls) e = cc
+
+pub some_whole : (test : Line → Bool) (ls : List Line) → AreWhole (texts ls) → AreWhole (texts (filter test ls))
+some_whole test [] are = tt
+some_whole test (l ∷ ls) are =
+    elim (test l) as (λ b. AreWhole (texts (if b then l ∷ filter test ls else filter test ls))) [
+      | true ↦ (⊎_elim (λ w. inl w) (λ w. inr (w.0, none_left test ls w.1)) are.0, some_whole test ls are.1)
+      | false ↦ some_whole test ls are.1
+    ]

@@ -1,0 +1,5 @@
+use Rattle.mailmap_findings.proofs.Ordered.{findings_in_order}
+use Rattle.mailmap_findings.proofs.laws.law_in_order.Goals as goal
+
+pub returns : goal.returns
+returns c = findings_in_order

@@ -1,0 +1,6 @@
+//! What is wrong with mailmaps, line by line, and which of their lines may go. The crate `gix_mailmap` passes on what
+//! users need of this.
+#![tactic(auto)]
+
+pub mod laws;
+pub mod verify;

@@ -1,0 +1,86 @@
+//! The lines of mailmaps that don't do what they seem to.
+//!
+//! Of the mailmap
+//!
+//! ```text
+//! Jane <jane@x> <JD@x>
+//! Jane Doe <jane@x> <jd@X>
+//! Joe <joe@x> joe
+//! ```
+//!
+//! [`verify`] finds that the third line ends with text that nobody reads. The first line gives `JD@x` its spelling, so it
+//! has an effect, although the second one replaces both of its fields.
+ghost use Rattle.std.specs.Prelude.{map, IfOk};
+ghost use Rattle.mailmap_findings.specs.Findings.{AreFindings, IsPruned, finding_of};
+
+mod contacts;
+mod lines;
+mod reading;
+mod walk;
+
+use lines::{placed_entries, read_lines};
+use mailmap_grammar::lines::Error;
+pub use mailmap_sifting::Place;
+use mailmap_sifting::sift;
+use std::alloc::{AllocError, Global};
+
+/// What is told of a line.
+#[derive(Debug, PartialEq, Eq, Drop)]
+pub struct Finding<'a> {
+    /// Where the line stands.
+    pub place: Place,
+    pub kind: Kind<'a>,
+}
+
+/// What is wrong with a line.
+#[derive(Debug, PartialEq, Eq, Drop)]
+pub enum Kind<'a> {
+    /// The line has a fault of the strict reading: it gives no entry, or its second email isn't closed.
+    Fault(Error<'a>),
+    /// Text behind the last email of a line that gives an entry. It is trimmed and not empty: `joe` of `Joe <joe@x> joe`.
+    IgnoredText(&'a [u8]),
+    /// The line could go and nothing would change. `beside` is the last line that stays and is for the same old email and
+    /// old name.
+    NoEffect {
+        beside: Place,
+    },
+    /// The line maps to a contact that the mailmaps map to another one.
+    ItselfMapped {
+        contact: Contact<'a>,
+        to: Contact<'a>,
+    },
+}
+
+/// A name and an email. There is no name where a line names neither a new one nor an old one.
+#[derive(Clone, Copy, Debug, PartialEq, Eq)]
+pub struct Contact<'a> {
+    pub name: Option<&'a [u8]>,
+    pub email: &'a [u8],
+}
+
+/// Tells what is wrong with the lines of the buffers, in the order of the lines; later buffers come behind earlier ones.
+///
+/// Of one line there may be two findings: a fault or ignored text, and then that its entry has no effect or maps to a
+/// contact that is itself mapped. All lines that are told to have no effect can be deleted at once.
+///
+/// Of the buffer `P <a@x>\nP <a@x> p` this tells that line 2 has the ignored text `p`, and that line 2 has no effect
+/// beside line 1.
+pub fn verify<'a>(alloc: Global, buffers: &[&'a [u8]]) -> Result<Vec<Finding<'a>>, AllocError>
+    ensures { IfOk result (λ findings. AreFindings (map (λ b. b.now) buffers.now) (map finding_of findings.items)) }
+{
+    let lines = read_lines(alloc, buffers)?;
+    let placed = placed_entries(alloc, &lines)?;
+    let sifted = sift(alloc, &placed)?;
+    walk::findings(alloc, &lines, &sifted)
+}
+
+/// The buffer without its lines whose entries have no effect. All other lines stay byte for byte, also comments and those
+/// with faults.
+pub fn prune(alloc: Global, buffer: &[u8]) -> Result<Vec<u8>, AllocError>
+    ensures { IfOk result (λ text. IsPruned buffer.now text.items) }
+{
+    let lines = read_lines(alloc, &[buffer])?;
+    let placed = placed_entries(alloc, &lines)?;
+    let sifted = sift(alloc, &placed)?;
+    walk::text_left(alloc, &lines, sifted.kept())
+}

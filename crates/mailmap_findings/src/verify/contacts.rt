@@ -1,0 +1,80 @@
+//! What is told of a line by what its entry does.
+ghost use Rattle.std.specs.Prelude.{◌≡◌, [], unwrap_or};
+ghost use Rattle.std.specs.Option.{option_map};
+ghost use Rattle.mailmap_entries.specs.Entries.{mapping_of};
+ghost use Rattle.mailmap_sifting.specs.Numbers.{fields_of};
+ghost use Rattle.mailmap_sifting.specs.Sifting.{entries};
+ghost use Rattle.mailmap_findings.specs.Findings.{contact as spec_contact, contact_of, mapped as spec_mapped, replaced as spec_replaced, told_of, told_of_contact as spec_told_of_contact, told_of_entry as spec_told};
+
+use crate::verify::{Contact, Kind};
+use mailmap_entries::Entry;
+use mailmap_sifting::{Fields, Sifted};
+
+/// That the entry has no effect, if it does not stay, or else that its contact is mapped on.
+pub(crate) fn told_of_entry<'a>(
+    sifted: &Sifted<'a>,
+    entry: &Entry<'a>,
+    stays: bool,
+) -> Option<Kind<'a>>
+    ensures { option_map told_of result ≡ spec_told (entries sifted.now.history) sifted.now.kept stays (mapping_of entry.now) }
+{
+    if stays {
+        return told_of_contact(sifted, proper_contact(entry));
+    }
+    let beside = sifted.beside(entry)?;
+    Some(Kind::NoEffect { beside })
+}
+
+// That the contact is mapped to another one.
+fn told_of_contact<'a>(sifted: &Sifted<'a>, contact: Contact<'a>) -> Option<Kind<'a>>
+    ensures { option_map told_of result ≡ spec_told_of_contact (contact_of contact.entry) (spec_mapped (entries sifted.now.history) (contact_of contact.entry)) }
+{
+    let to = mapped(sifted, contact);
+    if contact == to {
+        return None;
+    }
+    Some(Kind::ItselfMapped { contact, to })
+}
+
+// The contact that an entry maps to.
+fn proper_contact<'a>(entry: &Entry<'a>) -> Contact<'a>
+    ensures { contact_of result ≡ spec_contact (mapping_of entry.now) }
+{
+    Contact {
+        name: entry.new_name().or(entry.old_name()),
+        email: entry.new_email().unwrap_or(entry.old_email()),
+    }
+}
+
+// What the whole history makes of a contact.
+fn mapped<'a>(sifted: &Sifted<'a>, contact: Contact<'a>) -> Contact<'a>
+    ensures { contact_of result ≡ spec_mapped (entries sifted.now.history) (contact_of contact.entry) }
+{
+    match sifted.scan(name_or_empty(&contact), contact.email) {
+        None => contact,
+        Some(found) => replaced(contact, found),
+    }
+}
+
+fn name_or_empty<'a>(contact: &Contact<'a>) -> &'a [u8]
+    ensures { result.now ≡ unwrap_or (contact_of contact.now).name [] }
+{
+    match contact.name {
+        None => &[],
+        Some(name) => name,
+    }
+}
+
+// The contact with these fields, where there are any, in the place of its own.
+fn replaced<'a>(contact: Contact<'a>, fields: Fields<'a>) -> Contact<'a>
+    ensures { contact_of result ≡ spec_replaced (fields_of fields.entry) (contact_of contact.entry) }
+{
+    let email = fields.email.unwrap_or(contact.email);
+    match contact.name {
+        None => Contact { name: None, email },
+        Some(name) => Contact {
+            name: Some(fields.name.unwrap_or(name)),
+            email,
+        },
+    }
+}

@@ -1,0 +1,80 @@
+//! The lines of buffers with their places.
+ghost use Rattle.std.specs.Prelude.{◌≡◌, ◌++◌, map, IfOk, OnOk};
+ghost use Rattle.std.specs.Option.{option_map};
+ghost use Rattle.mailmap_entries.specs.Entries.{mapping_of};
+ghost use Rattle.mailmap_sifting.specs.Sifting.{placed_of};
+ghost use Rattle.mailmap_findings.specs.Places.{buffer_lines, entry as spec_entry, line_of, lines, placed};
+
+use bstr::ByteSlice;
+use mailmap_entries::Entry;
+use mailmap_grammar::lines::{Strictness, read_line};
+use mailmap_sifting::{Place, PlacedEntry};
+use std::alloc::{AllocError, Global};
+
+/// A line as it stands, with its line feed.
+#[derive(Clone, Copy)]
+pub(crate) struct Line<'a> {
+    pub(crate) place: Place,
+    pub(crate) text: &'a [u8],
+}
+
+/// The lines of the buffers, one buffer after another.
+pub(crate) fn read_lines<'a>(
+    alloc: Global,
+    buffers: &[&'a [u8]],
+) -> Result<Vec<Line<'a>>, AllocError>
+    ensures { IfOk result (λ found. map line_of found.items ≡ lines (map (λ b. b.now) buffers.now)) }
+{
+    let mut found = Vec::new(alloc);
+    for (number, buffer) in buffers.iter().enumerate() {
+        push_lines(&mut found, number, buffer)?;
+    }
+    Ok(found)
+}
+
+// Appends the lines of one buffer, which are numbered from 1.
+fn push_lines<'a>(
+    found: &mut Vec<Line<'a>>,
+    number: usize,
+    buffer: &'a [u8],
+) -> Result<(), AllocError>
+    ensures { OnOk result (map line_of found.new.items ≡ map line_of found.old.items ++ buffer_lines number buffer.now) }
+{
+    let mut line = 0;
+    for text in buffer.lines_with_terminator() {
+        line += 1;
+        let place = Place {
+            buffer: number,
+            line,
+        };
+        found.push(Line { place, text })?;
+    }
+    Ok(())
+}
+
+/// The entries of the lines that give one.
+pub(crate) fn placed_entries<'a>(
+    alloc: Global,
+    lines: &[Line<'a>],
+) -> Result<Vec<PlacedEntry<'a>>, AllocError>
+    ensures { IfOk result (λ found. map placed_of found.items ≡ placed (map line_of lines.now)) }
+{
+    let mut found = Vec::new(alloc);
+    for line in lines {
+        if let Some(entry) = entry_of(line) {
+            found.push(PlacedEntry {
+                place: line.place,
+                entry,
+            })?;
+        }
+    }
+    Ok(found)
+}
+
+/// The entry that a line gives, read leniently as for lookups.
+#[inline]
+pub(crate) fn entry_of<'a>(line: &Line<'a>) -> Option<Entry<'a>>
+    ensures { option_map mapping_of result ≡ spec_entry (line_of line.now) }
+{
+    read_line(line.text, line.place.line, Strictness::Lenient)?.ok()
+}
