@@ -1,6 +1,6 @@
 #!/usr/bin/env bash
 # Refuses each request for memory in turn: those of the library's calls, which the program refused_memory makes and
-# judges, and those of mailmap_check.
+# judges, and those of mailmap_check and mailmap_verify.
 #
 # Each program is built once and run often. It is always the request of one number that is refused, so each run makes
 # one request more than the run before it, ahead of those that are looked at.
@@ -30,7 +30,7 @@ count() {
 }
 
 # The library: standard input says how many requests come before all calls.
-refused=130
+refused=200
 mkdir "$work/calls"
 for ((before = 0; before < refused; before++)); do
     echo "$before" > "$work/calls/$(printf '%03d' "$before")"
@@ -60,6 +60,8 @@ snapshot::Signature::try_clone
 actor::Signature::from_cow
 check::check
 check::compact
+verify::verify
+verify::prune
 END
 
 # The calls that take no memory made no request: the runs that refuse the request ahead of them and the one behind them
@@ -82,9 +84,7 @@ untold="$(sed -n '/^refused/p' "$printed" | sed '1,/^refused: [^n]/d' | grep -cx
 calls="$(grep '^refused' "$printed" | grep -cvx 'refused: nothing')"
 
 # The programs. Each file without a byte more among the arguments is two requests more, one for the argument and one to
-# read the file. The numbers of files are those between which no list of them grows; of the requests, the ones in a row
-# let each be refused from the reading of the arguments on, and behind the last ones nothing is refused.
-refused_in_turn='34 35 60 61'
+# read the file. The numbers of files are those between which no list of them grows.
 files_at_least=16
 files_at_most=29
 : > "$work/empty"
@@ -92,6 +92,7 @@ printf 'Joe R. Developer <joe@example.com> <bugs@example.com>\n' > "$work/mailma
 printf 'Joe R. Developer <joe@example.com>\n' > "$work/answered"
 printf 'not a contact\n' >> "$work/answered"
 printf ' Joe R. Developer <joe@example.com> <bugs@example.com>\n' > "$work/compacted"
+printf 'mailmap:1: warning: no effect beside mailmap:1\n' > "$work/told"
 
 # add_cases MODE FIRST..: the runs of a mode, whose arguments begin so
 add_cases() {
@@ -106,8 +107,8 @@ add_cases() {
     done
 }
 
-# wants PROGRAM: judges a run of all cases. At status 0 all has to be printed, which is the text of the mode's name, and at
-# status 2 nothing, with one line on standard error.
+# wants PROGRAM: judges a run of all cases. At status 0 or 1 all has to be printed, which is the text of the mode's name, and
+# at status 2 nothing, with one line on standard error.
 wants() {
     local program="$1" run name runs
     while read -r run; do
@@ -115,7 +116,7 @@ wants() {
         name="${name#case=}"
         echo "== $name"
         case "$run" in
-        *' run=ended status=0 '*) cat "$work/${name%%[0-9]*}" ;;
+        *' run=ended status='[01]' '*) cat "$work/${name%%[0-9]*}" ;;
         *' run=ended status=2 '*) ;;
         *) fail "$program: another status" ;;
         esac
@@ -129,27 +130,39 @@ wants() {
     refusals=$((refusals + runs))
 }
 
-# refuse PROGRAM: refuses the requests in turn. The last ones must be behind all requests of the fewest files.
+# refuse PROGRAM NUMBER..: refuses the requests of these numbers in turn. The last ones must be behind all requests of the
+# fewest files.
 refuse() {
     local program="$1" refused first
     refusals=0
     : > "$work/lines"
-    for refused in $refused_in_turn; do
+    for refused in "${@:2}"; do
         try "$program" "$refused" "$work/runs" --data "empty=$work/empty" --data "mailmap=$work/mailmap"
         wants "$program"
     done
     for first in "$work/runs"/*"$files_at_least"; do
-        grep -q "^case=${first##*/} run=ended status=0 " "$said" || fail "$program: it makes more requests"
+        grep -q "^case=${first##*/} run=ended status=[01] " "$said" || fail "$program: it makes more requests"
     done
-    for line in 'out of memory' 'cannot read standard input' 'cannot read file 1' 'cannot read file 20'; do
+    for line in 'out of memory' 'cannot read file 1' 'cannot read file 20'; do
         grep -qxF "$program: $line" "$work/lines" || fail "$program: never says: $line"
     done
 }
 
+# Of the numbers the ones in a row let each request be refused from the reading of the arguments on, and behind the last
+# ones nothing is refused.
 mkdir "$work/runs"
 add_cases answered ''
 add_cases compacted --compact
-refuse mailmap_check
+refuse mailmap_check 34 35 60 61
+grep -qxF 'mailmap_check: cannot read standard input' "$work/lines" || fail 'mailmap_check: never fails to read its input'
 checks="$refusals"
 
-echo "refused memory: $calls requests of the library's calls and $checks of mailmap_check, each refused, end as they must"
+# The mailmap is given twice, and has no effect the first time.
+rm -r "$work/runs"
+mkdir "$work/runs"
+add_cases told mailmap
+refuse mailmap_verify 34 35 60 61 86 87 112 113
+verifies="$refusals"
+
+echo "refused memory: $calls requests of the library's calls, $checks of mailmap_check and $verifies of mailmap_verify," \
+    "each refused, end as they must"

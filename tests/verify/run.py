@@ -17,7 +17,8 @@ import sys
 import tempfile
 from pathlib import Path
 
-from hostile import hostile
+sys.dont_write_bytecode = True
+from hostile import hostile  # the file beside this one
 
 failed = 0
 

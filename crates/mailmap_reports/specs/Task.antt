@@ -1,5 +1,5 @@
 -- What the arguments of `mailmap_verify` ask for, and what that prints.
-use Rattle.std.specs.Prelude.{◌≡◌, ℕ, List, [], ◌∷◌, Option, Some, IfSome, codes, slice_get}
+use Rattle.std.specs.Prelude.{◌≡◌, List, [], ◌∷◌, Option, Some, IfSome, codes, slice_get}
 use Rattle.gix_mailmap.specs.Folding.{Text}
 use Rattle.gix_mailmap.specs.Findings.{AreFindings, IsPruned, Told}
 use Rattle.mailmap_runs.specs.Files.{AreRead}

@@ -1,5 +1,5 @@
 //! What is found in mailmaps as text: a line for each finding.
-ghost use Rattle.std.specs.Prelude.{◌≡◌, ◌++◌, ◌∷◌, [], codes, decimal, length, map, string_bytes, IfOk, OnOk};
+ghost use Rattle.std.specs.Prelude.{◌≡◌, ◌++◌, codes, map, string_bytes, IfOk, OnOk};
 ghost use Rattle.gix_mailmap.specs.Defects.{contact_of, defect_of};
 ghost use Rattle.gix_mailmap.specs.Findings.{told_of};
 ghost use Rattle.gix_mailmap.specs.Lines.{fault_of};

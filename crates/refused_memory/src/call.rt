@@ -26,6 +26,8 @@ pub enum Call {
     FromCow,
     Check,
     Compact,
+    Verify,
+    Prune,
     /// The calls that accept or write nothing, and so take no memory, and the others that take none.
     Nothing,
     Unrefusable,
@@ -58,6 +60,8 @@ impl fmt::Display for Call {
             Call::FromCow => "actor::Signature::from_cow",
             Call::Check => "check::check",
             Call::Compact => "check::compact",
+            Call::Verify => "verify::verify",
+            Call::Prune => "verify::prune",
             Call::Nothing => "a call that accepts or writes nothing",
             Call::Unrefusable => "a call that takes no memory",
             Call::Before => "a request before all calls",

@@ -3,9 +3,11 @@
 use crate::call::Call;
 use crate::run::{Run, Wrong, lists, wants};
 use crate::samples::{
-    ANSWERS, CONTACTS, JANE, NOBODY, TEAM, WRITTEN, all, is_jane, is_nobody, later, owns_jane, team,
+    ANSWERS, CONTACTS, FAULTY, JANE, NOBODY, PRUNED, TEAM, WRITTEN, all, are_of_faulty, is_jane,
+    is_nobody, later, owns_jane, team,
 };
 use gix_mailmap::snapshot::{Source, WriteError};
+use gix_mailmap::verify::{prune, verify};
 use gix_mailmap::{Entry, Snapshot, actor, check};
 use std::alloc::{AllocError, Global};
 
@@ -27,7 +29,8 @@ pub fn judge(run: &mut Run, alloc: Global, team: &Snapshot) -> Result<(), Wrong>
     merge_sources(run, alloc)?;
     resolve(run, alloc, team)?;
     copy_signatures(run, alloc, team)?;
-    check_and_compact(run, alloc)
+    check_and_compact(run, alloc)?;
+    verify_and_prune(run, alloc)
 }
 
 // Reads the snapshot of the team, and lists it.
@@ -150,5 +153,15 @@ fn check_and_compact(run: &mut Run, alloc: Global) -> Result<(), Wrong> {
     })?;
     run.judge_at_once(Call::Compact, || {
         Ok(check::compact(alloc, &[TEAM])?.as_slice() == WRITTEN)
+    })
+}
+
+// What is wrong with two mailmaps, and one of them without the lines that have no effect.
+fn verify_and_prune(run: &mut Run, alloc: Global) -> Result<(), Wrong> {
+    run.judge_at_once(Call::Verify, || {
+        Ok(are_of_faulty(verify(alloc, &[TEAM, FAULTY])?.as_slice()))
+    })?;
+    run.judge_at_once(Call::Prune, || {
+        Ok(prune(alloc, FAULTY)?.as_slice() == PRUNED)
     })
 }

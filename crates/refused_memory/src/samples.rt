@@ -2,7 +2,9 @@
 
 use gix_mailmap::actor::SignatureRef;
 use gix_mailmap::date::Time;
+use gix_mailmap::lines::Error;
 use gix_mailmap::snapshot::Signature;
+use gix_mailmap::verify::{Contact, Finding, Kind, Place};
 use gix_mailmap::{Entry, actor};
 use std::borrow::CowSlice;
 
@@ -25,6 +27,58 @@ pub const ANSWERS: &[u8] = b"Joe R. Developer <joe@example.com>
 Jane Doe <jane@example.com>
 not a contact
 ";
+
+/// A mailmap with a finding of each kind.
+pub const FAULTY: &[u8] = b"Ann <ann@example.com>
+plain
+Ann Lee <ann@example.com> # since May
+Bob <ann@example.com> <bob@example.com>
+";
+
+/// The same without its line of no effect.
+pub const PRUNED: &[u8] = b"plain
+Ann Lee <ann@example.com> # since May
+Bob <ann@example.com> <bob@example.com>
+";
+
+/// Whether this is what is found in that mailmap, as the second of two buffers.
+pub fn are_of_faulty(findings: &[Finding<'_>]) -> bool {
+    let email = b"ann@example.com";
+    let [no_effect, fault, ignored, mapped] = findings else {
+        return false;
+    };
+    is_on(no_effect, 1)
+        && is_on(fault, 2)
+        && is_on(ignored, 3)
+        && is_on(mapped, 4)
+        && no_effect.kind == Kind::NoEffect { beside: at(3) }
+        && fault.kind
+            == Kind::Fault(Error::NoEmail {
+                line: 2,
+                input: b"plain",
+            })
+        && ignored.kind == Kind::IgnoredText(b"# since May")
+        && mapped.kind
+            == Kind::ItselfMapped {
+                contact: contact(b"Bob", email),
+                to: contact(b"Ann Lee", email),
+            }
+}
+
+fn at(line: usize) -> Place {
+    Place { buffer: 1, line }
+}
+
+fn is_on(finding: &Finding<'_>, line: usize) -> bool {
+    finding.place == at(line)
+}
+
+fn contact<'a>(name: &'a [u8], email: &'a [u8]) -> Contact<'a> {
+    Contact {
+        name: Some(name),
+        email,
+    }
+}
 
 /// The entries of the mailmap.
 pub fn team() -> [Entry<'static>; 2] {
