@@ -20,6 +20,7 @@ usage: mailmap_bench MODE ARGS
     bench-compact FILE [N]           writes the canonical text of FILE, N times
     bench-merge1 FILE                merges the entries of FILE one by one
     bench-merge FILE K               merges the entries of FILE in batches of K
+    bench-merge-last FILE N          merges the last N entries of FILE one by one into the snapshot of the others
 Each prints one line: how often, and the nanoseconds of all, the quickest, the middle and the slowest one.
 ";
 
@@ -41,6 +42,7 @@ fn measure(rt: &HostRuntime, mode: &str, words: &[String], laps: &mut Laps) -> R
         "bench-compact" => modes::compactions(rt, words, laps),
         "bench-merge1" => modes::merges(rt, mode, words, 1, laps),
         "bench-merge" => modes::merges(rt, mode, words, input::number(words, 1)?, laps),
+        "bench-merge-last" => modes::last_merges(rt, words, laps),
         _ => bail!("unknown mode {mode}"),
     }
 }

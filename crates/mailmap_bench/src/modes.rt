@@ -10,6 +10,7 @@ use gix_mailmap::actor::SignatureRef;
 use gix_mailmap::snapshot::Snapshot;
 use gix_mailmap::{Entry, check, parse, parse_ignore_errors};
 use std::alloc::{AllocError, Global};
+use std::iter;
 use std::rt::Runtime;
 use std::time::Instant;
 
@@ -176,6 +177,39 @@ fn merged(alloc: Global, entries: &[Entry<'_>], batch: usize) -> Result<Snapshot
         snapshot.merge(chunk.iter().copied())?;
     }
     Ok(snapshot)
+}
+
+/// Merges the last entries of a file one by one into the snapshot of all others.
+pub fn last_merges<R: Runtime + AllocGlobal>(
+    rt: &R,
+    words: &[String],
+    laps: &mut Laps,
+) -> Result<()> {
+    let buf = file(rt, words, 0)?;
+    let count = number(words, 1)?;
+    let entries: Vec<Entry<'_>> = parse_ignore_errors(&buf).collect(rt.alloc())?;
+    let (first, last) = entries.split_at(entries.len().saturating_sub(count));
+    let mut snapshot = Snapshot::new(rt.alloc(), first.iter().copied())?;
+    merge_each(rt, &mut snapshot, last, laps)?;
+    let tally = listed(&snapshot);
+    let merges = last.len();
+    let laps = laps.summary();
+    println!(rt; "bench-merge-last {laps} merges={merges} entries={tally}")?;
+    Ok(())
+}
+
+fn merge_each<R: Runtime + AllocGlobal>(
+    rt: &R,
+    snapshot: &mut Snapshot,
+    entries: &[Entry<'_>],
+    laps: &mut Laps,
+) -> Result<()> {
+    for entry in entries {
+        let start = Instant::now(rt)?;
+        snapshot.merge(iter::once(*entry))?;
+        laps.end(rt, start)?;
+    }
+    Ok(())
 }
 
 /// Answers a file of contacts by the snapshot of a file.

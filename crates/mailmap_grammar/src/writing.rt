@@ -25,9 +25,7 @@ fn is_writable_name(name: Option<&[u8]>) -> bool
     ensures { IsTrue result ↔ IfSome (option_copied name.entry) IsWritableName }
 {
     match name {
-        Some(name) => {
-            !name.is_empty() && is_trimmed(name) && holds_no(name, b'<') && holds_no(name, b'\n')
-        }
+        Some(name) => !name.is_empty() && is_trimmed(name) && is_line_without(name, b'<'),
         None => true,
     }
 }
@@ -50,7 +48,7 @@ fn are_writable_emails(new_email: Option<&[u8]>, old_email: &[u8]) -> bool
 fn is_writable_email(email: &[u8]) -> bool
     ensures { IsTrue result ↔ IsWritableEmail email.now }
 {
-    is_trimmed(email) && holds_no(email, b'>') && holds_no(email, b'\n')
+    is_trimmed(email) && is_line_without(email, b'>')
 }
 
 // Whether a text has no white space at its ends.
@@ -60,11 +58,11 @@ fn is_trimmed(text: &[u8]) -> bool
     trim(text).len() == text.len()
 }
 
-// Whether no byte of the text is this one.
-fn holds_no(text: &[u8], byte: u8) -> bool
-    ensures { IsTrue result ↔ HoldsNo byte text.now }
+// Whether no byte of the text is this one or a line feed.
+fn is_line_without(text: &[u8], byte: u8) -> bool
+    ensures { IsTrue result ↔ (HoldsNo byte text.now × HoldsNo 10 text.now) }
 {
-    text.find_byte(byte).is_none()
+    text.find_byteset(&[byte, b'\n']).is_none()
 }
 
 /// A length and that of the entry's line together, if a length can be that large.
