@@ -4,8 +4,7 @@ use Rattle.std.specs.List.{flat_map}
 use Rattle.gix_mailmap.specs.Folding.{Text}
 use Rattle.gix_mailmap.specs.Lines.{Kind, no_email, missing_closing_bracket, empty_email, nothing_to_map, unclosed_second}
 use Rattle.gix_mailmap.specs.Contacts.{contact}
-use Rattle.gix_mailmap.specs.Defects.{Contact, Defect, faulty, ignored_text, no_effect, itself_mapped}
-use Rattle.gix_mailmap.specs.Findings.{Told}
+use Rattle.gix_mailmap.specs.Findings.{Contact, Finding, Told, fault, ignored_text, no_effect, itself_mapped}
 use Rattle.mailmap_runs.specs.declared.outcome.Outcome.{Outcome}
 use Rattle.mailmap_runs.specs.declared.outcome.Outcome.TheVariants.{Clean, Found}
 
@@ -31,21 +30,21 @@ abbrev pub contact_text : Contact → Text
 contact_text c = contact (unwrap_or c.name []) c.email
 
 -- what was found
-abbrev pub defect_text : List Text → Defect → Text
-defect_text paths (faulty f) = codes "error: " ++ fault_text f.kind
-defect_text paths (ignored_text text) = codes "warning: ignored text: " ++ text
-defect_text paths (no_effect beside) = codes "warning: no effect beside " ++ place_text paths beside.buffer beside.line
-defect_text paths (itself_mapped c to) = codes "warning: " ++ contact_text c ++ codes " is itself mapped, to " ++ contact_text to
+abbrev pub told_text : List Text → Told → Text
+told_text paths (fault f) = codes "error: " ++ fault_text f.kind
+told_text paths (ignored_text text) = codes "warning: ignored text: " ++ text
+told_text paths (no_effect beside) = codes "warning: no effect beside " ++ place_text paths beside.buffer beside.line
+told_text paths (itself_mapped c to) = codes "warning: " ++ contact_text c ++ codes " is itself mapped, to " ++ contact_text to
 
 -- the line of a finding, with its line feed
-abbrev pub finding_line : List Text → Told → Text
-finding_line paths f = place_text paths f.place.buffer f.place.line ++ codes ": " ++ defect_text paths f.defect ++ 10 ∷ []
+abbrev pub finding_line : List Text → Finding → Text
+finding_line paths f = place_text paths f.place.buffer f.place.line ++ codes ": " ++ told_text paths f.told ++ 10 ∷ []
 
 -- the lines of all findings, in their order
-abbrev pub report : List Text → List Told → Text
+abbrev pub report : List Text → List Finding → Text
 report paths findings = flat_map (finding_line paths) findings
 
 -- whether something was found
-abbrev pub outcome_of : List Told → Outcome
+abbrev pub outcome_of : List Finding → Outcome
 outcome_of [] = Clean
 outcome_of (f ∷ findings) = Found

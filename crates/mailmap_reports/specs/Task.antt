@@ -1,7 +1,7 @@
 -- What the arguments of `mailmap_verify` ask for, and what that prints.
 use Rattle.std.specs.Prelude.{◌≡◌, List, [], ◌∷◌, Option, Some, IfSome, codes, slice_get}
 use Rattle.gix_mailmap.specs.Folding.{Text}
-use Rattle.gix_mailmap.specs.Findings.{AreFindings, IsPruned, Told}
+use Rattle.gix_mailmap.specs.Findings.{AreFindings, IsPruned, Finding}
 use Rattle.mailmap_runs.specs.Files.{AreRead}
 use Rattle.mailmap_runs.specs.declared.outcome.Outcome.{Outcome}
 use Rattle.mailmap_runs.specs.declared.outcome.Outcome.TheVariants.{Clean}
@@ -25,7 +25,7 @@ AreMailmaps may_open known (path ∷ paths) input mailmaps = AreRead may_open kn
 
 -- The text has the line of each finding in the mailmaps and nothing else, and the outcome tells whether there is one.
 abbrev pub IsReport : List Text → List Text → Outcome → Text → Type 0
-IsReport paths mailmaps outcome text = (findings : List Told) × AreFindings mailmaps findings × (text ≡ report paths findings) × (outcome ≡ outcome_of findings)
+IsReport paths mailmaps outcome text = (findings : List Finding) × AreFindings mailmaps findings × (text ≡ report paths findings) × (outcome ≡ outcome_of findings)
 
 -- what is printed in each mode, and how the run ends
 abbrev pub IsAnswer : (Text → Type 0) → (Text → Option Text) → Option Text → Mode → List Text → Outcome → Text → Type 0

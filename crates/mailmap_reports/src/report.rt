@@ -1,9 +1,8 @@
 //! What is found in mailmaps as text: a line for each finding.
 ghost use Rattle.std.specs.Prelude.{◌≡◌, ◌++◌, codes, map, string_bytes, IfOk, OnOk};
-ghost use Rattle.gix_mailmap.specs.Defects.{contact_of, defect_of};
-ghost use Rattle.gix_mailmap.specs.Findings.{told_of};
+ghost use Rattle.gix_mailmap.specs.Findings.{contact_of, finding_of, told_of};
 ghost use Rattle.gix_mailmap.specs.Lines.{fault_of};
-ghost use Rattle.mailmap_reports.specs.Report.{contact_text, defect_text, fault_text, file_name, finding_line, outcome_of, place_text, report};
+ghost use Rattle.mailmap_reports.specs.Report.{contact_text, told_text, fault_text, file_name, finding_line, outcome_of, place_text, report};
 
 use gix_mailmap::check::push_contact;
 use gix_mailmap::lines::Error;
@@ -28,7 +27,7 @@ pub fn report_of(
     paths: &[String],
     findings: &[Finding<'_>],
 ) -> Result<Vec<u8>, AllocError>
-    ensures { IfOk result (λ text. text.items ≡ report (map string_bytes paths.now) (map told_of findings.now)) }
+    ensures { IfOk result (λ text. text.items ≡ report (map string_bytes paths.now) (map finding_of findings.now)) }
 {
     let mut text = Vec::new(alloc);
     for finding in findings {
@@ -39,7 +38,7 @@ pub fn report_of(
 
 /// Whether something was found.
 pub fn judge(findings: &[Finding<'_>]) -> Outcome
-    ensures { result ≡ outcome_of (map told_of findings.now) }
+    ensures { result ≡ outcome_of (map finding_of findings.now) }
 {
     if findings.is_empty() {
         Outcome::Clean
@@ -54,7 +53,7 @@ fn push_finding(
     paths: &[String],
     finding: &Finding<'_>,
 ) -> Result<(), AllocError>
-    ensures { OnOk result (text.new.items ≡ text.old.items ++ finding_line (map string_bytes paths.now) (told_of finding.now)) }
+    ensures { OnOk result (text.new.items ≡ text.old.items ++ finding_line (map string_bytes paths.now) (finding_of finding.now)) }
 {
     push_place(text, paths, finding.place)?;
     text.extend_from_slice(b": ")?;
@@ -88,7 +87,7 @@ fn name_of(paths: &[String], buffer: usize) -> &str
 
 // Appends what was found.
 fn push_kind(text: &mut Vec<u8>, paths: &[String], kind: &Kind<'_>) -> Result<(), AllocError>
-    ensures { OnOk result (text.new.items ≡ text.old.items ++ defect_text (map string_bytes paths.now) (defect_of kind.now)) }
+    ensures { OnOk result (text.new.items ≡ text.old.items ++ told_text (map string_bytes paths.now) (told_of kind.now)) }
 {
     match kind {
         Kind::Fault(fault) => {
