@@ -2,3 +2,8 @@ pub mod Summaries
 pub mod Idle
 pub mod Sublists
 pub mod Kept
+pub mod Keyed
+pub mod Rows
+pub mod Walked
+pub mod Passing
+pub mod Settling

@@ -3,3 +3,4 @@ pub use Rattle.mailmap_entries.specs.Entries
 pub use Rattle.mailmap_histories.specs.Histories
 pub mod Summaries
 pub mod Sifting
+pub mod Numbers

@@ -2,7 +2,16 @@
 //! no part of what it gives to users.
 #![tactic(auto)]
 
+mod answers;
+mod keys;
 pub mod laws;
+mod numbers;
+mod passes;
 mod placed;
+mod sifted;
+mod summary;
+mod table;
 
 pub use placed::{Place, PlacedEntry};
+pub use sifted::{Sifted, sift};
+pub use summary::Fields;

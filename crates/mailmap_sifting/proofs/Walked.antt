@@ -1,0 +1,117 @@
+-- What a walk over entries has seen, and what it has left.
+use Rattle.std.proofs.Common.{◌≡◌, ◌<◌, ◌+◌, ℕ, Bool, false, cond, List, [], ◌∷◌, ◌++◌, map, filter, take, drop, length, get_or, Some, None, unwrap_or, option_map, append-nil, refl, sym, ap, subst, ◌∙◌}
+use Rattle.std.specs.Prelude.{Contains, All}
+use Rattle.std.specs.Cmp.{tied_itself}
+use Rattle.std.specs.List.{AllByRecursion}
+use Rattle.std.specs.Ordering.{eq_by_cmp, is_eq}
+use Rattle.std.proofs.lemmas.List.{map-append, map_more, drop_more}
+use Rattle.std.proofs.lemmas.List.Elements.{filter-append, recursion_from_All}
+use Rattle.std.proofs.lemmas.Option.{slice_get_within, slice_get_read, get_or_from_slice_get}
+use Rattle.mailmap_entries.specs.Entries.{Mapping, mapping_of}
+use Rattle.mailmap_entries.specs.Folding.{Text, folded, text_cmp}
+use Rattle.mailmap_histories.specs.Histories.{Key, key, key_cmp, accepted, first, last, of_key, spelling}
+use Rattle.mailmap_histories.proofs.Keys.{keys_total}
+use Rattle.mailmap_sifting.specs.Sifting.{PlacedMapping, placed_of, entries, last_place}
+use Rattle.mailmap_sifting.specs.Numbers.{AreKnown, HasKeys, IsNumber, IsNumbered, email_key, placed_entry_of, told}
+use Rattle.mailmap_sifting.specs.declared.numbers.NumberedEntry.{NumberedEntry}
+use Rattle.mailmap_sifting.specs.declared.placed.PlacedEntry.{PlacedEntry}
+use Rattle.mailmap_sifting.proofs.Keyed.{unequal_keys}
+use Rattle.mailmap_sifting.proofs.Rows.{unequal_emails}
+use Rattle.mailmap_sifting.proofs.Summaries.{picked_without}
+
+-- ---- one more
+
+pub same_at : {X : Type 0} (xs : List X) (i : ℕ) (x d : X) → i < length xs → x ≡ get_or xs i x → get_or xs i d ≡ x
+same_at xs i x d within is = get_or_from_slice_get xs i x d (slice_get_read xs (length xs) i x refl within is)
+
+-- what a walk from the front has seen with one more, and what a walk from the back has seen
+pub told_more : (xs : List NumberedEntry) (i : ℕ) (x : NumberedEntry) → i < length xs → x ≡ get_or xs i x → told (take (i + 1) xs) ≡ told (take i xs) ++ placed_entry_of x ∷ []
+told_more xs i x within is = map_more placed_entry_of xs i x within ∙ ap (λ y. told (take i xs) ++ placed_entry_of y ∷ []) (sym is)
+
+pub told_next : (xs : List NumberedEntry) (i j : ℕ) (x : NumberedEntry) → i < length xs → x ≡ get_or xs i x → j ≡ i + 1 → told (drop i xs) ≡ placed_entry_of x ∷ told (drop j xs)
+told_next xs i j x within is next =
+    ap told (drop_more xs i x within) ∙ (λ k. placed_entry_of (is' k) ∷ told (drop (next' k) xs))
+  where
+    is' : get_or xs i x ≡ x
+    is' = sym is
+
+    next' : i + 1 ≡ j
+    next' = sym next
+
+pub entries-more : (xs : List PlacedMapping) (x : PlacedMapping) → entries (xs ++ x ∷ []) ≡ entries xs ++ x.entry ∷ []
+entries-more xs x = map-append (λ y. y.entry) xs (x ∷ [])
+
+-- lists that end alike
+pub same_ends : {X : Type 0} (xs ys : List X) (x y : X) → xs ++ x ∷ [] ≡ ys ++ y ∷ [] → (xs ≡ ys) × (x ≡ y)
+same_ends [] [] x y e = (refl, cc)
+same_ends [] (b ∷ []) x y e = absurd (cc)
+same_ends [] (b ∷ c ∷ ys) x y e = absurd (cc)
+same_ends (a ∷ []) [] x y e = absurd (cc)
+same_ends (a ∷ c ∷ xs) [] x y e = absurd (cc)
+same_ends (a ∷ xs) (b ∷ ys) x y e =
+    let tails : xs ++ x ∷ [] ≡ ys ++ y ∷ [] = cc in
+    let heads : a ≡ b = cc in
+    let rest = same_ends xs ys x y tails in
+    (λ i. heads i ∷ rest.0 i, rest.1)
+
+-- ---- the place of the last entry of a key
+
+last_of_more : {X : Type 0} (xs : List X) (x : X) → last (xs ++ x ∷ []) ≡ Some x
+last_of_more [] x = refl
+last_of_more (y ∷ xs) x = ap (λ o. Some (unwrap_or o y)) (last_of_more xs x)
+
+pub last_place-own : (xs : List PlacedMapping) (x : PlacedMapping) → last_place (xs ++ x ∷ []) (key x.entry) ≡ Some x.place
+last_place-own xs x =
+    let p : PlacedMapping → Bool = λ y. eq_by_cmp key_cmp (key x.entry) (key y.entry) in
+    ap (λ l. option_map (λ y. y.place) (last l)) (filter-append p xs (x ∷ []) ∙ ap (λ o. filter p xs ++ cond (is_eq o) (x ∷ []) []) (tied_itself keys_total (key x.entry)))
+    ∙ ap (option_map (λ y. y.place)) (last_of_more (filter p xs) x)
+
+pub last_place-other : (xs : List PlacedMapping) (x : PlacedMapping) (k : Key) → (k ≡ key x.entry → ⊥) → last_place (xs ++ x ∷ []) k ≡ last_place xs k
+last_place-other xs x k other =
+    let p : PlacedMapping → Bool = λ y. eq_by_cmp key_cmp k (key y.entry) in
+    ap (λ l. option_map (λ y. y.place) (last l))
+    (filter-append p xs (x ∷ []) ∙ ap (λ b. filter p xs ++ cond b (x ∷ []) []) (unequal_keys k (key x.entry) other) ∙ append-nil (filter p xs))
+
+-- ---- keys that are not there
+
+pub contained : (ks : List Key) (k : Key) (i : ℕ) → IsNumber ks k i → Contains ks k
+contained ks k i is = (i, slice_get_within ks i k is, get_or_from_slice_get ks i k k is)
+
+module _ (ks : List Key) (k : Key) (none : Contains ks k → ⊥) where
+  other_key : (e : Mapping) → HasKeys ks e → eq_by_cmp key_cmp k (key e) ≡ false
+  other_key e has = unequal_keys k (key e) (λ same. none (subst (Contains ks) (sym same) has.own))
+
+  pub no_place : (xs : List PlacedMapping) → AreKnown ks (entries xs) → last_place xs k ≡ None
+  no_place [] known = refl
+  no_place (x ∷ xs) known =
+      let p : PlacedMapping → Bool = λ y. eq_by_cmp key_cmp k (key y.entry) in
+      ap (λ b. option_map (λ y. y.place) (last (cond b (x ∷ filter p xs) (filter p xs)))) (other_key x.entry known.0) ∙ no_place xs known.1
+
+  pub no_entry : (h : List Mapping) → AreKnown ks h → of_key h k ≡ []
+  no_entry [] known = refl
+  no_entry (e ∷ h) known = picked_without (λ x. eq_by_cmp key_cmp k (key x)) [] e h (other_key e known.0) ∙ no_entry h known.1
+
+pub no_spelling : (ks : List Key) (email : Text) → (Contains ks (email_key email) → ⊥) → (h : List Mapping) → AreKnown ks h → spelling h email ≡ None
+no_spelling ks email none h known = ap (λ l. option_map (λ e. e.old_email) (first l)) (nobody h known)
+  where
+    nobody : (h : List Mapping) → AreKnown ks h → filter (λ e. eq_by_cmp text_cmp email (folded e.old_email)) (accepted h) ≡ []
+    nobody [] known = refl
+    nobody (e ∷ h) known =
+        picked_without (λ x. eq_by_cmp text_cmp email (folded x.old_email)) [] e h (unequal_emails email (folded e.old_email) (λ same. none (subst (λ t. Contains ks (email_key t)) (sym same) known.0.email)))
+        ∙ nobody h known.1
+
+-- ---- keys that are there
+
+pub known_placed : (ks : List Key) (xs : List PlacedEntry) → All (λ x. HasKeys ks (mapping_of x.entry)) xs → AreKnown ks (entries (map placed_of xs))
+known_placed ks xs all = by xs (recursion_from_All _ xs all)
+  where
+    by : (xs : List PlacedEntry) → AllByRecursion (λ x. HasKeys ks (mapping_of x.entry)) xs → AreKnown ks (entries (map placed_of xs))
+    by [] all = tt
+    by (x ∷ xs) all = (all.0, by xs all.1)
+
+pub known_numbered : (ks : List Key) (xs : List NumberedEntry) → All (IsNumbered ks) xs → AreKnown ks (entries (told xs))
+known_numbered ks xs all = by xs (recursion_from_All _ xs all)
+  where
+    by : (xs : List NumberedEntry) → AllByRecursion (IsNumbered ks) xs → AreKnown ks (entries (told xs))
+    by [] all = tt
+    by (x ∷ xs) all = (record { own = contained ks _ x.key all.0.own; email = contained ks _ x.email all.0.of_email }, by xs all.1)

@@ -1,0 +1,21 @@
+use Rattle.std.proofs.Common.{◌≡◌, [], length, subst, arith}
+use Rattle.std.proofs.lemmas.List.{length-map}
+use Rattle.mailmap_sifting.specs.Sifting.{IsPass}
+use Rattle.mailmap_sifting.specs.Numbers.{placed_entry_of, told}
+use Rattle.mailmap_sifting.proofs.Settling.{further, over}
+use Rattle.mailmap_sifting.proofs.passes.settled.Goals as goal
+
+pub loop-len-preserved : goal.loop-len-preserved
+loop-len-preserved c =
+    let kept = c.loop-len.kept.items in
+    let counted : length (told kept) ≡ c.len-len.result = omega (arith, length-map kept placed_entry_of, c.len-len.ensures, c.loop-len.kept.ok.0) in (
+      further (told c.args.entries.now) (told kept) (told c.in_ok-kept-2.kept.items) c.loop-len.len c.len-len.result c.loop-len.invariant.0 counted
+          (subst (λ l. IsPass [] (told l) (told c.in_ok-kept-2.kept.items)) c.deref.ensures.value c.in_ok-kept-2.ensures.passed),
+      c.in_ok-kept-2.ensures.numbered,
+    )
+
+pub returns-clause-sifted : goal.returns-clause-sifted
+returns-clause-sifted c =
+    let kept = c.loop-len.kept.items in
+    over (told c.args.entries.now) (told kept) c.loop-len.len c.loop-len.invariant.0
+    (omega (arith, length-map kept placed_entry_of, c.loop-len-test.false, c.len.ensures, c.loop-len.kept.ok.0))

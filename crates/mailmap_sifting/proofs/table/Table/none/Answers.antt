@@ -1,0 +1,13 @@
+use Rattle.std.proofs.Common.{[], refl, rules}
+use Rattle.mailmap_histories.specs.Histories.{spelling}
+use Rattle.mailmap_sifting.specs.Summaries.{key_summary}
+use Rattle.mailmap_sifting.specs.Numbers.{email_key, key_summary_of}
+use Rattle.std.specs.Option.{option_copied}
+use Rattle.mailmap_sifting.proofs.Rows.{blank}
+use Rattle.mailmap_sifting.proofs.table.Table.none.Goals as goal
+
+pub returns : goal.returns
+returns c = record {
+  summaries = blank c.args.keys.now (λ k. k) key_summary_of (key_summary []) c.none.result _ _ (c.in_ok-vec.ensures.items_if_clones_equal (search rules)) refl (λ k. c.none.ensures);
+  spellings = blank c.args.keys.now email_key option_copied (spelling []) _ _ _ (c.in_ok-vec-2.ensures.items_if_clones_equal (search rules)) refl (λ m. refl);
+}

@@ -1,0 +1,98 @@
+-- Keys with their numbers, and tables that have a row for each number.
+use Rattle.std.specs.Prelude.{◌≡◌, ◌<◌, true, List, [], ◌∷◌, ◌++◌, ℕ, Option, Some, None, Contains, map, length}
+use Rattle.std.specs.Option.{option_copied, option_map}
+use Rattle.std.specs.List.{slice_get, slice_index_or, AllByRecursion}
+use Rattle.std.specs.List.Sorted.{IsStrictlySortedBy}
+use Rattle.mailmap_entries.specs.Entries.{Mapping, mapping_of}
+use Rattle.mailmap_entries.specs.Folding.{Text}
+use Rattle.mailmap_histories.specs.Histories.{Key, Fields, key, key_cmp, is_accepted, spelling}
+use Rattle.mailmap_sifting.specs.Sifting.{PlacedMapping, placed_of, entries, last_place}
+use Rattle.mailmap_sifting.specs.Summaries.{KeySummary, Summary, key_summary, summary}
+use Rattle.mailmap_sifting.specs.declared.numbers.NumberedEntry.{NumberedEntry}
+use Rattle.mailmap_sifting.specs.declared.placed.Place.{Place}
+use Rattle.mailmap_sifting.specs.declared.summary.Fields.{Fields as FieldSlices}
+use Rattle.mailmap_sifting.specs.declared.summary.KeySummary.{KeySummary as KeySlices}
+use Rattle.mailmap_sifting.specs.declared.summary.Summary.{Summary as Slices}
+use Rattle.mailmap_sifting.specs.declared.table.Table.{Table}
+
+-- ---- what the program's values say
+
+abbrev pub fields_of : FieldSlices → Fields
+fields_of f = record { name = option_copied f.name; email = option_copied f.email }
+
+abbrev pub key_summary_of : KeySlices → KeySummary
+key_summary_of s =
+    record {
+      old_name = option_copied s.old_name;
+      name = option_copied s.name;
+      email = option_copied s.email;
+      last = option_map fields_of s.last;
+    }
+
+abbrev pub summary_of : Slices → Summary
+summary_of s = record { of_key = key_summary_of s.of_key; spelling = option_copied s.spelling }
+
+abbrev pub entry_of : NumberedEntry → Mapping
+entry_of x = mapping_of x.placed.entry
+
+abbrev pub placed_entry_of : NumberedEntry → PlacedMapping
+placed_entry_of x = placed_of x.placed
+
+-- ---- numbers
+
+-- the key of the entries without an old name of an entry's email
+abbrev pub email_key : Text → Key
+email_key email = (email, None)
+
+-- the keys that an entry asks for are there
+pub record HasKeys (keys : List Key) (e : Mapping) : Type 0 where
+  pub own : Contains keys (key e)
+  pub email : Contains keys (email_key (key e).0)
+
+-- the number of a key is its place
+abbrev pub IsNumber : List Key → Key → ℕ → Type 0
+IsNumber keys k i = slice_get keys i ≡ Some k
+
+pub record IsNumbered (keys : List Key) (x : NumberedEntry) : Type 0 where
+  pub own : IsNumber keys (key (entry_of x)) x.key
+  pub of_email : IsNumber keys (email_key (key (entry_of x)).0) x.email
+  pub accepted : is_accepted (entry_of x) ≡ true
+
+-- ---- tables
+
+-- the row of each number shows what f says of it
+abbrev pub IsTableOf : {X Y Z : Type 0} → List Key → (X → Key) → (X → Y) → (Z → Y) → List Z → Type 0
+IsTableOf {X} {Y} {Z} keys key_of f view rows = (x : X) (i : ℕ) → IsNumber keys (key_of x) i → (i < length rows) × ((d : Z) → view (slice_index_or rows i d) ≡ f x)
+
+-- the tables say what the history h says of each key and of each email
+pub record IsTable (keys : List Key) (h : List Mapping) (t : Table) : Type 0 where
+  pub summaries : IsTableOf keys (λ k. k) (key_summary h) key_summary_of t.summaries.items
+  pub spellings : IsTableOf keys email_key (spelling h) option_copied t.spellings.items
+
+-- ---- passes
+
+abbrev pub told : List NumberedEntry → List PlacedMapping
+told xs = map placed_entry_of xs
+
+-- what stands behind each entry, that of the last entry first
+abbrev pub summaries_behind : List PlacedMapping → List Summary
+summaries_behind [] = []
+summaries_behind (x ∷ xs) = summaries_behind xs ++ summary (entries xs) (key x.entry) ∷ []
+
+-- ---- what was sifted
+
+-- a history, and what stays of it
+pub record SiftedHistory : Type 0 where
+  pub history : List PlacedMapping
+  pub kept : List PlacedMapping
+
+-- the keys of a history are there
+abbrev pub AreKnown : List Key → List Mapping → Type 0
+AreKnown keys h = AllByRecursion (HasKeys keys) h
+
+pub record IsSiftedState (keys : List Key) (history kept : List PlacedMapping) (table : Table) (lasts : List (Option Place)) : Type 0 where
+  pub ascending : IsStrictlySortedBy key_cmp keys
+  pub known : AreKnown keys (entries history)
+  pub whole : IsTable keys (entries history) table
+  pub known_kept : AreKnown keys (entries kept)
+  pub places : IsTableOf keys (λ k. k) (last_place kept) (λ p. p) lasts

@@ -1,0 +1,84 @@
+//! What the tables of a history answer to a name and an email.
+ghost use Rattle.std.specs.Prelude.{◌≡◌, List, Some, unwrap_or};
+ghost use Rattle.std.specs.Option.{option_map, option_copied};
+ghost use Rattle.std.specs.Ordering.{eq_by_cmp};
+ghost use Rattle.std.specs.List.Sorted.{IsStrictlySortedBy};
+ghost use Rattle.mailmap_entries.specs.Entries.{Mapping};
+ghost use Rattle.mailmap_entries.specs.Folding.{folded, text_cmp};
+ghost use Rattle.mailmap_histories.specs.Histories as told;
+ghost use Rattle.mailmap_histories.specs.Histories.{key_cmp, last_fields, given_fields};
+ghost use Rattle.mailmap_sifting.specs.Numbers.{AreKnown, IsNumber, IsTable, email_key, fields_of};
+
+use crate::keys::{FrontedKey, find};
+use crate::summary::Fields;
+use crate::table::Table;
+
+/// What a history answers to a name and an email, `None` where it maps neither.
+pub(crate) fn scan<'a>(
+    keys: &[FrontedKey<'_>],
+    table: &Table<'a>,
+    name: &[u8],
+    email: &[u8],
+) -> Option<Fields<'a>>
+    requires ascending { IsStrictlySortedBy key_cmp keys.now }
+    requires table { (h : List Mapping) × IsTable keys.now h table.now }
+    ensures { (h : List Mapping) → AreKnown keys.now h → IsTable keys.now h table.now → option_map fields_of result ≡ told.scan h name.now email.now }
+{
+    let number = find(keys, &FrontedKey::of_email(email))?;
+    let spelling = table.spellings[number]?;
+    let fields = fields_for(keys, table, number, name, email);
+    answered(email, fields, spelling)
+}
+
+// The fields for a name and an email, whose number is known.
+fn fields_for<'a>(
+    keys: &[FrontedKey<'_>],
+    table: &Table<'a>,
+    number: usize,
+    name: &[u8],
+    email: &[u8],
+) -> Fields<'a>
+    requires ascending { IsStrictlySortedBy key_cmp keys.now }
+    requires number { IsNumber keys.now (email_key (folded email.now)) number }
+    requires table { (h : List Mapping) × IsTable keys.now h table.now }
+    ensures { (h : List Mapping) → AreKnown keys.now h → IsTable keys.now h table.now
+        → fields_of result ≡ unwrap_or (last_fields h (folded email.now, Some (folded name.now))) (given_fields h (folded email.now)) }
+{
+    let given = table.summaries[number].given();
+    match find(keys, &FrontedKey::new(email, Some(name))) {
+        Some(named) => table.summaries[named].last.unwrap_or(given),
+        None => given,
+    }
+}
+
+// What fields that are kept for an email answer to a spelling of it.
+fn answered<'a>(email: &[u8], fields: Fields<'a>, spelling: &'a [u8]) -> Option<Fields<'a>>
+    ensures { option_map fields_of result ≡ told.answered email.now (fields_of fields.entry) (Some spelling.entry.now) }
+{
+    let email = fields.email.or(respelled(spelling, email));
+    if fields.name.is_none() && email.is_none() {
+        return None;
+    }
+    Some(Fields {
+        name: fields.name,
+        email,
+    })
+}
+
+// The kept spelling, where it is not the very email.
+fn respelled<'a>(kept: &'a [u8], email: &[u8]) -> Option<&'a [u8]>
+    ensures { option_copied result ≡ told.respelled kept.entry.now email.now }
+{
+    if is_same(kept, email) {
+        None
+    } else {
+        Some(kept)
+    }
+}
+
+// Whether two texts are the same, byte for byte.
+fn is_same(a: &[u8], b: &[u8]) -> bool
+    ensures { result ≡ eq_by_cmp text_cmp a.now b.now }
+{
+    a == b
+}
