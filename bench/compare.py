@@ -25,6 +25,8 @@ from measuring import KINDS, MILLION, Failed, built, duration, mebibytes, output
 SIZES = [1_000, 10_000, 100_000, MILLION]
 MERGE_SIZES = [1_000, 10_000]
 WHOLE_SIZE = 100_000
+# how many entries are merged one by one into the snapshot of all others
+LAST = 20
 # how often a run repeats what it times, by the number of lines
 REPEATS = {1_000: 400, 10_000: 40, 100_000: 5, MILLION: 2}
 # port to original at 100,000 lines, by the kind of map
@@ -90,6 +92,16 @@ def timed(programs, maps, sizes, seconds, only):
             yield dict(cell, original=original, port=port)
 
 
+def small_merges(port, maps, sizes, seconds, only):
+    """The port's time for the middle one of the merges that put a map's last entries into the snapshot of the others."""
+    for kind in KINDS:
+        for lines in sizes:
+            if only in f"a merge of one entry {kind} {lines}":
+                words = [port, "bench-merge-last", f"{maps}/{kind}-{lines}.mailmap", str(LAST)]
+                runs = [fields(output(words)) for _ in rounds(seconds)]
+                yield dict(map=kind, lines=lines, port=min(found["median_ns"] for found in runs))
+
+
 def weighed(programs, maps, sizes, only):
     """The peak memory of building, beyond the file and the program's start."""
     with scratch() as folder:
@@ -109,6 +121,7 @@ def weighed(programs, maps, sizes, only):
 def measured(programs, maps, sizes, seconds, only=""):
     return {
         "calls": list(timed(programs, maps, sizes, seconds, only)),
+        "merges": list(small_merges(programs[1], maps, sizes, seconds, only)),
         "building": list(weighed(programs, maps, sizes, only)),
     }
 
@@ -132,29 +145,28 @@ def memory_table(building):
     return table(head, rows)
 
 
-# what grows, as a row names it, and the most by which it may grow
-GROWTHS = {
-    "build": ("build, a line", "log n"),
-    "lookups, hits": ("a lookup", "log n"),
-    "one merge per entry": ("a merge of one entry", "n"),
-}
+def grown(named, kind, ports, originals, bound):
+    """A row: the port's time for one as the map grows, and how often that of the smallest map it gets, for both."""
+    fewest, most = min(ports), max(ports)
+    at_most = most / fewest if bound == "n" else math.log(most, fewest)
+    factors = [f"{times[most] / times[fewest]:.1f}" if times else "" for times in (originals, ports)]
+    return [named, kind, *[duration(ports[n]) if n in ports else "" for n in SIZES], *factors, f"{at_most:.1f} ({bound})"]
 
 
-def growth_table(calls):
-    """The port's time for one line, lookup or merge as the map grows, and how often that of the smallest it gets."""
+def growth_table(figures):
+    """How the time for one line, lookup or merge grows with the map."""
     rows = []
-    for (what, (named, bound)), kind in itertools.product(GROWTHS.items(), KINDS):
-        cells = [c for c in calls if (c["what"], c["map"]) == (what, kind)]
-        if len(cells) < 2:
-            continue
-        first, last = cells[0], cells[-1]
-        factors = [last[who] / last["calls"] / (first[who] / first["calls"]) for who in ("original", "port")]
-        at_most = last["lines"] / first["lines"] if bound == "n" else math.log(last["lines"], first["lines"])
-        times = {c["lines"]: duration(c["port"] / c["calls"]) for c in cells}
-        row = [named, kind, *[times.get(lines, "") for lines in SIZES], *[f"{factor:.1f}" for factor in factors]]
-        rows.append(row + [f"{at_most:.1f} ({bound})"])
-    grown = [" original grows by", " port grows by", " aim"]
-    return table(["what", "map", *[f" {lines:,} lines" for lines in SIZES], *grown], rows)
+    for (what, named), kind in itertools.product([("build", "build, a line"), ("lookups, hits", "a lookup")], KINDS):
+        cells = [c for c in figures["calls"] if (c["what"], c["map"]) == (what, kind)]
+        port, original = ({c["lines"]: c[who] / c["calls"] for c in cells} for who in ("port", "original"))
+        if len(cells) > 1:
+            rows.append(grown(named, kind, port, original, "log n"))
+    for kind in KINDS:
+        port = {c["lines"]: c["port"] for c in figures["merges"] if c["map"] == kind}
+        if len(port) > 1:
+            rows.append(grown("a merge of one entry", kind, port, {}, "n"))
+    columns = [" original grows by", " port grows by", " aim"]
+    return table(["what", "map", *[f" {lines:,} lines" for lines in SIZES], *columns], rows)
 
 
 def main():
@@ -168,7 +180,7 @@ def main():
     given = parser.parse_args()
     sizes = [lines for lines in SIZES if lines < MILLION or not given.without_million]
     found = measured([given.original, given.port], given.maps, sizes, given.seconds, given.only)
-    print("\n\n".join([times_table(found["calls"]), memory_table(found["building"]), growth_table(found["calls"])]))
+    print("\n\n".join([times_table(found["calls"]), memory_table(found["building"]), growth_table(found)]))
 
 
 if __name__ == "__main__":

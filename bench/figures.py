@@ -48,7 +48,7 @@ def tables(figures):
         "answers": peers.answers_table(processes),
         "calls": compare.times_table(figures["calls"]),
         "building memory": compare.memory_table(figures["building"]),
-        "growth": compare.growth_table(figures["calls"]),
+        "growth": compare.growth_table(figures),
     }
 
 
