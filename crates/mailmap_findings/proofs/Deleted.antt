@@ -12,8 +12,8 @@ use Rattle.mailmap_grammar.specs.Lines.{Reading, good, non_empty, strict_reading
 use Rattle.mailmap_histories.specs.Histories.{IsNormal, is_accepted, key}
 use Rattle.mailmap_sifting.specs.Sifting.{IsSifted, PlacedMapping, entries, last_place}
 use Rattle.mailmap_sifting.specs.declared.placed.Place.{Place}
-use Rattle.mailmap_sifting.proofs.Kept.{last_stays, sifted_normal, sifted_sublist}
-use Rattle.mailmap_findings.specs.Findings.{AreFindings, Contact, Finding, Told, contact, findings, has_no_effect, ignored, ignored_text, is_idle, is_left, line_findings, mapped, no_effect, same_contact, told_of_contact, told_of_entry, told_of_line, told_of_reading, itself_mapped}
+use Rattle.mailmap_sifting.proofs.Kept.{last_stays, one_sifted, sifted_normal, sifted_sublist, some_sifted}
+use Rattle.mailmap_findings.specs.Findings.{AreFindings, Contact, Finding, IsPruned, Told, contact, findings, has_no_effect, ignored, ignored_text, is_idle, is_left, line_findings, mapped, no_effect, same_contact, told_of_contact, told_of_entry, told_of_line, told_of_reading, itself_mapped}
 use Rattle.mailmap_findings.specs.Places.{Line, entry, lines, placed, placed_entry, same_place, stands_at}
 use Rattle.mailmap_findings.specs.Steps.{AreApart}
 use Rattle.mailmap_findings.proofs.Accepted.{placed_accepted}
@@ -110,8 +110,8 @@ module _ (h : List Mapping) (kept : List PlacedMapping) where
   behind_line l fs [] apart all = tt
   behind_line l fs (m ∷ ls) apart all = (
     list_any-append (idle_at m.place) (findings h kept l) fs
-    ∙ ap (λ b. b || list_any (idle_at m.place) fs) (none_there m.place l.place (told_of_line h kept (stands_at kept l.place) l) (λ e. apart.0 (sym e)))
-    ∙ all.0,
+        ∙ ap (λ b. b || list_any (idle_at m.place) fs) (none_there m.place l.place (told_of_line h kept (stands_at kept l.place) l) (λ e. apart.0 (sym e)))
+        ∙ all.0,
     behind_line l fs ls apart.1 all.1,
   )
 
@@ -119,10 +119,10 @@ module _ (h : List Mapping) (kept : List PlacedMapping) where
   told_idle [] apart stay = tt
   told_idle (l ∷ ls) apart stay = (
     list_any-append (idle_at l.place) (findings h kept l) (flat_map (findings h kept) ls)
-    ∙ ap (λ b. list_any (idle_at l.place) (findings h kept l) || b) (none_elsewhere l.place ls apart.0)
-    ∙ or_false (list_any (idle_at l.place) (findings h kept l))
-    ∙ any_here l.place (told_of_line h kept (stands_at kept l.place) l)
-    ∙ line_any l stay.0,
+        ∙ ap (λ b. list_any (idle_at l.place) (findings h kept l) || b) (none_elsewhere l.place ls apart.0)
+        ∙ or_false (list_any (idle_at l.place) (findings h kept l))
+        ∙ any_here l.place (told_of_line h kept (stands_at kept l.place) l)
+        ∙ line_any l stay.0,
     behind_line l (flat_map (findings h kept) ls) ls apart.0 (told_idle ls apart.1 stay.1),
   )
 
@@ -137,7 +137,7 @@ module _ (kept : List PlacedMapping) where
   lines_stay [] = λ all. tt
   lines_stay (l ∷ ls) =
       elim (entry l) as (λ o. AllByRecursion (λ x. is_some (last_place kept (key x.entry)) ≡ true) (cons_option (option_map (λ e. record { place = l.place; entry = e }) o) (placed ls))
-          → IfStays kept o × AllByRecursion (λ m. IfStays kept (entry m)) ls) [
+      → IfStays kept o × AllByRecursion (λ m. IfStays kept (entry m)) ls) [
         | None ↦ λ all. (tt, lines_stay ls all)
         | Some e ↦ λ all. (all.0, lines_stay ls all.1)
       ]
@@ -149,17 +149,20 @@ each_stays xs kept sifted accepted = both xs (recursion_from_All (Contains xs) x
     both [] inside good = tt
     both (y ∷ ys) inside good = (last_stays xs kept y sifted inside.0 good.0, both ys inside.1 good.1)
 
-pub left_entries : (buffers : List Text) (found : List Finding) (are : AreFindings buffers found) → placed (filter (λ l. not (is_idle found l)) (lines buffers)) ≡ are.kept
-left_entries buffers found are =
+pub left_lines : (buffers : List Text) (found : List Finding) (are : AreFindings buffers found) → filter (λ l. not (is_idle found l)) (lines buffers) ≡ filter (is_left are.kept) (lines buffers)
+left_lines buffers found are =
     let ls = lines buffers in
     let h = entries (placed ls) in
-    let kept = are.kept in
-    let told : List Finding = flat_map (findings h kept) ls in
-    let apart = apart_lines 0 buffers in
-    let stay = lines_stay kept ls (each_stays (placed ls) kept are.sifted (placed_accepted ls)) in
-    ap (λ fs. placed (filter (λ (l : Line). not (is_idle fs l)) ls)) are.whole
-    ∙ ap placed (filter_same (λ (l : Line). not (is_idle told l)) (is_left kept) ls (not_told h kept told ls (told_idle h kept ls apart stay)))
-    ∙ placed_left kept ls kept (starts kept ls (record { sublist = sifted_sublist (placed ls) kept are.sifted; apart = apart }))
+    let all : List Finding = flat_map (findings h are.kept) ls in
+    let stay = lines_stay are.kept ls (each_stays (placed ls) are.kept are.sifted (placed_accepted ls)) in
+    ap (λ fs. filter (λ (l : Line). not (is_idle fs l)) ls) are.whole
+    ∙ filter_same (λ (l : Line). not (is_idle all l)) (is_left are.kept) ls (not_told h are.kept all ls (told_idle h are.kept ls (apart_lines 0 buffers) stay))
+
+left_entries : (buffers : List Text) (found : List Finding) (are : AreFindings buffers found) → placed (filter (λ l. not (is_idle found l)) (lines buffers)) ≡ are.kept
+left_entries buffers found are =
+    let ls = lines buffers in
+    ap placed (left_lines buffers found are)
+    ∙ placed_left are.kept ls are.kept (starts are.kept ls (record { sublist = sifted_sublist (placed ls) are.kept are.sifted; apart = apart_lines 0 buffers }))
 
 pub same_listing : (buffers : List Text) (found : List Finding) (n : List Mapping) → AreFindings buffers found
     → IsNormal (flat_map good buffers) n ↔ IsNormal (entries (placed (filter (λ l. not (is_idle found l)) (lines buffers)))) n
@@ -169,3 +172,36 @@ same_listing buffers found n are =
       λ d. subst (λ g. IsNormal g n) (sym e) (there.0 (subst (λ g. IsNormal g n) (sym (good-lines 0 buffers)) d)),
       λ d. subst (λ g. IsNormal g n) (good-lines 0 buffers) (there.1 (subst (λ g. IsNormal g n) e d)),
     )
+
+-- what is left of a pruned buffer is the lines that are not told to have no effect
+pub pruned_told : (buffer text : Text) (found : List Finding) → AreFindings (buffer ∷ []) found → IsPruned buffer text
+    → text ≡ flat_map (λ l. l.text) (filter (λ l. not (is_idle found l)) (lines (buffer ∷ [])))
+pruned_told buffer text found are pruned =
+    let ls = lines (buffer ∷ []) in
+    pruned.whole
+    ∙ ap (λ kept. flat_map (λ (l : Line). l.text) (filter (is_left kept) ls)) (one_sifted (placed ls) pruned.kept are.kept pruned.sifted are.sifted)
+    ∙ ap (flat_map (λ (l : Line). l.text)) (sym (left_lines (buffer ∷ []) found are))
+
+-- ---- there is one answer
+
+pub some_findings : (buffers : List Text) → (found : List Finding) × AreFindings buffers found
+some_findings buffers =
+    let ls = lines buffers in
+    let sifted = some_sifted (placed ls) in
+    (flat_map (findings (entries (placed ls)) sifted.0) ls, record { kept = sifted.0; sifted = sifted.1; whole = refl })
+
+pub one_findings : (buffers : List Text) (found other : List Finding) → AreFindings buffers found → AreFindings buffers other → found ≡ other
+one_findings buffers found other a b =
+    let ls = lines buffers in
+    a.whole ∙ ap (λ kept. flat_map (findings (entries (placed ls)) kept) ls) (one_sifted (placed ls) a.kept b.kept a.sifted b.sifted) ∙ sym b.whole
+
+pub some_pruned : (buffer : Text) → (text : Text) × IsPruned buffer text
+some_pruned buffer =
+    let ls = lines (buffer ∷ []) in
+    let sifted = some_sifted (placed ls) in
+    (flat_map (λ (l : Line). l.text) (filter (is_left sifted.0) ls), record { kept = sifted.0; sifted = sifted.1; whole = refl })
+
+pub one_pruned : (buffer text other : Text) → IsPruned buffer text → IsPruned buffer other → text ≡ other
+one_pruned buffer text other a b =
+    let ls = lines (buffer ∷ []) in
+    a.whole ∙ ap (λ kept. flat_map (λ (l : Line). l.text) (filter (is_left kept) ls)) (one_sifted (placed ls) a.kept b.kept a.sifted b.sifted) ∙ sym b.whole

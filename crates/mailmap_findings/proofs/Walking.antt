@@ -20,7 +20,7 @@ use Rattle.mailmap_findings.specs.Steps.{AreApart, IsWalk, left_behind, stands_f
 pub same_itself : (a : Place) → same_place a a ≡ true
 same_itself a = and_from _ _ (eq-eqb a.buffer a.buffer refl) (eq-eqb a.line a.line refl)
 
-same_is : (a b : Place) → same_place a b ≡ true → a ≡ b
+pub same_is : (a b : Place) → same_place a b ≡ true → a ≡ b
 same_is a b same =
     let both = and_parts _ _ same in
     let buffer : a.buffer ≡ b.buffer = eqb-true _ _ both.0 in

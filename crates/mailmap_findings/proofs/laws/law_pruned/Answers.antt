@@ -1,5 +1,6 @@
-use Rattle.mailmap_findings.proofs.Pruned.{same_listing, nothing_to_prune}
+use Rattle.mailmap_findings.proofs.Deleted.{pruned_told}
+use Rattle.mailmap_findings.proofs.Pruned.{nothing_to_prune, same_listing}
 use Rattle.mailmap_findings.proofs.laws.law_pruned.Goals as goal
 
 pub returns : goal.returns
-returns c = record { listing = same_listing; settled = nothing_to_prune }
+returns c = record { told = pruned_told; listing = same_listing; settled = nothing_to_prune }

@@ -18,7 +18,7 @@ pub loop-text-preserved : goal.loop-text-preserved
 loop-text-preserved c = (
   omega (arith, c.loop-text.invariant.0, ap length c.in-Some.ensures.steps),
   ap (λ xs. map line_of xs ++ placed_from c.args.number (c.loop-text.line + 1 + 1) c.next.new.self) c.in_ok-push.ensures.items
-  ∙ line_more c.loop-text.found.items _ c.args.number c.loop-text.line c.loop-text.text-iterator c.next.new.self _ c.loop-text.invariant.1 c.in-Some.ensures.steps refl,
+      ∙ line_more c.loop-text.found.items _ c.args.number c.loop-text.line c.loop-text.text-iterator c.next.new.self _ c.loop-text.invariant.1 c.in-Some.ensures.steps refl,
 )
 
 pub returns : goal.returns

@@ -24,7 +24,7 @@ loop-line-preserved c =
     let step = line_step ls i no_line c.loop-line-test.true kept (map placed_of c.loop-line.kept.now) c.loop-line.invariant.1 in
     let stays : c.stands_first-stays.result ≡ stands_at kept l.place = c.stands_first-stays.ensures ∙ sym step.stays in (
       c.in_ok-push_told.ensures
-      ∙ (λ j. c.loop-line.invariant.0 j ++ line_findings h kept (stays j) l)
-      ∙ sym (told_more ls i no_line c.loop-line-test.true (findings h kept)),
+          ∙ (λ j. c.loop-line.invariant.0 j ++ line_findings h kept (stays j) l)
+          ∙ sym (told_more ls i no_line c.loop-line-test.true (findings h kept)),
       subst (λ left. InStep kept left (map line_of (drop (i + 1) ls))) (sym c.left_behind-kept.ensures) step.next,
     )
