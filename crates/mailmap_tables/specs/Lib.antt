@@ -8,3 +8,4 @@ pub mod Places
 pub mod Merging
 pub mod Named
 pub mod Remaining
+pub mod Room
