@@ -3,8 +3,8 @@
 use crate::call::Call;
 use crate::run::{Run, Wrong, lists, wants};
 use crate::samples::{
-    ANSWERS, CONTACTS, JANE, NOBODY, TEAM, WRITTEN, all, five, is_jane, is_nobody, later, owns_jane,
-    team, three, two,
+    ANSWERS, CONTACTS, JANE, NOBODY, TEAM, WRITTEN, all, five, is_jane, is_nobody, later,
+    owns_jane, team, three, two,
 };
 use gix_mailmap::snapshot::{Source, WriteError};
 use gix_mailmap::{Entry, Snapshot, actor, check};
