@@ -30,7 +30,7 @@ count() {
 }
 
 # The library: standard input says how many requests come before all calls.
-refused=200
+refused=240
 mkdir "$work/calls"
 for ((before = 0; before < refused; before++)); do
     echo "$before" > "$work/calls/$(printf '%03d' "$before")"
@@ -49,6 +49,7 @@ Snapshot::from_bytes
 Snapshot::try_clone
 Snapshot::write
 Snapshot::merge
+Snapshot::merge, in place
 Snapshot::merge, texts given up
 Snapshot::merge_sources, first source
 Snapshot::merge_sources, third source

@@ -586,3 +586,21 @@ fn replaced_texts_are_given_up(rt: HostRuntime) -> Result<(), Fail> {
     assert_lists(&rt, rt.alloc(), &snapshot, &given)?;
     Ok(())
 }
+
+/// So it is under small merges, which are made in place.
+#[test]
+fn texts_that_small_merges_replace_are_given_up(rt: HostRuntime) -> Result<(), Fail> {
+    let new_name = [b'N'; 25_000];
+    let given = [
+        Entry::change_name_and_email_by_email(&new_name, b"new@x", b"a@x"),
+        Entry::change_name_and_email_by_email(&new_name, b"new@x", b"b@x"),
+        Entry::change_name_and_email_by_email(&new_name, b"new@x", b"c@x"),
+        Entry::change_name_and_email_by_email(&new_name, b"new@x", b"d@x"),
+    ];
+    let mut taken = [0; 20];
+    let mut snapshot = snapshot_of(rt.alloc(), &given)?;
+    take_in_rounds(&rt, &mut snapshot, &given[1..2], &mut taken)?;
+    assert_small(&rt, &taken);
+    assert_lists(&rt, rt.alloc(), &snapshot, &given)?;
+    Ok(())
+}

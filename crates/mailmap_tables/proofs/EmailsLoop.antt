@@ -307,15 +307,19 @@ module _ (gs0 : List EmailGroup) (ps0 : List Item) (pool0 : Text) (are : AreGrou
 
 -- ---- the end
 
+-- those that came out and those that are left are groups
+pub emails_are : (gs0 : List EmailGroup) (ps0 : List Item) (pool0 : Text) → AreGroups gs0 → (gs : List EmailGroup) (ps : List Item) (c : Contents) → EmailsState gs0 ps0 pool0 gs ps c → AreGroups (c.groups ++ gs)
+emails_are gs0 ps0 pool0 are gs ps c st =
+    record {
+      ascending = subst (IsStrictlySortedBy text_cmp) (sym (map-append email_key c.groups gs)) (order_end (map email_key c.groups) (map email_key gs) (map by ps) (map by st.taken) st.order);
+      each = all_append IsGroup c.groups gs st.each (all_back IsGroup st.done gs (subst (AllByRecursion IsGroup) st.standing_is are.each));
+    }
+
 pub emails_end : (gs0 : List EmailGroup) (ps0 : List Item) (pool0 : Text) (are : AreGroups gs0) (gs : List EmailGroup) (c out : Contents) → EmailsState gs0 ps0 pool0 gs [] c → out ≡ record c { groups = c.groups ++ gs } → AllJoined gs0 ps0 out.groups
 emails_end gs0 ps0 pool0 are gs c out st is =
     let whole : ps0 ≡ st.taken = st.batch_is ∙ append-nil st.taken in
-    let groups_are : AreGroups (c.groups ++ gs) = record {
-      ascending = subst (IsStrictlySortedBy text_cmp) (sym (map-append email_key c.groups gs)) (order_end (map email_key c.groups) (map email_key gs) [] (map by st.taken) st.order);
-      each = all_append IsGroup c.groups gs st.each (all_back IsGroup st.done gs (subst (AllByRecursion IsGroup) st.standing_is are.each));
-    } in
     subst (AllJoined gs0 ps0) (sym (ap (λ (v : Contents). v.groups) is)) (record {
-      groups = groups_are;
+      groups = emails_are gs0 ps0 pool0 are gs [] c st;
       alike = λ s sp.
           let same = subst (AreSame s) whole sp.same in
           let a = step_copied st.done gs c.groups (spelt s st.taken) (st.alike s sp) (below_groups s gs st.taken same (turned (map by st.taken) (map email_key gs) st.order.taken_standing)) in

@@ -22,3 +22,7 @@ pub mod SortedRuns
 pub mod WholeMerge
 pub mod Listed
 pub mod Complete
+pub mod Edited
+pub mod RowEdits
+pub mod Bytes
+pub mod InPlace

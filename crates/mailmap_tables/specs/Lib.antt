@@ -9,3 +9,4 @@ pub mod Merging
 pub mod Sorting
 pub mod Named
 pub mod Remaining
+pub mod Room

@@ -3,8 +3,10 @@
 #![tactic(auto)]
 
 mod batch;
+mod insert;
 pub mod listing;
 pub mod merge;
+mod room;
 pub mod search;
 pub mod tables;
 pub mod view;

@@ -13,8 +13,10 @@ ghost use Rattle.mailmap_entries.specs.declared.entry.Entry.{Entry as Item};
 ghost use Rattle.mailmap_tables.specs.Merging.{IsAscending, first_email, IsNamed, mapping_at, placed_at, email_text, name_text, Extends, NamePut, NameRun, NamesPut, EmailRun, IsEarliest, give, EmailPut, RunPut, AllJoined};
 ghost use Rattle.mailmap_tables.specs.Pool.{spelled, LiesIn, NameLies, EmailLies, RowsLie, name_group, group_of};
 ghost use Rattle.mailmap_tables.specs.Named.{named_group, fields_given};
+ghost use Rattle.mailmap_tables.specs.Room.{optional_bytes};
 
 use crate::batch::{Placed, accepted_of, sorted};
+use crate::insert::{is_small, merge_in_place};
 use crate::listing::Iter;
 use crate::search::{place_email, place_name};
 use crate::tables::{EmailRow, NameRow, Span, Tables};
@@ -24,17 +26,17 @@ use std::alloc::{AllocError, Global};
 
 // The texts that stand for an old name.
 #[derive(Clone, Copy)]
-struct Named<'a> {
-    old_name: &'a [u8],
-    new_name: Option<&'a [u8]>,
-    new_email: &'a [u8],
+pub(crate) struct Named<'a> {
+    pub(crate) old_name: &'a [u8],
+    pub(crate) new_name: Option<&'a [u8]>,
+    pub(crate) new_email: &'a [u8],
 }
 
 // The fields that entries without an old name give.
 #[derive(Clone, Copy)]
-struct Given<'a> {
-    new_name: Option<&'a [u8]>,
-    new_email: Option<&'a [u8]>,
+pub(crate) struct Given<'a> {
+    pub(crate) new_name: Option<&'a [u8]>,
+    pub(crate) new_email: Option<&'a [u8]>,
 }
 
 // Puts a text that may be missing at the end of the pool.
@@ -85,11 +87,11 @@ fn put_name<'k>(
     ensures lie { IfOk result (λ left. AllByRecursion (NameLies (length out.new.pool)) left.now) }
     ensures put { IfOk result (λ left. NamePut (map (name_group out.old.pool) kept.entry.now) (map (name_group out.new.pool) left.now) (named_group named.entry) out.old out.new) }
 {
-    match place_name(out, kept, named.old_name) {
+    match place_name(&out.view(), kept, named.old_name) {
         Ok(place) => {
             let row = kept[place];
             out.push_names(front(kept, place))?;
-            push_named(out, row.old_name, named, fields_len(row))?;
+            push_named(out, row.old_name, named, name_fields_len(row))?;
             Ok(rest(kept, place + 1))
         }
         Err(place) => {
@@ -102,11 +104,11 @@ fn put_name<'k>(
 }
 
 // How many bytes the fields of a name have.
-fn fields_len(row: NameRow) -> usize {
+pub(crate) fn name_fields_len(row: NameRow) -> usize {
     span_len(row.new_name).saturating_add(row.new_email.len)
 }
 
-fn span_len(span: Option<Span>) -> usize {
+pub(crate) fn span_len(span: Option<Span>) -> usize {
     match span {
         Some(span) => span.len,
         None => 0,
@@ -122,7 +124,7 @@ fn front(rows: &[NameRow], place: usize) -> &[NameRow]
 }
 
 // The rows from a place on.
-fn rest(rows: &[NameRow], place: usize) -> &[NameRow]
+pub(crate) fn rest(rows: &[NameRow], place: usize) -> &[NameRow]
     requires { place ≤ length rows.now }
     ensures { result.now ≡ drop place rows.now }
 {
@@ -168,7 +170,7 @@ pub(crate) fn email_run(batch: &[Placed<'_, '_>], email: &[u8]) -> usize
 }
 
 // How many entries at the front have no old name.
-fn unnamed_run(batch: &[Placed<'_, '_>]) -> usize
+pub(crate) fn unnamed_run(batch: &[Placed<'_, '_>]) -> usize
     ensures within { result ≤ length batch.now }
     ensures none { AllByRecursion (λ p. (mapping_at p).old_name ≡ None) (take result batch.now) }
     ensures other { result < length batch.now → HoldsAt (λ p. (mapping_at p).old_name ≢ None) batch.now result }
@@ -182,7 +184,7 @@ fn unnamed_run(batch: &[Placed<'_, '_>]) -> usize
 }
 
 // The name at the front of a batch of named entries, and how many entries it stands for.
-fn front_name<'a>(batch: &[Placed<'_, 'a>]) -> (Named<'a>, usize)
+pub(crate) fn front_name<'a>(batch: &[Placed<'_, 'a>]) -> (Named<'a>, usize)
     requires some { 0 < length batch.now }
     requires named { AllByRecursion (λ p. IsNamed (mapping_at p)) batch.now }
     ensures within { result.1 ≤ length batch.now }
@@ -230,7 +232,7 @@ fn join_names(
 }
 
 // The entries from a place on.
-fn behind<'s, 'e, 'a>(batch: &'s [Placed<'e, 'a>], place: usize) -> &'s [Placed<'e, 'a>]
+pub(crate) fn behind<'s, 'e, 'a>(batch: &'s [Placed<'e, 'a>], place: usize) -> &'s [Placed<'e, 'a>]
     requires { place ≤ length batch.now }
     ensures { result.now ≡ drop place batch.now }
 {
@@ -238,7 +240,7 @@ fn behind<'s, 'e, 'a>(batch: &'s [Placed<'e, 'a>], place: usize) -> &'s [Placed<
 }
 
 // The fields that entries without an old name give last, each for itself.
-fn last_given<'a>(own: &[Placed<'_, 'a>]) -> Given<'a>
+pub(crate) fn last_given<'a>(own: &[Placed<'_, 'a>]) -> Given<'a>
     ensures { fields_given result ≡ fold give no_fields (map mapping_at own.now) }
 {
     let mut given = Given {
@@ -272,7 +274,7 @@ fn push_given(
 }
 
 // The entries before a place.
-fn before<'s, 'e, 'a>(batch: &'s [Placed<'e, 'a>], place: usize) -> &'s [Placed<'e, 'a>]
+pub(crate) fn before<'s, 'e, 'a>(batch: &'s [Placed<'e, 'a>], place: usize) -> &'s [Placed<'e, 'a>]
     requires { place ≤ length batch.now }
     ensures { result.now ≡ take place batch.now }
 {
@@ -301,7 +303,7 @@ fn join_email(
 }
 
 // The entry that came first.
-fn earliest<'e, 'a>(batch: &[Placed<'e, 'a>]) -> Placed<'e, 'a>
+pub(crate) fn earliest<'e, 'a>(batch: &[Placed<'e, 'a>]) -> Placed<'e, 'a>
     requires { 0 < length batch.now }
     ensures { IsEarliest (map placed_at batch.now) (placed_at result) }
 {
@@ -420,8 +422,9 @@ fn joined(alloc: Global, standing: &Tables, entries: &[Entry<'_>]) -> Result<Tab
 
 /// Merging.
 impl Tables {
-    /// Puts the accepted entries that an iterator gives behind those that the tables have. New tables are built aside and
-    /// put in place at the end, so that a refusal of memory leaves the tables as they were.
+    /// Puts the accepted entries that an iterator gives behind those that the tables have. A small batch is joined in
+    /// place, once all room is taken. For any other new tables are built aside and put in place at the end. So a refusal
+    /// of memory leaves the tables as they were.
     pub fn merge<'a, I: Iterator<Item = Entry<'a>> + Drop>(
         &mut self,
         entries: I,
@@ -440,6 +443,9 @@ impl Tables {
         let batch = accepted_of(alloc, entries)?;
         if batch.is_empty() {
             return Ok(());
+        }
+        if is_small(self, &batch) {
+            return merge_in_place(alloc, self, &batch);
         }
         let merged = joined(alloc, self, &batch)?;
         *self = thinned(merged)?;
@@ -487,7 +493,9 @@ fn texts_len(entries: &[Entry<'_>]) -> usize {
     len
 }
 
-fn text_len(text: Option<&[u8]>) -> usize {
+pub(crate) fn text_len(text: Option<&[u8]>) -> usize
+    ensures { result ≡ optional_bytes (option_copied text.entry) }
+{
     match text {
         Some(text) => text.len(),
         None => 0,

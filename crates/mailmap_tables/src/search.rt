@@ -9,7 +9,7 @@ ghost use Rattle.mailmap_tables.specs.Groups.{email_key, name_key};
 ghost use Rattle.mailmap_tables.specs.Places.{IsFound, IsMissing};
 ghost use Rattle.mailmap_tables.specs.Pool.{LiesIn, NameLies, name_group};
 
-use crate::tables::{NameRow, Tables};
+use crate::tables::NameRow;
 use crate::view::View;
 use mailmap_entries::fold::front::Fronted;
 use mailmap_entries::fold::{Probe, Steps, search};
@@ -70,7 +70,7 @@ pub(crate) fn place_email(tables: &View<'_>, start: usize, email: &[u8]) -> Resu
 }
 
 /// Where a name stands among the names of an email, or where it would stand.
-pub(crate) fn place_name(tables: &Tables, names: &[NameRow], name: &[u8]) -> Result<usize, usize>
+pub(crate) fn place_name(tables: &View<'_>, names: &[NameRow], name: &[u8]) -> Result<usize, usize>
     requires lie { AllByRecursion (NameLies (length tables.now.pool)) names.now }
     requires ascending { IsStrictlySortedBy text_cmp
         (map name_key (map (name_group tables.now.pool) names.now)) }
@@ -79,7 +79,7 @@ pub(crate) fn place_name(tables: &Tables, names: &[NameRow], name: &[u8]) -> Res
     ensures missing { IfErr result
         (IsMissing name_key (folded name.now) 0 (map (name_group tables.now.pool) names.now)) }
 {
-    search_name(&tables.view(), names, name, &mut Steps::new())
+    search_name(tables, names, name, &mut Steps::new())
 }
 
 /// As [`place_email`], and counts the comparisons: at most as many as the emails that are searched have digits.

@@ -41,13 +41,13 @@ pub struct EmailRow {
 /// The pool and the two tables. While tables are built, names come before the email that takes them.
 #[derive(Drop)]
 pub struct Tables {
-    pool: Vec<u8>,
-    emails: Vec<EmailRow>,
-    names: Vec<NameRow>,
+    pub(crate) pool: Vec<u8>,
+    pub(crate) emails: Vec<EmailRow>,
+    pub(crate) names: Vec<NameRow>,
     // the first bytes of each email as a number, side by side: a search seldom reads more
-    fronts: Vec<u128>,
+    pub(crate) fronts: Vec<u128>,
     // how many bytes of the pool no row names any more
-    dead: usize,
+    pub(crate) dead: usize,
 }
 
 impl Model for Tables {
@@ -246,6 +246,12 @@ impl Tables {
     // The allocator that the tables keep.
     pub(crate) fn allocator(&self) -> Global {
         *self.pool.allocator()
+    }
+
+    // Whether less than half of the pool would be out of use if so many bytes more were.
+    pub(crate) fn stays_alive(&self, more: usize) -> bool {
+        let dead = self.dead.saturating_add(more);
+        dead < self.pool.len().saturating_sub(dead)
     }
 
     // Whether texts that no row names any more take half of the pool or more.

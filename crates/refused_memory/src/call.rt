@@ -11,6 +11,8 @@ pub enum Call {
     TryClone,
     Write,
     Merge,
+    /// A small merge, which is made in place.
+    MergeInPlace,
     /// A merge that gives up texts out of use, and so builds the snapshot once more.
     MergeAnew,
     MergeSources,
@@ -48,6 +50,7 @@ impl fmt::Display for Call {
             Call::TryClone => "Snapshot::try_clone",
             Call::Write => "Snapshot::write",
             Call::Merge => "Snapshot::merge",
+            Call::MergeInPlace => "Snapshot::merge, in place",
             Call::MergeAnew => "Snapshot::merge, texts given up",
             Call::MergeSources => "Snapshot::merge_sources",
             Call::FirstSource => "Snapshot::merge_sources, first source",

@@ -3,8 +3,8 @@
 use crate::call::Call;
 use crate::run::{Run, Wrong, lists, wants};
 use crate::samples::{
-    ANSWERS, CONTACTS, FAULTY, JANE, NOBODY, PRUNED, TEAM, WRITTEN, all, are_of_faulty, is_jane,
-    is_nobody, later, owns_jane, team,
+    ANSWERS, CONTACTS, FAULTY, JANE, NOBODY, PRUNED, TEAM, WRITTEN, all, are_of_faulty, five,
+    is_jane, is_nobody, later, owns_jane, team, three, two,
 };
 use gix_mailmap::snapshot::{Source, WriteError};
 use gix_mailmap::verify::{prune, verify};
@@ -25,6 +25,7 @@ pub fn judge(run: &mut Run, alloc: Global, team: &Snapshot) -> Result<(), Wrong>
     read_and_list(run, alloc, team)?;
     copy_and_write(run, alloc, team)?;
     merge(run, alloc, team)?;
+    merge_in_place(run, alloc)?;
     merge_anew(run, alloc)?;
     merge_sources(run, alloc)?;
     resolve(run, alloc, team)?;
@@ -62,6 +63,17 @@ fn writes(snapshot: &Snapshot, alloc: Global) -> Result<bool, AllocError> {
 fn merge(run: &mut Run, alloc: Global, team: &Snapshot) -> Result<(), Wrong> {
     let mut copy = clone(run, alloc, team)?;
     run.judge_merge(Call::Merge, team, &mut copy, &later(), &all())
+}
+
+// A small merge, which is made in place: a new name and a new email, ahead of emails that stand.
+fn merge_in_place(run: &mut Run, alloc: Global) -> Result<(), Wrong> {
+    let stood = run.judge(
+        Call::New,
+        || Snapshot::new(alloc, three().into_iter()),
+        |made| lists(made, &three()),
+    )?;
+    let mut copy = clone(run, alloc, &stood)?;
+    run.judge_merge(Call::MergeInPlace, &stood, &mut copy, &two(), &five())
 }
 
 // A merge that gives replaced texts up, which builds the snapshot once more.

@@ -118,6 +118,34 @@ pub fn all() -> [Entry<'static>; 4] {
     ]
 }
 
+/// Entries of three emails.
+pub fn three() -> [Entry<'static>; 3] {
+    [
+        Entry::change_name_by_email(b"Ann", b"a@x"),
+        Entry::change_name_by_email(b"Bob", b"b@x"),
+        Entry::change_name_by_email(b"Cid", b"c@x"),
+    ]
+}
+
+/// Entries to merge behind those: a name that is new for the first email, and an email that is new.
+pub fn two() -> [Entry<'static>; 2] {
+    [
+        Entry::change_email_by_name_and_email(b"anna@x", b"Anna", b"A@x"),
+        Entry::change_name_by_email(b"Abe", b"aa@x"),
+    ]
+}
+
+/// What is listed of all of them.
+pub fn five() -> [Entry<'static>; 5] {
+    [
+        Entry::change_name_by_email(b"Ann", b"a@x"),
+        Entry::change_email_by_name_and_email(b"anna@x", b"Anna", b"a@x"),
+        Entry::change_name_by_email(b"Abe", b"aa@x"),
+        Entry::change_name_by_email(b"Bob", b"b@x"),
+        Entry::change_name_by_email(b"Cid", b"c@x"),
+    ]
+}
+
 /// A signature whose name and email are mapped.
 pub const JANE: SignatureRef<'static> = SignatureRef {
     name: b"Jane",

@@ -1,6 +1,8 @@
 use Rattle.std.proofs.Common.{◌∙◌, ◌++◌, ◌∷◌, [], map, take, get_or, length, None, refl, sym, ap, subst}
 use Rattle.std.specs.List.{AllByRecursion}
-use Rattle.mailmap_tables.specs.Groups.{Contents}
+use Rattle.mailmap_entries.specs.Folding.{folded}
+use Rattle.mailmap_tables.specs.Groups.{Contents, name_key}
+use Rattle.mailmap_tables.specs.Places.{IsFound, IsMissing}
 use Rattle.mailmap_tables.specs.Merging.{Extends, NamePlaced, NamePut}
 use Rattle.mailmap_tables.specs.Named.{named_group}
 use Rattle.mailmap_tables.specs.Pool.{spelled, NameLies, name_group}
@@ -33,7 +35,7 @@ returns-in_ok-push_named-in-Ok-clause-put c =
     (pushed.loose ∙ ap (λ (v : Contents). v.loose ++ record (named_group c.args.named) { old_name = spelled v.pool row.old_name } ∷ []) step
     ∙ ap (λ l. (c.args.out.now.loose ++ map (name_group pool) l) ++ record (named_group c.args.named) { old_name = spelled pool row.old_name } ∷ []) c.front.ensures)
     (subst (λ l. NamePlaced (map (name_group pool) kept) (map (name_group pool) (take place kept)) c.args.named.old_name.now (spelled pool row.old_name) (map (name_group pool) l)) (sym c.rest.ensures)
-    (placed_found pool kept c.args.named.old_name.now place _ c.in-Ok.ensures.found)))
+    (placed_found pool kept c.args.named.old_name.now place _ (subst (λ (v : Contents). IsFound name_key (folded c.args.named.old_name.now) 0 (map (name_group v.pool) kept) place) c.view.ensures c.in-Ok.ensures.found))))
 
 -- ---- the name is new
 
@@ -62,4 +64,4 @@ returns-in_ok-push_named-in-Err-clause-put c =
     ∙ ap (λ (v : Contents). v.loose ++ record (named_group c.args.named) { old_name = spelled c.push_text.new.self.pool c.in_ok-old_name-in-Err.old_name } ∷ []) step
     ∙ (λ j. (c.args.out.now.loose ++ map (name_group pool) (c.front-in-Err.ensures j)) ++ record (named_group c.args.named) { old_name = texted.spells j } ∷ []))
     (subst (λ l. NamePlaced (map (name_group pool) kept) (map (name_group pool) (take place kept)) c.args.named.old_name.now c.args.named.old_name.now (map (name_group pool) l)) (sym c.rest-in-Err.ensures)
-    (placed_new pool kept c.args.named.old_name.now place c.args.named.old_name.now c.in-Err.ensures.missing refl)))
+    (placed_new pool kept c.args.named.old_name.now place c.args.named.old_name.now (subst (λ (v : Contents). IsMissing name_key (folded c.args.named.old_name.now) 0 (map (name_group v.pool) kept) place) c.view.ensures c.in-Err.ensures.missing) refl)))

@@ -5,7 +5,8 @@ use Rattle.mailmap_entries.specs.Entries.{mapping_of}
 use Rattle.mailmap_entries.specs.declared.entry.Entry.{Entry as Item}
 use Rattle.mailmap_histories.specs.Histories.{IsNormal, accepted, is_accepted}
 use Rattle.mailmap_histories.proofs.Building.{normal_accepted, normal_unchanged, accepted_good}
-use Rattle.mailmap_tables.specs.Groups.{listing}
+use Rattle.mailmap_tables.specs.Groups.{IsComplete, listing}
+use Rattle.mailmap_tables.proofs.Collected.{on_ok_then}
 use Rattle.mailmap_tables.proofs.Grouped.{groups_normal}
 use Rattle.mailmap_tables.proofs.tables.Tables.merge.Goals as goal
 
@@ -20,7 +21,7 @@ returns-then-is_empty-clause-ok g c =
 pub joined-requires-clause-accepted : goal.joined-requires-clause-accepted
 joined-requires-clause-accepted g c =
     let w = c.in_ok-batch.ensures.ok in
-    subst (λ (l : List Item). AllByRecursion (λ m. is_accepted m ≡ true) (map mapping_of l)) (sym c.deref.ensures.value)
+    subst (λ (l : List Item). AllByRecursion (λ m. is_accepted m ≡ true) (map mapping_of l)) (sym c.deref-2.ensures.value)
     (subst (AllByRecursion (λ m. is_accepted m ≡ true)) (sym w.2) (accepted_good (map mapping_of w.0)))
 
 pub returns-clause-ok : goal.returns-clause-ok
@@ -33,5 +34,23 @@ returns-clause-ok g c =
       c.in_ok-self.ensures.0,
       subst (IsNormal (stood ++ map mapping_of w.0)) (sym c.in_ok-self.ensures.1)
           (normal_accepted stood (map mapping_of w.0) merged
-          (subst (λ l. IsNormal (stood ++ l) merged) (ap (map mapping_of) c.deref.ensures.value ∙ w.2) c.in_ok-merged.ensures.1)),
+          (subst (λ l. IsNormal (stood ++ l) merged) (ap (map mapping_of) c.deref-2.ensures.value ∙ w.2) c.in_ok-merged.ensures.1)),
     )
+
+pub merge_in_place-requires-clause-accepted : goal.merge_in_place-requires-clause-accepted
+merge_in_place-requires-clause-accepted g c =
+    let w = c.in_ok-batch.ensures.ok in
+    subst (λ (l : List Item). AllByRecursion (λ m. is_accepted m ≡ true) (map mapping_of l)) (sym c.deref-then-is_small.ensures.value)
+    (subst (AllByRecursion (λ m. is_accepted m ≡ true)) (sym w.2) (accepted_good (map mapping_of w.0)))
+
+pub returns-then-is_small-clause-ok : goal.returns-then-is_small-clause-ok
+returns-then-is_small-clause-ok g c =
+    let w = c.in_ok-batch.ensures.ok in
+    let stood = listing c.args.self.now.groups in
+    let new = c.merge_in_place.new.tables in
+    on_ok_then c.merge_in_place.result _ _ (λ (d : IsComplete new × IsNormal (stood ++ map mapping_of c.deref-then-is_small.result.now) (listing new.groups)). (
+      w.0,
+      w.1,
+      d.0,
+      normal_accepted stood (map mapping_of w.0) (listing new.groups) (subst (λ l. IsNormal (stood ++ l) (listing new.groups)) (ap (map mapping_of) c.deref-then-is_small.ensures.value ∙ w.2) d.1),
+    )) c.merge_in_place.ensures.ok

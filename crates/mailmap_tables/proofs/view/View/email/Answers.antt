@@ -1,4 +1,4 @@
-use Rattle.std.proofs.Common.{◌≡◌, ◌≤◌, ◌<◌, ◌-◌, List, subst₂, length, sym, ap, ◌∙◌, subst, arith, Some, take, drop}
+use Rattle.std.proofs.Common.{◌≡◌, ◌≤◌, ◌<◌, ◌-◌, List, subst₂, length, sym, ap, ◌∙◌, subst, arith, Some, drop}
 use Rattle.std.proofs.lemmas.List.{length-map, length-drop, length-take-le}
 use Rattle.std.specs.List.{slice_get}
 use Rattle.mailmap_tables.specs.Groups.{Contents}

@@ -1,0 +1,78 @@
+-- Tables with room, and what an edit of one email changes.
+use Rattle.std.specs.Prelude.{◌≡◌, ◌≤◌, ◌+◌, ◌++◌, ℕ, List, [], ◌∷◌, Option, Some, None, length, take, drop}
+use Rattle.mailmap_entries.specs.Entries.{Mapping}
+use Rattle.mailmap_entries.specs.Folding.{Text}
+use Rattle.mailmap_tables.specs.Groups.{NameGroup, EmailGroup, Contents}
+use Rattle.mailmap_tables.specs.Merging.{Extends, NamePut, NamesJoined, EmailJoined}
+use Rattle.mailmap_tables.specs.declared.tables.EmailRow.{EmailRow}
+
+-- what tables hold, and how many bytes, emails and names more there is room for
+pub record Room : Type 0 where
+  pub held : Contents
+  pub bytes : ℕ
+  pub emails : ℕ
+  pub names : ℕ
+
+-- the row of an email behind which one name more stands
+abbrev pub one_later : EmailRow → EmailRow
+one_later r = record r { names_start = r.names_start + 1; names_end = r.names_end + 1 }
+
+-- with another email in the place of one
+abbrev pub with_email_at : Contents → ℕ → EmailGroup → Contents
+with_email_at c place g = record c { groups = take place c.groups ++ g ∷ drop (place + 1) c.groups }
+
+-- how many bytes a text that may be missing has
+abbrev pub optional_bytes : Option Text → ℕ
+optional_bytes None = 0
+optional_bytes (Some t) = length t
+
+-- how many bytes an entry has beside its old email
+abbrev pub field_bytes : Mapping → ℕ
+field_bytes m = optional_bytes m.old_name + (optional_bytes m.new_name + optional_bytes m.new_email)
+
+-- how many bytes an entry has
+abbrev pub entry_bytes : Mapping → ℕ
+entry_bytes m = length m.old_email + field_bytes m
+
+-- how many bytes a name takes
+abbrev pub name_bytes : NameGroup → ℕ
+name_bytes n = length n.old_name + (optional_bytes n.new_name + length n.new_email)
+
+-- one email of tables has changed, and the pool has grown
+pub record EmailChanged (place : ℕ) (g : EmailGroup) (old new : Contents) : Type 0 where
+  pub pool : Extends old.pool new.pool
+  pub groups : new.groups ≡ take place old.groups ++ g ∷ drop (place + 1) old.groups
+  pub loose : new.loose ≡ old.loose
+
+-- the room that is left where so much was taken
+pub record TookRoom (b e n : ℕ) (old new : Room) : Type 0 where
+  pub bytes : old.bytes ≤ new.bytes + b
+  pub emails : old.emails ≤ new.emails + e
+  pub names : old.names ≤ new.names + n
+
+-- the first emails of tables alone
+abbrev pub first_emails : ℕ → Contents → Contents
+first_emails n c = record c { groups = take n c.groups }
+
+-- names that no email has, over a pool
+abbrev pub names_alone : Text → List NameGroup → Contents
+names_alone pool ns = record { pool = pool; groups = []; loose = ns }
+
+-- a name was put among those of an email from a place on: up to the next place they have come out
+pub record NamePlacedAt (email from next : ℕ) (g : EmailGroup) (n : NameGroup) (old new : Contents) : Type 0 where
+  pub names : List NameGroup
+  pub changed : EmailChanged email (record g { names = names }) old new
+  pub within : next ≤ length names
+  pub put : NamePut (drop from g.names) (drop next names) n (names_alone old.pool (take from g.names)) (names_alone new.pool (take next names))
+
+-- named entries have joined the names of an email
+pub record NamesExtended (email : ℕ) (g : EmailGroup) (ms : List Mapping) (old new : Contents) : Type 0 where
+  pub names : List NameGroup
+  pub changed : EmailChanged email (record g { names = names }) old new
+  pub joined : NamesJoined g.names ms names
+
+-- entries have joined an email
+pub record EmailExtended (email : ℕ) (g : EmailGroup) (ms : List Mapping) (old new : Contents) : Type 0 where
+  pub group : EmailGroup
+  pub changed : EmailChanged email group old new
+  pub joined : EmailJoined g ms group

@@ -1,0 +1,284 @@
+//! Joining a small batch with the tables in place: all room is taken first, and then no step can fail.
+ghost use Rattle.std.specs.Prelude.{◌≡◌, ◌≤◌, ◌<◌, ◌+◌, ◌++◌, [], List, ℕ, Some, true, OnOk, OnErr, IfOk, IfErr, drop, map, length, min, slice_get, sum_by};
+ghost use Rattle.std.specs.Option.{ForSome, option_copied, option_map, option_or};
+ghost use Rattle.std.specs.List.{AllByRecursion, HoldsAt};
+ghost use Rattle.std.specs.List.Sorted.{IsStrictlySortedBy};
+ghost use Rattle.mailmap_entries.specs.Entries.{mapping_of};
+ghost use Rattle.mailmap_entries.specs.Folding.{folded, text_cmp};
+ghost use Rattle.mailmap_histories.specs.Histories.{IsNormal, is_accepted, key, key_cmp};
+ghost use Rattle.mailmap_tables.specs.Groups.{AreGroups, EmailGroup, IsComplete, listing, name_key};
+ghost use Rattle.mailmap_tables.specs.Merging.{AllJoined, EmailRun, IsAscending, IsNamed, RunPut, first_email, mapping_at, name_text, placed_at};
+ghost use Rattle.mailmap_tables.specs.Named.{named_group};
+ghost use Rattle.mailmap_tables.specs.Pool.{LiesIn, NameLies, name_group, spelled};
+ghost use Rattle.mailmap_tables.specs.Places.{IsFound, IsMissing};
+ghost use Rattle.mailmap_tables.specs.Room.{EmailExtended, NamePlacedAt, NamesExtended, TookRoom, entry_bytes, field_bytes, first_emails, name_bytes, optional_bytes};
+
+use crate::batch::{Placed, sorted};
+use crate::merge::{
+    Named, before, behind, earliest, email_run, front_name, last_given, name_fields_len, rest,
+    span_len, text_len, unnamed_run,
+};
+use crate::room::Roomy;
+use crate::search::{place_email, place_name};
+use crate::tables::{NameRow, Span, Tables};
+use crate::view::View;
+use mailmap_entries::Entry;
+use std::alloc::{AllocError, Global};
+use std::mem;
+
+// Batches of more entries are joined aside: they would move the rows of large tables more often than a copy does.
+const MOST_IN_PLACE: usize = 16;
+
+/// Whether a batch is so small beside the tables that it is to be joined in place. Behind it, less than half of the pool
+/// may be out of use.
+pub(crate) fn is_small(tables: &Tables, entries: &[Entry<'_>]) -> bool
+    requires { AreGroups tables.now.groups }
+{
+    entries.len() <= MOST_IN_PLACE
+        && entries.len() < tables.view().len()
+        && tables.stays_alive(replaced_len(&tables.view(), entries))
+}
+
+// How many bytes that stand for the keys of entries are out of use behind them, or more.
+fn replaced_len(tables: &View<'_>, entries: &[Entry<'_>]) -> usize
+    requires { AreGroups tables.now.groups }
+{
+    let mut len: usize = 0;
+    for entry in entries {
+        len = len.saturating_add(stood_len(tables, entry));
+    }
+    len
+}
+
+// How many bytes the fields have that stand for the key of an entry.
+fn stood_len(tables: &View<'_>, entry: &Entry<'_>) -> usize
+    requires { AreGroups tables.now.groups }
+{
+    let Ok(place) = place_email(tables, 0, entry.old_email()) else {
+        return 0;
+    };
+    let (row, names) = tables.email(place);
+    match entry.old_name() {
+        None => span_len(row.new_name).saturating_add(span_len(row.new_email)),
+        Some(name) => match place_name(tables, names, name) {
+            Ok(place) => name_fields_len(names[place]),
+            Err(_) => 0,
+        },
+    }
+}
+
+/// Puts entries behind those that the tables have, in place. A refusal of memory leaves the tables as they were.
+pub(crate) fn merge_in_place(
+    alloc: Global,
+    tables: &mut Tables,
+    entries: &[Entry<'_>],
+) -> Result<(), AllocError>
+    requires complete { IsComplete tables.old }
+    requires accepted { AllByRecursion (λ m. is_accepted m ≡ true) (map mapping_of entries.now) }
+    ensures ok { OnOk result (IsComplete tables.new × IsNormal (listing tables.old.groups ++ map mapping_of entries.now) (listing tables.new.groups)) }
+    ensures err { OnErr result (tables.new ≡ tables.old) }
+{
+    let batch = sorted(alloc, entries)?;
+    let bytes = batch_len(&batch)?;
+    let held = mem::replace(tables, Tables::new(alloc));
+    match Roomy::new(held, batch.len(), bytes) {
+        Ok(mut room) => {
+            insert_sorted(&mut room, &batch);
+            *tables = room.into_tables();
+            Ok(())
+        }
+        Err(held) => {
+            *tables = held;
+            Err(AllocError)
+        }
+    }
+}
+
+// How many bytes the texts of a batch have. More than can be counted can't be had, either.
+fn batch_len(batch: &[Placed<'_, '_>]) -> Result<usize, AllocError>
+    ensures { IfOk result (λ len. sum_by entry_bytes (map mapping_at batch.now) ≤ len) }
+{
+    let mut len: usize = 0;
+    for placed in batch {
+        len = len.saturating_add(entry_len(placed.entry));
+    }
+    if len == usize::MAX {
+        return Err(AllocError);
+    }
+    Ok(len)
+}
+
+// How many bytes the texts of an entry have, as far as they can be counted.
+fn entry_len(entry: &Entry<'_>) -> usize
+    ensures { result ≡ min (entry_bytes (mapping_of entry.now)) usize.MAX }
+{
+    let fields = text_len(entry.new_name()).saturating_add(text_len(entry.new_email()));
+    let names = text_len(entry.old_name()).saturating_add(fields);
+    entry.old_email().len().saturating_add(names)
+}
+
+// Puts a sorted batch behind the entries that the tables have.
+fn insert_sorted(tables: &mut Roomy, batch: &[Placed<'_, '_>])
+    requires complete { IsComplete tables.old.held }
+    requires accepted { AllByRecursion (λ m. is_accepted m ≡ true) (map mapping_at batch.now) }
+    requires ascending { IsAscending key_cmp (map key (map mapping_at batch.now)) }
+    requires bytes { sum_by entry_bytes (map mapping_at batch.now) ≤ tables.old.bytes }
+    requires emails { length batch.now ≤ tables.old.emails }
+    requires names { length batch.now ≤ tables.old.names }
+    ensures joined { AllJoined tables.old.held.groups (map placed_at batch.now) tables.new.held.groups }
+    ensures no_loose { tables.new.held.loose ≡ [] }
+{
+    let mut from = 0;
+    let mut left = batch;
+    while !left.is_empty() {
+        let len = email_run(left, left[0].entry.old_email());
+        from = insert_run(tables, from, before(left, len));
+        left = behind(left, len);
+    }
+}
+
+// Joins the run of an email with the emails from a place on, and gives the place behind that email.
+fn insert_run(tables: &mut Roomy, from: usize, run: &[Placed<'_, '_>]) -> usize
+    requires within { from ≤ length tables.old.held.groups }
+    requires complete { IsComplete tables.old.held }
+    requires some { 0 < length run.now }
+    requires run { EmailRun (map mapping_at run.now) }
+    requires bytes { sum_by entry_bytes (map mapping_at run.now) ≤ tables.old.bytes }
+    requires emails { 0 < tables.old.emails }
+    requires names { length run.now ≤ tables.old.names }
+    ensures within { result ≤ length tables.new.held.groups }
+    ensures put { RunPut (drop from tables.old.held.groups) (drop result tables.new.held.groups) (map placed_at run.now) (first_email (map mapping_at run.now)) (first_emails from tables.old.held) (first_emails result tables.new.held) }
+    ensures room { TookRoom (sum_by entry_bytes (map mapping_at run.now)) 1 (length run.now) tables.old tables.new }
+{
+    match place_email(&tables.view(), from, run[0].entry.old_email()) {
+        Ok(place) => extend_email(tables, place, run),
+        Err(place) => {
+            let old_email = tables.push_text(earliest(run).entry.old_email(), 0);
+            tables.insert_email(place, old_email);
+            extend_email(tables, place, run)
+        }
+    }
+}
+
+// Joins entries with the email at a place, and gives the place behind it.
+fn extend_email(tables: &mut Roomy, place: usize, run: &[Placed<'_, '_>]) -> usize
+    requires within { place < length tables.old.held.groups }
+    requires ascending { HoldsAt (λ (g : EmailGroup). IsStrictlySortedBy text_cmp (map name_key g.names)) tables.old.held.groups place }
+    requires run { EmailRun (map mapping_at run.now) }
+    requires bytes { sum_by field_bytes (map mapping_at run.now) ≤ tables.old.bytes }
+    requires names { length run.now ≤ tables.old.names }
+    ensures next { result ≡ place + 1 }
+    ensures extended { HoldsAt (λ (g : EmailGroup). EmailExtended place g (map mapping_at run.now) tables.old.held tables.new.held) tables.old.held.groups place }
+    ensures room { TookRoom (sum_by field_bytes (map mapping_at run.now)) 0 (length run.now) tables.old tables.new }
+{
+    let len = unnamed_run(run);
+    extend_names(tables, place, behind(run, len));
+    let given = last_given(before(run, len));
+    let (row, _) = tables.view().email(place);
+    let new_name = push_given(tables, given.new_name, row.new_name);
+    let new_email = push_given(tables, given.new_email, row.new_email);
+    tables.replace_fields(place, new_name, new_email);
+    let count = tables.view().len();
+    prove!(place < count);
+    place + 1
+}
+
+// Puts a text out if there is one, and else keeps that which stood.
+fn push_given(tables: &mut Roomy, given: Option<&[u8]>, stood: Option<Span>) -> Option<Span>
+    requires lies { ForSome stood (LiesIn (length tables.old.held.pool)) }
+    requires bytes { optional_bytes (option_copied given) ≤ tables.old.bytes }
+    ensures grown { (more : List ℕ) × (tables.new.held ≡ record tables.old.held { pool = tables.old.held.pool ++ more }) }
+    ensures lies { ForSome result (LiesIn (length tables.new.held.pool)) }
+    ensures spells { option_map (spelled tables.new.held.pool) result ≡ option_or (option_copied given.entry) (option_map (spelled tables.old.held.pool) stood) }
+    ensures room { TookRoom (optional_bytes (option_copied given.entry)) 0 0 tables.old tables.new }
+{
+    match given {
+        Some(text) => Some(tables.push_text(text, span_len(stood))),
+        None => stood,
+    }
+}
+
+// Joins named entries with the names of an email.
+fn extend_names(tables: &mut Roomy, email: usize, named: &[Placed<'_, '_>])
+    requires within { email < length tables.old.held.groups }
+    requires ascending { HoldsAt (λ (g : EmailGroup). IsStrictlySortedBy text_cmp (map name_key g.names)) tables.old.held.groups email }
+    requires named { AllByRecursion (λ p. IsNamed (mapping_at p)) named.now }
+    requires named_ascend { IsAscending text_cmp (map name_text (map mapping_at named.now)) }
+    requires bytes { sum_by field_bytes (map mapping_at named.now) ≤ tables.old.bytes }
+    requires names { length named.now ≤ tables.old.names }
+    ensures extended { HoldsAt (λ (g : EmailGroup). NamesExtended email g (map mapping_at named.now) tables.old.held tables.new.held) tables.old.held.groups email }
+    ensures room { TookRoom (sum_by field_bytes (map mapping_at named.now)) 0 (length named.now) tables.old tables.new }
+{
+    let mut from = 0;
+    let mut left = named;
+    while !left.is_empty() {
+        let (name, len) = front_name(left);
+        from = insert_named(tables, email, from, name);
+        left = behind(left, len);
+    }
+}
+
+// Puts a name among those of an email from a place on, and gives the place behind it.
+fn insert_named(tables: &mut Roomy, email: usize, from: usize, named: Named<'_>) -> usize
+    requires within { email < length tables.old.held.groups }
+    requires from { HoldsAt (λ (g : EmailGroup). from ≤ length g.names) tables.old.held.groups email }
+    requires ascending { HoldsAt (λ (g : EmailGroup). IsStrictlySortedBy text_cmp (map name_key (drop from g.names))) tables.old.held.groups email }
+    requires bytes { name_bytes (named_group named) ≤ tables.old.bytes }
+    requires names { 0 < tables.old.names }
+    ensures put { HoldsAt (λ (g : EmailGroup). NamePlacedAt email from result g (named_group named.entry) tables.old.held tables.new.held) tables.old.held.groups email }
+    ensures room { TookRoom (name_bytes (named_group named.entry)) 0 1 tables.old tables.new }
+{
+    match name_place(tables, email, from, named.old_name) {
+        Ok((place, stood)) => {
+            let row = push_named(tables, stood.old_name, named, name_fields_len(stood));
+            tables.replace_name(email, place, row)
+        }
+        Err(place) => {
+            let old_name = tables.push_text(named.old_name, 0);
+            let row = push_named(tables, old_name, named, 0);
+            tables.insert_name(email, place, row)
+        }
+    }
+}
+
+// Where a name stands among those of an email from a place on, with its row, or where it would stand.
+fn name_place(
+    tables: &Roomy,
+    email: usize,
+    from: usize,
+    name: &[u8],
+) -> Result<(usize, NameRow), usize>
+    requires within { email < length tables.now.held.groups }
+    requires from { HoldsAt (λ (g : EmailGroup). from ≤ length g.names) tables.now.held.groups email }
+    requires ascending { HoldsAt (λ (g : EmailGroup). IsStrictlySortedBy text_cmp (map name_key (drop from g.names))) tables.now.held.groups email }
+    ensures found { IfOk result (λ f. HoldsAt (λ (g : EmailGroup). IsFound name_key (folded name.now) from g.names f.0) tables.now.held.groups email) }
+    ensures stood { IfOk result (λ f. HoldsAt (λ (g : EmailGroup). slice_get g.names f.0 ≡ Some (name_group tables.now.held.pool f.1)) tables.now.held.groups email) }
+    ensures lies { IfOk result (λ f. NameLies (length tables.now.held.pool) f.1) }
+    ensures missing { IfErr result (λ place. HoldsAt (λ (g : EmailGroup). IsMissing name_key (folded name.now) from g.names place) tables.now.held.groups email) }
+{
+    let view = tables.view();
+    let (_, names) = view.email(email);
+    let kept = rest(names, from);
+    match place_name(&view, kept, name) {
+        Ok(i) => Ok((from + i, kept[i])),
+        Err(i) => Err(from + i),
+    }
+}
+
+// The row of a name whose fields are put out in the place of so many bytes, its old name as `old_name` spells it.
+fn push_named(tables: &mut Roomy, old_name: Span, named: Named<'_>, replaced: usize) -> NameRow
+    requires lies { LiesIn (length tables.old.held.pool) old_name }
+    requires bytes { optional_bytes (named_group named).new_name + length (named_group named).new_email ≤ tables.old.bytes }
+    ensures grown { (more : List ℕ) × (tables.new.held ≡ record tables.old.held { pool = tables.old.held.pool ++ more }) }
+    ensures lies { NameLies (length tables.new.held.pool) result }
+    ensures spells { name_group tables.new.held.pool result ≡ record (named_group named.entry) { old_name = spelled tables.old.held.pool old_name } }
+    ensures room { TookRoom (optional_bytes (named_group named.entry).new_name + length (named_group named.entry).new_email) 0 0 tables.old tables.new }
+{
+    let new_name = push_given(tables, named.new_name, None);
+    let new_email = tables.push_text(named.new_email, replaced);
+    NameRow {
+        old_name,
+        new_name,
+        new_email,
+    }
+}
