@@ -8,6 +8,7 @@ pub mod Places
 pub mod Runs
 pub mod Collected
 pub mod Arranged
+pub mod Rests
 pub mod Parting
 pub mod NamePlaces
 pub mod NamesLoop

@@ -16,7 +16,7 @@ ghost use Rattle.mailmap_entries.specs.declared.entry.Entry.{Entry as Item};
 use crate::merge::email_run;
 use mailmap_entries::Entry;
 use mailmap_entries::fold::cmp_ignore_ascii_case;
-use mailmap_entries::fold::front::front_number;
+use mailmap_entries::fold::front::{compare_rests, front_number};
 use std::alloc::{AllocError, Global};
 use std::cmp::Ordering;
 use std::marker::Model;
@@ -212,10 +212,105 @@ const FEW: usize = 8;
 fn sort_run(run: &mut Vec<Placed<'_, '_>>) -> Result<(), AllocError>
     ensures { OnOk result (IsArranged run.old.items run.new.items) }
 {
-    if FEW < run.len() && email_run(run, run[0].entry.old_email()) == run.len() {
+    if run.len() <= FEW {
+        return run.sort_by(compare);
+    }
+    if email_run(run, run[0].entry.old_email()) == run.len() {
         return sort_names(run);
     }
-    run.sort_by(compare)
+    sort_rests(run)
+}
+
+// Puts entries whose emails begin alike in order. Most emails differ in the sixteen bytes that follow.
+fn sort_rests(run: &mut Vec<Placed<'_, '_>>) -> Result<(), AllocError>
+    ensures { OnOk result (IsArranged run.old.items run.new.items) }
+{
+    let alloc = *run.allocator();
+    let mut rested = with_rests(alloc, run)?;
+    rested.sort_by(compare_rested)?;
+    *run = without_rests(alloc, &rested)?;
+    Ok(())
+}
+
+// An entry with its place, the front of its old email, and the front of what stands behind that.
+#[derive(Drop)]
+struct RestedEntry<'e, 'a> {
+    front: u128,
+    rest: u128,
+    placed: Placed<'e, 'a>,
+}
+
+impl<'e, 'a> Model for RestedEntry<'e, 'a> {
+    ghost Value = { At };
+
+    ghost view = { λ f. f.placed };
+
+    ghost invariant = { λ f. IsFront f.front (email_text (mapping_at f.placed)) × (f.rest ≡ front_number 16 (drop 16 (email_text (mapping_at f.placed)))) };
+}
+
+// The entries with both fronts.
+fn with_rests<'e, 'a>(
+    alloc: Global,
+    run: &[Placed<'e, 'a>],
+) -> Result<Vec<RestedEntry<'e, 'a>>, AllocError>
+    ensures { IfOk result (λ rested. rested.items ≡ run.now) }
+{
+    let mut rested = Vec::with_capacity(alloc, run.len())?;
+    for placed in run {
+        rested.push(with_rest(*placed))?;
+    }
+    Ok(rested)
+}
+
+fn with_rest<'e, 'a>(placed: Placed<'e, 'a>) -> RestedEntry<'e, 'a>
+    ensures { result ≡ placed.entry }
+{
+    let email = placed.entry.old_email();
+    let front = front_number(email);
+    let rest = front_number(behind_front(email));
+    RestedEntry {
+        front,
+        rest,
+        placed,
+    }
+}
+
+// What stands behind the first sixteen bytes.
+fn behind_front(text: &[u8]) -> &[u8]
+    ensures { folded result.now ≡ drop 16 (folded text.now) }
+{
+    if text.len() < 16 {
+        return &[];
+    }
+    &text[16..]
+}
+
+// The entries alone.
+fn without_rests<'e, 'a>(
+    alloc: Global,
+    rested: &[RestedEntry<'e, 'a>],
+) -> Result<Vec<Placed<'e, 'a>>, AllocError>
+    ensures { IfOk result (λ run. run.items ≡ rested.now) }
+{
+    let mut run = Vec::with_capacity(alloc, rested.len())?;
+    for entry in rested {
+        run.push(entry.placed)?;
+    }
+    Ok(run)
+}
+
+// By both fronts, and then by the whole keys.
+#[inline(always)]
+fn compare_rested(a: &RestedEntry, b: &RestedEntry) -> Ordering
+    ensures { result ≡ key_cmp (key (mapping_at a.now)) (key (mapping_at b.now)) }
+{
+    match a.front.cmp(&b.front) {
+        Ordering::Equal => match a.rest.cmp(&b.rest) {
+            Ordering::Equal => compare(&a.placed, &b.placed),
+            unequal => unequal,
+        },
+        unequal => unequal,
+    }
 }
 
 // Puts entries of one email in order. Most names differ in their first bytes.
@@ -295,8 +390,21 @@ fn compare_named(a: &NamedEntry, b: &NamedEntry) -> Ordering
 fn compare(a: &Placed, b: &Placed) -> Ordering
     ensures { result ≡ key_cmp (key (mapping_at a.now)) (key (mapping_at b.now)) }
 {
-    match cmp_ignore_ascii_case(a.entry.old_email(), b.entry.old_email()) {
+    match compare_emails(a.entry.old_email(), b.entry.old_email()) {
         Ordering::Equal => compare_names(a.entry.old_name(), b.entry.old_name()),
+        unequal => unequal,
+    }
+}
+
+// Emails of one run have one front, so that their rests decide.
+#[inline(always)]
+fn compare_emails(a: &[u8], b: &[u8]) -> Ordering
+    ensures { result ≡ text_cmp (folded a.now) (folded b.now) }
+{
+    let x = front_number(a);
+    let y = front_number(b);
+    match x.cmp(&y) {
+        Ordering::Equal => compare_rests(a, b),
         unequal => unequal,
     }
 }

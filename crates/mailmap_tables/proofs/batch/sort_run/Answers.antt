@@ -17,11 +17,11 @@ pub sort_names-requires : goal.sort_names-requires
 sort_names-requires c =
     let xs = c.deref.result.now in
     let email = folded c.old_email.result.now in
-    let all : take c.email_run.result xs ≡ xs = take_all c.email_run.result xs (omega (arith, c.if-email_run-len.true, c.len-then-len-gt-FEW.ensures, c.deref.ensures.len)) in
+    let all : take c.email_run.result xs ≡ xs = take_all c.email_run.result xs (omega (arith, c.if-email_run-len.true, c.len-2.ensures, c.deref.ensures.len)) in
     (email, subst (AllByRecursion (λ (p : Placed). email_text (mapping_at p) ≡ email)) (all ∙ c.deref.ensures.value) c.email_run.ensures.same)
 
-pub returns : goal.returns
-returns c =
+pub returns-then-len-le-FEW : goal.returns-then-len-le-FEW
+returns-then-len-le-FEW c =
     let old = c.args.run.now.items in
     let new = c.sort_by.new.self.items in
     let order : IsStrictWeakOrder by_key = ranks_by keys_total (λ p. key (mapping_at p)) in
