@@ -12,10 +12,10 @@ pub use mailmap_histories::laws::{
     law_condense, law_equal, law_exists, law_headline, law_neighbours, law_of_email, law_one_email,
     law_own_entries, law_reorder, law_repeated, law_scan, law_self, law_shortest, law_unique,
 };
-pub use mailmap_signatures::laws::law_time;
 pub use mailmap_sifting::laws::{
     law_each_key_stays, law_none_can_go, law_same_listing, law_settled, law_some_stay,
 };
+pub use mailmap_signatures::laws::law_time;
 pub use text::{law_strict, law_text};
 
 /// An input is parted in one way.
