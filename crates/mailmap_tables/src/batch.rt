@@ -16,7 +16,7 @@ ghost use Rattle.mailmap_entries.specs.declared.entry.Entry.{Entry as Item};
 use crate::merge::email_run;
 use mailmap_entries::Entry;
 use mailmap_entries::fold::cmp_ignore_ascii_case;
-use mailmap_entries::fold::front::{compare_rests, front_number};
+use mailmap_entries::fold::front::front_number;
 use std::alloc::{AllocError, Global};
 use std::cmp::Ordering;
 use std::marker::Model;
@@ -390,21 +390,8 @@ fn compare_named(a: &NamedEntry, b: &NamedEntry) -> Ordering
 fn compare(a: &Placed, b: &Placed) -> Ordering
     ensures { result ≡ key_cmp (key (mapping_at a.now)) (key (mapping_at b.now)) }
 {
-    match compare_emails(a.entry.old_email(), b.entry.old_email()) {
+    match cmp_ignore_ascii_case(a.entry.old_email(), b.entry.old_email()) {
         Ordering::Equal => compare_names(a.entry.old_name(), b.entry.old_name()),
-        unequal => unequal,
-    }
-}
-
-// Emails of one run have one front, so that their rests decide.
-#[inline(always)]
-fn compare_emails(a: &[u8], b: &[u8]) -> Ordering
-    ensures { result ≡ text_cmp (folded a.now) (folded b.now) }
-{
-    let x = front_number(a);
-    let y = front_number(b);
-    match x.cmp(&y) {
-        Ordering::Equal => compare_rests(a, b),
         unequal => unequal,
     }
 }
