@@ -115,6 +115,11 @@ uint32_t gix_mailmap_check(const uint8_t *mailmap, size_t mailmap_len, const uin
 uint32_t gix_mailmap_compact(const uint8_t *mailmap, size_t mailmap_len, uint8_t *out, size_t out_len,
                              size_t *needed);
 
+/* Writes the mailmap without its lines that have no effect. All others stay byte for byte, also comments and those that
+ * can't be read. `needed` is its length, and 0 at REFUSED.
+ * DONE; SHORT; REFUSED. */
+uint32_t gix_mailmap_prune(const uint8_t *mailmap, size_t mailmap_len, uint8_t *out, size_t out_len, size_t *needed);
+
 #ifdef __cplusplus
 }
 #endif

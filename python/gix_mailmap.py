@@ -21,7 +21,7 @@ from ctypes import POINTER, Structure, byref, c_bool, c_size_t, c_uint8, c_uint3
 from types import TracebackType
 from typing import Callable, Iterator, NamedTuple, Optional
 
-__all__ = ["Answer", "Closed", "Entry", "Mailmap", "check", "compact"]
+__all__ = ["Answer", "Closed", "Entry", "Mailmap", "check", "compact", "prune"]
 
 _DONE, _SHORT, _REFUSED, _CLOSED, _OPEN, _NO_ENTRY = range(6)
 
@@ -82,6 +82,7 @@ def _load() -> ctypes.CDLL:
         "entry": [handle, c_size_t, POINTER(_Listed), *_Text],
         "check": [*_Text, *_Text, *_Text, length],
         "compact": [*_Text, *_Text, length],
+        "prune": [*_Text, *_Text, length],
     }
     for name, arguments in calls.items():
         call = getattr(library, f"gix_mailmap_{name}")
@@ -140,6 +141,11 @@ def check(mailmap: bytes, contacts: bytes) -> bytes:
 def compact(mailmap: bytes) -> bytes:
     """The mailmap that maps as `mailmap` does, without what later lines replaced. Raises MemoryError."""
     return _written(_library.gix_mailmap_compact, *_in(mailmap))
+
+
+def prune(mailmap: bytes) -> bytes:
+    """The mailmap without its lines that have no effect. All others stay byte for byte. Raises MemoryError."""
+    return _written(_library.gix_mailmap_prune, *_in(mailmap))
 
 
 class Mailmap:

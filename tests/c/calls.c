@@ -82,6 +82,19 @@ static void check_and_compact(void)
     WANT(needed == 9 && holds(&out, ""));
 }
 
+static void prune(void)
+{
+    size_t needed = 99;
+    buffer out = filled();
+    WANT(gix_mailmap_prune(TEXT("N <a@x>\n# why\nM <a@x>\nplain"), out.bytes, 19, &needed) == GIX_MAILMAP_DONE);
+    WANT(needed == 19 && holds(&out, "# why\nM <a@x>\nplain"));
+    out = filled();
+    WANT(gix_mailmap_prune(TEXT("N <a@x>\n# why\nM <a@x>\nplain"), out.bytes, 18, &needed) == GIX_MAILMAP_SHORT);
+    WANT(needed == 19 && holds(&out, ""));
+    WANT(gix_mailmap_prune(TEXT(""), out.bytes, 0, &needed) == GIX_MAILMAP_DONE);
+    WANT(needed == 0 && holds(&out, ""));
+}
+
 static void looked_up(gix_mailmap *map)
 {
     buffer name = filled(), email = filled();
@@ -227,6 +240,9 @@ static bool refuses(long number)
     out = filled();
     uint32_t compacted = gix_mailmap_compact(TEXT(MAP), out.bytes, 64, &needed);
     WANT(compacted == GIX_MAILMAP_DONE || (compacted == GIX_MAILMAP_REFUSED && needed == 0 && holds(&out, "")));
+    out = filled();
+    uint32_t pruned = gix_mailmap_prune(TEXT(MAP), out.bytes, 64, &needed);
+    WANT(pruned == GIX_MAILMAP_DONE || (pruned == GIX_MAILMAP_REFUSED && needed == 0 && holds(&out, "")));
     uint32_t opened = gix_mailmap_open(&map, TEXT(MAP));
     WANT(opened == GIX_MAILMAP_DONE || (opened == GIX_MAILMAP_REFUSED && !map.is_open));
     uint32_t again = opened == GIX_MAILMAP_DONE ? opened : gix_mailmap_open(&map, TEXT(MAP));
@@ -247,8 +263,8 @@ static bool refuses(long number)
     WANT(gix_mailmap_entry(&map, 1, entries, out.bytes, 64) == GIX_MAILMAP_DONE);
     gix_mailmap_close(&map);
     WANT(requests == behind);
-    bool is_refused = checked == GIX_MAILMAP_REFUSED || compacted == GIX_MAILMAP_REFUSED || opened != GIX_MAILMAP_DONE
-                      || added == GIX_MAILMAP_REFUSED;
+    bool is_refused = checked == GIX_MAILMAP_REFUSED || compacted == GIX_MAILMAP_REFUSED || pruned == GIX_MAILMAP_REFUSED
+                      || opened != GIX_MAILMAP_DONE || added == GIX_MAILMAP_REFUSED;
     WANT(is_refused || number >= behind || number < 0);
     refused_request = -1;
     return number < behind;
@@ -257,6 +273,7 @@ static bool refuses(long number)
 int main(void)
 {
     check_and_compact();
+    prune();
     handle();
     long number = 0;
     while (refuses(number))

@@ -22,6 +22,9 @@ class Texts(unittest.TestCase):
     def test_compact(self):
         self.assertEqual(gix_mailmap.compact(b"N <a@x>\nM <A@x>"), b" M <a@x>\n")
 
+    def test_prune(self):
+        self.assertEqual(gix_mailmap.prune(b"N <a@x>\n# why\nM <a@x>\nplain"), b"# why\nM <a@x>\nplain")
+
     def test_text_that_is_no_bytes(self):
         with self.assertRaises(TypeError):
             gix_mailmap.compact("N <a@x>")

@@ -1,12 +1,13 @@
 //! Calls that take a mailmap as text, and keep nothing.
 ghost use Rattle.std.specs.Prelude.{◌≡◌, ◌∷◌, []};
 ghost use Rattle.gix_mailmap.specs.Contacts.{answers_by};
+ghost use Rattle.mailmap_findings.specs.Findings.{IsPruned};
 ghost use Rattle.mailmap_snapshot.specs.Writing.{IsCompacted};
 ghost use Rattle.gix_mailmap_c.specs.Handed.{IsHanded};
 
 use crate::buffers::put;
 use crate::status::REFUSED;
-use gix_mailmap::check;
+use gix_mailmap::{check, verify};
 use std::alloc::Global;
 
 /// Answers each line of `contacts` by what `mailmap` maps, as [`check`](gix_mailmap::check::check()) does.
@@ -44,6 +45,26 @@ pub extern "C" fn gix_mailmap_compact(
     ensures { IsHanded (IsCompacted (mailmap.now ∷ [])) out.old out.new needed.new result }
 {
     match check::compact(alloc, &[mailmap]) {
+        Ok(text) => put(text.as_slice(), out, needed),
+        Err(_) => {
+            *needed = 0;
+            REFUSED
+        }
+    }
+}
+
+/// Writes the mailmap without its lines whose entries have no effect, as [`prune`](gix_mailmap::verify::prune()) does. The
+/// status is as that of [`gix_mailmap_check`].
+#[unsafe(no_mangle)]
+pub extern "C" fn gix_mailmap_prune(
+    alloc: Global,
+    mailmap: &[u8],
+    out: &mut [u8],
+    needed: &mut usize,
+) -> u32
+    ensures { IsHanded (IsPruned mailmap.now) out.old out.new needed.new result }
+{
+    match verify::prune(alloc, mailmap) {
         Ok(text) => put(text.as_slice(), out, needed),
         Err(_) => {
             *needed = 0;
