@@ -63,8 +63,8 @@ pub struct Contact<'a> {
 /// Of one line there may be two findings: a fault or ignored text, and then that its entry has no effect or maps to a
 /// contact that is itself mapped. All lines that are told to have no effect can be deleted at once.
 ///
-/// Of the buffer `P <a@x>\nP <a@x> p` this tells that line 2 has the ignored text `p`, and that line 2 has no effect
-/// beside line 1.
+/// Of the buffer `P <a@x>\nP <a@x> p` this tells that line 1 has no effect beside line 2, and that line 2 has the ignored
+/// text `p`.
 pub fn verify<'a>(alloc: Global, buffers: &[&'a [u8]]) -> Result<Vec<Finding<'a>>, AllocError>
     ensures { IfOk result (λ findings. AreFindings (map (λ b. b.now) buffers.now) (map finding_of findings.items)) }
 {
