@@ -6,7 +6,9 @@ ghost use Rattle.gix_mailmap.specs.Parts.{IsSplit};
 
 mod text;
 
-pub use mailmap_findings::laws::{law_in_order, law_pruned, law_whole_lines};
+pub use mailmap_findings::laws::{
+    law_deleted, law_equal_contacts, law_in_order, law_one_answer, law_pruned, law_whole_lines,
+};
 pub use mailmap_grammar::laws::{law_cut, law_pieces, law_reading, law_strict_reading, law_trim};
 pub use mailmap_histories::laws::{
     law_condense, law_equal, law_exists, law_headline, law_neighbours, law_of_email, law_one_email,
