@@ -68,6 +68,26 @@ typedef struct gix_mailmap_listed {
     gix_mailmap_field old_email;
 } gix_mailmap_listed;
 
+/* What may be wrong with a line. The first four give no entry; a line with the fifth maps by its first half alone. */
+enum {
+    GIX_MAILMAP_NO_EMAIL = 1,                /* there is no `<` */
+    GIX_MAILMAP_MISSING_CLOSING_BRACKET = 2, /* the first `<` has no `>` behind it */
+    GIX_MAILMAP_EMPTY_EMAIL = 3,             /* the first email is empty or white space */
+    GIX_MAILMAP_NOTHING_TO_MAP = 4,          /* an email stands alone */
+    GIX_MAILMAP_UNCLOSED_SECOND = 5,         /* the second `<` has no `>` behind it */
+    GIX_MAILMAP_IGNORED_TEXT = 6,            /* text behind the last email is ignored */
+    GIX_MAILMAP_NO_EFFECT = 7,               /* the line could go and nothing would change */
+    GIX_MAILMAP_ITSELF_MAPPED = 8            /* it maps to a contact that the mailmap maps to another one */
+};
+
+/* What is wrong with a line: its number, counted from 1, and one of these kinds. With GIX_MAILMAP_NO_EFFECT `beside` is
+ * the number of the last line that stays and is for the same old email and old name; with all others it is 0. */
+typedef struct gix_mailmap_finding {
+    size_t line;
+    uint32_t kind;
+    size_t beside;
+} gix_mailmap_finding;
+
 /* Opens a closed handle on the entries of a mailmap's text. Lines that can't be read are left out, as git leaves them.
  * DONE; REFUSED; OPEN. But at DONE the handle stays as it was. */
 uint32_t gix_mailmap_open(gix_mailmap *map, const uint8_t *text, size_t text_len);
@@ -119,6 +139,13 @@ uint32_t gix_mailmap_compact(const uint8_t *mailmap, size_t mailmap_len, uint8_t
  * can't be read. `needed` is its length, and 0 at REFUSED.
  * DONE; SHORT; REFUSED. */
 uint32_t gix_mailmap_prune(const uint8_t *mailmap, size_t mailmap_len, uint8_t *out, size_t out_len, size_t *needed);
+
+/* Tells what is wrong with the lines of a mailmap, in their order. Of one line there may be two findings. All lines of no
+ * effect may go at once, which gix_mailmap_prune does. `out_len` counts findings; `needed` is the number of all findings,
+ * and 0 at REFUSED.
+ * DONE; SHORT; REFUSED. */
+uint32_t gix_mailmap_verify(const uint8_t *mailmap, size_t mailmap_len, gix_mailmap_finding *out, size_t out_len,
+                            size_t *needed);
 
 #ifdef __cplusplus
 }

@@ -18,10 +18,11 @@ import os
 import sys
 import weakref
 from ctypes import POINTER, Structure, byref, c_bool, c_size_t, c_uint8, c_uint32, c_void_p
+from enum import IntEnum
 from types import TracebackType
 from typing import Callable, Iterator, NamedTuple, Optional
 
-__all__ = ["Answer", "Closed", "Entry", "Mailmap", "check", "compact", "prune"]
+__all__ = ["Answer", "Closed", "Entry", "Finding", "Kind", "Mailmap", "check", "compact", "prune", "verify"]
 
 _DONE, _SHORT, _REFUSED, _CLOSED, _OPEN, _NO_ENTRY = range(6)
 
@@ -49,6 +50,28 @@ class Entry(NamedTuple):
     old_email: bytes
 
 
+class Kind(IntEnum):
+    """What may be wrong with a line. The first four give no entry; a line with the fifth maps by its first half alone."""
+
+    NO_EMAIL = 1
+    MISSING_CLOSING_BRACKET = 2
+    EMPTY_EMAIL = 3
+    NOTHING_TO_MAP = 4
+    UNCLOSED_SECOND = 5
+    IGNORED_TEXT = 6
+    NO_EFFECT = 7
+    ITSELF_MAPPED = 8
+
+
+class Finding(NamedTuple):
+    """What is wrong with a line: its number, counted from 1, and of a line of no effect also that of the last line that
+    stays and is for the same old email and old name. `beside` is None with all other kinds."""
+
+    line: int
+    kind: Kind
+    beside: Optional[int]
+
+
 class _Handle(Structure):
     _fields_ = [("at", c_void_p), ("is_open", c_bool)]
 
@@ -67,6 +90,10 @@ class _Listed(Structure):
     ]
 
 
+class _Finding(Structure):
+    _fields_ = [("line", c_size_t), ("kind", c_uint32), ("beside", c_size_t)]
+
+
 _Text = [c_void_p, c_size_t]
 
 
@@ -83,6 +110,7 @@ def _load() -> ctypes.CDLL:
         "check": [*_Text, *_Text, *_Text, length],
         "compact": [*_Text, *_Text, length],
         "prune": [*_Text, *_Text, length],
+        "verify": [*_Text, POINTER(_Finding), c_size_t, length],
     }
     for name, arguments in calls.items():
         call = getattr(library, f"gix_mailmap_{name}")
@@ -146,6 +174,22 @@ def compact(mailmap: bytes) -> bytes:
 def prune(mailmap: bytes) -> bytes:
     """The mailmap without its lines that have no effect. All others stay byte for byte. Raises MemoryError."""
     return _written(_library.gix_mailmap_prune, *_in(mailmap))
+
+
+def verify(mailmap: bytes) -> list[Finding]:
+    """What is wrong with the lines of a mailmap, in their order. Raises MemoryError.
+
+    >>> verify(b"Jane <jd@y>\\nJane Doe <jd@y>\\n")
+    [Finding(line=1, kind=<Kind.NO_EFFECT: 7>, beside=2)]
+    """
+    length = 64
+    while True:
+        room, needed = (_Finding * max(length, 1))(), c_size_t()
+        status = _library.gix_mailmap_verify(*_in(mailmap), room, length, byref(needed))
+        if status != _SHORT:
+            _wanted(status)
+            return [_finding(room[place]) for place in range(needed.value)]
+        length = needed.value
 
 
 class Mailmap:
@@ -255,3 +299,8 @@ def _entry(told: _Listed, texts: bytes) -> Entry:
         cut.append(texts[start : start + field.len] if field.is_given else None)
         start += field.len
     return Entry(*cut)
+
+
+def _finding(told: _Finding) -> Finding:
+    kind = Kind(told.kind)
+    return Finding(told.line, kind, told.beside if kind == Kind.NO_EFFECT else None)

@@ -95,6 +95,52 @@ static void prune(void)
     WANT(needed == 0 && holds(&out, ""));
 }
 
+/* a line of each kind, and two lines with which nothing is wrong */
+static const char FAULTY[] =
+    "plain\n"
+    "Jane <a@x\n"
+    "Jane < > <b@x>\n"
+    "<a@x>\n"
+    "Jo <c@x> <d\n"
+    "Joe <joe@x> joe\n"
+    "N <e@x>\n"
+    "M <e@x>\n"
+    "Eve <eve@w> <eve@o>\n"
+    "<eve@e> <eve@w>\n";
+
+static bool is_finding(gix_mailmap_finding f, size_t line, uint32_t kind, size_t beside)
+{
+    return f.line == line && f.kind == kind && f.beside == beside;
+}
+
+/* a finding that no call has written */
+static const gix_mailmap_finding UNFOUND = {99, 98, 97};
+
+static void verify(void)
+{
+    size_t needed = 99;
+    gix_mailmap_finding found[9];
+    for (size_t i = 0; i < 9; i++)
+        found[i] = UNFOUND;
+    WANT(gix_mailmap_verify(TEXT(FAULTY), found, 7, &needed) == GIX_MAILMAP_SHORT && needed == 8);
+    for (size_t i = 0; i < 9; i++)
+        WANT(is_finding(found[i], 99, 98, 97));
+    WANT(gix_mailmap_verify(TEXT(FAULTY), found, 8, &needed) == GIX_MAILMAP_DONE && needed == 8);
+    WANT(is_finding(found[0], 1, GIX_MAILMAP_NO_EMAIL, 0));
+    WANT(is_finding(found[1], 2, GIX_MAILMAP_MISSING_CLOSING_BRACKET, 0));
+    WANT(is_finding(found[2], 3, GIX_MAILMAP_EMPTY_EMAIL, 0));
+    WANT(is_finding(found[3], 4, GIX_MAILMAP_NOTHING_TO_MAP, 0));
+    WANT(is_finding(found[4], 5, GIX_MAILMAP_UNCLOSED_SECOND, 0));
+    WANT(is_finding(found[5], 6, GIX_MAILMAP_IGNORED_TEXT, 0));
+    WANT(is_finding(found[6], 7, GIX_MAILMAP_NO_EFFECT, 8));
+    WANT(is_finding(found[7], 9, GIX_MAILMAP_ITSELF_MAPPED, 0));
+    WANT(is_finding(found[8], 99, 98, 97));
+    found[0] = UNFOUND;
+    WANT(gix_mailmap_verify(TEXT(MAP), found, 9, &needed) == GIX_MAILMAP_DONE && needed == 0);
+    WANT(gix_mailmap_verify(TEXT(""), found, 0, &needed) == GIX_MAILMAP_DONE && needed == 0);
+    WANT(is_finding(found[0], 99, 98, 97));
+}
+
 static void looked_up(gix_mailmap *map)
 {
     buffer name = filled(), email = filled();
@@ -243,6 +289,10 @@ static bool refuses(long number)
     out = filled();
     uint32_t pruned = gix_mailmap_prune(TEXT(MAP), out.bytes, 64, &needed);
     WANT(pruned == GIX_MAILMAP_DONE || (pruned == GIX_MAILMAP_REFUSED && needed == 0 && holds(&out, "")));
+    gix_mailmap_finding found[8] = {UNFOUND};
+    uint32_t verified = gix_mailmap_verify(TEXT(FAULTY), found, 8, &needed);
+    WANT((verified == GIX_MAILMAP_DONE && needed == 8)
+         || (verified == GIX_MAILMAP_REFUSED && needed == 0 && is_finding(found[0], 99, 98, 97)));
     uint32_t opened = gix_mailmap_open(&map, TEXT(MAP));
     WANT(opened == GIX_MAILMAP_DONE || (opened == GIX_MAILMAP_REFUSED && !map.is_open));
     uint32_t again = opened == GIX_MAILMAP_DONE ? opened : gix_mailmap_open(&map, TEXT(MAP));
@@ -264,7 +314,7 @@ static bool refuses(long number)
     gix_mailmap_close(&map);
     WANT(requests == behind);
     bool is_refused = checked == GIX_MAILMAP_REFUSED || compacted == GIX_MAILMAP_REFUSED || pruned == GIX_MAILMAP_REFUSED
-                      || opened != GIX_MAILMAP_DONE || added == GIX_MAILMAP_REFUSED;
+                      || verified == GIX_MAILMAP_REFUSED || opened != GIX_MAILMAP_DONE || added == GIX_MAILMAP_REFUSED;
     WANT(is_refused || number >= behind || number < 0);
     refused_request = -1;
     return number < behind;
@@ -274,6 +324,7 @@ int main(void)
 {
     check_and_compact();
     prune();
+    verify();
     handle();
     long number = 0;
     while (refuses(number))

@@ -3,7 +3,7 @@ import gc
 import unittest
 
 import gix_mailmap
-from gix_mailmap import Answer, Closed, Entry, Mailmap
+from gix_mailmap import Answer, Closed, Entry, Finding, Kind, Mailmap
 
 MAP = b"Jane Doe <jane@x> <jd@y>\nJoe <joe@x>\n"
 JANE = Entry(b"Jane Doe", b"jane@x", None, b"jd@y")
@@ -24,6 +24,28 @@ class Texts(unittest.TestCase):
 
     def test_prune(self):
         self.assertEqual(gix_mailmap.prune(b"N <a@x>\n# why\nM <a@x>\nplain"), b"# why\nM <a@x>\nplain")
+
+    def test_verify(self):
+        """One mailmap for each kind."""
+        cases = [
+            (b"plain", [Finding(1, Kind.NO_EMAIL, None)]),
+            (b"Jane <a@x", [Finding(1, Kind.MISSING_CLOSING_BRACKET, None)]),
+            (b"Jane < > <b@x>", [Finding(1, Kind.EMPTY_EMAIL, None)]),
+            (b"<a@x>", [Finding(1, Kind.NOTHING_TO_MAP, None)]),
+            (b"Jo <c@x> <d", [Finding(1, Kind.UNCLOSED_SECOND, None)]),
+            (b"Joe <joe@x> joe", [Finding(1, Kind.IGNORED_TEXT, None)]),
+            (b"N <e@x>\n\nM <e@x>", [Finding(1, Kind.NO_EFFECT, 3)]),
+            (b"Eve <eve@w> <eve@o>\n<eve@e> <eve@w>", [Finding(1, Kind.ITSELF_MAPPED, None)]),
+            (MAP, []),
+            (b"", []),
+        ]
+        for mailmap, found in cases:
+            with self.subTest(mailmap=mailmap):
+                self.assertEqual(gix_mailmap.verify(mailmap), found)
+
+    def test_more_findings_than_the_first_array_holds(self):
+        found = [Finding(line, Kind.NO_EMAIL, None) for line in range(1, 1001)]
+        self.assertEqual(gix_mailmap.verify(b"plain\n" * 1000), found)
 
     def test_text_that_is_no_bytes(self):
         with self.assertRaises(TypeError):

@@ -1,29 +1,29 @@
--- What a call writes into the caller's buffers.
+-- What a call writes into the caller's buffers: bytes of texts, or findings.
 use Rattle.std.specs.Prelude.{◌≡◌, ◌<◌, ◌≤◌, ◌++◌, ◌⊎◌, ℕ, List, length, drop}
 
 -- the text stands at the front of the buffer, and the rest of the buffer is as it was
-pub record IsWritten (text before after : List ℕ) : Type 0 where
+pub record IsWritten {X : Type 0} (text before after : List X) : Type 0 where
   pub fits : length text ≤ length before
   pub written : after ≡ text ++ drop (length text) before
 
 -- status 0: the text is written; 1: the buffer is too short for it, and is as it was
-abbrev pub IsWrittenOrShort : List ℕ → List ℕ → List ℕ → ℕ → Type 0
+abbrev pub IsWrittenOrShort : {X : Type 0} → List X → List X → List X → ℕ → Type 0
 IsWrittenOrShort text before after status = ((status ≡ 0) × IsWritten text before after) ⊎ ((status ≡ 1) × (length before < length text) × (after ≡ before))
 
 -- a text is put into a buffer, if it fits, and its length is told
-pub record IsPut (text before after : List ℕ) (needed status : ℕ) : Type 0 where
+pub record IsPut {X : Type 0} (text before after : List X) (needed status : ℕ) : Type 0 where
   pub counted : needed ≡ length text
   pub put : IsWrittenOrShort text before after status
 
 -- status 2: memory was refused, and the buffer is as it was
-pub record IsRefused (before after : List ℕ) (needed status : ℕ) : Type 0 where
+pub record IsRefused {X : Type 0} (before after : List X) (needed status : ℕ) : Type 0 where
   pub says : status ≡ 2
   pub none : needed ≡ 0
   pub kept : after ≡ before
 
 -- a text of which P holds is put into a buffer, or memory was refused
-abbrev pub IsHanded : (List ℕ → Type 0) → List ℕ → List ℕ → ℕ → ℕ → Type 0
-IsHanded P before after needed status = ((text : List ℕ) × P text × IsPut text before after needed status) ⊎ IsRefused before after needed status
+abbrev pub IsHanded : {X : Type 0} → (List X → Type 0) → List X → List X → ℕ → ℕ → Type 0
+IsHanded {X} P before after needed status = ((text : List X) × P text × IsPut text before after needed status) ⊎ IsRefused before after needed status
 
 -- status 0: each of two texts is written into its buffer; 1: one of the buffers is too short, and both are as they were
 abbrev pub ArePut : List ℕ → List ℕ → List ℕ → List ℕ → List ℕ → List ℕ → ℕ → Type 0

@@ -3,3 +3,4 @@ pub mod Held
 pub mod Handles
 pub mod Fields
 pub mod Listed
+pub mod Findings

@@ -5,6 +5,7 @@
 
 mod buffers;
 pub mod field;
+pub mod findings;
 pub mod handle;
 mod held;
 pub mod listing;
