@@ -11,7 +11,6 @@ pub loop-finding-preserved : goal.loop-finding-preserved
 loop-finding-preserved c =
     let xs = c.args.found.now in
     let i = c.loop-finding.finding-index in
-    let x = c.finding-item.result in
     let place = c.loop-finding.place in
     let out = c.loop-finding.out in
     let old = c.args.out.now in
@@ -20,8 +19,7 @@ loop-finding-preserved c =
     let left = all_told (map finding_of (drop (i + 1) xs)) in
     let within : i < length xs = omega arith in
     let cut : all_told (map finding_of (drop i xs)) ≡ one ∷ left =
-    ap (λ (l : List library.Finding). all_told (map finding_of l)) (drop_more xs i x within)
-    ∙ ap (λ (y : library.Finding). one_told (finding_of y) ∷ left) (sym c.finding-item.is)
+    ap (λ (l : List library.Finding). all_told (map finding_of l)) (drop_more xs i _ within)
     ∙ ap (λ (y : Finding). y ∷ left) (sym c.of-one.ensures) in
     let before : Copied (one ∷ left) all place out old = subst (λ (l : List Finding). Copied l all place out old) cut c.loop-finding.invariant.told in
     let lt : place < length out = omega (arith, c.loop-finding.invariant.place, c.requires) in
