@@ -2,6 +2,7 @@
 ghost use Rattle.std.specs.Prelude.{◌≡◌};
 ghost use Rattle.gix_mailmap_c.specs.Handed.{IsPut, ArePut};
 
+use crate::copies::copy;
 use crate::status::{DONE, SHORT};
 
 /// Copies a text to the front of `out`, if it fits, and tells its length.
@@ -13,18 +14,19 @@ pub(crate) fn put(text: &[u8], out: &mut [u8], needed: &mut usize) -> u32
     if n > out.len() {
         return SHORT;
     }
-    out[..n].copy_from_slice(text);
+    copy(text, out);
     DONE
 }
 
 /// Copies two texts to the fronts of two buffers, if both fit.
+#[inline(always)]
 pub(crate) fn put_both(name: &[u8], name_out: &mut [u8], email: &[u8], email_out: &mut [u8]) -> u32
     ensures { ArePut name.now name_out.old name_out.new email.now email_out.old email_out.new result }
 {
     if name.len() > name_out.len() || email.len() > email_out.len() {
         return SHORT;
     }
-    name_out[..name.len()].copy_from_slice(name);
-    email_out[..email.len()].copy_from_slice(email);
+    copy(name, name_out);
+    copy(email, email_out);
     DONE
 }

@@ -12,20 +12,23 @@ pub struct Field {
 }
 
 impl Field {
-    /// Of a text that the mailmap may give, and of the one that stands where it doesn't.
-    pub(crate) fn of(given: Option<&[u8]>, other: &[u8]) -> Field
-        ensures len { result.len ≡ length (unwrap_or (option_copied given.entry) other.now) }
-        ensures is_given { result.is_given ≡ is_some (option_copied given.entry) }
+    /// Tells of a text that the mailmap may give, and of the one that stands where it doesn't. Field by field, so that
+    /// what lies between the fields isn't written.
+    #[inline(always)]
+    pub(crate) fn tell(&mut self, given: Option<&[u8]>, other: &[u8])
+        ensures len { self.new.len ≡ length (unwrap_or (option_copied given.entry) other.now) }
+        ensures is_given { self.new.is_given ≡ is_some (option_copied given.entry) }
     {
-        Field {
-            len: given.unwrap_or(other).len(),
-            is_given: given.is_some(),
-        }
+        self.len = given.unwrap_or(other).len();
+        self.is_given = given.is_some();
     }
     /// Of a text that may be missing.
     pub(crate) fn of_optional(text: Option<&[u8]>) -> Field
         ensures { result ≡ field_of (option_copied text.entry) }
     {
-        Field::of(text, &[])
+        Field {
+            len: text.unwrap_or(&[]).len(),
+            is_given: text.is_some(),
+        }
     }
 }

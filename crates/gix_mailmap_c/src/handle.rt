@@ -5,6 +5,7 @@ ghost use Rattle.mailmap_histories.specs.Building.{IsMerged};
 ghost use Rattle.mailmap_histories.specs.Histories.{IsNormal, accepted};
 ghost use Rattle.gix_mailmap_c.specs.Handles.{contents, Opens, Adds};
 
+use crate::held::lent::snapshot;
 use crate::held::{Mailmap, Parts, closed, end, into_parts, is_open, opened};
 use crate::status::{CLOSED, DONE, OPEN, REFUSED};
 use gix_mailmap::{Snapshot, parse_ignore_errors};
@@ -33,18 +34,16 @@ pub extern "C" fn gix_mailmap_open(alloc: Global, m: &mut Mailmap, text: &[u8]) 
 ///
 /// `DONE`, `REFUSED`: the mailmap is as it was, or `CLOSED`.
 #[unsafe(no_mangle)]
-pub extern "C" fn gix_mailmap_add(alloc: Global, m: &mut Mailmap, text: &[u8]) -> u32
+pub extern "C" fn gix_mailmap_add(m: &mut Mailmap, text: &[u8]) -> u32
     ensures { Adds (good text.now) (contents m.old) (contents m.new) result }
 {
-    let Some(mut snapshot) = take(alloc, m) else {
+    if !is_open(m) {
         return CLOSED;
-    };
-    let status = match add(&mut snapshot, text) {
+    }
+    match add(snapshot(m), text) {
         Ok(()) => DONE,
         Err(_) => REFUSED,
-    };
-    put_back(m, snapshot);
-    status
+    }
 }
 
 /// Closes a handle, and gives its memory back. A closed one stays closed.
@@ -73,7 +72,7 @@ fn add(snapshot: &mut Snapshot, text: &[u8]) -> Result<(), AllocError>
 }
 
 // Takes the snapshot out of a handle, if it is open, and leaves it closed.
-pub(crate) fn take(alloc: Global, m: &mut Mailmap) -> Option<Box<Snapshot>>
+fn take(alloc: Global, m: &mut Mailmap) -> Option<Box<Snapshot>>
     ensures taken { option_map (λ b. b.value) result ≡ contents m.old }
     ensures closed { contents m.new ≡ None }
 {
@@ -87,7 +86,7 @@ pub(crate) fn take(alloc: Global, m: &mut Mailmap) -> Option<Box<Snapshot>>
 }
 
 // Puts a snapshot into a closed handle.
-pub(crate) fn put_back(m: &mut Mailmap, snapshot: Box<Snapshot>)
+fn put_back(m: &mut Mailmap, snapshot: Box<Snapshot>)
     requires { contents m.old ≡ None }
     ensures { contents m.new ≡ Some snapshot.value }
 {

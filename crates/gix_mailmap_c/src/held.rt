@@ -3,6 +3,7 @@ ghost use Rattle.std.specs.Prelude.{◌≡◌, List, true, false};
 ghost use Rattle.mailmap_entries.specs.Entries.{Mapping};
 ghost use Rattle.gix_mailmap_c.specs.Held.{held};
 
+pub(crate) mod lent;
 mod parts;
 
 use gix_mailmap::Snapshot;

@@ -4,6 +4,7 @@
 #![tactic(auto)]
 
 mod buffers;
+mod copies;
 pub mod field;
 pub mod findings;
 pub mod handle;

@@ -7,12 +7,11 @@ ghost use Rattle.gix_mailmap_c.specs.Listed.{all_text, told_at, Lists, Tells};
 mod copying;
 
 use crate::field::Field;
-use crate::handle::{put_back, take};
-use crate::held::Mailmap;
+use crate::held::lent::snapshot;
+use crate::held::{Mailmap, is_open};
 use crate::listing::copying::{copy_entry, copy_texts, len_with_texts, tell};
 use crate::status::{CLOSED, DONE, NO_ENTRY, SHORT};
 use gix_mailmap::{Entry, Snapshot};
-use std::alloc::Global;
 
 /// An entry as it is told: where its texts begin among those that are written, and of each how long it is and whether
 /// there is one. They stand one behind another in this order; an old email is always there.
@@ -47,7 +46,6 @@ impl Listed {
 /// `DONE`, or `CLOSED`: nothing is told. It goes over all entries.
 #[unsafe(no_mangle)]
 pub extern "C" fn gix_mailmap_len(
-    alloc: Global,
     m: &mut Mailmap,
     entries_len: &mut usize,
     texts_len: &mut usize,
@@ -56,12 +54,12 @@ pub extern "C" fn gix_mailmap_len(
     ensures told { IfSome (contents m.old) (λ n. (result ≡ 0) × (entries_len.new ≡ length n) × (texts_len.new ≡ min usize.MAX (length (all_text n)))) }
     ensures closed { IfNone (contents m.old) ((result ≡ 3) × (entries_len.new ≡ entries_len.old) × (texts_len.new ≡ texts_len.old)) }
 {
-    let Some(snapshot) = take(alloc, m) else {
+    if !is_open(m) {
         return CLOSED;
-    };
+    }
+    let snapshot = snapshot(m);
     *entries_len = snapshot.len();
-    *texts_len = texts_len_of(&snapshot).unwrap_or(usize::MAX);
-    put_back(m, snapshot);
+    *texts_len = texts_len_of(snapshot).unwrap_or(usize::MAX);
     DONE
 }
 
@@ -70,22 +68,15 @@ pub extern "C" fn gix_mailmap_len(
 /// `DONE`; `SHORT`: there is too little room for the entries or for their texts, and both stay as they were; `CLOSED`:
 /// nothing is written. What stands behind the last entry, and behind the last text, stays as it was.
 #[unsafe(no_mangle)]
-pub extern "C" fn gix_mailmap_list(
-    alloc: Global,
-    m: &mut Mailmap,
-    entries: &mut [Listed],
-    texts: &mut [u8],
-) -> u32
+pub extern "C" fn gix_mailmap_list(m: &mut Mailmap, entries: &mut [Listed], texts: &mut [u8]) -> u32
     ensures kept { contents m.new ≡ contents m.old }
     ensures listed { IfSome (contents m.old) (λ n. Lists n entries.old entries.new texts.old texts.new result) }
     ensures closed { IfNone (contents m.old) ((result ≡ 3) × (entries.new ≡ entries.old) × (texts.new ≡ texts.old)) }
 {
-    let Some(snapshot) = take(alloc, m) else {
+    if !is_open(m) {
         return CLOSED;
-    };
-    let status = list(&snapshot, entries, texts);
-    put_back(m, snapshot);
-    status
+    }
+    list(snapshot(m), entries, texts)
 }
 
 /// Tells the entry at a place of the listing, counted from 0, and writes its texts. It goes over those before it.
@@ -94,7 +85,6 @@ pub extern "C" fn gix_mailmap_list(
 /// the mailmap lists no more than `place` entries, and nothing is written; `CLOSED`: nothing is written.
 #[unsafe(no_mangle)]
 pub extern "C" fn gix_mailmap_entry(
-    alloc: Global,
     m: &mut Mailmap,
     place: usize,
     entry: &mut Listed,
@@ -104,12 +94,10 @@ pub extern "C" fn gix_mailmap_entry(
     ensures entry { IfSome (contents m.old) (λ n. Tells (slice_get n place) entry.old entry.new texts.old texts.new result) }
     ensures closed { IfNone (contents m.old) ((result ≡ 3) × (entry.new ≡ entry.old) × (texts.new ≡ texts.old)) }
 {
-    let Some(snapshot) = take(alloc, m) else {
+    if !is_open(m) {
         return CLOSED;
-    };
-    let status = tell_one(&snapshot, place, entry, texts);
-    put_back(m, snapshot);
-    status
+    }
+    tell_one(snapshot(m), place, entry, texts)
 }
 
 // How long the texts of all entries are, if a length can be that large.

@@ -8,12 +8,11 @@ ghost use Rattle.gix_mailmap_c.specs.Fields.{IsAnswered, IsTold};
 
 use crate::buffers::put_both;
 use crate::field::Field;
-use crate::handle::{put_back, take};
-use crate::held::Mailmap;
+use crate::held::lent::snapshot;
+use crate::held::{Mailmap, is_open};
 use crate::status::CLOSED;
 use gix_mailmap::Snapshot;
 use gix_mailmap::actor::SignatureRef;
-use std::alloc::Global;
 
 /// Looks a name and an email up: the proper ones are copied into `name_out` and `email_out`, and `new_name` and
 /// `new_email` tell how long they are, and whether the mailmap gave them. One that it doesn't give is the one asked for.
@@ -22,7 +21,6 @@ use std::alloc::Global;
 /// is written. What stands behind an answer in its buffer stays as it was.
 #[unsafe(no_mangle)]
 pub extern "C" fn gix_mailmap_lookup(
-    alloc: Global,
     m: &mut Mailmap,
     name: &[u8],
     email: &[u8],
@@ -39,17 +37,22 @@ pub extern "C" fn gix_mailmap_lookup(
     ensures closed { IfNone (contents m.old) ((result ≡ 3) × (name_out.new ≡ name_out.old) × (new_name.new ≡ new_name.old)
         × (email_out.new ≡ email_out.old) × (new_email.new ≡ new_email.old)) }
 {
-    let Some(snapshot) = take(alloc, m) else {
+    if !is_open(m) {
         return CLOSED;
-    };
-    let status = answer(
-        &snapshot, name, email, name_out, new_name, email_out, new_email,
-    );
-    put_back(m, snapshot);
-    status
+    }
+    answer(
+        snapshot(m),
+        name,
+        email,
+        name_out,
+        new_name,
+        email_out,
+        new_email,
+    )
 }
 
 // Answers by a snapshot.
+#[inline(always)]
 fn answer(
     snapshot: &Snapshot,
     name: &[u8],
@@ -64,8 +67,8 @@ fn answer(
     ensures answer { IsAnswered (fields_for snapshot.now name.now email.now) name.now email.now name_out.old name_out.new email_out.old email_out.new result }
 {
     let (proper_name, proper_email) = proper(snapshot, name, email);
-    *new_name = Field::of(proper_name, name);
-    *new_email = Field::of(proper_email, email);
+    new_name.tell(proper_name, name);
+    new_email.tell(proper_email, email);
     put_both(
         proper_name.unwrap_or(name),
         name_out,
@@ -75,6 +78,7 @@ fn answer(
 }
 
 // The name and the email that a snapshot gives.
+#[inline(always)]
 fn proper<'a>(
     snapshot: &'a Snapshot,
     name: &[u8],

@@ -1,0 +1,32 @@
+//! A text copied to the front of a buffer.
+ghost use Rattle.std.specs.Prelude.{◌≡◌, ◌≤◌, ◌+◌, length};
+ghost use Rattle.gix_mailmap_c.specs.Handed.{IsWritten};
+
+use std::simd::Simd;
+
+/// Copies a text to the front of `out`. One of the usual lengths is copied here, which takes less time than the call that
+/// a copy of any length is.
+#[inline(always)]
+pub(crate) fn copy(text: &[u8], out: &mut [u8])
+    requires { length text.now ≤ length out.old }
+    ensures { IsWritten text.now out.old out.new }
+{
+    match text.len() {
+        8..=15 => copy_ends::<8>(text, out),
+        16..=31 => copy_ends::<16>(text, out),
+        32..=64 => copy_ends::<32>(text, out),
+        len => out[..len].copy_from_slice(text),
+    }
+}
+
+// Copies the first N bytes and the last N, which overlap or meet.
+#[inline(always)]
+fn copy_ends<const N: usize>(text: &[u8], out: &mut [u8])
+    requires fits { length text.now ≤ length out.old }
+    requires covers { (N ≤ length text.now) × (length text.now ≤ N + N) }
+    ensures { IsWritten text.now out.old out.new }
+{
+    let last = text.len() - N;
+    Simd::<u8, N>::from_slice(text).copy_to_slice(out);
+    Simd::<u8, N>::from_slice(&text[last..]).copy_to_slice(&mut out[last..]);
+}

@@ -1,0 +1,15 @@
+//! The snapshot of an open handle, lent where it is.
+ghost use Rattle.std.specs.Prelude.{◌≡◌, true};
+ghost use Rattle.std.specs.Borrow.{sem};
+ghost use Rattle.gix_mailmap_c.specs.Lent.{LendsSnapshot};
+
+use crate::held::Mailmap;
+use gix_mailmap::Snapshot;
+
+pub(crate) fn snapshot(m: &mut Mailmap) -> &mut Snapshot
+    requires { m.old.is_open ≡ true }
+    ensures* writes_back { sem 𝓛 (LendsSnapshot m.entry result) }
+    ensures value { result.now ≡ m.old.entries }
+{
+    unsafe { &mut *(m.at as *mut Snapshot) }
+}
