@@ -12,11 +12,24 @@ pub(crate) fn copy(text: &[u8], out: &mut [u8])
     ensures { IsWritten text.now out.old out.new }
 {
     match text.len() {
+        16..=64 => copy_by_16(text, out),
         8..=15 => copy_ends::<8>(text, out),
-        16..=31 => copy_ends::<16>(text, out),
-        32..=64 => copy_ends::<32>(text, out),
+        4..=7 => copy_ends::<4>(text, out),
         len => out[..len].copy_from_slice(text),
     }
+}
+
+// Copies the first half and the last by their ends. No branch asks for the length.
+#[inline(always)]
+fn copy_by_16(text: &[u8], out: &mut [u8])
+    requires fits { length text.now ≤ length out.old }
+    requires covers { (16 ≤ length text.now) × (length text.now ≤ 64) }
+    ensures { IsWritten text.now out.old out.new }
+{
+    let half = text.len().min(32);
+    let rest = text.len() - half;
+    copy_ends::<16>(&text[..half], out);
+    copy_ends::<16>(&text[rest..], &mut out[rest..]);
 }
 
 // Copies the first N bytes and the last N, which overlap or meet.

@@ -13,6 +13,7 @@ use crate::held::{Mailmap, is_open};
 use crate::status::CLOSED;
 use gix_mailmap::Snapshot;
 use gix_mailmap::actor::SignatureRef;
+use mailmap_entries::fold::Steps;
 
 /// Looks a name and an email up: the proper ones are copied into `name_out` and `email_out`, and `new_name` and
 /// `new_email` tell how long they are, and whether the mailmap gave them. One that it doesn't give is the one asked for.
@@ -92,7 +93,7 @@ fn proper<'a>(
         email,
         time: "",
     };
-    match snapshot.try_resolve_ref(contact) {
+    match snapshot.try_resolve_ref_counted(contact, &mut Steps::new()) {
         Some(found) => (found.name, found.email),
         None => (None, None),
     }

@@ -17,6 +17,7 @@ use mailmap_tables::tables::Span;
 use mailmap_tables::view::View;
 
 /// What the emails and names of tables answer to a name and an email.
+#[inline(always)]
 fn look_up<'a>(
     tables: &View<'a>,
     name: &[u8],
@@ -102,6 +103,7 @@ impl Snapshot {
     /// With E different emails in the snapshot and N old names of the email that is found, these are at most as many as
     /// E and N have binary digits together, and at least one for each of the two that is not 0. Where no email is found,
     /// N is 0.
+    #[inline(always)]
     pub fn try_resolve_ref_counted(
         &self,
         signature: SignatureRef<'_>,
