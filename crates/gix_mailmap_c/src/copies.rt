@@ -11,11 +11,13 @@ pub(crate) fn copy(text: &[u8], out: &mut [u8])
     requires { length text.now ≤ length out.old }
     ensures { IsWritten text.now out.old out.new }
 {
-    match text.len() {
-        16..=64 => copy_by_16(text, out),
-        8..=15 => copy_ends::<8>(text, out),
-        4..=7 => copy_ends::<4>(text, out),
-        len => out[..len].copy_from_slice(text),
+    let len = text.len();
+    if len >= 16 && len <= 64 {
+        copy_by_16(text, out);
+    } else if len >= 8 && len <= 16 {
+        copy_ends::<8>(text, out);
+    } else {
+        out[..len].copy_from_slice(text);
     }
 }
 
