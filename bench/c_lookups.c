@@ -3,8 +3,9 @@
  *     c_lookups gix MAP CONTACTS [N]       gix_mailmap_lookup
  *     c_lookups libgit2 MAP CONTACTS [N]   git_mailmap_resolve
  *
- * The map is opened and the contacts are cut before the clock runs. `hits` counts the contacts of which the mailmap gives a
- * name or an email. libgit2 takes texts that end with a NUL and lends its answers; gix_mailmap takes lengths and copies.
+ * The map is opened and the contacts are cut before the clock runs. Of the name and the email that stand in the end each
+ * first byte is read, and each length that is told: `texts` is their sum, as that of mailmap_bench's bench-answer. libgit2
+ * takes texts that end with a NUL, lends its answers and tells no length; gix_mailmap takes lengths, copies and tells them.
  */
 #define _POSIX_C_SOURCE 200809L
 #include "gix_mailmap.h"
@@ -81,31 +82,36 @@ static contacts contacts_of(text lines)
     return found;
 }
 
+static size_t read_text(const uint8_t *bytes, size_t len)
+{
+    return len > 0 ? len + bytes[0] : 0;
+}
+
 static size_t look_up_here(gix_mailmap *map, contacts given)
 {
     uint8_t name[4096], email[4096];
     gix_mailmap_field new_name = {0, false}, new_email = {0, false};
-    size_t hits = 0;
+    size_t texts = 0;
     for (size_t i = 0; i < given.len; i++) {
         const contact *c = &given.all[i];
         must(gix_mailmap_lookup(map, (const uint8_t *)c->name.bytes, c->name.len, (const uint8_t *)c->email.bytes,
                                 c->email.len, name, sizeof name, &new_name, email, sizeof email, &new_email)
              == GIX_MAILMAP_DONE, "lookup");
-        hits += new_name.is_given || new_email.is_given;
+        texts += read_text(name, new_name.len) + read_text(email, new_email.len);
     }
-    return hits;
+    return texts;
 }
 
 static size_t look_up_there(const git_mailmap *map, contacts given)
 {
-    size_t hits = 0;
+    size_t texts = 0;
     for (size_t i = 0; i < given.len; i++) {
         const contact *c = &given.all[i];
         const char *name, *email;
         must(git_mailmap_resolve(&name, &email, map, c->name.bytes, c->email.bytes) == 0, "lookup");
-        hits += name != c->name.bytes || email != c->email.bytes;
+        texts += (uint8_t)name[0] + (uint8_t)email[0];
     }
-    return hits;
+    return texts;
 }
 
 static long long now(void)
@@ -130,16 +136,16 @@ int main(int count, char **words)
     else
         must(git_mailmap_from_buffer(&there, map.bytes, map.len) == 0, "libgit2 can't read the map");
     long long least = -1, total = 0;
-    size_t hits = 0;
+    size_t texts = 0;
     for (long run = 0; run < runs; run++) {
         long long start = now();
-        hits = is_here ? look_up_here(&here, given) : look_up_there(there, given);
+        texts = is_here ? look_up_here(&here, given) : look_up_there(there, given);
         long long took = now() - start;
         total += took;
         least = least < 0 || took < least ? took : least;
     }
-    printf("bench-lookup iters=%ld total_ns=%lld min_ns=%lld contacts=%zu hits=%zu\n", runs, total, least, given.len,
-           hits);
+    printf("bench-answer iters=%ld total_ns=%lld min_ns=%lld contacts=%zu texts=%zu\n", runs, total, least, given.len,
+           texts);
     gix_mailmap_close(&here);
     git_mailmap_free(there);
     return 0;

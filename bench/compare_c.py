@@ -5,7 +5,7 @@
 
 LIBRARY is the folder of `make lib`. It builds c_lookups.c with `cc -O2` against it and libgit2, and runs the three
 programs in turn, R times each (15 where it is not given), on the maps of N lines (100,000 where it is not given) with their
-contacts. A time is the least of all runs, since other work on the machine only ever adds to it. `to the library` is the
+contacts. All three read the first byte of each name and each email that stands in the end. A time is the least of all runs, since other work on the machine only ever adds to it. `to the library` is the
 handle's time divided by the library's own, `to libgit2` the handle's divided by libgit2's: 0.5 is half the time.
 """
 import argparse
@@ -46,6 +46,8 @@ def least(programs, runs):
             seen[name] = found
     if len({found["contacts"] for found in seen.values()}) != 1:
         raise RuntimeError(f"not the same contacts: {seen}")
+    if seen["library"]["texts"] != seen["handle"]["texts"]:
+        raise RuntimeError(f"not the same answers: {seen}")
     return best, seen
 
 
@@ -61,7 +63,7 @@ def compare(program, bench, maps, lines, runs):
             path = f"{maps}/{kind}-{lines}"
             words = [f"{path}.mailmap", f"{path}.{contacts}", REPEATS]
             best, seen = least({
-                "library": [bench, "bench-lookup", *words],
+                "library": [bench, "bench-answer", *words],
                 "handle": [program, "gix", *words],
                 "libgit2": [program, "libgit2", *words],
             }, runs)

@@ -14,7 +14,7 @@ pub(crate) fn copy(text: &[u8], out: &mut [u8])
     let len = text.len();
     if len >= 16 && len <= 64 {
         copy_by_16(text, out);
-    } else if len >= 8 && len <= 16 {
+    } else if len >= 8 && len < 16 {
         copy_ends::<8>(text, out);
     } else {
         out[..len].copy_from_slice(text);

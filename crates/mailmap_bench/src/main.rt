@@ -16,6 +16,7 @@ usage: mailmap_bench MODE ARGS
     bench-parse FILE [N]             walks over the items of FILE, N times
     bench-build FILE [N]             builds the snapshot of FILE, N times
     bench-lookup FILE CONTACTS [N]   looks each line of CONTACTS up, N times
+    bench-answer FILE CONTACTS [N]   the same, and reads the name and the email that stand in the end
     bench-check FILE CONTACTS [N]    answers each line of CONTACTS, N times
     bench-compact FILE [N]           writes the canonical text of FILE, N times
     bench-merge1 FILE                merges the entries of FILE one by one
@@ -38,6 +39,7 @@ fn measure(rt: &HostRuntime, mode: &str, words: &[String], laps: &mut Laps) -> R
         "bench-parse" => modes::walks(rt, words, laps),
         "bench-build" => modes::builds(rt, words, laps),
         "bench-lookup" => modes::lookups(rt, words, laps),
+        "bench-answer" => modes::answers(rt, words, laps),
         "bench-check" => modes::checks(rt, words, laps),
         "bench-compact" => modes::compactions(rt, words, laps),
         "bench-merge1" => modes::merges(rt, mode, words, 1, laps),

@@ -89,6 +89,13 @@ pub fn lookups<R: Runtime + AllocGlobal>(rt: &R, words: &[String], laps: &mut La
     look_up_often(rt, &snapshot, &text, number(words, 2)?, laps)
 }
 
+/// Looks contacts up in the snapshot of a file, and reads the answers.
+pub fn answers<R: Runtime + AllocGlobal>(rt: &R, words: &[String], laps: &mut Laps) -> Result<()> {
+    let snapshot = snapshot_of(rt, words)?;
+    let text = file(rt, words, 1)?;
+    answer_often(rt, &snapshot, &text, number(words, 2)?, laps)
+}
+
 fn snapshot_of<R: Runtime + AllocGlobal>(rt: &R, words: &[String]) -> Result<Snapshot> {
     let buf = file(rt, words, 0)?;
     Ok(Snapshot::from_bytes(rt.alloc(), &buf)?)
@@ -122,6 +129,49 @@ fn look_up(snapshot: &Snapshot, contacts: &[SignatureRef<'_>]) -> Tally {
         }
     }
     tally
+}
+
+fn answer_often<R: Runtime + AllocGlobal>(
+    rt: &R,
+    snapshot: &Snapshot,
+    text: &[u8],
+    rounds: usize,
+    laps: &mut Laps,
+) -> Result<()> {
+    let contacts = contacts(rt.alloc(), text)?;
+    let mut tally = Tally::new();
+    for _ in 0..rounds {
+        let start = Instant::now(rt)?;
+        tally = answer(snapshot, &contacts);
+        laps.end(rt, start)?;
+    }
+    let count = contacts.len();
+    let laps = laps.summary();
+    println!(rt; "bench-answer {laps} contacts={count} answers={tally}")?;
+    Ok(())
+}
+
+fn answer(snapshot: &Snapshot, contacts: &[SignatureRef<'_>]) -> Tally {
+    let mut tally = Tally::new();
+    for contact in contacts {
+        let (name, email) = match snapshot.try_resolve_ref(*contact) {
+            Some(found) => (
+                found.name.unwrap_or(contact.name),
+                found.email.unwrap_or(contact.email),
+            ),
+            None => (contact.name, contact.email),
+        };
+        tally.add(read(name).wrapping_add(read(email)));
+    }
+    tally
+}
+
+// The length of a text and its first byte, which is what is read of it at least.
+fn read(text: &[u8]) -> usize {
+    match text.first() {
+        Some(byte) => text.len().wrapping_add(*byte as usize),
+        None => 0,
+    }
 }
 
 /// Merges the entries of a file, in batches.
