@@ -20,7 +20,7 @@ use Rattle.mailmap_histories.proofs.Joined.{alike_trans}
 use Rattle.mailmap_histories.proofs.Keys.{keys_exact}
 use Rattle.mailmap_histories.proofs.Normal.{alike_normal, known}
 use Rattle.mailmap_sifting.specs.Sifting.{IsIdle}
-use Rattle.mailmap_sifting.specs.Summaries.{KeySummary, key_summary, summary, own_summary, joined_summary, is_first_kept, is_last_kept, same_fields, are_last_kept, is_value_kept, is_idle}
+use Rattle.mailmap_sifting.specs.Summaries.{KeySummary, Summary, behind_of, key_summary, summary, own_summary, joined_summary, is_last_kept, same_fields, is_value_kept, is_idle}
 use Rattle.mailmap_sifting.proofs.Summaries.{summary_parts, spelling_parts, of_key_without, summary_without, spelling_without, summary_around, spelling_around}
 
 -- ---- idle entries leave an alike history
@@ -36,11 +36,11 @@ alike_idle a e c alike n = (same_normal (a ++ e ∷ c) (a ++ c) n alike, same_no
 
 -- ---- the parts of the test
 
-first_decides : (before : Option Text) (own : Text) (behind : Option Text) → Decides (is_first_kept before (Some own) behind) (option_or before (Some own) ≡ option_or before behind)
+first_decides : (before : Option Text) (own : Text) (behind : Option Text) → Decides (is_some before || same_optional (Some own) behind) (option_or before (Some own) ≡ option_or before behind)
 first_decides (Some x) own behind = (λ e. refl, λ e. refl)
 first_decides None own behind = optional_decides (Some own) behind
 
-last_decides : (before own behind : Option Text) → Decides (is_last_kept before own behind) (option_or (option_or behind own) before ≡ option_or behind before)
+last_decides : (before own behind : Option Text) → Decides (is_last_kept before own (is_some behind)) (option_or (option_or behind own) before ≡ option_or behind before)
 last_decides before own (Some x) = (λ e. refl, λ e. refl)
 last_decides before None None = (λ e. refl, λ e. refl)
 last_decides before (Some x) None = optional_decides (Some x) before
@@ -52,7 +52,7 @@ fields_decide f (Some g) =
     (λ e. (ap (option_and_then (λ f. f.name)) e, ap (option_and_then (λ f. f.email)) e))
     (Decides-and (same_optional f.name g.name) (same_optional f.email g.email) (optional_decides f.name g.name) (optional_decides f.email g.email))
 
-last_fields_decide : (before : Option Fields) (own : Fields) (behind : Option Fields) → Decides (are_last_kept before own behind) (option_or (option_or behind (Some own)) before ≡ option_or behind before)
+last_fields_decide : (before : Option Fields) (own : Fields) (behind : Option Fields) → Decides (is_some behind || same_fields own before) (option_or (option_or behind (Some own)) before ≡ option_or behind before)
 last_fields_decide before own (Some x) = (λ e. refl, λ e. refl)
 last_fields_decide before own None = fields_decide own before
 
@@ -61,14 +61,15 @@ abbrev SameValue : Option Text → KeySummary → KeySummary → Type 0
 SameValue None s t = (s.name ≡ t.name) × (s.email ≡ t.email)
 SameValue (Some name) s t = (s.old_name ≡ t.old_name) × (s.last ≡ t.last)
 
-value_decides : (s : KeySummary) (e : Mapping) (t : KeySummary) → Decides (is_value_kept s e t) (SameValue e.old_name (joined_summary s (joined_summary (own_summary e) t)) (joined_summary s t))
-value_decides s e t = by e.old_name
+value_decides : (s : KeySummary) (e : Mapping) (behind : Summary)
+    → Decides (is_value_kept s e (behind_of e behind)) (SameValue e.old_name (joined_summary s (joined_summary (own_summary e) behind.of_key)) (joined_summary s behind.of_key))
+value_decides s e behind = by behind.of_key e.old_name
   where
-    by : (o : Option Text)
-        → Decides (if is_some o then is_first_kept s.old_name o t.old_name && are_last_kept s.last (new_fields e) t.last else (is_last_kept s.name e.new_name t.name && is_last_kept s.email e.new_email t.email))
+    by : (t : KeySummary) (o : Option Text)
+        → Decides (if is_some o then (is_some s.old_name || same_optional o t.old_name) && (is_some t.last || same_fields (new_fields e) s.last) else (is_last_kept s.name e.new_name (is_some t.name) && is_last_kept s.email e.new_email (is_some t.email)))
         (SameValue o (joined_summary s (joined_summary (record { old_name = o; name = e.new_name; email = e.new_email; last = Some (new_fields e) }) t)) (joined_summary s t))
-    by None = Decides-and (is_last_kept s.name e.new_name t.name) (is_last_kept s.email e.new_email t.email) (last_decides s.name e.new_name t.name) (last_decides s.email e.new_email t.email)
-    by (Some w) = Decides-and (is_first_kept s.old_name (Some w) t.old_name) (are_last_kept s.last (new_fields e) t.last) (first_decides s.old_name w t.old_name) (last_fields_decide s.last (new_fields e) t.last)
+    by t None = Decides-and (is_last_kept s.name e.new_name (is_some t.name)) (is_last_kept s.email e.new_email (is_some t.email)) (last_decides s.name e.new_name t.name) (last_decides s.email e.new_email t.email)
+    by t (Some w) = Decides-and (is_some s.old_name || same_optional (Some w) t.old_name) (is_some t.last || same_fields (new_fields e) s.last) (first_decides s.old_name w t.old_name) (last_fields_decide s.last (new_fields e) t.last)
 
 -- ---- what is alike at one key
 
@@ -122,7 +123,7 @@ module _ (a : List Mapping) (e : Mapping) (c : List Mapping) (good : is_accepted
   same_decides : Decides (is_idle (summary a (key e)) e (summary c (key e))) Same
   same_decides =
       Decides-and _ _ (λ x. x, λ x. x)
-      (Decides-and _ _ (first_decides (spelling a (key e).0) e.old_email (spelling c (key e).0)) (value_decides (key_summary a (key e)) e (key_summary c (key e))))
+      (Decides-and _ _ (first_decides (spelling a (key e).0) e.old_email (spelling c (key e).0)) (value_decides (key_summary a (key e)) e (summary c (key e))))
 
   alike_same : Alike (a ++ e ∷ c) (a ++ c) → Same
   alike_same alike = (

@@ -9,10 +9,12 @@ use Rattle.std.proofs.lemmas.Bool.{or_right, cases_lt}
 use Rattle.std.proofs.lemmas.List.{map-append}
 use Rattle.std.proofs.lemmas.List.Elements.{All-contains, All-from_recursion, filter-append}
 use Rattle.mailmap_entries.specs.Entries.{Mapping}
-use Rattle.mailmap_histories.specs.Histories.{IsNormal, Key, key, key_cmp, last, is_accepted, accepted, has_key}
-use Rattle.mailmap_histories.proofs.Alike.{alike_accepted}
+use Rattle.mailmap_entries.specs.Folding.{Text}
+use Rattle.mailmap_histories.specs.Histories.{IsNormal, Key, key, key_cmp, last, is_accepted, accepted, has_key, scan}
+use Rattle.mailmap_histories.proofs.Alike.{alike_accepted, same_scan}
 use Rattle.mailmap_histories.proofs.Exists.{normal, is_normal}
 use Rattle.mailmap_histories.proofs.Keys.{keys_total}
+use Rattle.mailmap_histories.proofs.Normal.{alike_normal}
 use Rattle.mailmap_histories.proofs.Unique.{normal_unique}
 use Rattle.mailmap_sifting.specs.Sifting.{IsIdle, IsPass, done, goes, stays, IsSifted, settled, again, IsSublist, PlacedMapping, entries, last_place}
 use Rattle.mailmap_sifting.specs.Summaries.{is_idle, summary}
@@ -44,6 +46,13 @@ sifted_normal _ _ n (again xs some kept p s) =
     let first = pass_normal [] xs some n p in
     let rest = sifted_normal some kept n s in
     (λ d. rest.0 (first.0 d), λ d. first.1 (rest.1 d))
+
+-- and so is what is mapped
+pub sifted_scan : (xs kept : Placed) (name email : Text) → IsSifted xs kept → scan (entries kept) name email ≡ scan (entries xs) name email
+sifted_scan xs kept name email s =
+    let n = normal (entries xs) in
+    let d = is_normal (entries xs) in
+    same_scan (entries kept) n name email (alike_normal (entries kept) n ((sifted_normal xs kept n s).0 d)) ∙ sym (same_scan (entries xs) n name email (alike_normal (entries xs) n d))
 
 -- ---- a pass that lets nothing go
 

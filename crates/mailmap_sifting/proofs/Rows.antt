@@ -46,6 +46,14 @@ blank keys key_of view f z rows n is counted says x i number =
     subst (λ l. (i < length l) × ((d : _) → view (get_or l i d) ≡ f x)) (sym is)
     (omega (arith, length-replicate n z), λ d. ap view (get_or-replicate n i z d within) ∙ says x)
 
+-- a table of which all rows are made the same
+pub wiped : {X Y W Z : Type 0} (keys : List Key) (key_of : X → Key) (view : Z → Y) (view' : Z → W) (f : X → Y) (g : X → W) (z : Z) (rows rows' : List Z) (n : ℕ)
+    → IsTableOf keys key_of f view rows → rows' ≡ replicate n z → n ≡ length rows → ((x : X) → view' z ≡ g x) → IsTableOf keys key_of g view' rows'
+wiped keys key_of view view' f g z rows rows' n table is counted says x i number =
+    let within : i < n = omega (arith, counted, (table x i number).0) in
+    subst (λ l. (i < length l) × ((d : _) → view' (get_or l i d) ≡ g x)) (sym is)
+    (omega (arith, length-replicate n z), λ d. ap view' (get_or-replicate n i z d within) ∙ says x)
+
 -- ---- with an entry behind, or before
 
 pub copied_or : {X : Type 0} (o p : Option (Bor X)) → option_copied (option_or o p) ≡ option_or (option_copied o) (option_copied p)

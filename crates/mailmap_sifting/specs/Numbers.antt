@@ -1,15 +1,18 @@
 -- Keys with their numbers, and tables that have a row for each number.
 use Rattle.std.specs.Prelude.{◌≡◌, ◌<◌, true, List, [], ◌∷◌, ◌++◌, ℕ, Option, Some, None, Contains, map, length}
+use Rattle.std.specs.Borrow.{Bor}
 use Rattle.std.specs.Option.{option_copied, option_map}
 use Rattle.std.specs.List.{slice_get, slice_index_or, AllByRecursion}
 use Rattle.std.specs.List.Sorted.{IsStrictlySortedBy}
 use Rattle.mailmap_entries.specs.Entries.{Mapping, mapping_of}
 use Rattle.mailmap_entries.specs.Folding.{Text}
-use Rattle.mailmap_histories.specs.Histories.{Key, Fields, key, key_cmp, is_accepted, spelling}
-use Rattle.mailmap_sifting.specs.Sifting.{PlacedMapping, placed_of, entries, last_place}
-use Rattle.mailmap_sifting.specs.Summaries.{KeySummary, Summary, key_summary, summary}
+use Rattle.mailmap_histories.specs.Histories.{Key, Fields, key, key_cmp, is_accepted, new_fields, spelling}
+use Rattle.mailmap_sifting.specs.Sifting.{PlacedMapping, IsSifted, placed_of, entries, last_place}
+use Rattle.mailmap_sifting.specs.Summaries.{KeySummary, Summary, behind_of, key_summary, summary}
 use Rattle.mailmap_sifting.specs.declared.numbers.NumberedEntry.{NumberedEntry}
 use Rattle.mailmap_sifting.specs.declared.placed.Place.{Place}
+use Rattle.mailmap_sifting.specs.declared.placed.PlacedEntry.{PlacedEntry}
+use Rattle.mailmap_sifting.specs.declared.summary.Behind.{Behind}
 use Rattle.mailmap_sifting.specs.declared.summary.Fields.{Fields as FieldSlices}
 use Rattle.mailmap_sifting.specs.declared.summary.KeySummary.{KeySummary as KeySlices}
 use Rattle.mailmap_sifting.specs.declared.summary.Summary.{Summary as Slices}
@@ -20,23 +23,31 @@ use Rattle.mailmap_sifting.specs.declared.table.Table.{Table}
 abbrev pub fields_of : FieldSlices → Fields
 fields_of f = record { name = option_copied f.name; email = option_copied f.email }
 
+-- of the last entry its new fields
+abbrev pub last_fields_of : Option (Bor PlacedEntry) → Option Fields
+last_fields_of o = option_map (λ x. new_fields (mapping_of x.now.entry)) o
+
+-- where it stands
+abbrev pub place_of : KeySlices → Option Place
+place_of s = option_map (λ x. x.now.place) s.last
+
 abbrev pub key_summary_of : KeySlices → KeySummary
 key_summary_of s =
     record {
       old_name = option_copied s.old_name;
       name = option_copied s.name;
       email = option_copied s.email;
-      last = option_map fields_of s.last;
+      last = last_fields_of s.last;
     }
 
 abbrev pub summary_of : Slices → Summary
 summary_of s = record { of_key = key_summary_of s.of_key; spelling = option_copied s.spelling }
 
 abbrev pub entry_of : NumberedEntry → Mapping
-entry_of x = mapping_of x.placed.entry
+entry_of x = mapping_of x.placed.now.entry
 
 abbrev pub placed_entry_of : NumberedEntry → PlacedMapping
-placed_entry_of x = placed_of x.placed
+placed_entry_of x = placed_of x.placed.now
 
 -- ---- numbers
 
@@ -69,15 +80,19 @@ pub record IsTable (keys : List Key) (h : List Mapping) (t : Table) : Type 0 whe
   pub summaries : IsTableOf keys (λ k. k) (key_summary h) key_summary_of t.summaries.items
   pub spellings : IsTableOf keys email_key (spelling h) option_copied t.spellings.items
 
+-- they say where the last of the entries xs of each key stands
+abbrev pub ArePlaces : List Key → List PlacedMapping → Table → Type 0
+ArePlaces keys xs t = IsTableOf keys (λ k. k) (last_place xs) place_of t.summaries.items
+
 -- ---- passes
 
 abbrev pub told : List NumberedEntry → List PlacedMapping
 told xs = map placed_entry_of xs
 
--- what stands behind each entry, that of the last entry first
-abbrev pub summaries_behind : List PlacedMapping → List Summary
-summaries_behind [] = []
-summaries_behind (x ∷ xs) = summaries_behind xs ++ summary (entries xs) (key x.entry) ∷ []
+-- what each entry asks of those behind it, that of the last entry first
+abbrev pub behinds : List PlacedMapping → List Behind
+behinds [] = []
+behinds (x ∷ xs) = behinds xs ++ behind_of x.entry (summary (entries xs) (key x.entry)) ∷ []
 
 -- ---- what was sifted
 
@@ -90,9 +105,9 @@ pub record SiftedHistory : Type 0 where
 abbrev pub AreKnown : List Key → List Mapping → Type 0
 AreKnown keys h = AllByRecursion (HasKeys keys) h
 
-pub record IsSiftedState (keys : List Key) (history kept : List PlacedMapping) (table : Table) (lasts : List (Option Place)) : Type 0 where
+pub record IsSiftedState (keys : List Key) (history kept : List PlacedMapping) (table : Table) : Type 0 where
   pub ascending : IsStrictlySortedBy key_cmp keys
-  pub known : AreKnown keys (entries history)
-  pub whole : IsTable keys (entries history) table
-  pub known_kept : AreKnown keys (entries kept)
-  pub places : IsTableOf keys (λ k. k) (last_place kept) (λ p. p) lasts
+  pub sifted : IsSifted history kept
+  pub known : AreKnown keys (entries kept)
+  pub told : IsTable keys (entries kept) table
+  pub places : ArePlaces keys kept table

@@ -1,5 +1,6 @@
 -- Which entries of a history go, since nothing would change without them.
 use Rattle.std.specs.Prelude.{◌↔◌, List, [], ◌∷◌, ◌++◌, map, filter, Option}
+use Rattle.std.specs.Borrow.{Bor}
 use Rattle.std.specs.Option.{option_map}
 use Rattle.std.specs.Ordering.{eq_by_cmp}
 use Rattle.mailmap_entries.specs.Entries.{Mapping, mapping_of}
@@ -14,6 +15,10 @@ pub record PlacedMapping : Type 0 where
 
 abbrev pub placed_of : PlacedEntry → PlacedMapping
 placed_of x = record { place = x.place; entry = mapping_of x.entry }
+
+-- the same behind a reference
+abbrev pub placed_of_reference : Bor PlacedEntry → PlacedMapping
+placed_of_reference x = placed_of x.now
 
 -- what they say, as a history
 abbrev pub entries : List PlacedMapping → List Mapping

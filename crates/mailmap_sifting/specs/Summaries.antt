@@ -6,6 +6,7 @@ use Rattle.mailmap_entries.specs.Entries.{Mapping}
 use Rattle.mailmap_entries.specs.Folding.{Text}
 use Rattle.mailmap_histories.specs.Histories.{Fields, Key, first, last_given, of_key, last_fields, spelling, new_fields}
 use Rattle.mailmap_histories.specs.Listings.{same_optional}
+use Rattle.mailmap_sifting.specs.declared.summary.Behind.{Behind}
 
 -- of the entries of a key: the first old name, the new name and the new email that were last given, both new fields of the last
 pub record KeySummary : Type 0 where
@@ -51,31 +52,38 @@ joined_summary a b =
 
 -- ---- whether an entry between two stretches changes anything
 
--- which text comes first is the same without the own one: there is one before, or the same one behind
-abbrev pub is_first_kept : Option Text → Option Text → Option Text → Bool
-is_first_kept before own behind = is_some before || same_optional own behind
+-- what the entry asks of the stretch behind it
+abbrev pub behind_of : Mapping → Summary → Behind
+behind_of e s =
+    record {
+      key = is_some s.of_key.last;
+      name = is_some s.of_key.name;
+      email = is_some s.of_key.email;
+      same_name = same_optional e.old_name s.of_key.old_name;
+      same_spelling = same_optional (Some e.old_email) s.spelling;
+    }
 
 -- which text is given last is the same without the own one: there is one behind, or none is given, or the same one before
-abbrev pub is_last_kept : Option Text → Option Text → Option Text → Bool
-is_last_kept before own behind = is_some behind || (is_none own || same_optional own before)
+abbrev pub is_last_kept : Option Text → Option Text → Bool → Bool
+is_last_kept before own behind = behind || (is_none own || same_optional own before)
 
 abbrev pub same_fields : Fields → Option Fields → Bool
 same_fields own None = false
 same_fields own (Some f) = same_optional own.name f.name && same_optional own.email f.email
 
--- which fields are the last is the same without the own ones: there are others behind, or the same ones before
-abbrev pub are_last_kept : Option Fields → Fields → Option Fields → Bool
-are_last_kept before own behind = is_some behind || same_fields own before
-
--- the value of the key is the same without the entry, but for its email
-abbrev pub is_value_kept : KeySummary → Mapping → KeySummary → Bool
+-- The value of the key is the same without the entry, but for its email. With an old name: there is one before, or the same
+-- one comes first behind, and there are fields behind, or the same ones were the last before.
+abbrev pub is_value_kept : KeySummary → Mapping → Behind → Bool
 is_value_kept before e behind =
-    if is_some e.old_name then is_first_kept before.old_name e.old_name behind.old_name && are_last_kept before.last (new_fields e) behind.last
+    if is_some e.old_name then (is_some before.old_name || behind.same_name) && (behind.key || same_fields (new_fields e) before.last)
     else (is_last_kept before.name e.new_name behind.name && is_last_kept before.email e.new_email behind.email)
 
--- the key is there without the entry, its value is the same, and its email is spelled the same
+-- the key is there without the entry, its email is spelled the same, and its value is the same
+abbrev pub is_idle_before : Summary → Mapping → Behind → Bool
+is_idle_before before e behind =
+    (is_some before.of_key.last || behind.key)
+    && ((is_some before.spelling || behind.same_spelling)
+    && is_value_kept before.of_key e behind)
+
 abbrev pub is_idle : Summary → Mapping → Summary → Bool
-is_idle before e behind =
-    (is_some before.of_key.last || is_some behind.of_key.last)
-    && (is_first_kept before.spelling (Some e.old_email) behind.spelling
-    && is_value_kept before.of_key e behind.of_key)
+is_idle before e behind = is_idle_before before e (behind_of e behind)

@@ -16,7 +16,7 @@ use crate::table::Table;
 /// What a history answers to a name and an email, `None` where it maps neither.
 pub(crate) fn scan<'a>(
     keys: &[FrontedKey<'_>],
-    table: &Table<'a>,
+    table: &Table<'_, 'a>,
     name: &[u8],
     email: &[u8],
 ) -> Option<Fields<'a>>
@@ -33,7 +33,7 @@ pub(crate) fn scan<'a>(
 // The fields for a name and an email, whose number is known.
 fn fields_for<'a>(
     keys: &[FrontedKey<'_>],
-    table: &Table<'a>,
+    table: &Table<'_, 'a>,
     number: usize,
     name: &[u8],
     email: &[u8],
@@ -46,7 +46,7 @@ fn fields_for<'a>(
 {
     let given = table.summaries[number].given();
     match find(keys, &FrontedKey::new(email, Some(name))) {
-        Some(named) => table.summaries[named].last.unwrap_or(given),
+        Some(named) => table.summaries[named].last_or(given),
         None => given,
     }
 }

@@ -97,7 +97,7 @@ fn keys_of<'a>(
 ) -> Result<Vec<FrontedKey<'a>>, AllocError>
     ensures { IfOk result (λ keys. All (λ x. HasKeys keys.items (mapping_of x.entry)) entries.now) }
 {
-    let mut keys = Vec::with_capacity(alloc, entries.len())?;
+    let mut keys = Vec::with_capacity(alloc, entries.len().saturating_mul(2))?;
     for placed in entries {
         push_keys(&mut keys, &placed.entry)?;
     }

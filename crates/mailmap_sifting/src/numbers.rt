@@ -13,18 +13,18 @@ use std::alloc::{AllocError, Global};
 
 /// An entry, the number of its key, and that of the key of its email, without an old name.
 #[derive(Clone, Copy)]
-pub(crate) struct NumberedEntry<'a> {
-    pub(crate) placed: PlacedEntry<'a>,
+pub(crate) struct NumberedEntry<'p, 'a> {
+    pub(crate) placed: &'p PlacedEntry<'a>,
     pub(crate) key: usize,
     pub(crate) email: usize,
 }
 
 /// Entries with the numbers of their keys.
-pub(crate) fn numbered<'a>(
+pub(crate) fn numbered<'p, 'a>(
     alloc: Global,
     keys: &[FrontedKey<'_>],
-    entries: &[PlacedEntry<'a>],
-) -> Result<Vec<NumberedEntry<'a>>, AllocError>
+    entries: &'p [PlacedEntry<'a>],
+) -> Result<Vec<NumberedEntry<'p, 'a>>, AllocError>
     requires ascending { IsStrictlySortedBy key_cmp keys.now }
     requires has { All (λ x. HasKeys keys.now (mapping_of x.entry)) entries.now }
     requires accepted { All (λ x. is_accepted (mapping_of x.entry) ≡ true) entries.now }
@@ -38,20 +38,16 @@ pub(crate) fn numbered<'a>(
     Ok(numbered)
 }
 
-fn number<'a>(keys: &[FrontedKey<'_>], placed: &PlacedEntry<'a>) -> NumberedEntry<'a>
+fn number<'p, 'a>(keys: &[FrontedKey<'_>], placed: &'p PlacedEntry<'a>) -> NumberedEntry<'p, 'a>
     requires ascending { IsStrictlySortedBy key_cmp keys.now }
     requires has { HasKeys keys.now (mapping_of placed.now.entry) }
     requires accepted { is_accepted (mapping_of placed.now.entry) ≡ true }
-    ensures placed { result.placed ≡ placed.now }
+    ensures placed { result.placed.now ≡ placed.now }
     ensures numbered { IsNumbered keys.now result }
 {
     let key = number_of(keys, &FrontedKey::of(&placed.entry));
     let email = email_number(keys, &placed.entry, key);
-    NumberedEntry {
-        placed: *placed,
-        key,
-        email,
-    }
+    NumberedEntry { placed, key, email }
 }
 
 // The number of an entry's email, where that of its key is known.

@@ -1,80 +1,92 @@
 //! Passes over a history, each of which lets entries go that change nothing.
-ghost use Rattle.std.specs.Prelude.{◌≡◌, All, [], IfOk, map};
+ghost use Rattle.std.specs.Prelude.{◌≡◌, All, [], IfOk, List};
 ghost use Rattle.std.specs.List.Sorted.{IsStrictlySortedBy};
+ghost use Rattle.mailmap_entries.specs.Entries.{Mapping};
 ghost use Rattle.mailmap_histories.specs.Histories.{key_cmp};
-ghost use Rattle.mailmap_sifting.specs.Sifting.{IsPass, IsSifted};
-ghost use Rattle.mailmap_sifting.specs.Numbers.{IsNumbered, summaries_behind, summary_of, told};
+ghost use Rattle.mailmap_sifting.specs.Sifting.{IsPass, IsSifted, entries as entries_told};
+ghost use Rattle.mailmap_sifting.specs.Numbers.{ArePlaces, IsNumbered, IsTable, behinds, told};
 
 use crate::keys::FrontedKey;
 use crate::numbers::NumberedEntry;
-use crate::summary::{Summary, is_idle};
+use crate::summary::{Behind, is_idle};
 use crate::table::Table;
 use std::alloc::{AllocError, Global};
 
-/// What stays of the entries where passes are made until one lets nothing go.
-pub(crate) fn settled<'a>(
+/// What stays of the entries where passes are made until one lets nothing go, and what that says.
+pub(crate) fn settled<'p, 'a>(
     alloc: Global,
     keys: &[FrontedKey<'_>],
-    entries: &[NumberedEntry<'a>],
-) -> Result<Vec<NumberedEntry<'a>>, AllocError>
+    entries: &[NumberedEntry<'p, 'a>],
+    table: &mut Table<'p, 'a>,
+) -> Result<Vec<NumberedEntry<'p, 'a>>, AllocError>
     requires ascending { IsStrictlySortedBy key_cmp keys.now }
     requires numbered { All (IsNumbered keys.now) entries.now }
+    requires table { (h : List Mapping) × IsTable keys.now h table.old }
     ensures sifted { IfOk result (λ kept. IsSifted (told entries.now) (told kept.items)) }
     ensures numbered { IfOk result (λ kept. All (IsNumbered keys.now) kept.items) }
+    ensures table { IfOk result (λ kept. IsTable keys.now (entries_told (told kept.items)) table.new) }
+    ensures places { IfOk result (λ kept. ArePlaces keys.now (told kept.items) table.new) }
 {
     let mut len = entries.len();
-    let mut kept = pass(alloc, keys, entries)?;
+    let mut kept = pass(alloc, keys, entries, table)?;
     while kept.len() < len {
         len = kept.len();
-        kept = pass(alloc, keys, &kept)?;
+        kept = pass(alloc, keys, &kept, table)?;
     }
     Ok(kept)
 }
 
 // What stays of the entries in a pass from the first to the last.
-fn pass<'a>(
+fn pass<'p, 'a>(
     alloc: Global,
     keys: &[FrontedKey<'_>],
-    entries: &[NumberedEntry<'a>],
-) -> Result<Vec<NumberedEntry<'a>>, AllocError>
+    entries: &[NumberedEntry<'p, 'a>],
+    table: &mut Table<'p, 'a>,
+) -> Result<Vec<NumberedEntry<'p, 'a>>, AllocError>
     requires ascending { IsStrictlySortedBy key_cmp keys.now }
     requires numbered { All (IsNumbered keys.now) entries.now }
+    requires table { (h : List Mapping) × IsTable keys.now h table.old }
     ensures passed { IfOk result (λ kept. IsPass [] (told entries.now) (told kept.items)) }
     ensures numbered { IfOk result (λ kept. All (IsNumbered keys.now) kept.items) }
+    ensures table { IfOk result (λ kept. IsTable keys.now (entries_told (told kept.items)) table.new) }
+    ensures places { IfOk result (λ kept. ArePlaces keys.now (told kept.items) table.new) }
 {
-    let mut behind = behind_each(alloc, keys, entries)?;
-    let mut before = Table::none(alloc, keys)?;
-    let mut kept = Vec::new(alloc);
+    table.clear();
+    let mut behind = behind_each(alloc, keys, entries, table)?;
+    table.clear();
+    let mut kept = Vec::with_capacity(alloc, entries.len())?;
     for x in entries {
         let Some(later) = behind.pop() else {
             unreachable!()
         };
-        if !is_idle(&before.summary(x), &x.placed.entry, &later) {
-            before.append(x);
+        if !is_idle(&table.summary(x), &x.placed.entry, later) {
+            table.append(x);
             kept.push(*x)?;
         }
     }
     Ok(kept)
 }
 
-// What stands behind each entry, that of the last entry first.
-fn behind_each<'a>(
+// What stands behind each entry, that of the last entry first. The table, which is of no entry, is then of all of them.
+fn behind_each<'p, 'a>(
     alloc: Global,
     keys: &[FrontedKey<'_>],
-    entries: &[NumberedEntry<'a>],
-) -> Result<Vec<Summary<'a>>, AllocError>
+    entries: &[NumberedEntry<'p, 'a>],
+    table: &mut Table<'p, 'a>,
+) -> Result<Vec<Behind>, AllocError>
     requires ascending { IsStrictlySortedBy key_cmp keys.now }
     requires numbered { All (IsNumbered keys.now) entries.now }
-    ensures { IfOk result (λ behind. map summary_of behind.items ≡ summaries_behind (told entries.now)) }
+    requires table { IsTable keys.now [] table.old }
+    ensures behind { IfOk result (λ behind. behind.items ≡ behinds (told entries.now)) }
+    ensures table { IfOk result (λ behind. IsTable keys.now (entries_told (told entries.now)) table.new) }
 {
-    let mut table = Table::none(alloc, keys)?;
-    let mut summaries = Vec::with_capacity(alloc, entries.len())?;
+    let mut behind = Vec::with_capacity(alloc, entries.len())?;
     let mut left = entries.len();
     while left > 0 {
         left -= 1;
         let x = &entries[left];
-        summaries.push(table.summary(x))?;
+        behind.push(Behind::of(&x.placed.entry, &table.summary(x)))?;
         table.prepend(x);
     }
-    Ok(summaries)
+    Ok(behind)
 }

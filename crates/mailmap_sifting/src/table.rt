@@ -1,7 +1,7 @@
 //! What a history says of each key and of each email, by their numbers.
-ghost use Rattle.std.specs.Prelude.{◌≡◌, ◌<◌, ◌++◌, [], ◌∷◌, List, All, IfOk, vec_len};
+ghost use Rattle.std.specs.Prelude.{◌≡◌, ◌<◌, ◌++◌, [], ◌∷◌, List, IfOk, vec_len};
 ghost use Rattle.std.specs.List.Sorted.{IsStrictlySortedBy};
-ghost use Rattle.mailmap_entries.specs.Entries.{Mapping, mapping_of};
+ghost use Rattle.mailmap_entries.specs.Entries.{Mapping};
 ghost use Rattle.mailmap_histories.specs.Histories.{Key, key, key_cmp};
 
 use crate::keys::FrontedKey;
@@ -11,18 +11,18 @@ use std::alloc::{AllocError, Global};
 
 /// A summary for each key, and a first spelling for each email.
 #[derive(Drop)]
-pub(crate) struct Table<'a> {
-    pub(crate) summaries: Vec<KeySummary<'a>>,
+pub(crate) struct Table<'p, 'a> {
+    pub(crate) summaries: Vec<KeySummary<'p, 'a>>,
     pub(crate) spellings: Vec<Option<&'a [u8]>>,
 }
 
-impl<'a> Table<'a> {
+impl<'p, 'a> Table<'p, 'a> {
     ghost use Rattle.mailmap_sifting.specs.Summaries.{summary};
-    ghost use Rattle.mailmap_sifting.specs.Numbers.{IsTable, IsNumbered, summary_of, entry_of, told};
-    ghost use Rattle.mailmap_sifting.specs.Sifting.{entries};
+    ghost use Rattle.mailmap_sifting.specs.Numbers.{ArePlaces, IsTable, IsNumbered, summary_of, entry_of, placed_entry_of};
+    ghost use Rattle.mailmap_sifting.specs.Sifting.{PlacedMapping};
 
     /// Of no entry.
-    pub(crate) fn none(alloc: Global, keys: &[FrontedKey<'_>]) -> Result<Table<'a>, AllocError>
+    pub(crate) fn none(alloc: Global, keys: &[FrontedKey<'_>]) -> Result<Table<'p, 'a>, AllocError>
         ensures { IfOk result (IsTable keys.now []) }
     {
         Ok(Table {
@@ -31,8 +31,17 @@ impl<'a> Table<'a> {
         })
     }
 
+    /// Forgets all entries.
+    pub(crate) fn clear(&mut self)
+        ensures table { (keys : List Key) (h : List Mapping) → IsTable keys h self.old → IsTable keys [] self.new }
+        ensures places { (keys : List Key) (h : List Mapping) → IsTable keys h self.old → ArePlaces keys [] self.new }
+    {
+        self.summaries.fill(KeySummary::none());
+        self.spellings.fill(None);
+    }
+
     /// What is said of an entry's key and of its email.
-    pub(crate) fn summary(&self, x: &NumberedEntry) -> Summary<'a>
+    pub(crate) fn summary(&self, x: &NumberedEntry) -> Summary<'p, 'a>
         requires key { x.now.key < vec_len self.now.summaries }
         requires email { x.now.email < vec_len self.now.spellings }
         ensures { (keys : List Key) (h : List Mapping) → IsNumbered keys x.now → IsTable keys h self.now → summary_of result ≡ summary h (key (entry_of x.now)) }
@@ -44,41 +53,23 @@ impl<'a> Table<'a> {
     }
 
     /// Puts an entry behind the others.
-    pub(crate) fn append(&mut self, x: &NumberedEntry<'a>)
+    pub(crate) fn append(&mut self, x: &NumberedEntry<'p, 'a>)
         requires key { x.now.key < vec_len self.old.summaries }
         requires email { x.now.email < vec_len self.old.spellings }
-        ensures { (keys : List Key) (h : List Mapping) → IsStrictlySortedBy key_cmp keys → IsNumbered keys x.now → IsTable keys h self.old → IsTable keys (h ++ entry_of x.now ∷ []) self.new }
+        ensures table { (keys : List Key) (h : List Mapping) → IsStrictlySortedBy key_cmp keys → IsNumbered keys x.now → IsTable keys h self.old → IsTable keys (h ++ entry_of x.now ∷ []) self.new }
+        ensures places { (keys : List Key) (xs : List PlacedMapping) → IsStrictlySortedBy key_cmp keys → IsNumbered keys x.now → ArePlaces keys xs self.old → ArePlaces keys (xs ++ placed_entry_of x.now ∷ []) self.new }
     {
-        let entry = &x.placed.entry;
-        self.summaries[x.key] = self.summaries[x.key].joined(KeySummary::of(entry));
-        self.spellings[x.email] = self.spellings[x.email].or(Some(entry.old_email()));
+        self.summaries[x.key] = self.summaries[x.key].joined(KeySummary::of(x.placed));
+        self.spellings[x.email] = self.spellings[x.email].or(Some(x.placed.entry.old_email()));
     }
 
     /// Puts an entry before the others.
-    pub(crate) fn prepend(&mut self, x: &NumberedEntry<'a>)
+    pub(crate) fn prepend(&mut self, x: &NumberedEntry<'p, 'a>)
         requires key { x.now.key < vec_len self.old.summaries }
         requires email { x.now.email < vec_len self.old.spellings }
         ensures { (keys : List Key) (h : List Mapping) → IsStrictlySortedBy key_cmp keys → IsNumbered keys x.now → IsTable keys h self.old → IsTable keys (entry_of x.now ∷ h) self.new }
     {
-        let entry = &x.placed.entry;
-        self.summaries[x.key] = KeySummary::of(entry).joined(self.summaries[x.key]);
-        self.spellings[x.email] = Some(entry.old_email());
-    }
-
-    /// Of a whole history.
-    pub(crate) fn of(
-        alloc: Global,
-        keys: &[FrontedKey<'_>],
-        history: &[NumberedEntry<'a>],
-    ) -> Result<Table<'a>, AllocError>
-        requires ascending { IsStrictlySortedBy key_cmp keys.now }
-        requires numbered { All (IsNumbered keys.now) history.now }
-        ensures { IfOk result (IsTable keys.now (entries (told history.now))) }
-    {
-        let mut table = Table::none(alloc, keys)?;
-        for x in history {
-            table.append(x);
-        }
-        Ok(table)
+        self.summaries[x.key] = KeySummary::of(x.placed).joined(self.summaries[x.key]);
+        self.spellings[x.email] = Some(x.placed.entry.old_email());
     }
 }

@@ -12,7 +12,7 @@ use mailmap_sifting::{Fields, Sifted};
 
 /// That the entry has no effect, if it does not stay, or else that its contact is mapped on.
 pub(crate) fn told_of_entry<'a>(
-    sifted: &Sifted<'a>,
+    sifted: &Sifted<'_, 'a>,
     entry: &Entry<'a>,
     stays: bool,
 ) -> Option<Kind<'a>>
@@ -26,7 +26,7 @@ pub(crate) fn told_of_entry<'a>(
 }
 
 // That the contact is mapped to another one.
-fn told_of_contact<'a>(sifted: &Sifted<'a>, contact: Contact<'a>) -> Option<Kind<'a>>
+fn told_of_contact<'a>(sifted: &Sifted<'_, 'a>, contact: Contact<'a>) -> Option<Kind<'a>>
     ensures { option_map told_of result ≡ spec_told_of_contact (contact_of contact.entry) (spec_mapped (entries sifted.now.history) (contact_of contact.entry)) }
 {
     let to = mapped(sifted, contact);
@@ -47,7 +47,7 @@ fn proper_contact<'a>(entry: &Entry<'a>) -> Contact<'a>
 }
 
 // What the whole history makes of a contact.
-fn mapped<'a>(sifted: &Sifted<'a>, contact: Contact<'a>) -> Contact<'a>
+fn mapped<'a>(sifted: &Sifted<'_, 'a>, contact: Contact<'a>) -> Contact<'a>
     ensures { contact_of result ≡ spec_mapped (entries sifted.now.history) (contact_of contact.entry) }
 {
     match sifted.scan(name_or_empty(&contact), contact.email) {

@@ -59,7 +59,7 @@ pub(crate) fn placed_entries<'a>(
 ) -> Result<Vec<PlacedEntry<'a>>, AllocError>
     ensures { IfOk result (λ found. map placed_of found.items ≡ placed (map line_of lines.now)) }
 {
-    let mut found = Vec::new(alloc);
+    let mut found = Vec::with_capacity(alloc, lines.len())?;
     for line in lines {
         if let Some(entry) = entry_of(line) {
             found.push(PlacedEntry {

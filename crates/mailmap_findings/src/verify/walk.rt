@@ -2,7 +2,7 @@
 ghost use Rattle.std.specs.Prelude.{◌≡◌, ◌++◌, ◌||◌, map, filter, is_none, option_to_list, IfOk, OnOk};
 ghost use Rattle.std.specs.List.{flat_map};
 ghost use Rattle.std.specs.Option.{option_map};
-ghost use Rattle.mailmap_sifting.specs.Sifting.{placed_of, entries};
+ghost use Rattle.mailmap_sifting.specs.Sifting.{placed_of_reference, entries};
 ghost use Rattle.mailmap_findings.specs.Places.{entry, line_of};
 ghost use Rattle.mailmap_findings.specs.Findings.{finding_of, findings as spec_findings, is_left as spec_is_left, line_findings, told_of};
 ghost use Rattle.mailmap_findings.specs.Steps.{IsWalk, left_behind as spec_left, stands_first as spec_stands};
@@ -18,7 +18,7 @@ use std::alloc::{AllocError, Global};
 pub(crate) fn findings<'a>(
     alloc: Global,
     lines: &[Line<'a>],
-    sifted: &Sifted<'a>,
+    sifted: &Sifted<'_, 'a>,
 ) -> Result<Vec<Finding<'a>>, AllocError>
     requires { IsWalk sifted.now.kept (map line_of lines.now) }
     ensures { IfOk result (λ found. map finding_of found.items ≡ flat_map (spec_findings (entries sifted.now.history) sifted.now.kept) (map line_of lines.now)) }
@@ -37,10 +37,10 @@ pub(crate) fn findings<'a>(
 pub(crate) fn text_left(
     alloc: Global,
     lines: &[Line<'_>],
-    kept: &[PlacedEntry<'_>],
+    kept: &[&PlacedEntry<'_>],
 ) -> Result<Vec<u8>, AllocError>
-    requires { IsWalk (map placed_of kept.now) (map line_of lines.now) }
-    ensures { IfOk result (λ text. text.items ≡ flat_map (λ l. l.text) (filter (spec_is_left (map placed_of kept.now)) (map line_of lines.now))) }
+    requires { IsWalk (map placed_of_reference kept.now) (map line_of lines.now) }
+    ensures { IfOk result (λ text. text.items ≡ flat_map (λ l. l.text) (filter (spec_is_left (map placed_of_reference kept.now)) (map line_of lines.now))) }
 {
     let mut text = Vec::new(alloc);
     let mut kept = kept;
@@ -65,7 +65,7 @@ fn is_left(line: &Line<'_>, stays: bool) -> bool
 fn push_told<'a>(
     found: &mut Vec<Finding<'a>>,
     line: &Line<'a>,
-    sifted: &Sifted<'a>,
+    sifted: &Sifted<'_, 'a>,
     stays: bool,
 ) -> Result<(), AllocError>
     ensures { OnOk result (map finding_of found.new.items ≡ map finding_of found.old.items ++ line_findings (entries sifted.now.history) sifted.now.kept stays (line_of line.now)) }
@@ -92,8 +92,8 @@ fn push_kind<'a>(
 }
 
 // Whether the first of the entries stands at this place.
-fn stands_first(entries: &[PlacedEntry<'_>], place: Place) -> bool
-    ensures { result ≡ spec_stands (map placed_of entries.now) place }
+fn stands_first(entries: &[&PlacedEntry<'_>], place: Place) -> bool
+    ensures { result ≡ spec_stands (map placed_of_reference entries.now) place }
 {
     match entries.first() {
         Some(first) => first.place == place,
@@ -102,8 +102,11 @@ fn stands_first(entries: &[PlacedEntry<'_>], place: Place) -> bool
 }
 
 // The entries without the first, if that stands at this place.
-fn left_behind<'k, 'a>(entries: &'k [PlacedEntry<'a>], place: Place) -> &'k [PlacedEntry<'a>]
-    ensures { map placed_of result.now ≡ spec_left (map placed_of entries.now) place }
+fn left_behind<'k, 'p, 'a>(
+    entries: &'k [&'p PlacedEntry<'a>],
+    place: Place,
+) -> &'k [&'p PlacedEntry<'a>]
+    ensures { map placed_of_reference result.now ≡ spec_left (map placed_of_reference entries.now) place }
 {
     if !stands_first(entries, place) {
         return entries;

@@ -1,5 +1,5 @@
 use Rattle.std.proofs.Common.{[], ◌∷◌, ◌∙◌, ap, map, subst, sym}
-use Rattle.mailmap_sifting.specs.Sifting.{IsSifted, placed_of}
+use Rattle.mailmap_sifting.specs.Sifting.{IsSifted, placed_of, placed_of_reference}
 use Rattle.mailmap_findings.specs.Findings.{IsPruned}
 use Rattle.mailmap_findings.specs.Places.{line_of, placed}
 use Rattle.mailmap_findings.proofs.Accepted.{items_accepted}
@@ -11,7 +11,7 @@ sift-requires c = items_accepted (map line_of c.deref.result.now) c.deref-2.resu
 
 pub text_left-requires : goal.text_left-requires
 text_left-requires c =
-    is_walk (c.args.buffer.now ∷ []) (map line_of c.deref-3.result.now) (map placed_of c.deref-2.result.now) (map placed_of c.kept.result.now)
+    is_walk (c.args.buffer.now ∷ []) (map line_of c.deref-3.result.now) (map placed_of c.deref-2.result.now) (map placed_of_reference c.kept.result.now)
     (ap (map line_of) c.deref-3.ensures.value ∙ c.in_ok-lines.ensures)
     (ap (map placed_of) c.deref-2.ensures.value ∙ c.in_ok-placed.ensures ∙ ap (λ l. placed (map line_of l)) (c.deref.ensures.value ∙ sym c.deref-3.ensures.value))
     (subst (IsSifted (map placed_of c.deref-2.result.now)) (sym c.kept.ensures) c.in_ok-sifted.ensures.sifted)
@@ -20,7 +20,7 @@ pub returns : goal.returns
 returns c =
     if_given c.text_left.result (λ v. v.items) (IsPruned c.args.buffer.now) _ c.text_left.ensures
     (λ text e.
-    is_pruned c.args.buffer.now text (map line_of c.deref-3.result.now) (map placed_of c.deref-2.result.now) (map placed_of c.kept.result.now)
+    is_pruned c.args.buffer.now text (map line_of c.deref-3.result.now) (map placed_of c.deref-2.result.now) (map placed_of_reference c.kept.result.now)
     (ap (map line_of) c.deref-3.ensures.value ∙ c.in_ok-lines.ensures)
     (ap (map placed_of) c.deref-2.ensures.value ∙ c.in_ok-placed.ensures ∙ ap (λ l. placed (map line_of l)) (c.deref.ensures.value ∙ sym c.deref-3.ensures.value))
     (subst (IsSifted (map placed_of c.deref-2.result.now)) (sym c.kept.ensures) c.in_ok-sifted.ensures.sifted)

@@ -12,6 +12,8 @@ loop-len-preserved c =
       further (told c.args.entries.now) (told kept) (told c.in_ok-kept-2.kept.items) c.loop-len.len c.len-len.result c.loop-len.invariant.0 counted
           (subst (λ l. IsPass [] (told l) (told c.in_ok-kept-2.kept.items)) c.deref.ensures.value c.in_ok-kept-2.ensures.passed),
       c.in_ok-kept-2.ensures.numbered,
+      c.in_ok-kept-2.ensures.table,
+      c.in_ok-kept-2.ensures.places,
     )
 
 pub returns-clause-sifted : goal.returns-clause-sifted

@@ -1,10 +1,15 @@
 use Rattle.std.specs.List.{All}
-use Rattle.mailmap_sifting.specs.Numbers.{IsNumbered, told}
+use Rattle.mailmap_sifting.specs.Sifting.{entries}
+use Rattle.mailmap_sifting.specs.Numbers.{ArePlaces, IsNumbered, IsTable, told}
 use Rattle.mailmap_sifting.proofs.Settling.{IsSettling}
 use Rattle.mailmap_sifting.proofs.passes.settled.Given as goal
 
 abbrev pub invariant-loop-len : goal.invariant-loop-len
-invariant-loop-len l = IsSettling (told l.entries) l.len (told l.kept.items) × All (IsNumbered l.keys) l.kept.items
+invariant-loop-len l =
+    IsSettling (told l.entries) l.len (told l.kept.items)
+    × All (IsNumbered l.keys) l.kept.items
+    × IsTable l.keys (entries (told l.kept.items)) l.table
+    × ArePlaces l.keys (told l.kept.items) l.table
 
 abbrev pub decreases-loop-len : goal.decreases-loop-len
 decreases-loop-len l = l.len

@@ -1,5 +1,5 @@
 use Rattle.std.proofs.Common.{◌≡◌, ◌+◌, ◌++◌, ◌∙◌, ap, drop, get_or, map, subst, sym}
-use Rattle.mailmap_sifting.specs.Sifting.{entries, placed_of}
+use Rattle.mailmap_sifting.specs.Sifting.{entries, placed_of_reference}
 use Rattle.mailmap_findings.specs.Findings.{finding_of, findings, line_findings}
 use Rattle.mailmap_findings.specs.Places.{line_of, stands_at}
 use Rattle.mailmap_findings.proofs.Entries.{no_line}
@@ -21,7 +21,7 @@ loop-line-preserved c =
     let kept = c.args.sifted.now.kept in
     let h = entries c.args.sifted.now.history in
     let l = line_of (get_or ls i no_line) in
-    let step = line_step ls i no_line c.loop-line-test.true kept (map placed_of c.loop-line.kept.now) c.loop-line.invariant.1 in
+    let step = line_step ls i no_line c.loop-line-test.true kept (map placed_of_reference c.loop-line.kept.now) c.loop-line.invariant.1 in
     let stays : c.stands_first-stays.result ≡ stands_at kept l.place = c.stands_first-stays.ensures ∙ sym step.stays in (
       c.in_ok-push_told.ensures
           ∙ (λ j. c.loop-line.invariant.0 j ++ line_findings h kept (stays j) l)

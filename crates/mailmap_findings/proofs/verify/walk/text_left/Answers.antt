@@ -1,6 +1,6 @@
 use Rattle.std.proofs.Common.{◌≡◌, ◌+◌, ◌++◌, ◌∙◌, ap, drop, get_or, map, subst, sym}
 use Rattle.std.specs.Prelude.{◌||◌, is_none}
-use Rattle.mailmap_sifting.specs.Sifting.{placed_of}
+use Rattle.mailmap_sifting.specs.Sifting.{placed_of_reference}
 use Rattle.mailmap_findings.specs.Findings.{is_left}
 use Rattle.mailmap_findings.specs.Places.{entry, line_of, stands_at}
 use Rattle.mailmap_findings.proofs.Entries.{no_line}
@@ -9,15 +9,15 @@ use Rattle.mailmap_findings.proofs.verify.walk.text_left.Goals as goal
 use Rattle.mailmap_findings.proofs.verify.walk.text_left.Goals.{then-is_left+in_ok-extend_from_slice, else-is_left}
 
 pub loop-line-init : goal.loop-line-init
-loop-line-init c = (c.new-text.ensures.items, starts (map placed_of c.args.kept.now) (map line_of c.args.lines.now) c.requires)
+loop-line-init c = (c.new-text.ensures.items, starts (map placed_of_reference c.args.kept.now) (map line_of c.args.lines.now) c.requires)
 
 pub loop-line-preserved : goal.loop-line-preserved
 loop-line-preserved c =
     let ls = c.args.lines.now in
     let i = c.loop-line.line-index in
-    let kept = map placed_of c.args.kept.now in
+    let kept = map placed_of_reference c.args.kept.now in
     let l = line_of (get_or ls i no_line) in
-    let step = line_step ls i no_line c.loop-line-test.true kept (map placed_of c.loop-line.kept.now) c.loop-line.invariant.1 in
+    let step = line_step ls i no_line c.loop-line-test.true kept (map placed_of_reference c.loop-line.kept.now) c.loop-line.invariant.1 in
     let stays : c.stands_first-stays.result ≡ stands_at kept l.place = c.stands_first-stays.ensures ∙ sym step.stays in
     let test : c.is_left.result ≡ is_left kept l = c.is_left.ensures ∙ ap (λ b. is_none (entry l) || b) stays in (
       elim c.if-is_left.branch [

@@ -3,16 +3,18 @@ use Rattle.std.specs.Option.{option_copied, option_or}
 use Rattle.mailmap_entries.specs.Folding.{folded}
 use Rattle.mailmap_histories.specs.Histories.{key, spelling}
 use Rattle.mailmap_sifting.specs.Summaries.{key_summary, joined_summary}
-use Rattle.mailmap_sifting.specs.Numbers.{email_key, entry_of, key_summary_of}
+use Rattle.mailmap_sifting.specs.Numbers.{email_key, entry_of, key_summary_of, place_of, placed_entry_of}
 use Rattle.mailmap_sifting.proofs.Rows.{row_changed, email_keys, appended, not_appended, spelled_behind, not_spelled_behind, copied_or}
+use Rattle.mailmap_sifting.proofs.Walked.{last_place-own, last_place-other}
+use Rattle.mailmap_sifting.specs.Sifting.{last_place}
 use Rattle.mailmap_sifting.proofs.table.Table.append.Goals as goal
 
-pub returns : goal.returns
-returns c = λ keys h up n t.
+pub returns-clause-table : goal.returns-clause-table
+returns-clause-table c = λ keys h up n t.
     let e = entry_of c.args.x.now in
     record {
       summaries = row_changed keys (λ k. k) key_summary_of (key_summary h) (key_summary (h ++ e ∷ [])) _ (key e) _ _ up (λ a b e. e) t.summaries n.own
-          (c.joined.ensures ∙ ap₂ joined_summary (ap key_summary_of c.index.ensures ∙ (t.summaries _ _ n.own).1 c.index.result.now) c.of.ensures ∙ sym (appended h e n.accepted))
+          (c.joined.ensures.summary ∙ ap₂ joined_summary (ap key_summary_of c.index.ensures ∙ (t.summaries _ _ n.own).1 c.index.result.now) c.of.ensures.summary ∙ sym (appended h e n.accepted))
           (not_appended h e);
       spellings = row_changed keys email_key option_copied (spelling h) (spelling (h ++ e ∷ [])) _ (folded e.old_email) _ _ up email_keys t.spellings n.of_email
           (ap option_copied c.or.ensures ∙ copied_or c.index-2.result.now _
@@ -20,3 +22,10 @@ returns c = λ keys h up n t.
           ∙ sym (spelled_behind h e n.accepted))
           (not_spelled_behind h e);
     }
+
+pub returns-clause-places : goal.returns-clause-places
+returns-clause-places c = λ keys xs up n t.
+    let x = placed_entry_of c.args.x.now in
+    row_changed keys (λ k. k) place_of (last_place xs) (last_place (xs ++ x ∷ [])) _ (key x.entry) _ _ up (λ a b e. e) t n.own
+    (c.joined.ensures.place ∙ ap (λ o. option_or o (place_of c.index.result.now)) c.of.ensures.place ∙ sym (last_place-own xs x))
+    (last_place-other xs x)
