@@ -1,3 +1,4 @@
+pub mod Strict
 pub mod WholeLines
 pub mod Placing
 pub mod Entries

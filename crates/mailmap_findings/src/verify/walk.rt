@@ -9,7 +9,7 @@ ghost use Rattle.mailmap_findings.specs.Steps.{IsWalk, left_behind as spec_left,
 
 use crate::verify::contacts::told_of_entry;
 use crate::verify::lines::{Line, entry_of};
-use crate::verify::reading::told_of_reading;
+use crate::verify::reading::read_strictly;
 use crate::verify::{Finding, Kind};
 use mailmap_sifting::{Place, PlacedEntry, Sifted};
 use std::alloc::{AllocError, Global};
@@ -70,8 +70,9 @@ fn push_told<'a>(
 ) -> Result<(), AllocError>
     ensures { OnOk result (map finding_of found.new.items ≡ map finding_of found.old.items ++ line_findings (entries sifted.now.history) sifted.now.kept stays (line_of line.now)) }
 {
-    push_kind(found, line.place, told_of_reading(line))?;
-    if let Some(entry) = entry_of(line) {
+    let (kind, entry) = read_strictly(line);
+    push_kind(found, line.place, kind)?;
+    if let Some(entry) = entry {
         push_kind(found, line.place, told_of_entry(sifted, &entry, stays))?;
     }
     Ok(())

@@ -1,0 +1,46 @@
+-- A line that the strict reading takes is read alike for lookups.
+use Rattle.std.proofs.Common.{◌≡◌, ◌==◌, ℕ, Bool, true, false, cond, Option, Some, None, Ok, Err, List, [], ◌∷◌}
+use Rattle.mailmap_entries.specs.Entries.{Mapping}
+use Rattle.mailmap_entries.specs.Folding.{Text}
+use Rattle.mailmap_grammar.specs.Lines.{Half, Absent, Unclosed, Closed, Reading, cut, first_half, is_comment, line_reading, reading, strict_halves, strict_line_reading, strict_reading, trimmed_half, two_halves, unless_blank}
+use Rattle.mailmap_grammar.specs.Trimming.{trim}
+
+halves : (n : ℕ) (t name email rest : Text) (h : Half) (e : Mapping) → strict_halves n t name email rest h ≡ Ok e → two_halves n t name email h ≡ Ok e
+halves n t name email rest Absent e is = is
+halves n t name email rest Unclosed e is = cc
+halves n t name email rest (Closed a b c) e is = is
+
+first : (n : ℕ) (t : Text) (h : Half) (e : Mapping)
+    → first_half (λ name email rest. strict_halves n t name email rest (trimmed_half (cut rest))) n t h ≡ Ok e
+    → first_half (λ name email rest. two_halves n t name email (trimmed_half (cut rest))) n t h ≡ Ok e
+first n t Absent e is = is
+first n t Unclosed e is = is
+first n t (Closed name [] rest) e is = is
+first n t (Closed name (b ∷ email) rest) e is = halves n t name (b ∷ email) rest (trimmed_half (cut rest)) e is
+
+unless : (n : ℕ) (t : Text) (e : Mapping) → unless_blank strict_line_reading n t ≡ Some (Ok e) → unless_blank line_reading n t ≡ Some (Ok e)
+unless n [] e is = is
+unless n (b ∷ t) e is = λ i. Some (first n (b ∷ t) (trimmed_half (cut (b ∷ t))) e (inside is) i)
+  where
+    inside : {r : Reading} → Some r ≡ Some (Ok e) → r ≡ Ok e
+    inside q = cc
+
+-- what the strict reading takes
+pub taken : (n : ℕ) (line : Text) (e : Mapping) → strict_reading n line ≡ Some (Ok e) → reading n line ≡ Some (Ok e)
+taken n line e = by (is_comment line)
+  where
+    by : (b : Bool) → cond b None (unless_blank strict_line_reading n (trim line)) ≡ Some (Ok e) → cond b None (unless_blank line_reading n (trim line)) ≡ Some (Ok e)
+    by true is = is
+    by false is = unless n (trim line) e is
+
+blank : (n : ℕ) (t : Text) → unless_blank strict_line_reading n t ≡ None → unless_blank line_reading n t ≡ None
+blank n [] is = is
+blank n (b ∷ t) is = cc
+
+-- what the strict reading passes over
+pub passed_over : (n : ℕ) (line : Text) → strict_reading n line ≡ None → reading n line ≡ None
+passed_over n line = by (is_comment line)
+  where
+    by : (b : Bool) → cond b None (unless_blank strict_line_reading n (trim line)) ≡ None → cond b None (unless_blank line_reading n (trim line)) ≡ None
+    by true is = is
+    by false is = blank n (trim line) is
