@@ -11,7 +11,7 @@ HEAP = $(dir $(shell rt doc))c/liblibc_c.a
 
 .PHONY: build run test edits install install_lib lib
 build:
-	@echo 'Proves everything first: about ten minutes on four processors the first time.'
+	@echo 'Proves everything first: ten to twenty minutes on four processors the first time.'
 	cd crates/mailmap_check && rt run < stdin > /dev/null
 	cd crates/mailmap_verify && rt run -- --help > /dev/null
 
