@@ -1,13 +1,10 @@
 -- What a merge of an iterator's entries makes of a snapshot.
-use Rattle.std.proofs.Common.{◌≡◌, ◌≢◌, true, List, [], ◌∷◌, ◌++◌, map, Result, Ok, Err, append-nil, refl, sym, ap, subst, ◌∙◌}
+use Rattle.std.proofs.Common.{◌≡◌, ◌≢◌, List, [], ◌∷◌, ◌++◌, map, Result, Ok, Err, refl, sym, ap, ◌∙◌}
 use Rattle.std.specs.Iterator.{Yields, YieldsFirstBy}
-use Rattle.std.specs.List.{AllByRecursion}
 use Rattle.std.specs.Result.{OnErr, OnOk}
-use Rattle.std.proofs.lemmas.List.Elements.{filter-append, filter_passes, recursion_from_All}
+use Rattle.std.proofs.lemmas.List.Elements.{filter-append}
 use Rattle.mailmap_entries.specs.Entries.{Mapping}
-use Rattle.mailmap_histories.specs.Histories.{IsNormal, accepted, is_accepted}
-use Rattle.mailmap_histories.proofs.Alike.{same_normal, alike_accepted}
-use Rattle.mailmap_histories.proofs.Parts.{filter_all}
+use Rattle.mailmap_histories.specs.Histories.{accepted, is_accepted}
 
 -- ---- an iterator over a list
 

@@ -1,5 +1,5 @@
 -- What tables denote where a row is put between others, or in the place of one.
-use Rattle.std.proofs.Common.{◌≡◌, ◌+◌, ◌-◌, ◌≤◌, ◌<◌, get_or, ℕ, zero, suc, List, [], ◌∷◌, ◌++◌, map, take, drop, length, set, length-drop, None, refl, sym, ap, ◌∙◌, arith, subst}
+use Rattle.std.proofs.Common.{◌≡◌, ◌+◌, ◌-◌, ◌≤◌, ◌<◌, get_or, ℕ, zero, suc, List, [], ◌∷◌, ◌++◌, map, take, drop, length, set, length-drop, option_map, refl, sym, ap, ◌∙◌, arith, subst}
 use Rattle.std.specs.List.{AllByRecursion, insert}
 use Rattle.std.proofs.Math.Seq.{take-set-lt}
 use Rattle.std.proofs.lemmas.List.{drop-set-lt, take-set-le, drop-set-add, map-set}
@@ -7,8 +7,9 @@ use Rattle.mailmap_entries.specs.Folding.{Text}
 use Rattle.mailmap_tables.specs.Merging.{bare}
 use Rattle.mailmap_tables.specs.Pool.{spelled, names_of, name_group, email_group, EmailLies, Follow, end_of, front_of}
 use Rattle.mailmap_tables.specs.Room.{one_later}
-use Rattle.mailmap_tables.specs.declared.tables.Span.{Span}
-use Rattle.mailmap_tables.specs.declared.tables.NameRow.{NameRow}
+use Rattle.mailmap_tables.specs.Texts.{IsBare}
+use Rattle.mailmap_tables.specs.declared.texts.Span.{Span}
+use Rattle.mailmap_tables.specs.declared.texts.Texts.{Texts}
 use Rattle.mailmap_tables.specs.declared.tables.EmailRow.{EmailRow}
 use Rattle.mailmap_tables.proofs.Pooled.{end_above, end_within}
 
@@ -85,16 +86,13 @@ end_of-lengthen k i [] lt = absurd (omega (arith, lt))
 end_of-lengthen k zero (r ∷ rs) lt = end_of-later r.names_end rs
 end_of-lengthen k (suc i) (r ∷ rs) lt = end_of-lengthen r.names_end i rs (omega (arith, lt))
 
-lies_again : (n : ℕ) (r : EmailRow) (start end : ℕ) → EmailLies n r → EmailLies n (record r { names_start = start; names_end = end })
-lies_again n r start end lies = record { old_email = lies.old_email; new_name = lies.new_name; new_email = lies.new_email }
-
 later_lie : (n : ℕ) (es : List EmailRow) → AllByRecursion (EmailLies n) es → AllByRecursion (EmailLies n) (map one_later es)
 later_lie n [] all = tt
-later_lie n (r ∷ rs) all = (lies_again n r (r.names_start + 1) (r.names_end + 1) all.0, later_lie n rs all.1)
+later_lie n (r ∷ rs) all = (all.0, later_lie n rs all.1)
 
 pub lengthen_lie : (n i : ℕ) (es : List EmailRow) → AllByRecursion (EmailLies n) es → AllByRecursion (EmailLies n) (lengthen i es)
 lengthen_lie n i [] all = tt
-lengthen_lie n zero (r ∷ rs) all = (lies_again n r r.names_start (r.names_end + 1) all.0, later_lie n rs all.1)
+lengthen_lie n zero (r ∷ rs) all = (all.0, later_lie n rs all.1)
 lengthen_lie n (suc i) (r ∷ rs) all = (all.0, lengthen_lie n i rs all.1)
 
 fronts_later : (pool : Text) (es : List EmailRow) → map (front_of pool) (map one_later es) ≡ map (front_of pool) es
@@ -113,11 +111,11 @@ start_above k n i [] d h lt = absurd (omega (arith, lt))
 start_above k n zero (r ∷ rs) d h lt = omega (arith, h.0)
 start_above k n (suc i) (r ∷ rs) d h lt = omega (arith, h.1, start_above r.names_end n i rs d h.2 (omega (arith, lt)))
 
-module _ (pool : Text) (names : List NameRow) (p : ℕ) (row : NameRow) where
-  abbrev more : List NameRow
+module _ (pool : Text) (names : List Texts) (p : ℕ) (row : Texts) where
+  abbrev more : List Texts
   more = insert names p row
 
-  abbrev other : List NameRow
+  abbrev other : List Texts
   other = set names p row
 
   -- an email whose names end before the place
@@ -251,13 +249,17 @@ end_of-insert k [] (suc i) e le end = absurd (omega (arith, le))
 end_of-insert k (r ∷ rs) (suc i) e le end = end_of-insert r.names_end rs i e (omega (arith, le)) end
 
 -- the group of an email without names and fields
-pub bare_group : (pool : Text) (names : List NameRow) (s : Span) (at : ℕ) → email_group pool names (record { old_email = s; new_name = None; new_email = None; names_start = at; names_end = at }) ≡ bare (spelled pool s)
-bare_group pool names s at =
+pub bare_group : (pool : Text) (names : List Texts) (t : Texts) (s : Span) (at : ℕ) → IsBare t s → email_group pool names (record { texts = t; names_start = at; names_end = at }) ≡ bare (spelled pool s)
+bare_group pool names t s at is =
     let none : at - at ≡ 0 = omega arith in
-    λ i. record (bare (spelled pool s)) { names = map (name_group pool) (take (none i) (drop at names)) }
+    λ i. record {
+      old_email = spelled pool (is.old i);
+      own = record { name = option_map (spelled pool) (is.new_name i); email = option_map (spelled pool) (is.new_email i) };
+      names = map (name_group pool) (take (none i) (drop at names));
+    }
 
 -- the names that no email has, where one more is put before them
-pub loose_insert : (pool : Text) (names : List NameRow) (p end : ℕ) (row : NameRow) → p ≤ end → p ≤ length names → map (name_group pool) (drop (end + 1) (insert names p row)) ≡ map (name_group pool) (drop end names)
+pub loose_insert : (pool : Text) (names : List Texts) (p end : ℕ) (row : Texts) → p ≤ end → p ≤ length names → map (name_group pool) (drop (end + 1) (insert names p row)) ≡ map (name_group pool) (drop end names)
 loose_insert pool names p end row le within =
     let next : end + 1 ≡ suc end = omega arith in
     (λ i. map (name_group pool) (drop (next i) (insert names p row))) ∙ ap (map (name_group pool)) (drop-insert_above names end p row le within)

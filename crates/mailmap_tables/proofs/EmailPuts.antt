@@ -12,7 +12,7 @@ use Rattle.mailmap_histories.specs.Histories.{is_accepted}
 use Rattle.mailmap_tables.specs.Merging.{IsAscending, Extends, IsNamed, NamesJoined, EmailJoined, give, mapping_at, name_text, with_email}
 use Rattle.mailmap_tables.specs.Pool.{spelled, LiesIn}
 use Rattle.mailmap_tables.specs.declared.batch.Placed.{Placed}
-use Rattle.mailmap_tables.specs.declared.tables.Span.{Span}
+use Rattle.mailmap_tables.specs.declared.texts.Span.{Span}
 use Rattle.mailmap_tables.proofs.Given.{fold-give-with_email}
 use Rattle.mailmap_tables.proofs.Merging.{own_of, IsOwn, own_joined, group_joined}
 use Rattle.mailmap_tables.proofs.Pooled.{spelled-append, options-append}

@@ -302,6 +302,9 @@ scan_missing gs name email other =
 pub split_at : {X : Type 0} (xs : List X) (i : ℕ) (x : X) → i < length xs → x ≡ get_or xs i x → xs ≡ take i xs ++ x ∷ drop (suc i) xs
 split_at xs i x lt read = sym (take-append-drop i xs) ∙ ap (λ l. take i xs ++ l) (drop-cons xs i x lt ∙ ap (λ y. y ∷ drop (suc i) xs) (sym read))
 
+pub not_below_itself : (k : Text) → text_cmp k k ≡ Less → ⊥
+not_below_itself k below = true≢false (sym (ap is_eq (tied_itself nat_list_cmp_total k)) ∙ ap is_eq below)
+
 -- where a search finds its key at no place, none has it
 pub none_has : {X : Type 0} (f : X → Text) (k : Text) (xs : List X) (i : ℕ) → AllWithin (λ x. text_cmp (f x) k ≡ Less) xs 0 i → AllWithin (λ x. text_cmp (f x) k ≡ Greater) xs i (length xs) → AllByRecursion (λ x. f x ≡ k → ⊥) xs
 none_has f k xs i low high = recursion_from_All _ xs (λ j d lt same. ⊎_elim

@@ -1,6 +1,7 @@
 pub mod Batches
 pub mod Grouped
 pub mod Merging
+pub mod RowTexts
 pub mod Pooled
 pub mod Together
 pub mod Lookups

@@ -9,13 +9,13 @@ use Rattle.mailmap_entries.specs.Folding.{Text}
 use Rattle.mailmap_tables.specs.Groups.{Contents, EmailGroup, name_row, own_rows, listing}
 use Rattle.mailmap_tables.specs.Remaining.{left_to_list}
 use Rattle.mailmap_tables.specs.Pool.{spelled, group_of}
-use Rattle.mailmap_tables.specs.declared.tables.EmailRow.{EmailRow}
-use Rattle.mailmap_tables.specs.declared.tables.NameRow.{NameRow}
+use Rattle.mailmap_tables.specs.Texts.{old_span}
+use Rattle.mailmap_tables.specs.declared.texts.Texts.{Texts}
 
-module _ (t : Contents) (email : Text) (ns : List NameRow) (i : ℕ) (none : ns ≡ []) where
+module _ (t : Contents) (email : Text) (ns : List Texts) (i : ℕ) (none : ns ≡ []) where
   -- where no name is left, the next email begins
-  pub next_email : (r : EmailRow) (rest : List NameRow) → slice_get t.groups i ≡ Some (group_of t.pool r rest)
-      → left_to_list t email ns i ≡ own_rows (group_of t.pool r []) ++ left_to_list t (spelled t.pool r.old_email) rest (i + 1)
+  pub next_email : (r : Texts) (rest : List Texts) → slice_get t.groups i ≡ Some (group_of t.pool r rest)
+      → left_to_list t email ns i ≡ own_rows (group_of t.pool r []) ++ left_to_list t (spelled t.pool (old_span r)) rest (i + 1)
   next_email r rest read =
       let g : EmailGroup = group_of t.pool r rest in
       let lt : i < length t.groups = slice_get_within t.groups i g read in

@@ -7,7 +7,8 @@ use Rattle.mailmap_tables.specs.Groups.{NameGroup, Contents, name_key}
 use Rattle.mailmap_tables.specs.Merging.{Extends, NamePut, NamePlaced, known, unknown}
 use Rattle.mailmap_tables.specs.Places.{IsFound, IsMissing}
 use Rattle.mailmap_tables.specs.Pool.{spelled, NameLies, name_group}
-use Rattle.mailmap_tables.specs.declared.tables.NameRow.{NameRow}
+use Rattle.mailmap_tables.specs.Texts.{old_span}
+use Rattle.mailmap_tables.specs.declared.texts.Texts.{Texts}
 use Rattle.mailmap_tables.proofs.Parting.{part_front, split_front, found_key, missing_front, missing_above}
 use Rattle.mailmap_tables.proofs.Pooled.{names_lie_more, name_groups-append}
 
@@ -26,17 +27,17 @@ extends_itself a b e = ([], e ∙ sym (nothing a))
     nothing [] = refl
     nothing (x ∷ a) = ap (λ t. x ∷ t) (nothing a)
 
-pub names_lie_on : (a b : Text) → Extends a b → (rows : List NameRow) → AllByRecursion (NameLies (length a)) rows → AllByRecursion (NameLies (length b)) rows
+pub names_lie_on : (a b : Text) → Extends a b → (rows : List Texts) → AllByRecursion (NameLies (length a)) rows → AllByRecursion (NameLies (length b)) rows
 names_lie_on a b e rows all = subst (λ p. AllByRecursion (NameLies (length p)) rows) (sym e.1) (names_lie_more a e.0 rows all)
 
-pub name_groups_on : (a b : Text) → Extends a b → (rows : List NameRow) → AllByRecursion (NameLies (length a)) rows → map (name_group a) rows ≡ map (name_group b) rows
+pub name_groups_on : (a b : Text) → Extends a b → (rows : List Texts) → AllByRecursion (NameLies (length a)) rows → map (name_group a) rows ≡ map (name_group b) rows
 name_groups_on a b e rows all = sym (name_groups-append a e.0 rows all) ∙ ap (λ p. map (name_group p) rows) (sym e.1)
 
-module _ (pool : Text) (kept : List NameRow) (name : Text) (place : ℕ) where
+module _ (pool : Text) (kept : List Texts) (name : Text) (place : ℕ) where
   abbrev ks : List NameGroup
   ks = map (name_group pool) kept
 
-  pub placed_found : (d : NameRow) → IsFound name_key (folded name) 0 ks place → NamePlaced ks (map (name_group pool) (take place kept)) name (spelled pool (get_or kept place d).old_name) (map (name_group pool) (drop (place + 1) kept))
+  pub placed_found : (d : Texts) → IsFound name_key (folded name) 0 ks place → NamePlaced ks (map (name_group pool) (take place kept)) name (spelled pool (old_span (get_or kept place d))) (map (name_group pool) (drop (place + 1) kept))
   placed_found d h =
       let row = get_or kept place d in
       let lt : place < length kept = omega (arith, h.within, length-map kept (name_group pool)) in

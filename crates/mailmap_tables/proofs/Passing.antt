@@ -8,16 +8,16 @@ use Rattle.mailmap_entries.specs.Folding.{Text, folded}
 use Rattle.mailmap_entries.specs.Fronts.{IsFront}
 use Rattle.mailmap_tables.specs.Groups.{EmailGroup, NameGroup}
 use Rattle.mailmap_tables.specs.Merging.{Extends}
-use Rattle.mailmap_tables.specs.Pool.{RowsLie, EmailLies, group_of, name_group, spelled}
-use Rattle.mailmap_tables.specs.declared.tables.EmailRow.{EmailRow}
-use Rattle.mailmap_tables.specs.declared.tables.NameRow.{NameRow}
-use Rattle.mailmap_tables.proofs.Pooled.{spelled-append, options-append, name_groups-append, email_lies_more, slice_get-map_at}
+use Rattle.mailmap_tables.specs.Pool.{RowsLie, TextsLie, group_of, name_group, spelled}
+use Rattle.mailmap_tables.specs.Texts.{old_span}
+use Rattle.mailmap_tables.specs.declared.texts.Texts.{Texts}
+use Rattle.mailmap_tables.proofs.Pooled.{spelled-append, fields-append, name_groups-append, texts_lie_more, slice_get-map_at}
 
 -- a row spells the same in a pool that has grown
-pub group_on : (a b : Text) → Extends a b → (row : EmailRow) (names : List NameRow) → RowsLie a row names → group_of b row names ≡ group_of a row names
+pub group_on : (a b : Text) → Extends a b → (row : Texts) (names : List Texts) → RowsLie a row names → group_of b row names ≡ group_of a row names
 group_on a b e row names lie = ap (λ p. group_of p row names) e.1 ∙ (λ i. record {
-  old_email = spelled-append a e.0 row.old_email lie.email_lies.old_email i;
-  own = record { name = options-append a e.0 row.new_name lie.email_lies.new_name i; email = options-append a e.0 row.new_email lie.email_lies.new_email i };
+  old_email = spelled-append a e.0 (old_span row) lie.email_lies.old i;
+  own = fields-append a e.0 row lie.email_lies i;
   names = name_groups-append a e.0 names lie.names_lie i;
 })
 
@@ -46,7 +46,7 @@ names_ahead gs place to g lt read =
         drop-cons xs k x (slice_get_within xs k x e) ∙ (λ i. get_or_from_slice_get xs k x x e i ∷ drop (next i) xs)
 
 -- an email that stood takes its own names again
-pub passed_group : (a b : Text) → Extends a b → (row : EmailRow) (names : List NameRow) (more : List NameGroup) (count : ℕ) → RowsLie a row names → count ≡ length names
+pub passed_group : (a b : Text) → Extends a b → (row : Texts) (names : List Texts) (more : List NameGroup) (count : ℕ) → RowsLie a row names → count ≡ length names
     → record (group_of b row []) { names = take count ((group_of a row names).names ++ more) } ≡ group_of a row names
 passed_group a b e row names more count lie is =
     let gs = map (name_group a) names in
@@ -54,21 +54,21 @@ passed_group a b e row names more count lie is =
     (λ i. record (group_of b row []) { names = (ap (λ k. take k (gs ++ more)) same ∙ take-append_seam gs more) i })
     ∙ (λ i. record (group_on a b e row names lie i) { names = gs })
 
-pub left_behind : (a : Text) (row : EmailRow) (names : List NameRow) (more : List NameGroup) (count : ℕ) → count ≡ length names → drop count ((group_of a row names).names ++ more) ≡ more
+pub left_behind : (a : Text) (row : Texts) (names : List Texts) (more : List NameGroup) (count : ℕ) → count ≡ length names → drop count ((group_of a row names).names ++ more) ≡ more
 left_behind a row names more count is =
     let gs = map (name_group a) names in
     ap (λ k. drop k (gs ++ more)) (is ∙ sym (length-map names (name_group a))) ∙ drop-append_seam gs more
 
-pub email_lies_on : (a b : Text) → Extends a b → (r : EmailRow) → EmailLies (length a) r → EmailLies (length b) r
-email_lies_on a b e r lies = subst (λ p. EmailLies (length p) r) (sym e.1) (email_lies_more a e.0 r lies)
+pub texts_lie_on : (a b : Text) → Extends a b → (t : Texts) → TextsLie (length a) t → TextsLie (length b) t
+texts_lie_on a b e t lies = subst (λ p. TextsLie (length p) t) (sym e.1) (texts_lie_more a e.0 t lies)
 
 -- and its own front
-pub front_on : (a b : Text) → Extends a b → (gs : List EmailGroup) (place front : ℕ) (text : Text) (row : EmailRow) (names : List NameRow) → EmailLies (length a) row
-    → slice_get gs place ≡ Some (group_of a row names) → slice_get (map (λ (g : EmailGroup). g.old_email) gs) place ≡ Some text → IsFront front (folded text) → IsFront front (folded (spelled b row.old_email))
+pub front_on : (a b : Text) → Extends a b → (gs : List EmailGroup) (place front : ℕ) (text : Text) (row : Texts) (names : List Texts) → TextsLie (length a) row
+    → slice_get gs place ≡ Some (group_of a row names) → slice_get (map (λ (g : EmailGroup). g.old_email) gs) place ≡ Some text → IsFront front (folded text) → IsFront front (folded (spelled b (old_span row)))
 front_on a b e gs place front text row names lies group there is =
     let g = group_of a row names in
     let at : slice_get (map (λ (g : EmailGroup). g.old_email) gs) place ≡ Some (get_or gs place g).old_email = slice_get-map_at (λ (g : EmailGroup). g.old_email) gs place g (slice_get_within gs place g group) in
     let here : text ≡ (get_or gs place g).old_email = ap (λ o. unwrap_or o text) (sym there ∙ at) in
-    let same : text ≡ spelled a row.old_email = here ∙ ap (λ (h : EmailGroup). h.old_email) (get_or_from_slice_get gs place g g group) in
-    let grown : spelled b row.old_email ≡ spelled a row.old_email = ap (λ p. spelled p row.old_email) e.1 ∙ spelled-append a e.0 row.old_email lies.old_email in
+    let same : text ≡ spelled a (old_span row) = here ∙ ap (λ (h : EmailGroup). h.old_email) (get_or_from_slice_get gs place g g group) in
+    let grown : spelled b (old_span row) ≡ spelled a (old_span row) = ap (λ p. spelled p (old_span row)) e.1 ∙ spelled-append a e.0 (old_span row) lies.old in
     subst (λ t. IsFront front (folded t)) (same ∙ sym grown) is

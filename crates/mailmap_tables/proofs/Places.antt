@@ -10,7 +10,8 @@ use Rattle.mailmap_entries.specs.Folding.{Text, folded, text_cmp}
 use Rattle.mailmap_tables.specs.Groups.{NameGroup, name_key}
 use Rattle.mailmap_tables.specs.Places.{IsFound, IsMissing}
 use Rattle.mailmap_tables.specs.Pool.{spelled, name_group}
-use Rattle.mailmap_tables.specs.declared.tables.NameRow.{NameRow}
+use Rattle.mailmap_tables.specs.Texts.{old_span}
+use Rattle.mailmap_tables.specs.declared.texts.Texts.{Texts}
 use Rattle.mailmap_tables.proofs.Lookups.{found-at, missing-below, missing-above}
 
 -- ---- a list without its front
@@ -88,7 +89,7 @@ if_missing n P Q f (Err i) le p = f i le p
 -- ---- the names of an email
 
 -- how the name at a place compares, where t is its text
-pub name_at : (pool k : Text) (ns : List NameRow) (i : ℕ) (d : NameRow) (t : Text) → i < length ns → t ≡ spelled pool (get_or ns i d).old_name
+pub name_at : (pool k : Text) (ns : List Texts) (i : ℕ) (d : Texts) (t : Text) → i < length ns → t ≡ spelled pool (old_span (get_or ns i d))
     → slice_get (map (λ n. text_cmp (name_key n) k) (map (name_group pool) ns)) i ≡ Some (text_cmp (folded t) k)
 name_at pool k ns i d t lt is =
     let compare : NameGroup → Ordering = λ n. text_cmp (name_key n) k in

@@ -1,14 +1,15 @@
 -- What tables denote when the pool, the names or the emails grow.
-use Rattle.std.proofs.Common.{◌≡◌, ◌+◌, ◌-◌, ◌≤◌, ◌<◌, get_or, ℕ, zero, suc, List, [], ◌∷◌, ◌++◌, map, take, drop, length, Option, Some, None, option_map, length-append, length-drop, refl, sym, ap, ◌∙◌, arith, subst}
+use Rattle.std.proofs.Common.{◌≡◌, ◌+◌, ◌-◌, ◌≤◌, ◌<◌, get_or, ℕ, zero, suc, List, [], ◌∷◌, ◌++◌, map, take, drop, length, Option, Some, None, option_map, unwrap_or, length-append, length-drop, refl, sym, ap, ◌∙◌, arith, subst}
 use Rattle.std.specs.Option.{ForSome, option_map_or}
 use Rattle.std.specs.List.{slice_get}
 use Rattle.std.specs.List.{AllByRecursion}
 use Rattle.std.proofs.lemmas.List.{take-append-le, drop-append-le, map-append, take-map, drop-map, drop-drop, length-map, map_push}
 use Rattle.mailmap_entries.specs.Folding.{Text, folded}
 use Rattle.mailmap_entries.specs.Fronts.{front_number}
-use Rattle.mailmap_tables.specs.Pool.{RowsLie, names_of, spelled, LiesIn, name_group, email_group, NameLies, EmailLies, Follow, end_of, front_of, AreTables, contents}
-use Rattle.mailmap_tables.specs.declared.tables.Span.{Span}
-use Rattle.mailmap_tables.specs.declared.tables.NameRow.{NameRow}
+use Rattle.mailmap_tables.specs.Pool.{RowsLie, TextsLie, fields_of, names_of, spelled, LiesIn, name_group, email_group, NameLies, EmailLies, Follow, end_of, front_of, AreTables, contents}
+use Rattle.mailmap_tables.specs.Texts.{email_span, name_span, old_span}
+use Rattle.mailmap_tables.specs.declared.texts.Span.{Span}
+use Rattle.mailmap_tables.specs.declared.texts.Texts.{Texts}
 use Rattle.mailmap_tables.specs.declared.tables.EmailRow.{EmailRow}
 use Rattle.mailmap_histories.proofs.Parts.{all_append}
 
@@ -28,38 +29,41 @@ module _ (pool more : Text) where
   options-append None lies = refl
   options-append (Some s) lies = ap (λ t. Some t) (spelled-append s (lies s refl))
 
-  pub name_group-append : (r : NameRow) → NameLies (length pool) r → name_group (pool ++ more) r ≡ name_group pool r
+  pub name_group-append : (r : Texts) → NameLies (length pool) r → name_group (pool ++ more) r ≡ name_group pool r
   name_group-append r lies i =
       record {
-        old_name = spelled-append r.old_name lies.old_name i;
-        new_name = options-append r.new_name lies.new_name i;
-        new_email = spelled-append r.new_email lies.new_email i;
+        old_name = spelled-append (old_span r) lies.texts.old i;
+        new_name = options-append (name_span r) lies.texts.new_name i;
+        new_email = unwrap_or (options-append (email_span r) lies.texts.new_email i) [];
       }
 
-  pub name_groups-append : (rs : List NameRow) → AllByRecursion (NameLies (length pool)) rs → map (name_group (pool ++ more)) rs ≡ map (name_group pool) rs
+  pub fields-append : (t : Texts) → TextsLie (length pool) t → fields_of (pool ++ more) t ≡ fields_of pool t
+  fields-append t lies i = record { name = options-append (name_span t) lies.new_name i; email = options-append (email_span t) lies.new_email i }
+
+  pub name_groups-append : (rs : List Texts) → AllByRecursion (NameLies (length pool)) rs → map (name_group (pool ++ more)) rs ≡ map (name_group pool) rs
   name_groups-append [] all = refl
   name_groups-append (r ∷ rs) all = λ i. name_group-append r all.0 i ∷ name_groups-append rs all.1 i
 
   pub lies_more : (s : Span) → LiesIn (length pool) s → LiesIn (length (pool ++ more)) s
   lies_more s lies = omega (arith, lies, grown)
 
-  name_lies_more : (r : NameRow) → NameLies (length pool) r → NameLies (length (pool ++ more)) r
-  name_lies_more r lies = record { old_name = lies_more r.old_name lies.old_name; new_name = λ s e. lies_more s (lies.new_name s e); new_email = lies_more r.new_email lies.new_email }
+  pub texts_lie_more : (t : Texts) → TextsLie (length pool) t → TextsLie (length (pool ++ more)) t
+  texts_lie_more t lies = record { old = lies_more (old_span t) lies.old; new_name = λ s e. lies_more s (lies.new_name s e); new_email = λ s e. lies_more s (lies.new_email s e) }
 
-  pub names_lie_more : (rs : List NameRow) → AllByRecursion (NameLies (length pool)) rs → AllByRecursion (NameLies (length (pool ++ more))) rs
+  name_lies_more : (t : Texts) → NameLies (length pool) t → NameLies (length (pool ++ more)) t
+  name_lies_more t lies = record { texts = texts_lie_more t lies.texts; new_email = lies.new_email }
+
+  pub names_lie_more : (rs : List Texts) → AllByRecursion (NameLies (length pool)) rs → AllByRecursion (NameLies (length (pool ++ more))) rs
   names_lie_more [] all = tt
   names_lie_more (r ∷ rs) all = (name_lies_more r all.0, names_lie_more rs all.1)
 
-  pub email_lies_more : (r : EmailRow) → EmailLies (length pool) r → EmailLies (length (pool ++ more)) r
-  email_lies_more r lies = record { old_email = lies_more r.old_email lies.old_email; new_name = λ s e. lies_more s (lies.new_name s e); new_email = λ s e. lies_more s (lies.new_email s e) }
-
   emails_lie_more : (rs : List EmailRow) → AllByRecursion (EmailLies (length pool)) rs → AllByRecursion (EmailLies (length (pool ++ more))) rs
   emails_lie_more [] all = tt
-  emails_lie_more (r ∷ rs) all = (email_lies_more r all.0, emails_lie_more rs all.1)
+  emails_lie_more (r ∷ rs) all = (texts_lie_more r.texts all.0, emails_lie_more rs all.1)
 
   fronts-append : (rs : List EmailRow) → AllByRecursion (EmailLies (length pool)) rs → map (front_of (pool ++ more)) rs ≡ map (front_of pool) rs
   fronts-append [] all = refl
-  fronts-append (r ∷ rs) all = λ i. front_number 16 (folded (spelled-append r.old_email all.0.old_email i)) ∷ fronts-append rs all.1 i
+  fronts-append (r ∷ rs) all = λ i. front_number 16 (folded (spelled-append (old_span r.texts) all.0.old i)) ∷ fronts-append rs all.1 i
 
 -- ---- parts of a table of names
 
@@ -94,35 +98,35 @@ end_of-push k [] r = refl
 end_of-push k (e ∷ es) r = end_of-push e.names_end es r
 
 -- an email's group does not see names behind its range
-email_group-names : (pool : Text) (names more : List NameRow) (r : EmailRow) → r.names_start ≤ r.names_end → r.names_end ≤ length names → email_group pool (names ++ more) r ≡ email_group pool names r
+email_group-names : (pool : Text) (names more : List Texts) (r : EmailRow) → r.names_start ≤ r.names_end → r.names_end ≤ length names → email_group pool (names ++ more) r ≡ email_group pool names r
 email_group-names pool names more r low high =
     let rest = length-drop r.names_start names in
     let same : take (r.names_end - r.names_start) (drop r.names_start (names ++ more)) ≡ take (r.names_end - r.names_start) (drop r.names_start names) =
     ap (take (r.names_end - r.names_start)) (drop-append-le r.names_start names more (omega (arith, low, high)))
     ∙ take-append-le (r.names_end - r.names_start) (drop r.names_start names) more (omega (arith, low, high)) in
-    λ i. record { old_email = spelled pool r.old_email; own = record { name = option_map (spelled pool) r.new_name; email = option_map (spelled pool) r.new_email }; names = map (name_group pool) (same i) }
+    λ i. record { old_email = spelled pool (old_span r.texts); own = fields_of pool r.texts; names = map (name_group pool) (same i) }
 
-groups-names : (pool : Text) (names more : List NameRow) (k : ℕ) (es : List EmailRow) → Follow k (length names) es → map (email_group pool (names ++ more)) es ≡ map (email_group pool names) es
+groups-names : (pool : Text) (names more : List Texts) (k : ℕ) (es : List EmailRow) → Follow k (length names) es → map (email_group pool (names ++ more)) es ≡ map (email_group pool names) es
 groups-names pool names more k [] h = refl
 groups-names pool names more k (r ∷ es) h = λ i.
     email_group-names pool names more r (omega (arith, h.0, h.1)) (omega (arith, end_within r.names_end (length names) es h.2, end_above r.names_end (length names) es h.2)) i
     ∷ groups-names pool names more r.names_end es h.2 i
 
-email_group-append : (pool more : Text) (names : List NameRow) (r : EmailRow) → AllByRecursion (NameLies (length pool)) names → EmailLies (length pool) r → email_group (pool ++ more) names r ≡ email_group pool names r
+email_group-append : (pool more : Text) (names : List Texts) (r : EmailRow) → AllByRecursion (NameLies (length pool)) names → EmailLies (length pool) r → email_group (pool ++ more) names r ≡ email_group pool names r
 email_group-append pool more names r all lies i =
     record {
-      old_email = spelled-append pool more r.old_email lies.old_email i;
-      own = record { name = options-append pool more r.new_name lies.new_name i; email = options-append pool more r.new_email lies.new_email i };
+      old_email = spelled-append pool more (old_span r.texts) lies.old i;
+      own = fields-append pool more r.texts lies i;
       names = name_groups-append pool more (take (r.names_end - r.names_start) (drop r.names_start names)) (all_take _ (r.names_end - r.names_start) _ (all_drop _ r.names_start names all)) i;
     }
 
-groups-append : (pool more : Text) (names : List NameRow) (es : List EmailRow) → AllByRecursion (NameLies (length pool)) names → AllByRecursion (EmailLies (length pool)) es → map (email_group (pool ++ more) names) es ≡ map (email_group pool names) es
+groups-append : (pool more : Text) (names : List Texts) (es : List EmailRow) → AllByRecursion (NameLies (length pool)) names → AllByRecursion (EmailLies (length pool)) es → map (email_group (pool ++ more) names) es ≡ map (email_group pool names) es
 groups-append pool more names [] all lie = refl
 groups-append pool more names (r ∷ es) all lie = λ i. email_group-append pool more names r all lie.0 i ∷ groups-append pool more names es all lie.1 i
 
 -- ---- what the tables hold then
 
-module _ (pool : Text) (names : List NameRow) (emails : List EmailRow) {fronts : List ℕ} (h : AreTables pool names emails fronts) where
+module _ (pool : Text) (names : List Texts) (emails : List EmailRow) {fronts : List ℕ} (h : AreTables pool names emails fronts) where
   pub tables-text : (more : Text) → AreTables (pool ++ more) names emails fronts
   tables-text more =
       record {
@@ -143,7 +147,7 @@ module _ (pool : Text) (names : List NameRow) (emails : List EmailRow) {fronts :
   end : end_of 0 emails ≤ length names
   end = end_within 0 (length names) emails h.ranges
 
-  pub contents-names : (more : List NameRow) → contents pool (names ++ more) emails ≡ record (contents pool names emails) { loose = (contents pool names emails).loose ++ map (name_group pool) more }
+  pub contents-names : (more : List Texts) → contents pool (names ++ more) emails ≡ record (contents pool names emails) { loose = (contents pool names emails).loose ++ map (name_group pool) more }
   contents-names more i =
       record {
         pool = pool;
@@ -151,7 +155,7 @@ module _ (pool : Text) (names : List NameRow) (emails : List EmailRow) {fronts :
         loose = (ap (map (name_group pool)) (drop-append-le (end_of 0 emails) names more end) ∙ map-append (name_group pool) (drop (end_of 0 emails) names) more) i;
       }
 
-  pub tables-names : (more : List NameRow) → AllByRecursion (NameLies (length pool)) more → AreTables pool (names ++ more) emails fronts
+  pub tables-names : (more : List Texts) → AllByRecursion (NameLies (length pool)) more → AreTables pool (names ++ more) emails fronts
   tables-names more all =
       record {
         names_lie = all_append _ names more h.names_lie all;
@@ -187,8 +191,8 @@ module _ (pool : Text) (names : List NameRow) (emails : List EmailRow) {fronts :
     pub contents-email : contents pool names (emails ++ r ∷ []) ≡ record {
       pool = pool;
       groups = (contents pool names emails).groups ++ record {
-        old_email = spelled pool r.old_email;
-        own = record { name = option_map (spelled pool) r.new_name; email = option_map (spelled pool) r.new_email };
+        old_email = spelled pool (old_span r.texts);
+        own = fields_of pool r.texts;
         names = take count (contents pool names emails).loose;
       } ∷ [];
       loose = drop count (contents pool names emails).loose;
@@ -197,8 +201,8 @@ module _ (pool : Text) (names : List NameRow) (emails : List EmailRow) {fronts :
         record {
           pool = pool;
           groups = (map-append (email_group pool names) emails (r ∷ []) ∙ ap (λ ns. map (email_group pool names) emails ++ record {
-            old_email = spelled pool r.old_email;
-            own = record { name = option_map (spelled pool) r.new_name; email = option_map (spelled pool) r.new_email };
+            old_email = spelled pool (old_span r.texts);
+            own = fields_of pool r.texts;
             names = ns;
           } ∷ []) taken) i;
           loose = left i;
@@ -234,7 +238,7 @@ slice_get-map_at f [] i d lt = absurd (omega arith)
 slice_get-map_at f (x ∷ xs) zero d lt = refl
 slice_get-map_at f (x ∷ xs) (suc i) d lt = slice_get-map_at f xs i d (omega arith)
 
-pub rows_lie_at : (pool : Text) (names : List NameRow) (emails : List EmailRow) {fronts : List ℕ} → AreTables pool names emails fronts → (i : ℕ) (r : EmailRow) → i < length emails → r ≡ get_or emails i r → RowsLie pool r (names_of names r)
+pub rows_lie_at : (pool : Text) (names : List Texts) (emails : List EmailRow) {fronts : List ℕ} → AreTables pool names emails fronts → (i : ℕ) (r : EmailRow) → i < length emails → r ≡ get_or emails i r → RowsLie pool r.texts (names_of names r)
 rows_lie_at pool names emails h i r lt read =
     record {
       email_lies = subst (EmailLies (length pool)) (sym read) (all_at (EmailLies (length pool)) emails i r h.emails_lie lt);

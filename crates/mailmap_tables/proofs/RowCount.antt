@@ -6,7 +6,7 @@ use Rattle.mailmap_tables.specs.Groups.{EmailGroup, listing, rows, own_rows, nam
 use Rattle.mailmap_entries.specs.Entries.{Mapping}
 use Rattle.mailmap_histories.specs.Histories.{mapping_with}
 use Rattle.mailmap_tables.specs.Pool.{names_of, name_group, email_group, Follow}
-use Rattle.mailmap_tables.specs.declared.tables.NameRow.{NameRow}
+use Rattle.mailmap_tables.specs.declared.texts.Texts.{Texts}
 use Rattle.mailmap_tables.specs.declared.tables.EmailRow.{EmailRow}
 
 -- one, where there is any
@@ -23,11 +23,11 @@ rows_most : (g : EmailGroup) → length (rows g) ≤ 1 + length g.names
 rows_most g = omega (arith, own_one g, length-append (own_rows g) (map (name_row g.old_email) g.names), length-map g.names (name_row g.old_email))
 
 -- no more entries than emails and names
-pub listed_most : (pool : Text) (names : List NameRow) (k : ℕ) (emails : List EmailRow) → Follow k (length names) emails
+pub listed_most : (pool : Text) (names : List Texts) (k : ℕ) (emails : List EmailRow) → Follow k (length names) emails
     → k + length (listing (map (email_group pool names) emails)) ≤ length emails + length names
 listed_most pool names k [] follow = omega (arith, follow)
 listed_most pool names k (r ∷ rs) follow =
-    let own : List NameRow = names_of names r in
+    let own : List Texts = names_of names r in
     let here = rows_most (email_group pool names r) in
     let count = length-map own (name_group pool) in
     let few : length own ≤ r.names_end - r.names_start = omega (arith, most (r.names_end - r.names_start) (drop r.names_start names)) in

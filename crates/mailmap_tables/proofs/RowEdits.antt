@@ -1,5 +1,5 @@
 -- What tables hold behind an edit of their rows.
-use Rattle.std.proofs.Common.{◌≡◌, ◌+◌, ◌-◌, ◌≤◌, ◌<◌, get_or, ℕ, zero, suc, Some, None, List, [], ◌∷◌, ◌++◌, map, take, drop, length, set, Option, option_map, length-set, length-take, length-append, refl, sym, ap, ◌∙◌, arith, subst}
+use Rattle.std.proofs.Common.{◌≡◌, ◌+◌, ◌-◌, ◌≤◌, ◌<◌, get_or, ℕ, zero, suc, Some, None, List, [], ◌∷◌, ◌++◌, map, take, drop, length, set, length-set, length-take, length-append, refl, sym, ap, ◌∙◌, arith, subst}
 use Rattle.std.specs.List.{HoldsAt, insert, slice_get}
 use Rattle.std.specs.Option.{ForSome}
 use borrow.Rule.Slice.PartMut.{put_mid}
@@ -8,13 +8,15 @@ use Rattle.std.proofs.lemmas.List.{take-append-le, take_all, drop-set-lt, get_or
 use Rattle.std.proofs.lemmas.List.Edits.{length-insert}
 use Rattle.std.proofs.lemmas.Slice.{take-put_mid}
 use Rattle.std.proofs.lemmas.Option.{slice_get_within, get_or_from_slice_get}
-use Rattle.mailmap_entries.specs.Folding.{Text}
+use Rattle.mailmap_entries.specs.Folding.{Text, folded}
+use Rattle.mailmap_entries.specs.Fronts.{front_number}
 use Rattle.mailmap_tables.specs.Groups.{Contents, EmailGroup}
 use Rattle.mailmap_tables.specs.Merging.{bare}
-use Rattle.mailmap_tables.specs.Pool.{AreTables, EmailLies, Follow, LiesIn, NameLies, contents, email_group, end_of, front_of, name_group, spelled}
+use Rattle.mailmap_tables.specs.Pool.{AreTables, EmailLies, Follow, LiesIn, NameLies, TextsLie, fields_of, contents, email_group, end_of, front_of, name_group, spelled}
 use Rattle.mailmap_tables.specs.Room.{one_later, with_email_at}
-use Rattle.mailmap_tables.specs.declared.tables.Span.{Span}
-use Rattle.mailmap_tables.specs.declared.tables.NameRow.{NameRow}
+use Rattle.mailmap_tables.specs.Texts.{IsBare, old_span}
+use Rattle.mailmap_tables.specs.declared.texts.Span.{Span}
+use Rattle.mailmap_tables.specs.declared.texts.Texts.{Texts}
 use Rattle.mailmap_tables.specs.declared.tables.EmailRow.{EmailRow}
 use Rattle.mailmap_tables.proofs.Edited.{all_insert, all_set, bare_group, end_of-insert, end_of-lengthen, end_of-set, follow_insert, follow_lengthen, follow_set, fronts_lengthen, groups_insert, groups_set, lengthen, lengthen_lie, lengthened, loose_insert, map-insert, range_ends, range_up}
 use Rattle.mailmap_tables.proofs.Pooled.{all_at, end_within}
@@ -33,19 +35,19 @@ pub from_read : {X : Type 0} (P : X → Type 0) (xs : List X) (i : ℕ) (x : X) 
 from_read P xs i x read h = subst P (get_or_from_slice_get xs i x x read) (h x)
 
 -- a clause on the group at a place, from the row there
-pub at_group : (pool : Text) (names : List NameRow) (emails : List EmailRow) (v : Contents) (place : ℕ) (e : EmailRow) (P : EmailGroup → Type 0) → contents pool names emails ≡ v → place < length emails → e ≡ get_or emails place e
+pub at_group : (pool : Text) (names : List Texts) (emails : List EmailRow) (v : Contents) (place : ℕ) (e : EmailRow) (P : EmailGroup → Type 0) → contents pool names emails ≡ v → place < length emails → e ≡ get_or emails place e
     → P (email_group pool names e) → HoldsAt P v.groups place
 at_group pool names emails v place e P is lt read p = λ d.
     subst P (ap (email_group pool names) read ∙ sym (get_or-map (email_group pool names) emails place e d lt) ∙ ap (λ (c : Contents). get_or c.groups place d) is) p
 
 -- and the other way round
-pub from_group : (pool : Text) (names : List NameRow) (emails : List EmailRow) (v : Contents) (place : ℕ) (e : EmailRow) (P : EmailGroup → Type 0) → contents pool names emails ≡ v → place < length emails → e ≡ get_or emails place e
+pub from_group : (pool : Text) (names : List Texts) (emails : List EmailRow) (v : Contents) (place : ℕ) (e : EmailRow) (P : EmailGroup → Type 0) → contents pool names emails ≡ v → place < length emails → e ≡ get_or emails place e
     → HoldsAt P v.groups place → P (email_group pool names e)
 from_group pool names emails v place e P is lt read h =
     let d = email_group pool names e in
     subst P (ap (λ (c : Contents). get_or c.groups place d) (sym is) ∙ get_or-map (email_group pool names) emails place e d lt ∙ ap (email_group pool names) (sym read)) (h d)
 
-module _ (pool : Text) (names : List NameRow) (emails : List EmailRow) {fronts : List ℕ} (h : AreTables pool names emails fronts) where
+module _ (pool : Text) (names : List Texts) (emails : List EmailRow) {fronts : List ℕ} (h : AreTables pool names emails fronts) where
   end : end_of 0 emails ≤ length names
   end = end_within 0 (length names) emails h.ranges
 
@@ -69,7 +71,7 @@ module _ (pool : Text) (names : List NameRow) (emails : List EmailRow) {fronts :
     lies : EmailLies (length pool) e
     lies = subst (EmailLies (length pool)) (sym read) (all_at (EmailLies (length pool)) emails place e h.emails_lie lt)
 
-    module _ (d p : ℕ) (row : NameRow) (at : p ≡ e.names_start + d) where
+    module _ (d p : ℕ) (row : Texts) (at : p ≡ e.names_start + d) where
       -- a name more among those of an email
       module _ (le : d ≤ e.names_end - e.names_start) where
         within : p ≤ length names
@@ -123,9 +125,9 @@ module _ (pool : Text) (names : List NameRow) (emails : List EmailRow) {fronts :
             λ i. record { pool = pool; groups = groups i; loose = loose i }
 
     -- other fields of an email
-    module _ (name email : Option Span) where
+    module _ (t : Texts) (same : spelled pool (old_span t) ≡ spelled pool (old_span e.texts)) where
       abbrev given : EmailRow
-      given = record e { new_name = name; new_email = email }
+      given = record e { texts = t }
 
       start_same : given.names_start ≡ (get_or emails place given).names_start
       start_same = ap (λ (r : EmailRow). r.names_start) (read ∙ get_or_any emails place e given lt)
@@ -133,23 +135,23 @@ module _ (pool : Text) (names : List NameRow) (emails : List EmailRow) {fronts :
       end_same : given.names_end ≡ (get_or emails place given).names_end
       end_same = ap (λ (r : EmailRow). r.names_end) (read ∙ get_or_any emails place e given lt)
 
-      pub tables-fields : ForSome name (LiesIn (length pool)) → ForSome email (LiesIn (length pool)) → AreTables pool names (set emails place given) fronts
-      tables-fields name_lies email_lies =
+      pub tables-texts : TextsLie (length pool) t → AreTables pool names (set emails place given) fronts
+      tables-texts texts_lie =
           record {
             names_lie = h.names_lie;
-            emails_lie = all_set (EmailLies (length pool)) emails place given h.emails_lie (record { old_email = lies.old_email; new_name = name_lies; new_email = email_lies });
+            emails_lie = all_set (EmailLies (length pool)) emails place given h.emails_lie texts_lie;
             ranges = follow_set 0 (length names) emails place given h.ranges start_same end_same;
-            front_each = h.front_each ∙ sym (map-set_same (front_of pool) emails place given e (ap (front_of pool) read));
+            front_each = h.front_each ∙ sym (map-set_same (front_of pool) emails place given e (ap (λ t. front_number 16 (folded t)) same ∙ ap (front_of pool) read));
           }
 
-      pub contents-fields : contents pool names (set emails place given)
-          ≡ with_email_at (contents pool names emails) place (record (email_group pool names e) { own = record { name = option_map (spelled pool) name; email = option_map (spelled pool) email } })
-      contents-fields =
+      pub contents-texts : contents pool names (set emails place given) ≡ with_email_at (contents pool names emails) place (record (email_group pool names e) { own = fields_of pool t })
+      contents-texts =
           let gs = map (email_group pool names) emails in
-          let g = record (email_group pool names e) { own = record { name = option_map (spelled pool) name; email = option_map (spelled pool) email } } in
+          let g = record (email_group pool names e) { own = fields_of pool t } in
           let next : suc place ≡ place + 1 = omega arith in
           let groups : map (email_group pool names) (set emails place given) ≡ take place gs ++ g ∷ drop (place + 1) gs =
           map-set (email_group pool names) emails place given
+          ∙ ap (set gs place) (λ i. record g { old_email = same i })
           ∙ set_split gs place g (omega (arith, lt, length-map emails (email_group pool names)))
           ∙ ap (λ k. take place gs ++ g ∷ drop k gs) next in
           let loose : map (name_group pool) (drop (end_of 0 (set emails place given)) names) ≡ map (name_group pool) (drop (end_of 0 emails) names) =
@@ -157,23 +159,23 @@ module _ (pool : Text) (names : List NameRow) (emails : List EmailRow) {fronts :
           λ i. record { pool = pool; groups = groups i; loose = loose i }
 
   -- an email more, of which nothing is known
-  module _ (place at : ℕ) (s : Span) (le : place ≤ length emails) (there : at ≡ end_of 0 (take place emails)) where
+  module _ (place at : ℕ) (t : Texts) (s : Span) (is : IsBare t s) (le : place ≤ length emails) (there : at ≡ end_of 0 (take place emails)) where
     abbrev fresh : EmailRow
-    fresh = record { old_email = s; new_name = None; new_email = None; names_start = at; names_end = at }
+    fresh = record { texts = t; names_start = at; names_end = at }
 
     pub tables-insert_email : LiesIn (length pool) s → (front : ℕ) → front ≡ front_of pool fresh → AreTables pool names (insert emails place fresh) (insert fronts place front)
-    tables-insert_email s_lies front is =
+    tables-insert_email s_lies front number =
         record {
           names_lie = h.names_lie;
-          emails_lie = all_insert (EmailLies (length pool)) emails place fresh h.emails_lie (record { old_email = s_lies; new_name = λ t (e : None ≡ Some t). cc; new_email = λ t (e : None ≡ Some t). cc });
+          emails_lie = all_insert (EmailLies (length pool)) emails place fresh h.emails_lie (record { old = subst (LiesIn (length pool)) (sym is.old) s_lies; new_name = subst (λ o. ForSome o (LiesIn (length pool))) (sym is.new_name) (λ t (e : None ≡ Some t). cc); new_email = subst (λ o. ForSome o (LiesIn (length pool))) (sym is.new_email) (λ t (e : None ≡ Some t). cc) });
           ranges = follow_insert 0 (length names) emails place fresh h.ranges le there there;
-          front_each = (λ i. insert (h.front_each i) place (is i)) ∙ sym (map-insert (front_of pool) emails place fresh);
+          front_each = (λ i. insert (h.front_each i) place (number i)) ∙ sym (map-insert (front_of pool) emails place fresh);
         }
 
     pub contents-insert_email : contents pool names (insert emails place fresh) ≡ record (contents pool names emails) { groups = insert (contents pool names emails).groups place (bare (spelled pool s)) }
     contents-insert_email =
         let groups : map (email_group pool names) (insert emails place fresh) ≡ insert (map (email_group pool names) emails) place (bare (spelled pool s)) =
-        map-insert (email_group pool names) emails place fresh ∙ ap (insert (map (email_group pool names) emails) place) (bare_group pool names s at) in
+        map-insert (email_group pool names) emails place fresh ∙ ap (insert (map (email_group pool names) emails) place) (bare_group pool names t s at is) in
         let loose : map (name_group pool) (drop (end_of 0 (insert emails place fresh)) names) ≡ map (name_group pool) (drop (end_of 0 emails) names) =
         ap (λ k. map (name_group pool) (drop k names)) (end_of-insert 0 emails place fresh le there) in
         λ i. record { pool = pool; groups = groups i; loose = loose i }

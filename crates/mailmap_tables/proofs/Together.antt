@@ -6,12 +6,12 @@ use Rattle.std.proofs.lemmas.List.{map-append, take-map, drop-map, drop-drop}
 use Rattle.mailmap_entries.specs.Folding.{Text}
 use Rattle.mailmap_tables.specs.Groups.{EmailGroup}
 use Rattle.mailmap_tables.specs.Pool.{names_of, name_group, email_group, Follow, end_of}
-use Rattle.mailmap_tables.specs.declared.tables.NameRow.{NameRow}
+use Rattle.mailmap_tables.specs.declared.texts.Texts.{Texts}
 use Rattle.mailmap_tables.specs.declared.tables.EmailRow.{EmailRow}
 use Rattle.mailmap_tables.proofs.Pooled.{end_above, end_within}
 
 -- from the first name of the first email up to the last name of the last
-side_by_side : (names : List NameRow) (k n : ℕ) (es : List EmailRow) → Follow k n es → take (end_of k es - k) (drop k names) ≡ flat_map (names_of names) es
+side_by_side : (names : List Texts) (k n : ℕ) (es : List EmailRow) → Follow k n es → take (end_of k es - k) (drop k names) ≡ flat_map (names_of names) es
 side_by_side names k n [] h =
     let none : k - k ≡ 0 = omega arith in
     ap (λ m. take m (drop k names)) none
@@ -27,7 +27,7 @@ side_by_side names k n (r ∷ es) h =
     (ap (λ s. take (r.names_end - s) (drop s names)) (sym h.0))
     (ap (take (end - r.names_end)) (drop-drop first k names ∙ ap (λ m. drop m names) back) ∙ side_by_side names r.names_end n es h.2)
 
-groups_names : (pool : Text) (names : List NameRow) (es : List EmailRow) → map (name_group pool) (flat_map (names_of names) es) ≡ flat_map (λ (g : EmailGroup). g.names) (map (email_group pool names) es)
+groups_names : (pool : Text) (names : List Texts) (es : List EmailRow) → map (name_group pool) (flat_map (names_of names) es) ≡ flat_map (λ (g : EmailGroup). g.names) (map (email_group pool names) es)
 groups_names pool names [] = refl
 groups_names pool names (r ∷ es) = map-append (name_group pool) (names_of names r) (flat_map (names_of names) es) ∙ ap (λ l. map (name_group pool) (names_of names r) ++ l) (groups_names pool names es)
 
@@ -43,7 +43,7 @@ follow_part k n (suc from) zero [] h = h
 follow_part k n (suc from) (suc len) [] h = h
 follow_part k n (suc from) len (e ∷ es) h = follow_part e.names_end n from len es h.2
 
-module _ (pool : Text) (names : List NameRow) (n from to : ℕ) (es : List EmailRow) (h : Follow 0 n es) (up : from ≤ to) where
+module _ (pool : Text) (names : List Texts) (n from to : ℕ) (es : List EmailRow) (h : Follow 0 n es) (up : from ≤ to) where
   abbrev part : List EmailRow
   part = take (to - from) (drop from es)
 

@@ -3,6 +3,7 @@ pub use Rattle.mailmap_entries.specs.Entries
 pub use Rattle.mailmap_entries.specs.Search
 pub use Rattle.mailmap_entries.specs.Fronts
 pub mod Groups
+pub mod Texts
 pub mod Pool
 pub mod Places
 pub mod Merging

@@ -1,12 +1,14 @@
 -- Texts in a pool of bytes, and tables whose rows say where their texts stand in it.
-use Rattle.std.specs.Prelude.{◌≡◌, ◌≤◌, ◌+◌, ◌-◌, ℕ, List, [], ◌∷◌, map, take, drop, length}
+use Rattle.std.specs.Prelude.{◌≡◌, ◌≤◌, ◌+◌, ◌-◌, ℕ, List, [], ◌∷◌, Option, map, take, drop, length, unwrap_or, IsSome}
 use Rattle.std.specs.Option.{option_map, ForSome}
 use Rattle.std.specs.List.{AllByRecursion}
 use Rattle.mailmap_entries.specs.Folding.{Text, folded}
 use Rattle.mailmap_entries.specs.Fronts.{front_number}
+use Rattle.mailmap_histories.specs.Histories.{Fields}
 use Rattle.mailmap_tables.specs.Groups.{NameGroup, EmailGroup, Contents}
-use Rattle.mailmap_tables.specs.declared.tables.Span.{Span}
-use Rattle.mailmap_tables.specs.declared.tables.NameRow.{NameRow}
+use Rattle.mailmap_tables.specs.Texts.{old_span, name_span, email_span}
+use Rattle.mailmap_tables.specs.declared.texts.Span.{Span}
+use Rattle.mailmap_tables.specs.declared.texts.Texts.{Texts}
 use Rattle.mailmap_tables.specs.declared.tables.EmailRow.{EmailRow}
 
 -- the bytes that a span names
@@ -17,35 +19,46 @@ spelled pool s = take s.len (drop s.start pool)
 abbrev pub LiesIn : ℕ → Span → Type 0
 LiesIn n s = s.start + s.len ≤ n
 
-abbrev pub name_group : Text → NameRow → NameGroup
-name_group pool r = record { old_name = spelled pool r.old_name; new_name = option_map (spelled pool) r.new_name; new_email = spelled pool r.new_email }
+-- the fields that a row spells
+abbrev pub fields_of : Text → Texts → Fields
+fields_of pool t = record { name = option_map (spelled pool) (name_span t); email = option_map (spelled pool) (email_span t) }
+
+abbrev pub name_group : Text → Texts → NameGroup
+name_group pool t = record { old_name = spelled pool (old_span t); new_name = (fields_of pool t).name; new_email = unwrap_or (fields_of pool t).email [] }
 
 -- what a row and the rows of its names spell
-abbrev pub group_of : Text → EmailRow → List NameRow → EmailGroup
-group_of pool r names =
-    record {
-      old_email = spelled pool r.old_email;
-      own = record { name = option_map (spelled pool) r.new_name; email = option_map (spelled pool) r.new_email };
-      names = map (name_group pool) names;
-    }
+abbrev pub group_of : Text → Texts → List Texts → EmailGroup
+group_of pool t names = record { old_email = spelled pool (old_span t); own = fields_of pool t; names = map (name_group pool) names }
+
+-- the bytes that a span names, if there is one
+abbrev pub bytes_of : Text → Option Span → Text
+bytes_of pool o = unwrap_or (option_map (spelled pool) o) []
+
+-- a row spells in one pool what three spans spell in another
+pub record RowSpells (old new : Text) (old_text : Span) (new_name new_email : Option Span) (t : Texts) : Type 0 where
+  pub old_same : spelled new (old_span t) ≡ spelled old old_text
+  pub fields : fields_of new t ≡ record { name = option_map (spelled old) new_name; email = option_map (spelled old) new_email }
 
 -- an email's names are a range of the one table of names
-abbrev pub names_of : List NameRow → EmailRow → List NameRow
+abbrev pub names_of : List Texts → EmailRow → List Texts
 names_of names r = take (r.names_end - r.names_start) (drop r.names_start names)
 
-abbrev pub email_group : Text → List NameRow → EmailRow → EmailGroup
-email_group pool names r = group_of pool r (names_of names r)
+abbrev pub email_group : Text → List Texts → EmailRow → EmailGroup
+email_group pool names r = group_of pool r.texts (names_of names r)
 
 -- the texts of a row lie in a pool of n bytes
-pub record NameLies (n : ℕ) (r : NameRow) : Type 0 where
-  pub old_name : LiesIn n r.old_name
-  pub new_name : ForSome r.new_name (LiesIn n)
-  pub new_email : LiesIn n r.new_email
+pub record TextsLie (n : ℕ) (t : Texts) : Type 0 where
+  pub old : LiesIn n (old_span t)
+  pub new_name : ForSome (name_span t) (LiesIn n)
+  pub new_email : ForSome (email_span t) (LiesIn n)
 
-pub record EmailLies (n : ℕ) (r : EmailRow) : Type 0 where
-  pub old_email : LiesIn n r.old_email
-  pub new_name : ForSome r.new_name (LiesIn n)
-  pub new_email : ForSome r.new_email (LiesIn n)
+-- and a name has a new email
+pub record NameLies (n : ℕ) (t : Texts) : Type 0 where
+  pub texts : TextsLie n t
+  pub new_email : IsSome (email_span t)
+
+abbrev pub EmailLies : ℕ → EmailRow → Type 0
+EmailLies n r = TextsLie n r.texts
 
 -- each email's range of names begins where the one before it ends, the first at k, and none goes past n
 abbrev pub Follow : ℕ → ℕ → List EmailRow → Type 0
@@ -59,15 +72,15 @@ end_of k (r ∷ rs) = end_of r.names_end rs
 
 -- the number of the first sixteen bytes of an email
 abbrev pub front_of : Text → EmailRow → ℕ
-front_of pool r = front_number 16 (folded (spelled pool r.old_email))
+front_of pool r = front_number 16 (folded (spelled pool (old_span r.texts)))
 
-pub record AreTables (pool : Text) (names : List NameRow) (emails : List EmailRow) (fronts : List ℕ) : Type 0 where
+pub record AreTables (pool : Text) (names : List Texts) (emails : List EmailRow) (fronts : List ℕ) : Type 0 where
   pub names_lie : AllByRecursion (NameLies (length pool)) names
   pub emails_lie : AllByRecursion (EmailLies (length pool)) emails
   pub ranges : Follow 0 (length names) emails
   pub front_each : fronts ≡ map (front_of pool) emails
 
-abbrev pub contents : Text → List NameRow → List EmailRow → Contents
+abbrev pub contents : Text → List Texts → List EmailRow → Contents
 contents pool names emails =
     record {
       pool = pool;
@@ -76,6 +89,6 @@ contents pool names emails =
     }
 
 -- the texts of an email's row and of its names lie in the pool
-pub record RowsLie (pool : Text) (r : EmailRow) (ns : List NameRow) : Type 0 where
-  pub email_lies : EmailLies (length pool) r
+pub record RowsLie (pool : Text) (t : Texts) (ns : List Texts) : Type 0 where
+  pub email_lies : TextsLie (length pool) t
   pub names_lie : AllByRecursion (NameLies (length pool)) ns

@@ -4,8 +4,8 @@ use Rattle.mailmap_entries.specs.Entries.{Mapping}
 use Rattle.mailmap_entries.specs.Folding.{Text}
 use Rattle.mailmap_tables.specs.Groups.{Contents, name_row, listing}
 use Rattle.mailmap_tables.specs.Pool.{name_group}
-use Rattle.mailmap_tables.specs.declared.tables.NameRow.{NameRow}
+use Rattle.mailmap_tables.specs.declared.texts.Texts.{Texts}
 
 -- some names of an email, and then all from a place in the table of emails on
-abbrev pub left_to_list : Contents → Text → List NameRow → ℕ → List Mapping
+abbrev pub left_to_list : Contents → Text → List Texts → ℕ → List Mapping
 left_to_list t email names place = map (name_row email) (map (name_group t.pool) names) ++ listing (drop place t.groups)

@@ -1,9 +1,10 @@
 -- Tables with room, and what an edit of one email changes.
-use Rattle.std.specs.Prelude.{◌≡◌, ◌≤◌, ◌+◌, ◌++◌, ℕ, List, [], ◌∷◌, Option, Some, None, length, take, drop}
+use Rattle.std.specs.Prelude.{◌≡◌, ◌≤◌, ◌+◌, ◌++◌, ℕ, List, [], ◌∷◌, Option, Some, None, length, take, drop, sum_by}
+use Rattle.std.specs.List.{AllByRecursion}
 use Rattle.mailmap_entries.specs.Entries.{Mapping}
 use Rattle.mailmap_entries.specs.Folding.{Text}
-use Rattle.mailmap_tables.specs.Groups.{NameGroup, EmailGroup, Contents}
-use Rattle.mailmap_tables.specs.Merging.{Extends, NamePut, NamesJoined, EmailJoined}
+use Rattle.mailmap_tables.specs.Groups.{NameGroup, EmailGroup, Contents, email_key}
+use Rattle.mailmap_tables.specs.Merging.{Extends, NamePut, NamesJoined, EmailJoined, email_text}
 use Rattle.mailmap_tables.specs.declared.tables.EmailRow.{EmailRow}
 
 -- what tables hold, and how many bytes, emails and names more there is room for
@@ -33,6 +34,27 @@ field_bytes m = optional_bytes m.old_name + (optional_bytes m.new_name + optiona
 -- how many bytes an entry has
 abbrev pub entry_bytes : Mapping → ℕ
 entry_bytes m = length m.old_email + field_bytes m
+
+-- how many bytes an entry may take where fields of so many bytes stand for its email: its texts, and copies of them and of
+-- those fields
+abbrev pub entry_room : ℕ → Mapping → ℕ
+entry_room stood m = entry_bytes m + (entry_bytes m + stood)
+
+-- how many bytes the fields of an email have
+abbrev pub own_bytes : EmailGroup → ℕ
+own_bytes g = optional_bytes g.own.name + optional_bytes g.own.email
+
+-- how many bytes an email may take where entries join it: their texts, and copies of all that says something then
+abbrev pub email_room : EmailGroup → List Mapping → ℕ
+email_room g ms = length g.old_email + own_bytes g + (sum_by field_bytes ms + sum_by field_bytes ms)
+
+-- the fields that stand for an email of these entries have at most so many bytes
+abbrev pub StoodWithin : ℕ → List EmailGroup → List Mapping → Type 0
+StoodWithin n gs ms = AllByRecursion (λ m. AllByRecursion (λ g. email_key g ≡ email_text m → own_bytes g ≤ n) gs) ms
+
+-- there is room for entries behind those that stand
+abbrev pub HasRoom : List EmailGroup → List Mapping → ℕ → Type 0
+HasRoom gs ms bytes = (stood : ℕ) × (StoodWithin stood gs ms × (sum_by (entry_room stood) ms ≤ bytes))
 
 -- how many bytes a name takes
 abbrev pub name_bytes : NameGroup → ℕ

@@ -6,21 +6,22 @@ ghost use Rattle.std.specs.List.Sorted.{IsStrictlySortedBy};
 ghost use Rattle.mailmap_entries.specs.Entries.{mapping_of};
 ghost use Rattle.mailmap_entries.specs.Folding.{folded, text_cmp};
 ghost use Rattle.mailmap_histories.specs.Histories.{IsNormal, is_accepted, key, key_cmp};
-ghost use Rattle.mailmap_tables.specs.Groups.{AreGroups, EmailGroup, IsComplete, listing, name_key};
+ghost use Rattle.mailmap_tables.specs.Groups.{AreGroups, EmailGroup, IsComplete, email_key, listing, name_key};
 ghost use Rattle.mailmap_tables.specs.Merging.{AllJoined, EmailRun, IsAscending, IsNamed, RunPut, first_email, mapping_at, name_text, placed_at};
 ghost use Rattle.mailmap_tables.specs.Named.{named_group};
 ghost use Rattle.mailmap_tables.specs.Pool.{LiesIn, NameLies, name_group, spelled};
 ghost use Rattle.mailmap_tables.specs.Places.{IsFound, IsMissing};
-ghost use Rattle.mailmap_tables.specs.Room.{EmailExtended, NamePlacedAt, NamesExtended, TookRoom, entry_bytes, field_bytes, first_emails, name_bytes, optional_bytes};
+ghost use Rattle.mailmap_tables.specs.Room.{EmailExtended, HasRoom, NamePlacedAt, NamesExtended, StoodWithin, TookRoom, entry_bytes, entry_room, field_bytes, first_emails, email_room, name_bytes, optional_bytes, own_bytes};
 
 use crate::batch::{Placed, sorted};
 use crate::merge::{
-    Named, before, behind, earliest, email_run, front_name, last_given, name_fields_len, rest,
-    span_len, text_len, unnamed_run,
+    Named, before, behind, earliest, email_run, front_name, last_given, rest, span_len, text_len,
+    unnamed_run,
 };
 use crate::room::Roomy;
 use crate::search::{place_email, place_name};
-use crate::tables::{NameRow, Span, Tables};
+use crate::tables::{NameRow, Tables};
+use crate::texts::Span;
 use crate::view::View;
 use mailmap_entries::Entry;
 use std::alloc::{AllocError, Global};
@@ -57,11 +58,11 @@ fn stood_len(tables: &View<'_>, entry: &Entry<'_>) -> usize
     let Ok(place) = place_email(tables, 0, entry.old_email()) else {
         return 0;
     };
-    let (row, names) = tables.email(place);
+    let (texts, names) = tables.email(place);
     match entry.old_name() {
-        None => span_len(row.new_name).saturating_add(span_len(row.new_email)),
+        None => texts.len(),
         Some(name) => match place_name(tables, names, name) {
-            Ok(place) => name_fields_len(names[place]),
+            Ok(place) => names[place].len(),
             Err(_) => 0,
         },
     }
@@ -79,7 +80,8 @@ pub(crate) fn merge_in_place(
     ensures err { OnErr result (tables.new ≡ tables.old) }
 {
     let batch = sorted(alloc, entries)?;
-    let bytes = batch_len(&batch)?;
+    let stood = fields_len(&tables.view(), &batch);
+    let bytes = room_len(&batch, stood)?;
     let held = mem::replace(tables, Tables::new(alloc));
     match Roomy::new(held, batch.len(), bytes) {
         Ok(mut room) => {
@@ -94,13 +96,41 @@ pub(crate) fn merge_in_place(
     }
 }
 
-// How many bytes the texts of a batch have. More than can be counted can't be had, either.
-fn batch_len(batch: &[Placed<'_, '_>]) -> Result<usize, AllocError>
-    ensures { IfOk result (λ len. sum_by entry_bytes (map mapping_at batch.now) ≤ len) }
+// How many bytes the fields have at most that stand for an email of a batch.
+fn fields_len(tables: &View<'_>, batch: &[Placed<'_, '_>]) -> usize
+    requires { AreGroups tables.now.groups }
+    ensures { StoodWithin result tables.now.groups (map mapping_at batch.now) }
+{
+    let mut most: usize = 0;
+    for placed in batch {
+        most = most.max(email_fields_len(tables, placed.entry.old_email()));
+    }
+    most
+}
+
+// How many bytes the fields have that stand for an email.
+fn email_fields_len(tables: &View<'_>, email: &[u8]) -> usize
+    requires { AreGroups tables.now.groups }
+    ensures { AllByRecursion (λ (g : EmailGroup). email_key g ≡ folded email.now → own_bytes g ≤ result) tables.now.groups }
+{
+    match place_email(tables, 0, email) {
+        Ok(place) => {
+            let (texts, _) = tables.email(place);
+            tables.fields_len(texts)
+        }
+        Err(_) => 0,
+    }
+}
+
+// How many bytes of the pool a batch takes at most, where the fields that stand for its emails have so many at most.
+// More than can be counted can't be had, either.
+fn room_len(batch: &[Placed<'_, '_>], stood: usize) -> Result<usize, AllocError>
+    ensures { IfOk result (λ len. sum_by (entry_room stood) (map mapping_at batch.now) ≤ len) }
 {
     let mut len: usize = 0;
     for placed in batch {
-        len = len.saturating_add(entry_len(placed.entry));
+        let entry = entry_len(placed.entry);
+        len = len.saturating_add(entry.saturating_add(entry.saturating_add(stood)));
     }
     if len == usize::MAX {
         return Err(AllocError);
@@ -122,7 +152,7 @@ fn insert_sorted(tables: &mut Roomy, batch: &[Placed<'_, '_>])
     requires complete { IsComplete tables.old.held }
     requires accepted { AllByRecursion (λ m. is_accepted m ≡ true) (map mapping_at batch.now) }
     requires ascending { IsAscending key_cmp (map key (map mapping_at batch.now)) }
-    requires bytes { sum_by entry_bytes (map mapping_at batch.now) ≤ tables.old.bytes }
+    requires bytes { HasRoom tables.old.held.groups (map mapping_at batch.now) tables.old.bytes }
     requires emails { length batch.now ≤ tables.old.emails }
     requires names { length batch.now ≤ tables.old.names }
     ensures joined { AllJoined tables.old.held.groups (map placed_at batch.now) tables.new.held.groups }
@@ -143,12 +173,13 @@ fn insert_run(tables: &mut Roomy, from: usize, run: &[Placed<'_, '_>]) -> usize
     requires complete { IsComplete tables.old.held }
     requires some { 0 < length run.now }
     requires run { EmailRun (map mapping_at run.now) }
-    requires bytes { sum_by entry_bytes (map mapping_at run.now) ≤ tables.old.bytes }
+    requires bytes { HasRoom (drop from tables.old.held.groups) (map mapping_at run.now) tables.old.bytes }
     requires emails { 0 < tables.old.emails }
     requires names { length run.now ≤ tables.old.names }
     ensures within { result ≤ length tables.new.held.groups }
     ensures put { RunPut (drop from tables.old.held.groups) (drop result tables.new.held.groups) (map placed_at run.now) (first_email (map mapping_at run.now)) (first_emails from tables.old.held) (first_emails result tables.new.held) }
-    ensures room { TookRoom (sum_by entry_bytes (map mapping_at run.now)) 1 (length run.now) tables.old tables.new }
+    ensures room { (stood : ℕ) → StoodWithin stood (drop from tables.old.held.groups) (map mapping_at run.now)
+        → TookRoom (sum_by (entry_room stood) (map mapping_at run.now)) 1 (length run.now) tables.old tables.new }
 {
     match place_email(&tables.view(), from, run[0].entry.old_email()) {
         Ok(place) => extend_email(tables, place, run),
@@ -165,19 +196,21 @@ fn extend_email(tables: &mut Roomy, place: usize, run: &[Placed<'_, '_>]) -> usi
     requires within { place < length tables.old.held.groups }
     requires ascending { HoldsAt (λ (g : EmailGroup). IsStrictlySortedBy text_cmp (map name_key g.names)) tables.old.held.groups place }
     requires run { EmailRun (map mapping_at run.now) }
-    requires bytes { sum_by field_bytes (map mapping_at run.now) ≤ tables.old.bytes }
+    requires bytes { HoldsAt (λ (g : EmailGroup). email_room g (map mapping_at run.now) ≤ tables.old.bytes) tables.old.held.groups place }
     requires names { length run.now ≤ tables.old.names }
     ensures next { result ≡ place + 1 }
     ensures extended { HoldsAt (λ (g : EmailGroup). EmailExtended place g (map mapping_at run.now) tables.old.held tables.new.held) tables.old.held.groups place }
-    ensures room { TookRoom (sum_by field_bytes (map mapping_at run.now)) 0 (length run.now) tables.old tables.new }
+    ensures room { HoldsAt (λ (g : EmailGroup). TookRoom (email_room g (map mapping_at run.now)) 0 (length run.now) tables.old tables.new) tables.old.held.groups place }
 {
     let len = unnamed_run(run);
     extend_names(tables, place, behind(run, len));
     let given = last_given(before(run, len));
-    let (row, _) = tables.view().email(place);
-    let new_name = push_given(tables, given.new_name, row.new_name);
-    let new_email = push_given(tables, given.new_email, row.new_email);
-    tables.replace_fields(place, new_name, new_email);
+    let (texts, _) = tables.view().email(place);
+    let (stood_name, stood_email) = tables.view().fields(texts);
+    let new_name = push_given(tables, given.new_name, stood_name);
+    let new_email = push_given(tables, given.new_email, stood_email);
+    let own = tables.together(texts.old(), new_name, new_email, 0);
+    tables.replace_texts(place, own);
     let count = tables.view().len();
     prove!(place < count);
     place + 1
@@ -204,10 +237,10 @@ fn extend_names(tables: &mut Roomy, email: usize, named: &[Placed<'_, '_>])
     requires ascending { HoldsAt (λ (g : EmailGroup). IsStrictlySortedBy text_cmp (map name_key g.names)) tables.old.held.groups email }
     requires named { AllByRecursion (λ p. IsNamed (mapping_at p)) named.now }
     requires named_ascend { IsAscending text_cmp (map name_text (map mapping_at named.now)) }
-    requires bytes { sum_by field_bytes (map mapping_at named.now) ≤ tables.old.bytes }
+    requires bytes { let len = sum_by field_bytes (map mapping_at named.now) in len + len ≤ tables.old.bytes }
     requires names { length named.now ≤ tables.old.names }
     ensures extended { HoldsAt (λ (g : EmailGroup). NamesExtended email g (map mapping_at named.now) tables.old.held tables.new.held) tables.old.held.groups email }
-    ensures room { TookRoom (sum_by field_bytes (map mapping_at named.now)) 0 (length named.now) tables.old tables.new }
+    ensures room { let len = sum_by field_bytes (map mapping_at named.now) in TookRoom (len + len) 0 (length named.now) tables.old tables.new }
 {
     let mut from = 0;
     let mut left = named;
@@ -223,14 +256,14 @@ fn insert_named(tables: &mut Roomy, email: usize, from: usize, named: Named<'_>)
     requires within { email < length tables.old.held.groups }
     requires from { HoldsAt (λ (g : EmailGroup). from ≤ length g.names) tables.old.held.groups email }
     requires ascending { HoldsAt (λ (g : EmailGroup). IsStrictlySortedBy text_cmp (map name_key (drop from g.names))) tables.old.held.groups email }
-    requires bytes { name_bytes (named_group named) ≤ tables.old.bytes }
+    requires bytes { name_bytes (named_group named) + name_bytes (named_group named) ≤ tables.old.bytes }
     requires names { 0 < tables.old.names }
     ensures put { HoldsAt (λ (g : EmailGroup). NamePlacedAt email from result g (named_group named.entry) tables.old.held tables.new.held) tables.old.held.groups email }
-    ensures room { TookRoom (name_bytes (named_group named.entry)) 0 1 tables.old tables.new }
+    ensures room { TookRoom (name_bytes (named_group named.entry) + name_bytes (named_group named.entry)) 0 1 tables.old tables.new }
 {
     match name_place(tables, email, from, named.old_name) {
         Ok((place, stood)) => {
-            let row = push_named(tables, stood.old_name, named, name_fields_len(stood));
+            let row = push_named(tables, stood.old(), named, stood.fields_len());
             tables.replace_name(email, place, row)
         }
         Err(place) => {
@@ -254,6 +287,7 @@ fn name_place(
     ensures found { IfOk result (λ f. HoldsAt (λ (g : EmailGroup). IsFound name_key (folded name.now) from g.names f.0) tables.now.held.groups email) }
     ensures stood { IfOk result (λ f. HoldsAt (λ (g : EmailGroup). slice_get g.names f.0 ≡ Some (name_group tables.now.held.pool f.1)) tables.now.held.groups email) }
     ensures lies { IfOk result (λ f. NameLies (length tables.now.held.pool) f.1) }
+    ensures len { IfOk result (λ f. f.1.old_len ≡ length name.now) }
     ensures missing { IfErr result (λ place. HoldsAt (λ (g : EmailGroup). IsMissing name_key (folded name.now) from g.names place) tables.now.held.groups email) }
 {
     let view = tables.view();
@@ -268,17 +302,13 @@ fn name_place(
 // The row of a name whose fields are put out in the place of so many bytes, its old name as `old_name` spells it.
 fn push_named(tables: &mut Roomy, old_name: Span, named: Named<'_>, replaced: usize) -> NameRow
     requires lies { LiesIn (length tables.old.held.pool) old_name }
-    requires bytes { optional_bytes (named_group named).new_name + length (named_group named).new_email ≤ tables.old.bytes }
+    requires bytes { let len = optional_bytes (named_group named).new_name + length (named_group named).new_email in old_name.len + (len + len) ≤ tables.old.bytes }
     ensures grown { (more : List ℕ) × (tables.new.held ≡ record tables.old.held { pool = tables.old.held.pool ++ more }) }
     ensures lies { NameLies (length tables.new.held.pool) result }
     ensures spells { name_group tables.new.held.pool result ≡ record (named_group named.entry) { old_name = spelled tables.old.held.pool old_name } }
-    ensures room { TookRoom (optional_bytes (named_group named.entry).new_name + length (named_group named.entry).new_email) 0 0 tables.old tables.new }
+    ensures room { let len = optional_bytes (named_group named.entry).new_name + length (named_group named.entry).new_email in TookRoom (old_name.len + (len + len)) 0 0 tables.old tables.new }
 {
     let new_name = push_given(tables, named.new_name, None);
     let new_email = tables.push_text(named.new_email, replaced);
-    NameRow {
-        old_name,
-        new_name,
-        new_email,
-    }
+    tables.together(old_name, new_name, Some(new_email), 0)
 }

@@ -9,4 +9,5 @@ pub mod merge;
 mod room;
 pub mod search;
 pub mod tables;
+pub mod texts;
 pub mod view;

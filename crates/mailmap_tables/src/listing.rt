@@ -6,9 +6,10 @@ ghost use Rattle.std.specs.Option.{option_to_list};
 ghost use Rattle.mailmap_entries.specs.Entries.{mapping_of};
 ghost use Rattle.mailmap_tables.specs.Groups.{listing, name_row, own_rows};
 ghost use Rattle.mailmap_tables.specs.Remaining.{left_to_list};
-ghost use Rattle.mailmap_tables.specs.Pool.{EmailLies, NameLies, group_of, name_group};
+ghost use Rattle.mailmap_tables.specs.Pool.{NameLies, TextsLie, group_of, name_group};
 
-use crate::tables::{EmailRow, NameRow};
+use crate::tables::NameRow;
+use crate::texts::Texts;
 use crate::view::View;
 use mailmap_entries::Entry;
 use std::marker::Model;
@@ -63,11 +64,11 @@ impl<'a> Iterator for Iter<'a> {
 
     fn next(&mut self) -> Option<Entry<'a>> {
         while self.names.is_empty() && self.reached < self.tables.len() {
-            let (row, names) = self.tables.email(self.reached);
+            let (texts, names) = self.tables.email(self.reached);
             self.reached += 1;
-            self.old_email = self.tables.text(row.old_email);
+            self.old_email = self.tables.text(texts.old());
             self.names = names;
-            if let Some(entry) = own_entry(&self.tables, row) {
+            if let Some(entry) = own_entry(&self.tables, texts) {
                 return Some(entry);
             }
         }
@@ -78,14 +79,16 @@ impl<'a> Iterator for Iter<'a> {
 }
 
 // The entry of an email for all its names, if a field was given for them.
-fn own_entry<'a>(tables: &View<'a>, row: EmailRow) -> Option<Entry<'a>>
-    requires { EmailLies (length tables.now.pool) row }
-    ensures { option_to_list (option_map mapping_of result) ≡ own_rows (group_of tables.now.pool row []) }
+fn own_entry<'a>(tables: &View<'a>, texts: Texts) -> Option<Entry<'a>>
+    requires { TextsLie (length tables.now.pool) texts }
+    ensures { option_to_list (option_map mapping_of result) ≡ own_rows (group_of tables.now.pool texts []) }
 {
-    let old_email = tables.text(row.old_email);
-    let new_name = tables.optional_text(row.new_name);
-    let new_email = tables.optional_text(row.new_email);
-    match (new_name, new_email) {
+    let old_email = tables.text(texts.old());
+    let (new_name, new_email) = tables.fields(texts);
+    match (
+        tables.optional_text(new_name),
+        tables.optional_text(new_email),
+    ) {
         (None, None) => None,
         (Some(new_name), None) => Some(Entry::change_name_by_email(new_name, old_email)),
         (None, Some(new_email)) => Some(Entry::change_email_by_email(new_email, old_email)),
@@ -100,9 +103,10 @@ fn name_entry<'a>(tables: &View<'a>, old_email: &'a [u8], row: &NameRow) -> Entr
     requires { NameLies (length tables.now.pool) row.now }
     ensures { mapping_of result ≡ name_row old_email.now (name_group tables.now.pool row.now) }
 {
-    let old_name = tables.text(row.old_name);
-    let new_email = tables.text(row.new_email);
-    match tables.optional_text(row.new_name) {
+    let old_name = tables.text(row.old());
+    let (new_name, new_email) = tables.fields(*row);
+    let new_email = tables.optional_text(new_email).unwrap_or(&[]);
+    match tables.optional_text(new_name) {
         Some(new_name) => Entry::change_name_and_email_by_name_and_email(
             new_name, new_email, old_name, old_email,
         ),

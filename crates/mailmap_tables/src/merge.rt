@@ -19,7 +19,8 @@ use crate::batch::{Placed, accepted_of, sorted};
 use crate::insert::{is_small, merge_in_place};
 use crate::listing::Iter;
 use crate::search::{place_email, place_name};
-use crate::tables::{EmailRow, NameRow, Span, Tables};
+use crate::tables::{NameRow, Tables};
+use crate::texts::{Span, Texts};
 use crate::view::View;
 use mailmap_entries::Entry;
 use std::alloc::{AllocError, Global};
@@ -69,11 +70,8 @@ fn push_named(
 {
     let new_name = push_optional(out, named.new_name)?;
     let new_email = out.push_text(named.new_email, replaced)?;
-    out.push_name(NameRow {
-        old_name,
-        new_name,
-        new_email,
-    })
+    let row = out.together(old_name, new_name, Some(new_email), 0)?;
+    out.push_name(row)
 }
 
 // Puts a name out, behind the kept names that stand before it, and gives those that are left.
@@ -91,7 +89,7 @@ fn put_name<'k>(
         Ok(place) => {
             let row = kept[place];
             out.push_names(front(kept, place))?;
-            push_named(out, row.old_name, named, name_fields_len(row))?;
+            push_named(out, row.old(), named, row.fields_len())?;
             Ok(rest(kept, place + 1))
         }
         Err(place) => {
@@ -101,11 +99,6 @@ fn put_name<'k>(
             Ok(rest(kept, place))
         }
     }
-}
-
-// How many bytes the fields of a name have.
-pub(crate) fn name_fields_len(row: NameRow) -> usize {
-    span_len(row.new_name).saturating_add(row.new_email.len)
 }
 
 pub(crate) fn span_len(span: Option<Span>) -> usize {
@@ -284,22 +277,24 @@ pub(crate) fn before<'s, 'e, 'a>(batch: &'s [Placed<'e, 'a>], place: usize) -> &
 // Puts an email out: what stood of it, and the entries of a batch for it.
 fn join_email(
     out: &mut Tables,
-    row: EmailRow,
+    texts: Texts,
     names: &[NameRow],
     batch: &[Placed<'_, '_>],
 ) -> Result<(), AllocError>
-    requires lie { RowsLie out.old.pool row names.now }
+    requires lie { RowsLie out.old.pool texts names.now }
     requires ascending { IsStrictlySortedBy text_cmp (map name_key (map (name_group out.old.pool) names.now)) }
     requires no_loose { out.old.loose ≡ [] }
     requires run { EmailRun (map mapping_at batch.now) }
-    ensures { OnOk result (EmailPut (group_of out.old.pool row names.now) (map mapping_at batch.now) out.old out.new) }
+    ensures { OnOk result (EmailPut (group_of out.old.pool texts names.now) (map mapping_at batch.now) out.old out.new) }
 {
     let len = unnamed_run(batch);
     join_names(out, names, behind(batch, len))?;
     let given = last_given(before(batch, len));
-    let new_name = push_given(out, given.new_name, row.new_name)?;
-    let new_email = push_given(out, given.new_email, row.new_email)?;
-    out.push_email(row.old_email, new_name, new_email)
+    let (stood_name, stood_email) = out.view().fields(texts);
+    let new_name = push_given(out, given.new_name, stood_name)?;
+    let new_email = push_given(out, given.new_email, stood_email)?;
+    let own = out.together(texts.old(), new_name, new_email, 0)?;
+    out.push_email(own)
 }
 
 // The entry that came first.
@@ -331,8 +326,8 @@ fn pass_emails(
 {
     out.push_names(standing.names_between(from, to))?;
     for place in from..to {
-        let (row, _) = standing.email(place);
-        out.pass_email(row, standing.email_text(place).front)?;
+        let (texts, names) = standing.email(place);
+        out.pass_email(texts, names.len(), standing.email_text(place).front)?;
     }
     Ok(())
 }
@@ -357,8 +352,8 @@ fn join_run(
     match place_email(standing, from, run[0].entry.old_email()) {
         Ok(place) => {
             pass_emails(out, standing, from, place)?;
-            let (row, names) = standing.email(place);
-            join_email(out, row, names, run)?;
+            let (texts, names) = standing.email(place);
+            join_email(out, texts, names, run)?;
             let count = standing.len();
             prove!(place < count);
             Ok(place + 1)
@@ -366,22 +361,9 @@ fn join_run(
         Err(place) => {
             pass_emails(out, standing, from, place)?;
             let old_email = out.push_text(earliest(run).entry.old_email(), 0)?;
-            join_email(out, bare_row(old_email), &[], run)?;
+            join_email(out, Texts::bare(old_email), &[], run)?;
             Ok(place)
         }
-    }
-}
-
-// The row of an email of which nothing is known yet.
-fn bare_row(old_email: Span) -> EmailRow
-    ensures { result ≡ record { old_email = old_email; new_name = None; new_email = None; names_start = 0; names_end = 0 } }
-{
-    EmailRow {
-        old_email,
-        new_name: None,
-        new_email: None,
-        names_start: 0,
-        names_end: 0,
     }
 }
 

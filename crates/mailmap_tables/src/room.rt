@@ -1,11 +1,12 @@
 //! Tables with room taken beforehand: texts and rows go in where they belong, and no step can fail.
-ghost use Rattle.std.specs.Prelude.{◌≡◌, ◌≤◌, ◌<◌, ◌+◌, ◌-◌, ◌++◌, [], ◌∷◌, length, IfOk, IfErr, OnOk, map, take, drop, Some, None, slice_get, slice_set, vec_len, vec_capacity};
+ghost use Rattle.std.specs.Prelude.{List, ℕ, ◌≡◌, ◌≤◌, ◌<◌, ◌+◌, ◌-◌, ◌++◌, [], ◌∷◌, length, IfOk, IfErr, OnOk, map, take, drop, Some, None, slice_get, slice_set, vec_len, vec_capacity};
 ghost use Rattle.std.specs.Option.{ForSome, option_map};
 ghost use Rattle.std.specs.List.{AllByRecursion, HoldsAt, insert};
 ghost use Rattle.mailmap_entries.specs.Folding.{folded};
 ghost use Rattle.mailmap_tables.specs.Room.{one_later};
 
-use crate::tables::{EmailRow, NameRow, Span, Tables};
+use crate::tables::{EmailRow, NameRow, Tables};
+use crate::texts::{Span, Texts, together};
 use crate::view::{View, last_end};
 use mailmap_entries::fold::front::front_number;
 use std::alloc::AllocError;
@@ -42,7 +43,8 @@ impl Model for Roomy {
 impl Roomy {
     ghost use Rattle.mailmap_tables.specs.Groups.{EmailGroup, NameGroup};
     ghost use Rattle.mailmap_tables.specs.Merging.{bare};
-    ghost use Rattle.mailmap_tables.specs.Pool.{spelled, LiesIn, NameLies, name_group};
+    ghost use Rattle.mailmap_tables.specs.Pool.{spelled, LiesIn, NameLies, RowSpells, TextsLie, fields_of, name_group};
+    ghost use Rattle.mailmap_tables.specs.Texts.{old_span, span_bytes};
     ghost use Rattle.mailmap_tables.specs.Room.{Room, TookRoom, with_email_at};
 
     /// Takes room for so many more rows of each table, and for so many bytes. Where it is refused the tables come back
@@ -136,6 +138,31 @@ impl Roomy {
         }
     }
 
+    /// The row of texts that stand in the pool, in the place of so many bytes. Those that don't stand one behind another
+    /// are copied to the end of the pool, and are out of use where they stood.
+    pub(crate) fn together(
+        &mut self,
+        old: Span,
+        new_name: Option<Span>,
+        new_email: Option<Span>,
+        replaced: usize,
+    ) -> Texts
+        requires old { LiesIn (length self.old.held.pool) old }
+        requires new_name { ForSome new_name (LiesIn (length self.old.held.pool)) }
+        requires new_email { ForSome new_email (LiesIn (length self.old.held.pool)) }
+        requires room { old.len + (span_bytes new_name + span_bytes new_email) ≤ self.old.bytes }
+        ensures grown { (more : List ℕ) × (self.new.held ≡ record self.old.held { pool = self.old.held.pool ++ more }) }
+        ensures lies { TextsLie (length self.new.held.pool) result }
+        ensures spells { RowSpells self.old.held.pool self.new.held.pool old new_name new_email result }
+        ensures room { TookRoom (old.len + (span_bytes new_name + span_bytes new_email)) 0 0 self.old self.new }
+    {
+        let end = self.pool.len();
+        let texts = together(&mut self.pool, old, new_name, new_email).unwrap();
+        let copied = if texts.start == end { texts.len() } else { 0 };
+        self.dead = self.dead.saturating_add(replaced.saturating_add(copied));
+        texts
+    }
+
     /// Puts an email of which nothing is known yet before the one at a place.
     pub(crate) fn insert_email(&mut self, place: usize, old_email: Span)
         requires place { place ≤ length self.old.held.groups }
@@ -147,9 +174,7 @@ impl Roomy {
         let front = front_number(self.view().text(old_email));
         let end = last_end(&self.emails[..place]);
         let row = EmailRow {
-            old_email,
-            new_name: None,
-            new_email: None,
+            texts: Texts::bare(old_email),
             names_start: end,
             names_end: end,
         };
@@ -191,24 +216,15 @@ impl Roomy {
         place + 1
     }
 
-    /// Gives an email these fields in the place of its own.
-    pub(crate) fn replace_fields(
-        &mut self,
-        email: usize,
-        new_name: Option<Span>,
-        new_email: Option<Span>,
-    )
+    /// Gives an email these texts in the place of its own. Its old email is spelled as before.
+    pub(crate) fn replace_texts(&mut self, email: usize, texts: Texts)
         requires email { email < length self.old.held.groups }
-        requires new_name_lies { ForSome new_name (LiesIn (length self.old.held.pool)) }
-        requires new_email_lies { ForSome new_email (LiesIn (length self.old.held.pool)) }
-        ensures held { HoldsAt (λ (g : EmailGroup). self.new.held ≡ with_email_at self.old.held email (record g {
-          own = record { name = option_map (spelled self.old.held.pool) new_name; email = option_map (spelled self.old.held.pool) new_email };
-        })) self.old.held.groups email }
+        requires lies { TextsLie (length self.old.held.pool) texts }
+        requires same { HoldsAt (λ (g : EmailGroup). spelled self.old.held.pool (old_span texts) ≡ g.old_email) self.old.held.groups email }
+        ensures held { HoldsAt (λ (g : EmailGroup). self.new.held ≡ with_email_at self.old.held email (record g { own = fields_of self.old.held.pool texts })) self.old.held.groups email }
         ensures room { TookRoom 0 0 0 self.old self.new }
     {
-        let row = &mut self.emails[email];
-        row.new_name = new_name;
-        row.new_email = new_email;
+        self.emails[email].texts = texts;
     }
 }
 

@@ -8,6 +8,7 @@ ghost use Rattle.mailmap_entries.specs.Search.{digits};
 ghost use Rattle.mailmap_tables.specs.Groups.{email_key, name_key};
 ghost use Rattle.mailmap_tables.specs.Places.{IsFound, IsMissing};
 ghost use Rattle.mailmap_tables.specs.Pool.{LiesIn, NameLies, name_group};
+ghost use Rattle.mailmap_tables.specs.Texts.{old_span};
 
 use crate::tables::NameRow;
 use crate::view::View;
@@ -44,7 +45,7 @@ struct NameProbe<'a> {
     names: &'a [NameRow],
     name: &'a [u8],
     steps: Steps,
-    ghost lie: { All (λ r. LiesIn (length tables.now.pool) r.old_name) names.now },
+    ghost lie: { All (λ r. LiesIn (length tables.now.pool) (old_span r)) names.now },
 }
 
 impl Probe for NameProbe<'_> {
@@ -54,8 +55,7 @@ impl Probe for NameProbe<'_> {
 
     fn ask(&mut self, place: usize) -> Ordering {
         let row = self.names[place];
-        self.steps
-            .compare(self.tables.text(row.old_name), self.name)
+        self.steps.compare(self.tables.text(row.old()), self.name)
     }
 }
 

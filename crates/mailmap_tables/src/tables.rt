@@ -1,39 +1,26 @@
 //! The tables of a snapshot: one pool of bytes that holds each text, a flat table of emails and a flat table of names,
 //! whose rows say where their texts stand in the pool.
-ghost use Rattle.std.specs.Prelude.{◌≡◌, ◌≤◌, ◌<◌, ◌++◌, [], ◌∷◌, length, OnOk, OnErr, IfOk, map, Some, slice_get, take, drop, ◌-◌};
+ghost use Rattle.std.specs.Prelude.{◌≡◌, ◌≤◌, ◌<◌, ◌++◌, [], ◌∷◌, length, ◌-◌, List, ℕ, OnOk, OnErr, IfOk, map, Some, slice_get, take, drop};
 ghost use Rattle.std.specs.Option.{option_map, option_copied, ForSome};
 ghost use Rattle.std.specs.List.{AllByRecursion, HoldsAt, flat_map};
 ghost use Rattle.mailmap_entries.specs.Folding.{folded};
 ghost use Rattle.mailmap_entries.specs.Fronts.{IsFront};
 ghost use Rattle.mailmap_tables.specs.Pool.{end_of};
 
+use crate::texts::{Span, Texts, together};
 use crate::view::{View, last_end};
 use mailmap_entries::fold::front::front_number;
 use std::alloc::{AllocError, Global};
 use std::marker::Model;
 
-/// Where a text stands in the pool.
-#[derive(Clone, Copy)]
-pub struct Span {
-    pub start: usize,
-    pub len: usize,
-}
+/// The texts of an old name of an email. The new email is always there.
+pub type NameRow = Texts;
 
-/// An old name of an email, and the fields that stand for it.
-#[derive(Clone, Copy)]
-pub struct NameRow {
-    pub old_name: Span,
-    pub new_name: Option<Span>,
-    pub new_email: Span,
-}
-
-/// An old email, the fields that were given for it without an old name, and the range of its names in the table of
+/// The texts of an email, those that were given for it without an old name, and the range of its names in the table of
 /// names.
 #[derive(Clone, Copy)]
 pub struct EmailRow {
-    pub old_email: Span,
-    pub new_name: Option<Span>,
-    pub new_email: Option<Span>,
+    pub texts: Texts,
     pub names_start: usize,
     pub names_end: usize,
 }
@@ -64,7 +51,8 @@ impl Model for Tables {
 
 impl Tables {
     ghost use Rattle.mailmap_tables.specs.Groups.{Contents, EmailGroup, NameGroup};
-    ghost use Rattle.mailmap_tables.specs.Pool.{spelled, LiesIn, NameLies, EmailLies, name_group, group_of};
+    ghost use Rattle.mailmap_tables.specs.Pool.{spelled, LiesIn, NameLies, RowSpells, TextsLie, name_group, group_of};
+    ghost use Rattle.mailmap_tables.specs.Texts.{old_span};
 
     /// No email and no name, and no memory taken.
     pub fn new(alloc: Global) -> Tables
@@ -134,58 +122,66 @@ impl Tables {
         Ok(())
     }
 
-    /// Puts an email behind the others, which takes the names that no email has taken yet.
-    pub fn push_email(
+    /// The row of texts that stand in the pool, in the place of so many bytes. Those that don't stand one behind another
+    /// are copied to the end of the pool, and are out of use where they stood.
+    pub(crate) fn together(
         &mut self,
-        old_email: Span,
+        old: Span,
         new_name: Option<Span>,
         new_email: Option<Span>,
-    ) -> Result<(), AllocError>
-        requires old_email_lies { LiesIn (length self.old.pool) old_email }
-        requires new_name_lies { ForSome new_name (LiesIn (length self.old.pool)) }
-        requires new_email_lies { ForSome new_email (LiesIn (length self.old.pool)) }
+        replaced: usize,
+    ) -> Result<Texts, AllocError>
+        requires old { LiesIn (length self.old.pool) old }
+        requires new_name { ForSome new_name (LiesIn (length self.old.pool)) }
+        requires new_email { ForSome new_email (LiesIn (length self.old.pool)) }
+        ensures grown { OnOk result ((more : List ℕ) × (self.new ≡ record self.old { pool = self.old.pool ++ more })) }
+        ensures lies { IfOk result (TextsLie (length self.new.pool)) }
+        ensures spells { IfOk result (RowSpells self.old.pool self.new.pool old new_name new_email) }
+    {
+        let end = self.pool.len();
+        let texts = together(&mut self.pool, old, new_name, new_email)?;
+        let copied = if texts.start == end { texts.len() } else { 0 };
+        self.dead = self.dead.saturating_add(replaced.saturating_add(copied));
+        Ok(texts)
+    }
+
+    /// Puts an email behind the others, which takes the names that no email has taken yet.
+    pub fn push_email(&mut self, texts: Texts) -> Result<(), AllocError>
+        requires { TextsLie (length self.old.pool) texts }
         ensures { OnOk result (self.new ≡ record {
           pool = self.old.pool;
-          groups = self.old.groups ++ record {
-            old_email = spelled self.old.pool old_email;
-            own = record { name = option_map (spelled self.old.pool) new_name; email = option_map (spelled self.old.pool) new_email };
-            names = self.old.loose;
-          } ∷ [];
+          groups = self.old.groups ++ record (group_of self.old.pool texts []) { names = self.old.loose } ∷ [];
           loose = [];
         }) }
     {
         let row = EmailRow {
-            old_email,
-            new_name,
-            new_email,
+            texts,
             names_start: last_end(&self.emails),
             names_end: self.names.len(),
         };
-        let front = front_number(self.view().text(old_email));
+        let front = front_number(self.view().text(texts.old()));
         push_row(&mut self.emails, &mut self.fronts, row, front)?;
         Ok(())
     }
 
-    /// Puts an email with its front behind the others, which takes as many of the names that no email has taken yet as
-    /// the row has.
-    pub fn pass_email(&mut self, row: EmailRow, front: u128) -> Result<(), AllocError>
-        requires lies { EmailLies (length self.old.pool) row }
-        requires front { IsFront front (folded (spelled self.old.pool row.old_email)) }
-        requires up { row.names_start ≤ row.names_end }
-        requires loose { row.names_end - row.names_start ≤ length self.old.loose }
+    /// Puts an email with its front behind the others, which takes so many of the names that no email has taken yet.
+    pub fn pass_email(&mut self, texts: Texts, count: usize, front: u128) -> Result<(), AllocError>
+        requires lies { TextsLie (length self.old.pool) texts }
+        requires front { IsFront front (folded (spelled self.old.pool (old_span texts))) }
+        requires loose { count ≤ length self.old.loose }
         ensures { OnOk result (self.new ≡ record {
           pool = self.old.pool;
-          groups = self.old.groups ++ record (group_of self.old.pool row []) { names = take (row.names_end - row.names_start) self.old.loose } ∷ [];
-          loose = drop (row.names_end - row.names_start) self.old.loose;
+          groups = self.old.groups ++ record (group_of self.old.pool texts []) { names = take count self.old.loose } ∷ [];
+          loose = drop count self.old.loose;
         }) }
     {
         let names_start = last_end(&self.emails);
-        let passed = EmailRow {
+        let row = EmailRow {
+            texts,
             names_start,
-            names_end: names_start + (row.names_end - row.names_start),
-            ..row
+            names_end: names_start + count,
         };
-        push_row(&mut self.emails, &mut self.fronts, passed, front)?;
+        push_row(&mut self.emails, &mut self.fronts, row, front)?;
         Ok(())
     }
 }

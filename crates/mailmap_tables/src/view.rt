@@ -1,10 +1,11 @@
 //! Tables as lookups, listings and merges read them.
-ghost use Rattle.std.specs.Prelude.{◌≡◌, ◌≤◌, ◌<◌, get_or, length, map, Some, slice_get, take, drop, ◌-◌};
+ghost use Rattle.std.specs.Prelude.{[], ◌≡◌, ◌≤◌, ◌<◌, get_or, length, map, Some, slice_get, take, drop, ◌-◌};
 ghost use Rattle.std.specs.Option.{option_map, option_copied, ForSome};
 ghost use Rattle.std.specs.List.{AllByRecursion, flat_map};
 ghost use Rattle.mailmap_tables.specs.Pool.{end_of};
 
-use crate::tables::{EmailRow, NameRow, Span};
+use crate::tables::{EmailRow, NameRow};
+use crate::texts::{Span, Texts};
 use mailmap_entries::fold::front::Fronted;
 use std::marker::Model;
 
@@ -33,7 +34,9 @@ impl<'a> Model for View<'a> {
 impl<'a> View<'a> {
     ghost use Rattle.mailmap_tables.specs.Groups.{Contents, EmailGroup, NameGroup};
     ghost use Rattle.mailmap_tables.specs.Groups.{listing};
-    ghost use Rattle.mailmap_tables.specs.Pool.{spelled, LiesIn, NameLies, name_group, group_of, RowsLie};
+    ghost use Rattle.mailmap_tables.specs.Pool.{spelled, LiesIn, NameLies, TextsLie, name_group, group_of, RowsLie};
+    ghost use Rattle.mailmap_tables.specs.Texts.{email_span, name_span};
+    ghost use Rattle.mailmap_tables.specs.Room.{own_bytes};
 
     /// The number of emails.
     pub fn len(&self) -> usize
@@ -75,19 +78,38 @@ impl<'a> View<'a> {
         ensures { slice_get (map (λ (g : EmailGroup). g.old_email) self.now.groups) place ≡ Some result.text.now }
     {
         let row = at(self.emails, place);
-        Fronted::with_front(self.text(row.old_email), at(self.fronts, place))
+        Fronted::with_front(self.text(row.texts.old()), at(self.fronts, place))
     }
 
-    /// The email at a place, with its names.
-    pub fn email(&self, place: usize) -> (EmailRow, &'a [NameRow])
+    /// The new name and the new email of a row, if there are any.
+    pub fn fields(&self, texts: Texts) -> (Option<Span>, Option<Span>)
+        requires { TextsLie (length self.now.pool) texts }
+        ensures new_name { result.0 ≡ name_span texts }
+        ensures new_email { result.1 ≡ email_span texts }
+    {
+        let len = self.pool.len();
+        prove!(texts.start <= len);
+        (texts.new_name(), texts.new_email())
+    }
+
+    /// How many bytes the new name and the new email of a row have.
+    pub(crate) fn fields_len(&self, texts: Texts) -> usize
+        requires { TextsLie (length self.now.pool) texts }
+        ensures { result ≡ own_bytes (group_of self.now.pool texts []) }
+    {
+        let len = self.pool.len();
+        prove!(texts.start <= len);
+        texts.fields_len()
+    }
+
+    /// The texts of the email at a place, and its names.
+    pub fn email(&self, place: usize) -> (Texts, &'a [NameRow])
         requires { place < length self.now.groups }
-        ensures up { result.0.names_start ≤ result.0.names_end }
-        ensures count { result.0.names_end - result.0.names_start ≡ length result.1.now }
         ensures group { slice_get self.now.groups place ≡ Some (group_of self.now.pool result.0 result.1.now) }
         ensures lie { RowsLie self.now.pool result.0 result.1.now }
     {
         let row = at(self.emails, place);
-        (row, part(self.names, row.names_start, row.names_end))
+        (row.texts, part(self.names, row.names_start, row.names_end))
     }
 
     /// The names of the emails from one place up to another.

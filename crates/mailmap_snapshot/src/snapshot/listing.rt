@@ -7,7 +7,7 @@ ghost use Rattle.mailmap_entries.specs.Entries.{mapping_of};
 ghost use Rattle.mailmap_histories.specs.Building.{IsListing};
 ghost use Rattle.mailmap_tables.specs.Groups.{listing, name_row, own_rows};
 ghost use Rattle.mailmap_tables.specs.Remaining.{left_to_list};
-ghost use Rattle.mailmap_tables.specs.Pool.{EmailLies, NameLies, group_of, name_group};
+ghost use Rattle.mailmap_tables.specs.Pool.{NameLies, TextsLie, group_of, name_group};
 
 use crate::snapshot::Snapshot;
 use mailmap_entries::Entry;

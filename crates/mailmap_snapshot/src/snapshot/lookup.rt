@@ -13,7 +13,7 @@ use crate::snapshot::resolved::ResolvedSignature;
 use mailmap_entries::fold::Steps;
 use mailmap_signatures::actor::SignatureRef;
 use mailmap_tables::search::{search_email, search_name};
-use mailmap_tables::tables::Span;
+use mailmap_tables::texts::Span;
 use mailmap_tables::view::View;
 
 /// What the emails and names of tables answer to a name and an email.
@@ -36,19 +36,16 @@ fn look_up<'a>(
     let Ok(place) = search_email(tables, 0, email, steps) else {
         return None;
     };
-    let (row, names) = tables.email(place);
+    let (texts, names) = tables.email(place);
     match search_name(tables, names, name, steps) {
         Ok(i) => {
-            let known = names[i];
-            answer(
-                tables,
-                row.old_email,
-                known.new_name,
-                Some(known.new_email),
-                email,
-            )
+            let (new_name, new_email) = tables.fields(names[i]);
+            answer(tables, texts.old(), new_name, new_email, email)
         }
-        Err(_) => answer(tables, row.old_email, row.new_name, row.new_email, email),
+        Err(_) => {
+            let (new_name, new_email) = tables.fields(texts);
+            answer(tables, texts.old(), new_name, new_email, email)
+        }
     }
 }
 

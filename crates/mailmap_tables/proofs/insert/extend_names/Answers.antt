@@ -71,7 +71,7 @@ loop-left-preserved c =
     HoldsAt (λ (g : EmailGroup). NamesInPlace email c.insert_named-from.result g all (map mapping_at l) old e.held) old.groups email
     × (length e.held.groups ≡ length old.groups)
     × AllByRecursion (λ p. IsNamed (mapping_at p)) l
-    × (c.args.tables.now.bytes + sum_by field_bytes (map mapping_at l) ≤ e.bytes + sum_by field_bytes all)
+    × (c.args.tables.now.bytes + (sum_by field_bytes (map mapping_at l) + sum_by field_bytes (map mapping_at l)) ≤ e.bytes + (sum_by field_bytes all + sum_by field_bytes all))
     × (c.args.tables.now.emails ≤ e.emails)
     × (c.args.tables.now.names + length l ≤ e.names + length c.args.named.now)) (sym c.behind-left.ensures) (
       (λ d. names_next email c.loop-left.from c.insert_named-from.result (get_or old.groups email d) all (map mapping_at left) (map mapping_at (drop len left)) n old b.held e.held c.requires.within named0 (inv.0 d) c.insert_named-from.ensures.put run),

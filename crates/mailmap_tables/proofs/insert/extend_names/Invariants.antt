@@ -11,7 +11,7 @@ invariant-loop-left l =
     HoldsAt (λ (g : EmailGroup). NamesInPlace l.email l.from g (map mapping_at l.fn.named) (map mapping_at l.left) l.fn.tables.held l.tables.held) l.fn.tables.held.groups l.email
     × (length l.tables.held.groups ≡ length l.fn.tables.held.groups)
     × AllByRecursion (λ p. IsNamed (mapping_at p)) l.left
-    × (l.fn.tables.bytes + sum_by field_bytes (map mapping_at l.left) ≤ l.tables.bytes + sum_by field_bytes (map mapping_at l.fn.named))
+    × (l.fn.tables.bytes + (sum_by field_bytes (map mapping_at l.left) + sum_by field_bytes (map mapping_at l.left)) ≤ l.tables.bytes + (sum_by field_bytes (map mapping_at l.fn.named) + sum_by field_bytes (map mapping_at l.fn.named)))
     × (l.fn.tables.emails ≤ l.tables.emails)
     × (l.fn.tables.names + length l.left ≤ l.tables.names + length l.fn.named)
 

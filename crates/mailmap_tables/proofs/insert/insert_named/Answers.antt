@@ -5,6 +5,7 @@ use Rattle.mailmap_tables.specs.Merging.{Extends}
 use Rattle.mailmap_tables.specs.Named.{named_group}
 use Rattle.mailmap_tables.specs.Pool.{name_group, spelled}
 use Rattle.mailmap_tables.specs.Room.{EmailChanged, NamePlacedAt, with_email_at}
+use Rattle.mailmap_tables.specs.Texts.{old_span}
 use Rattle.mailmap_tables.proofs.InPlace.{changed_from, name_known, name_unknown}
 use Rattle.mailmap_tables.proofs.NamePlaces.{extends_through}
 use Rattle.mailmap_tables.proofs.insert.insert_named.Goals as goal
@@ -18,13 +19,13 @@ returns-in-Ok-clause-put c =
     let place = c.in-Ok.place in
     let n = named_group c.args.named in
     let grown = c.push_named-row.ensures.grown in
-    let kept = spelled old.pool c.in-Ok.stood.old_name in
+    let kept = spelled old.pool (old_span c.in-Ok.stood) in
     let one : NameGroup = record n { old_name = kept } in
     λ d.
     let g = get_or old.groups email d in
     let there : get_or mid.groups email d ≡ g = ap (λ (v : Contents). get_or v.groups email d) grown.1 in
     let is : new ≡ with_email_at mid email (record g { names = set g.names place one }) = c.replace_name.ensures.held d
-    ∙ (λ i. with_email_at mid email (record (there i) { names = set (there i).names place (c.push_named-row.ensures.spells i) })) in
+    ∙ (λ i. with_email_at mid email (record (there i) { names = set (there i).names place ((c.push_named-row.ensures.spells ∙ ap (λ s. record n { old_name = spelled old.pool s }) c.old.ensures) i) })) in
     let changed : EmailChanged email (record g { names = set g.names place one }) old new =
     changed_from email (record g { names = set g.names place one }) old mid new (grown.0, ap (λ (v : Contents). v.pool) grown.1) (ap (λ (v : Contents). v.groups) grown.1) (ap (λ (v : Contents). v.loose) grown.1) is in
     subst (λ k. NamePlacedAt email c.args.from k g n old new) (sym c.replace_name.ensures.next)

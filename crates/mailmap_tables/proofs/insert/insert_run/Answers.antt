@@ -8,10 +8,12 @@ use Rattle.mailmap_tables.specs.Groups.{Contents, EmailGroup, IsGroup, email_key
 use Rattle.mailmap_tables.specs.Merging.{RunPut, bare, first_email, mapping_at, placed_at}
 use Rattle.mailmap_tables.specs.Places.{IsFound, IsMissing}
 use Rattle.mailmap_tables.specs.Pool.{spelled}
-use Rattle.mailmap_tables.specs.Room.{EmailExtended, first_emails}
-use Rattle.mailmap_tables.proofs.Bytes.{earliest_bytes, fields_within}
+use Rattle.mailmap_tables.specs.Room.{EmailExtended, TookRoom, email_room, first_emails}
+use Rattle.mailmap_tables.proofs.Bytes.{earliest_bytes, entries_room, found_room}
 use Rattle.mailmap_tables.proofs.InPlace.{changed_length, get_or-insert, run_known, run_unknown}
+use Rattle.mailmap_tables.proofs.Parting.{found_key}
 use Rattle.mailmap_tables.proofs.Pooled.{all_at}
+use Rattle.mailmap_tables.proofs.RowEdits.{get_or_any}
 use Rattle.mailmap_tables.proofs.RunPuts.{first_email_at}
 use Rattle.mailmap_tables.proofs.Runs.{none_sorted}
 use Rattle.mailmap_tables.proofs.insert.insert_run.Goals as goal
@@ -25,7 +27,16 @@ extend_email-requires-clause-ascending c =
     λ d. (all_at IsGroup old.groups c.in-Ok.place d c.requires.complete.groups.each lt).ascending
 
 pub extend_email-requires-clause-bytes : goal.extend_email-requires-clause-bytes
-extend_email-requires-clause-bytes c = omega (arith, c.requires.bytes, fields_within (map mapping_at c.args.run.now))
+extend_email-requires-clause-bytes c =
+    let gs = c.args.tables.now.held.groups in
+    let xs = c.args.run.now in
+    let email : folded c.old_email.result.now ≡ first_email (map mapping_at xs) = ap folded c.old_email.ensures ∙ first_email_at xs _ c.requires.some in
+    let found : IsFound email_key (first_email (map mapping_at xs)) c.args.from gs c.in-Ok.place =
+    subst (λ (t : Text). IsFound email_key t c.args.from gs c.in-Ok.place) email (subst (λ (v : Contents). IsFound email_key (folded c.old_email.result.now) c.args.from v.groups c.in-Ok.place) c.view.ensures c.in-Ok.ensures.found) in
+    λ d.
+    let g = get_or gs c.in-Ok.place d in
+    let key : email_key g ≡ first_email (map mapping_at xs) = found_key email_key (first_email (map mapping_at xs)) c.args.from gs c.in-Ok.place g found (get_or_any gs c.in-Ok.place d g found.within) in
+    omega (arith, c.requires.bytes.1.1, found_room c.requires.bytes.0 gs c.args.from c.in-Ok.place d xs c.requires.some found.behind_start found.within key c.requires.bytes.1.0)
 
 pub returns-in-Ok-clause-within : goal.returns-in-Ok-clause-within
 returns-in-Ok-clause-within c =
@@ -52,15 +63,30 @@ returns-in-Ok-clause-put c =
 
 pub returns-in-Ok-clause-room : goal.returns-in-Ok-clause-room
 returns-in-Ok-clause-room c =
-    let took = c.extend_email.ensures.room in
-    let fields = fields_within (map mapping_at c.args.run.now) in
-    record { bytes = omega (arith, took.bytes, fields); emails = omega (arith, took.emails); names = omega (arith, took.names) }
+    let gs = c.args.tables.now.held.groups in
+    let xs = c.args.run.now in
+    let d = bare [] in
+    let email : folded c.old_email.result.now ≡ first_email (map mapping_at xs) = ap folded c.old_email.ensures ∙ first_email_at xs _ c.requires.some in
+    let found : IsFound email_key (first_email (map mapping_at xs)) c.args.from gs c.in-Ok.place =
+    subst (λ (t : Text). IsFound email_key t c.args.from gs c.in-Ok.place) email (subst (λ (v : Contents). IsFound email_key (folded c.old_email.result.now) c.args.from v.groups c.in-Ok.place) c.view.ensures c.in-Ok.ensures.found) in
+    let g = get_or gs c.in-Ok.place d in
+    let key : email_key g ≡ first_email (map mapping_at xs) = found_key email_key (first_email (map mapping_at xs)) c.args.from gs c.in-Ok.place g found (get_or_any gs c.in-Ok.place d g found.within) in
+    let took = c.extend_email.ensures.room d in
+    λ stood within.
+    let room = found_room stood gs c.args.from c.in-Ok.place d xs c.requires.some found.behind_start found.within key within in
+    record { bytes = omega (arith, took.bytes, room); emails = omega (arith, took.emails); names = omega (arith, took.names) }
 
 -- ---- the email is new
 
 pub push_text-old_email-requires : goal.push_text-old_email-requires
 push_text-old_email-requires c =
-    omega (arith, c.requires.bytes, earliest_bytes c.args.run.now c.earliest.result c.earliest.ensures.among, ap length c.old_email-in-Err.ensures)
+    omega (
+      arith,
+      c.requires.bytes.1.1,
+      entries_room c.requires.bytes.0 (map mapping_at c.args.run.now),
+      earliest_bytes c.args.run.now c.earliest.result c.earliest.ensures.among,
+      ap length c.old_email-in-Err.ensures,
+    )
 
 pub insert_email-requires-clause-place : goal.insert_email-requires-clause-place
 insert_email-requires-clause-place c =
@@ -88,14 +114,24 @@ extend_email-requires-in-Err-clause-ascending c =
 
 pub extend_email-requires-in-Err-clause-bytes : goal.extend_email-requires-in-Err-clause-bytes
 extend_email-requires-in-Err-clause-bytes c =
-    omega (
+    let one = c.push_text-old_email.new.self.held in
+    let place = c.in-Err.place in
+    let fresh = bare (spelled one.pool c.push_text-old_email.result) in
+    let le : place ≤ length one.groups = omega (arith, c.in-Err.ensures.missing.within, ap (λ (v : Contents). length v.groups) c.view.ensures, ap (λ (v : Contents). length v.groups) c.push_text-old_email.ensures.held) in
+    let ms = map mapping_at c.args.run.now in
+    let room : email_room fresh ms ≤ c.insert_email.new.self.bytes = omega (
       arith,
-      c.requires.bytes,
+      c.requires.bytes.1.1,
+      entries_room c.requires.bytes.0 ms,
       earliest_bytes c.args.run.now c.earliest.result c.earliest.ensures.among,
       ap length c.old_email-in-Err.ensures,
+      ap length c.push_text-old_email.ensures.spells,
       c.push_text-old_email.ensures.room.bytes,
       c.insert_email.ensures.room.bytes,
-    )
+    ) in
+    λ d.
+    let there : get_or c.insert_email.new.self.held.groups place d ≡ fresh = ap (λ (v : Contents). get_or v.groups place d) c.insert_email.ensures.held ∙ get_or-insert fresh one.groups place d le in
+    subst (λ (g : EmailGroup). email_room g ms ≤ c.insert_email.new.self.bytes) (sym there) room
 
 pub extend_email-requires-in-Err-clause-names : goal.extend_email-requires-in-Err-clause-names
 extend_email-requires-in-Err-clause-names c = omega (arith, c.requires.names, c.push_text-old_email.ensures.room.names, c.insert_email.ensures.room.names)
@@ -136,9 +172,20 @@ returns-in-Err-clause-put c =
 
 pub returns-in-Err-clause-room : goal.returns-in-Err-clause-room
 returns-in-Err-clause-room c =
+    let first = c.push_text-old_email.new.self.held in
+    let place = c.in-Err.place in
+    let fresh = bare (spelled first.pool c.push_text-old_email.result) in
+    let le : place ≤ length first.groups = omega (arith, c.in-Err.ensures.missing.within, ap (λ (v : Contents). length v.groups) c.view.ensures, ap (λ (v : Contents). length v.groups) c.push_text-old_email.ensures.held) in
+    let there : get_or c.insert_email.new.self.held.groups place fresh ≡ fresh = ap (λ (v : Contents). get_or v.groups place fresh) c.insert_email.ensures.held ∙ get_or-insert fresh first.groups place fresh le in
     let one = c.push_text-old_email.ensures.room in
     let two = c.insert_email.ensures.room in
-    let took = c.extend_email-in-Err.ensures.room in
+    let ms = map mapping_at c.args.run.now in
+    let took = subst (λ (g : EmailGroup). TookRoom (email_room g ms) 0 (length c.args.run.now) c.insert_email.new.self c.extend_email-in-Err.new.tables) there (c.extend_email-in-Err.ensures.room fresh) in
     let fields = earliest_bytes c.args.run.now c.earliest.result c.earliest.ensures.among in
     let text = ap length c.old_email-in-Err.ensures in
-    record { bytes = omega (arith, one.bytes, two.bytes, took.bytes, fields, text); emails = omega (arith, one.emails, two.emails, took.emails); names = omega (arith, one.names, two.names, took.names) }
+    λ stood within.
+    record {
+      bytes = omega (arith, one.bytes, two.bytes, took.bytes, fields, text, ap length c.push_text-old_email.ensures.spells, entries_room stood ms);
+      emails = omega (arith, one.emails, two.emails, took.emails);
+      names = omega (arith, one.names, two.names, took.names);
+    }

@@ -1,13 +1,19 @@
-use Rattle.std.proofs.Common.{◌≡◌, ◌≤◌, ◌<◌, ◌+◌, ◌∙◌, ◌++◌, [], List, map, take, drop, length, sum_by, take-append-drop, length-append, length-drop, sym, ap, subst, arith}
-use Rattle.mailmap_entries.specs.Folding.{folded}
-use Rattle.mailmap_tables.specs.Groups.{AreGroups}
-use Rattle.mailmap_tables.specs.Merging.{EmailRun, RunPut, first_email, mapping_at, placed_at}
-use Rattle.mailmap_tables.specs.Room.{entry_bytes, first_emails}
+use Rattle.std.proofs.Common.{◌≡◌, ◌≤◌, ◌<◌, ◌+◌, ◌∙◌, ◌++◌, ◌∷◌, append_assoc, ℕ, [], List, map, take, drop, length, sum_by, take-append-drop, length-append, length-drop, sym, ap, subst, arith}
+use Rattle.mailmap_entries.specs.Folding.{Text, folded}
+use Rattle.mailmap_entries.specs.Entries.{Mapping}
+use Rattle.mailmap_tables.specs.Groups.{AreGroups, EmailGroup}
+use Rattle.mailmap_tables.specs.Merging.{EmailPlaced, EmailRun, RunPut, known, unknown, first_email, mapping_at, placed_at}
+use Rattle.mailmap_tables.specs.Room.{HasRoom, StoodWithin, entry_room, first_emails}
 use Rattle.mailmap_tables.specs.declared.batch.Placed.{Placed}
-use Rattle.mailmap_tables.proofs.Bytes.{parted_bytes}
+use Rattle.mailmap_tables.proofs.Bytes.{parted_bytes, stood_behind, stood_part}
 use Rattle.mailmap_tables.proofs.EmailsLoop.{EmailsState, emails_are, emails_end, emails_start}
 use Rattle.mailmap_tables.proofs.SortedRuns.{IsBatch, batch_behind, batch_emails, batch_run, good_items, none_left, run_some, some_left, step_at}
 use Rattle.mailmap_tables.proofs.insert.insert_sorted.Goals as goal
+
+-- what stands behind a run
+stood_left : (s : ℕ) (gs passed : List EmailGroup) (ps : List (ℕ × Mapping)) (email : Text) (g : EmailGroup) (left : List EmailGroup) (ms : List Mapping) → EmailPlaced gs passed ps email g left → StoodWithin s gs ms → StoodWithin s left ms
+stood_left s gs passed ps email g left ms (known is key) all = stood_behind s gs (passed ++ g ∷ []) left ms (is ∙ sym (append_assoc passed (g ∷ []) left)) all
+stood_left s gs passed ps email g left ms (unknown is below above p first same) all = stood_behind s gs passed left ms is all
 
 pub loop-left-init : goal.loop-left-init
 loop-left-init c =
@@ -50,7 +56,12 @@ insert_run-from-requires-clause-run c =
 
 pub insert_run-from-requires-clause-bytes : goal.insert_run-from-requires-clause-bytes
 insert_run-from-requires-clause-bytes c =
-    omega (arith, c.loop-left.invariant.3, parted_bytes entry_bytes c.loop-left.left.now c.email_run-len.result, ap (λ (l : List Placed). sum_by entry_bytes (map mapping_at l)) c.before-in-loop-left.ensures)
+    let left = c.loop-left.left.now in
+    let len = c.email_run-len.result in
+    let gs = drop c.loop-left.from c.loop-left.tables.held.groups in
+    let room = c.loop-left.invariant.3 in
+    subst (λ (l : List Placed). HasRoom gs (map mapping_at l) c.loop-left.tables.bytes) (sym c.before-in-loop-left.ensures)
+    (room.0, ((stood_part room.0 gs left len room.1.0).0, omega (arith, room.1.1, parted_bytes (entry_room room.0) left len)))
 
 pub insert_run-from-requires-clause-emails : goal.insert_run-from-requires-clause-emails
 insert_run-from-requires-clause-emails c =
@@ -76,16 +87,19 @@ loop-left-preserved c =
     let good = good_items c.args.batch.now c.requires.accepted in
     let put = subst (λ (l : List Placed). RunPut (drop from held.groups) (drop next new.held.groups) (map placed_at l) (first_email (map mapping_at l)) (first_emails from held) (first_emails next new.held)) c.before-in-loop-left.ensures c.insert_run-from.ensures.put in
     let more : 0 < len = run_some left len _ (folded c.old_email.result.now) some (sym (ap folded c.old_email.ensures)) c.email_run-len.ensures.within c.email_run-len.ensures.other in
-    let took = c.insert_run-from.ensures.room in
-    let run_bytes = ap (λ (l : List Placed). sum_by entry_bytes (map mapping_at l)) c.before-in-loop-left.ensures in
-    let parts = parted_bytes entry_bytes left len in
+    let room = inv.3 in
+    let parts = stood_part room.0 (drop from held.groups) left len room.1.0 in
+    let took = c.insert_run-from.ensures.room room.0 (subst (λ (l : List Placed). StoodWithin room.0 (drop from held.groups) (map mapping_at l)) (sym c.before-in-loop-left.ensures) parts.0) in
+    let run_bytes = ap (λ (l : List Placed). sum_by (entry_room room.0) (map mapping_at l)) c.before-in-loop-left.ensures in
+    let bytes = parted_bytes (entry_room room.0) left len in
+    let stood = stood_left room.0 (drop from held.groups) put.passed _ _ put.stood (drop next new.held.groups) (map mapping_at (drop len left)) put.placed parts.1 in
     let run_length = ap length c.before-in-loop-left.ensures in
     let lengths = sym (length-append (take len left) (drop len left)) ∙ ap length (take-append-drop len left) in
     let rest = length-drop len left in
     subst (λ (l : List Placed). EmailsState old.groups (map placed_at c.args.batch.now) old.pool (drop next new.held.groups) (map placed_at l) (first_emails next new.held)
     × (next ≤ length new.held.groups)
     × IsBatch l
-    × (sum_by entry_bytes (map mapping_at l) ≤ new.bytes)
+    × HasRoom (drop next new.held.groups) (map mapping_at l) new.bytes
     × (length l ≤ new.emails)
     × (length l ≤ new.names))
     (sym c.behind-left.ensures) (
@@ -93,7 +107,7 @@ loop-left-preserved c =
           inv.0 some (sym (ap folded c.old_email.ensures)) c.email_run-len.ensures.within c.email_run-len.ensures.same c.email_run-len.ensures.other put,
       c.insert_run-from.ensures.within,
       batch_behind left len inv.2,
-      omega (arith, inv.3, took.bytes, run_bytes, parts),
+      (room.0, (stood, omega (arith, room.1.1, took.bytes, run_bytes, bytes))),
       omega (arith, inv.4, took.emails, more, rest, some),
       omega (arith, inv.5, took.names, run_length, lengths),
     )

@@ -1,6 +1,6 @@
-use Rattle.std.proofs.Common.{◌≤◌, map, drop, length, sum_by}
+use Rattle.std.proofs.Common.{◌≤◌, map, drop, length}
 use Rattle.mailmap_tables.specs.Merging.{mapping_at, placed_at}
-use Rattle.mailmap_tables.specs.Room.{entry_bytes, first_emails}
+use Rattle.mailmap_tables.specs.Room.{HasRoom, first_emails}
 use Rattle.mailmap_tables.proofs.EmailsLoop.{EmailsState}
 use Rattle.mailmap_tables.proofs.SortedRuns.{IsBatch}
 use Rattle.mailmap_tables.proofs.insert.insert_sorted.Given as goal
@@ -10,7 +10,7 @@ invariant-loop-left l =
     EmailsState l.fn.tables.held.groups (map placed_at l.fn.batch) l.fn.tables.held.pool (drop l.from l.tables.held.groups) (map placed_at l.left) (first_emails l.from l.tables.held)
     × (l.from ≤ length l.tables.held.groups)
     × IsBatch l.left
-    × (sum_by entry_bytes (map mapping_at l.left) ≤ l.tables.bytes)
+    × HasRoom (drop l.from l.tables.held.groups) (map mapping_at l.left) l.tables.bytes
     × (length l.left ≤ l.tables.emails)
     × (length l.left ≤ l.tables.names)
 

@@ -1,14 +1,19 @@
-use Rattle.std.proofs.Common.{◌≡◌, ◌≤◌, ◌<◌, ◌+◌, List, map, drop, length, get_or, None, Some, sym, ap, subst, ◌∙◌, arith}
-use Rattle.std.specs.List.{HoldsAt, slice_get}
+use Rattle.std.proofs.Common.{◌≡◌, ◌≤◌, ◌<◌, ◌+◌, List, map, drop, length, get_or, Some, sym, ap, subst, ◌∙◌, arith}
+use Rattle.std.specs.List.{AllByRecursion, HoldsAt, slice_get}
 use Rattle.std.specs.List.Sorted.{IsStrictlySortedBy}
-use Rattle.std.proofs.lemmas.List.{drop-map, get_or-drop, length-map, length-drop}
+use Rattle.std.proofs.lemmas.List.{drop-map, get_or-drop, get_or-map, length-map, length-drop}
 use Rattle.mailmap_entries.specs.Folding.{folded, text_cmp}
 use Rattle.mailmap_tables.specs.Groups.{Contents, EmailGroup, NameGroup, name_key}
 use Rattle.mailmap_tables.specs.Places.{IsFound, IsMissing}
-use Rattle.mailmap_tables.specs.Pool.{group_of, name_group}
-use Rattle.mailmap_tables.specs.declared.tables.NameRow.{NameRow}
+use Rattle.mailmap_tables.specs.Pool.{NameLies, group_of, name_group, spelled}
+use Rattle.mailmap_tables.specs.declared.texts.Texts.{Texts}
+use Rattle.mailmap_tables.specs.Texts.{old_span}
+use Rattle.mailmap_tables.proofs.Bytes.{alike_length}
+use Rattle.mailmap_tables.proofs.NamePlaces.{all_rest}
+use Rattle.mailmap_tables.proofs.Parting.{found_key}
+use Rattle.mailmap_tables.proofs.RowTexts.{spelled_len}
 use Rattle.mailmap_tables.proofs.InPlace.{found_behind, missing_behind}
-use Rattle.mailmap_tables.proofs.Pooled.{slice_get-map_at}
+use Rattle.mailmap_tables.proofs.Pooled.{all_at, slice_get-map_at}
 use Rattle.mailmap_tables.proofs.RowEdits.{at_read, from_read}
 use Rattle.mailmap_tables.proofs.insert.name_place.Goals as goal
 
@@ -42,7 +47,7 @@ returns-in-Ok-clause-stood c =
     let names = c.email.result.1.now in
     let kept = c.rest-kept.result.now in
     let g = group_of v.pool c.email.result.0 names in
-    let none : NameRow = record { old_name = record { start = 0; len = 0 }; new_name = None; new_email = record { start = 0; len = 0 } } in
+    let none : Texts = record { start = 0; old_len = 0; new_name_len = 0; new_email_len = 0 } in
     let row = get_or kept i none in
     let lt : from + i < length names = omega (arith, c.in-Ok.ensures.found.within, length-map kept (name_group v.pool), ap length c.rest-kept.ensures, length-drop from names) in
     let read : slice_get g.names (from + i) ≡ Some (name_group v.pool row) = slice_get-map_at (name_group v.pool) names (from + i) none lt
@@ -63,3 +68,18 @@ returns-in-Err-clause-missing c =
     let back : map (name_group v.pool) c.rest-kept.result.now ≡ drop from g.names = ap (map (name_group v.pool)) c.rest-kept.ensures ∙ sym (drop-map (name_group v.pool) from names) in
     let missing = missing_behind k from c.in-Err.i g.names within (subst (λ l. IsMissing name_key k 0 l c.in-Err.i) back c.in-Err.ensures.missing) in
     subst (λ (w : Contents). HoldsAt P w.groups c.args.email) c.view-view.ensures (at_read P v.groups c.args.email g c.email.ensures.group missing)
+
+pub returns-in-Ok-clause-len : goal.returns-in-Ok-clause-len
+returns-in-Ok-clause-len c =
+    let v = c.view-view.result in
+    let kept = c.rest-kept.result.now in
+    let i = c.in-Ok.i in
+    let none : Texts = record { start = 0; old_len = 0; new_name_len = 0; new_email_len = 0 } in
+    let row = get_or kept i none in
+    let ng = name_group v.pool in
+    let found = c.in-Ok.ensures.found in
+    let lt : i < length kept = omega (arith, found.within, length-map kept ng) in
+    let lie = subst (AllByRecursion (NameLies (length v.pool))) (sym c.rest-kept.ensures) (all_rest (NameLies (length v.pool)) c.args.from c.email.result.1.now c.email.ensures.lie.names_lie) in
+    let lies = all_at (NameLies (length v.pool)) kept i none lie lt in
+    let same : folded (spelled v.pool (old_span row)) ≡ folded c.args.name.now = found_key name_key (folded c.args.name.now) 0 (map ng kept) i (ng row) found (sym (get_or-map ng kept i none (ng row) lt)) in
+    sym (spelled_len v.pool (old_span row) lies.texts.old) ∙ alike_length (spelled v.pool (old_span row)) c.args.name.now same

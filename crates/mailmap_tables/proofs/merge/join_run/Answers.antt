@@ -5,7 +5,7 @@ use Rattle.mailmap_tables.specs.Groups.{Contents, EmailGroup, NameGroup, email_k
 use Rattle.mailmap_tables.specs.Merging.{Extends, EmailPut, bare, first_email, mapping_at}
 use Rattle.mailmap_tables.specs.Places.{IsFound, IsMissing}
 use Rattle.mailmap_tables.specs.Pool.{group_of}
-use Rattle.mailmap_tables.specs.declared.tables.EmailRow.{EmailRow}
+use Rattle.mailmap_tables.proofs.Edited.{bare_group}
 use Rattle.mailmap_tables.proofs.NamePlaces.{name_groups_on}
 use Rattle.mailmap_tables.proofs.Passing.{group_on}
 use Rattle.mailmap_tables.proofs.Runs.{none_sorted}
@@ -44,7 +44,7 @@ returns-in_ok-join_email-in-Err-clause-put c =
     let text = c.old_email-in-Err.result.now in
     let email : folded c.old_email.result.now ≡ first_email (map mapping_at c.args.run.now) = ap folded c.old_email.ensures ∙ first_email_at c.args.run.now _ c.requires.some in
     let grown : texted ≡ record mid { pool = mid.pool ++ text } = c.in_ok-old_email-in-Err.ensures.grown in
-    let same : group_of texted.pool c.bare_row.result [] ≡ bare text = ap (λ (r : EmailRow). group_of texted.pool r []) c.bare_row.ensures ∙ ap bare c.in_ok-old_email-in-Err.ensures.spells in
+    let same : group_of texted.pool c.bare.result [] ≡ bare text = bare_group texted.pool [] c.bare.result _ 0 c.bare.ensures ∙ ap bare c.in_ok-old_email-in-Err.ensures.spells in
     let put : EmailPut (bare text) (map mapping_at c.args.run.now) texted out = subst (λ (g : EmailGroup). EmailPut g (map mapping_at c.args.run.now) texted out) same c.in_ok-join_email-in-Err.ensures in
     run_put_unknown standing.groups c.args.from c.in-Err.place c.args.run.now c.args.out.now mid out c.in_ok-pass_emails-in-Err.ensures c.earliest.result text (mid.pool ++ text)
     (subst (λ (t : Text). IsMissing email_key t c.args.from standing.groups c.in-Err.place) email c.in-Err.ensures.missing)

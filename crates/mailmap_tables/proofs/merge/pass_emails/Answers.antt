@@ -1,11 +1,12 @@
-use Rattle.std.proofs.Common.{◌≡◌, ◌+◌, ◌-◌, ◌∷◌, [], ◌++◌, map, take, drop, length, append-nil, sym, ap, subst, ◌∙◌, append_assoc, arith}
+use Rattle.std.proofs.Common.{◌≡◌, ◌+◌, ◌-◌, ◌∷◌, [], ◌++◌, map, take, drop, length, append-nil, sym, ap, subst, ◌∙◌, append_assoc, arith, refl}
 use Rattle.std.proofs.lemmas.List.{length-map, length-append}
 use Rattle.mailmap_entries.specs.Folding.{folded}
 use Rattle.mailmap_entries.specs.Fronts.{IsFront}
 use Rattle.mailmap_tables.specs.Groups.{Contents}
-use Rattle.mailmap_tables.specs.Pool.{EmailLies, name_group, group_of, spelled}
+use Rattle.mailmap_tables.specs.Pool.{TextsLie, name_group, group_of, spelled}
+use Rattle.mailmap_tables.specs.Texts.{old_span}
 use Rattle.mailmap_tables.proofs.NamePlaces.{names_lie_on, name_groups_on}
-use Rattle.mailmap_tables.proofs.Passing.{front_on, passed_group, left_behind, email_lies_on, names_of_all, names_ahead, passed_more}
+use Rattle.mailmap_tables.proofs.Passing.{front_on, passed_group, left_behind, texts_lie_on, names_of_all, names_ahead, passed_more}
 use Rattle.mailmap_tables.proofs.merge.pass_emails.Goals as goal
 
 pub push_names-requires : goal.push_names-requires
@@ -30,14 +31,14 @@ loop-place-init c =
 pub pass_email-requires-clause-lies : goal.pass_email-requires-clause-lies
 pass_email-requires-clause-lies c =
     let row = c.email.result.0 in
-    subst (λ (v : Contents). EmailLies (length v.pool) row) (sym c.loop-place.invariant) (email_lies_on c.args.standing.now.pool c.args.out.now.pool c.requires.pool row c.email.ensures.lie.email_lies)
+    subst (λ (v : Contents). TextsLie (length v.pool) row) (sym c.loop-place.invariant) (texts_lie_on c.args.standing.now.pool c.args.out.now.pool c.requires.pool row c.email.ensures.lie.email_lies)
 
 pub pass_email-requires-clause-front : goal.pass_email-requires-clause-front
 pass_email-requires-clause-front c =
     let standing = c.args.standing.now in
     let row = c.email.result.0 in
     let known = c.email_text.result in
-    subst (λ (v : Contents). IsFront known.front (folded (spelled v.pool row.old_email))) (sym c.loop-place.invariant)
+    subst (λ (v : Contents). IsFront known.front (folded (spelled v.pool (old_span row)))) (sym c.loop-place.invariant)
     (front_on standing.pool c.args.out.now.pool c.requires.pool standing.groups c.loop-place.place known.front known.text.now row c.email.result.1.now
     c.email.ensures.lie.email_lies c.email.ensures.group c.email_text.ensures known.is_front)
 
@@ -50,7 +51,7 @@ pass_email-requires-clause-loose c =
     let g = group_of standing.pool row names in
     let ahead = names_ahead standing.groups place c.args.to g c.loop-place-test.true c.email.ensures.group in
     let more = names_of_all (take (c.args.to - (place + 1)) (drop (place + 1) standing.groups)) in
-    omega (arith, c.email.ensures.count, ap (λ (v : Contents). length v.loose) c.loop-place.invariant, ap length ahead, length-append g.names more, length-map names (name_group standing.pool))
+    omega (arith, ap (λ (v : Contents). length v.loose) c.loop-place.invariant, ap length ahead, length-append g.names more, length-map names (name_group standing.pool))
 
 pub loop-place-preserved : goal.loop-place-preserved
 loop-place-preserved c =
@@ -59,7 +60,7 @@ loop-place-preserved c =
     let row = c.email.result.0 in
     let names = c.email.result.1.now in
     let place = c.loop-place.place in
-    let count = row.names_end - row.names_start in
+    let count = length names in
     let g = group_of standing.pool row names in
     let run = take (place - c.args.from) (drop c.args.from standing.groups) in
     let more = names_of_all (take (c.args.to - (place + 1)) (drop (place + 1) standing.groups)) in
@@ -78,8 +79,8 @@ loop-place-preserved c =
     })
     ∙ (λ i. record {
       pool = old.pool;
-      groups = (old.groups ++ run) ++ passed_group standing.pool old.pool c.requires.pool row names more count c.email.ensures.lie c.email.ensures.count i ∷ [];
-      loose = left_behind standing.pool row names more count c.email.ensures.count i;
+      groups = (old.groups ++ run) ++ passed_group standing.pool old.pool c.requires.pool row names more count c.email.ensures.lie refl i ∷ [];
+      loose = left_behind standing.pool row names more count refl i;
     })
     ∙ (λ i. record {
       pool = old.pool;

@@ -1,4 +1,4 @@
-use Rattle.std.proofs.Common.{◌∙◌, ◌++◌, ◌∷◌, [], map, take, get_or, length, None, refl, sym, ap, subst}
+use Rattle.std.proofs.Common.{◌∙◌, ◌++◌, ◌∷◌, [], map, take, get_or, length, refl, sym, ap, subst}
 use Rattle.std.specs.List.{AllByRecursion}
 use Rattle.mailmap_entries.specs.Folding.{folded}
 use Rattle.mailmap_tables.specs.Groups.{Contents, name_key}
@@ -6,7 +6,8 @@ use Rattle.mailmap_tables.specs.Places.{IsFound, IsMissing}
 use Rattle.mailmap_tables.specs.Merging.{Extends, NamePlaced, NamePut}
 use Rattle.mailmap_tables.specs.Named.{named_group}
 use Rattle.mailmap_tables.specs.Pool.{spelled, NameLies, name_group}
-use Rattle.mailmap_tables.specs.declared.tables.NameRow.{NameRow}
+use Rattle.mailmap_tables.specs.Texts.{old_span}
+use Rattle.mailmap_tables.specs.declared.texts.Texts.{Texts}
 use Rattle.mailmap_tables.proofs.NamePlaces.{all_rest, extends_through, names_lie_on, name_groups_on, placed_found, placed_new, put_from}
 use Rattle.mailmap_tables.proofs.merge.put_name.Goals as goal
 
@@ -24,17 +25,17 @@ returns-in_ok-push_named-in-Ok-clause-put c =
     let place = c.in-Ok.place in
     let step = c.in_ok-push_names-in-Ok.ensures in
     let pushed = c.in_ok-push_named-in-Ok.ensures in
-    let row : NameRow = get_or kept place (record { old_name = record { start = 0; len = 0 }; new_name = None; new_email = record { start = 0; len = 0 } }) in
+    let row : Texts = get_or kept place (record { start = 0; old_len = 0; new_name_len = 0; new_email_len = 0 }) in
     let out = c.push_named.new.out in
     let grown : Extends pool out.pool = subst (λ (v : Contents). Extends v.pool out.pool) step pushed.grown in
     let lie = subst (AllByRecursion (NameLies (length pool))) (sym c.rest.ensures) (all_rest _ _ _ c.requires.lie) in
     subst (λ l. NamePut (map (name_group pool) kept) l (named_group c.args.named) c.args.out.now out) (name_groups_on pool out.pool grown c.rest.result.now lie)
-    (put_from (map (name_group pool) kept) (map (name_group pool) c.rest.result.now) (named_group c.args.named) c.args.out.now out (map (name_group pool) (take place kept)) (spelled pool row.old_name)
+    (put_from (map (name_group pool) kept) (map (name_group pool) c.rest.result.now) (named_group c.args.named) c.args.out.now out (map (name_group pool) (take place kept)) (spelled pool (old_span row))
     grown
     (pushed.groups ∙ ap (λ (v : Contents). v.groups) step)
-    (pushed.loose ∙ ap (λ (v : Contents). v.loose ++ record (named_group c.args.named) { old_name = spelled v.pool row.old_name } ∷ []) step
-    ∙ ap (λ l. (c.args.out.now.loose ++ map (name_group pool) l) ++ record (named_group c.args.named) { old_name = spelled pool row.old_name } ∷ []) c.front.ensures)
-    (subst (λ l. NamePlaced (map (name_group pool) kept) (map (name_group pool) (take place kept)) c.args.named.old_name.now (spelled pool row.old_name) (map (name_group pool) l)) (sym c.rest.ensures)
+    (pushed.loose ∙ ap (λ s. c.push_names.new.self.loose ++ record (named_group c.args.named) { old_name = spelled c.push_names.new.self.pool s } ∷ []) c.old.ensures ∙ ap (λ (v : Contents). v.loose ++ record (named_group c.args.named) { old_name = spelled v.pool (old_span row) } ∷ []) step
+    ∙ ap (λ l. (c.args.out.now.loose ++ map (name_group pool) l) ++ record (named_group c.args.named) { old_name = spelled pool (old_span row) } ∷ []) c.front.ensures)
+    (subst (λ l. NamePlaced (map (name_group pool) kept) (map (name_group pool) (take place kept)) c.args.named.old_name.now (spelled pool (old_span row)) (map (name_group pool) l)) (sym c.rest.ensures)
     (placed_found pool kept c.args.named.old_name.now place _ (subst (λ (v : Contents). IsFound name_key (folded c.args.named.old_name.now) 0 (map (name_group v.pool) kept) place) c.view.ensures c.in-Ok.ensures.found))))
 
 -- ---- the name is new

@@ -1,4 +1,4 @@
-use Rattle.std.proofs.Common.{◌≡◌, ◌<◌, ◌++◌, List, [], ◌∷◌, ℕ, zero, suc, get_or, map, take, drop, length, None, refl, ap, ◌∙◌, arith}
+use Rattle.std.proofs.Common.{◌≡◌, ◌<◌, ◌++◌, List, [], ◌∷◌, ℕ, zero, suc, get_or, map, take, drop, length, refl, ap, ◌∙◌, arith}
 use Rattle.std.proofs.lemmas.List.Edits.{map_over_more}
 use Rattle.mailmap_tables.specs.Room.{one_later}
 use Rattle.mailmap_tables.specs.declared.tables.EmailRow.{EmailRow}
@@ -7,7 +7,7 @@ use Rattle.mailmap_tables.proofs.RowEdits.{get_or_any}
 use Rattle.mailmap_tables.proofs.room.stand_later.Goals as goal
 
 abbrev none : EmailRow
-none = record { old_email = record { start = 0; len = 0 }; new_name = None; new_email = None; names_start = 0; names_end = 0 }
+none = record { texts = record { start = 0; old_len = 0; new_name_len = 0; new_email_len = 0 }; names_start = 0; names_end = 0 }
 
 -- what is left of the rows is as it was
 still : (f : EmailRow → EmailRow) (xs : List EmailRow) (i : ℕ) (d : EmailRow) → i < length xs → get_or (map f (take i xs) ++ drop i xs) i d ≡ get_or xs i d

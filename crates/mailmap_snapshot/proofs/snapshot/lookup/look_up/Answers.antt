@@ -1,5 +1,7 @@
-use Rattle.std.proofs.Common.{◌≡◌, ◌-◌, length, sym, ap, ◌∙◌, arith}
+use Rattle.std.proofs.Common.{◌≡◌, ◌-◌, Some, length, option_map, sym, ap, ◌∙◌, arith}
 use Rattle.mailmap_entries.specs.Search.{digits}
+use Rattle.mailmap_histories.specs.Histories.{answered}
+use Rattle.mailmap_tables.specs.Pool.{spelled}
 use Rattle.mailmap_snapshot.proofs.Resolved.{scan_at_none, no_names, names_ascend, names_counted, scan_at_name, scan_at_email}
 use Rattle.mailmap_snapshot.proofs.snapshot.lookup.look_up.Goals as goal
 
@@ -18,8 +20,12 @@ search_name-requires-clause-ascending c =
 
 pub returns-in-Ok-search_name-clause-fields : goal.returns-in-Ok-search_name-clause-fields
 returns-in-Ok-search_name-clause-fields c =
-    c.answer.ensures.fields ∙ sym (scan_at_name c.args.tables.now.groups c.requires.groups c.args.email.now c.in-Ok.place c.in-Ok.ensures.found
-    c.args.tables.now.pool c.email.result.0 c.email.result.1.now c.email.ensures.group c.args.name.now c.in-Ok-search_name.i _ c.in-Ok-search_name.ensures.found)
+    let pool = c.args.tables.now.pool in
+    let given = c.fields-new_name.ensures in
+    c.answer.ensures.fields
+    ∙ (λ k. answered c.args.email.now (record { name = option_map (spelled pool) (given.new_name k); email = option_map (spelled pool) (given.new_email k) }) (Some (spelled pool (c.old.ensures k))))
+    ∙ sym (scan_at_name c.args.tables.now.groups c.requires.groups c.args.email.now c.in-Ok.place c.in-Ok.ensures.found
+    c.args.tables.now.pool c.email.result.0 c.email.result.1.now c.email.ensures.group c.args.name.now c.in-Ok-search_name.i _ c.email.ensures.lie.names_lie c.in-Ok-search_name.ensures.found)
 
 pub returns-in-Ok-search_name-clause-at_most : goal.returns-in-Ok-search_name-clause-at_most
 returns-in-Ok-search_name-clause-at_most c =
@@ -37,7 +43,11 @@ returns-in-Ok-search_name-clause-at_least c =
 
 pub returns-in-Err-clause-fields : goal.returns-in-Err-clause-fields
 returns-in-Err-clause-fields c =
-    c.answer-in-Err.ensures.fields ∙ sym (scan_at_email c.args.tables.now.groups c.requires.groups c.args.email.now c.in-Ok.place c.in-Ok.ensures.found
+    let pool = c.args.tables.now.pool in
+    let given = c.fields-new_name-in-Err.ensures in
+    c.answer-in-Err.ensures.fields
+    ∙ (λ k. answered c.args.email.now (record { name = option_map (spelled pool) (given.new_name k); email = option_map (spelled pool) (given.new_email k) }) (Some (spelled pool (c.old-in-Err.ensures k))))
+    ∙ sym (scan_at_email c.args.tables.now.groups c.requires.groups c.args.email.now c.in-Ok.place c.in-Ok.ensures.found
     c.args.tables.now.pool c.email.result.0 c.email.result.1.now c.email.ensures.group c.args.name.now c.in-Err.field-0 c.in-Err.ensures.missing)
 
 pub returns-in-Err-clause-at_most : goal.returns-in-Err-clause-at_most

@@ -2,7 +2,7 @@ use Rattle.std.proofs.Common.{◌<◌, length, map, sym, ap, ◌∙◌, Some, ar
 use Rattle.std.proofs.lemmas.List.{length-map}
 use Rattle.mailmap_entries.specs.Folding.{folded, text_cmp}
 use Rattle.mailmap_tables.specs.Groups.{NameGroup, name_key}
-use Rattle.mailmap_tables.specs.Pool.{name_group}
+use Rattle.mailmap_tables.specs.Pool.{name_group, spelled}
 use Rattle.mailmap_tables.proofs.Places.{name_at}
 use Rattle.mailmap_tables.proofs.search.NameProbeProbe.ask.Goals as goal
 
@@ -13,4 +13,4 @@ returns-clause-answer c =
     let k = folded c.args.self.now.name.now in
     let lt : c.args.place < length names =
     omega (arith, c.requires.within, length-map (map (name_group pool) names) (λ (n : NameGroup). text_cmp (name_key n) k), length-map names (name_group pool)) in
-    name_at pool k names c.args.place _ c.text.result.now lt c.text.ensures ∙ ap (λ a. Some a) (sym c.compare.ensures.value)
+    name_at pool k names c.args.place _ c.text.result.now lt (c.text.ensures ∙ ap (spelled pool) c.old.ensures) ∙ ap (λ a. Some a) (sym c.compare.ensures.value)

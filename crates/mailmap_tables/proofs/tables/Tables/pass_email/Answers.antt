@@ -1,9 +1,10 @@
 use Rattle.std.proofs.Common.{◌≡◌, ◌≤◌, ◌+◌, ◌-◌, arith, ◌∙◌, ap, ◌++◌, ◌∷◌, [], sym, subst, subst₂, length, take, drop}
 use Rattle.std.proofs.lemmas.List.{length-map, length-drop}
-use Rattle.mailmap_tables.specs.Pool.{AreTables, contents, spelled, EmailLies, end_of, name_group, group_of}
+use Rattle.mailmap_tables.specs.Pool.{AreTables, contents, spelled, TextsLie, end_of, name_group, group_of}
 use Rattle.mailmap_entries.specs.Folding.{folded}
 use Rattle.mailmap_entries.specs.Fronts.{front_number}
 use Rattle.mailmap_tables.specs.Groups.{Contents}
+use Rattle.mailmap_tables.specs.Texts.{old_span}
 use Rattle.mailmap_tables.proofs.Pooled.{contents-email, tables-email, end_within}
 use Rattle.mailmap_tables.proofs.tables.Tables.pass_email.Goals as goal
 
@@ -11,10 +12,10 @@ pub invariant_of-self-2 : goal.invariant_of-self-2
 invariant_of-self-2 c =
     let names = c.self.inside.names.items in
     let emails = c.self.inside.emails.items in
-    let row = c.args.row in
-    let lies : EmailLies (length c.self.inside.pool.items) row = subst (λ (v : Contents). EmailLies (length v.pool) row) (sym c.self.view_is) c.requires.lies in
+    let row = c.args.texts in
+    let lies : TextsLie (length c.self.inside.pool.items) row = subst (λ (v : Contents). TextsLie (length v.pool) row) (sym c.self.view_is) c.requires.lies in
     let from : c.last_end-names_start.result ≡ end_of 0 emails = c.last_end-names_start.ensures ∙ ap (end_of 0) c.deref.ensures.value in
-    let to : c.last_end-names_start.result + (row.names_end - row.names_start) ≤ length names = omega (
+    let to : c.last_end-names_start.result + c.args.count ≤ length names = omega (
       arith,
       from,
       c.requires.loose,
@@ -23,18 +24,18 @@ invariant_of-self-2 c =
       length-map (drop (end_of 0 emails) names) (name_group c.self.inside.pool.items),
       length-drop (end_of 0 emails) names,
     ) in
-    let front = c.requires.front.is ∙ ap (λ (v : Contents). front_number 16 (folded (spelled v.pool row.old_email))) (sym c.self.view_is) in
+    let front = c.requires.front.is ∙ ap (λ (v : Contents). front_number 16 (folded (spelled v.pool (old_span row)))) (sym c.self.view_is) in
     subst₂ (λ es fs. AreTables c.self.inside.pool.items names es fs) (sym c.in_ok-push_row.ensures.emails) (sym c.in_ok-push_row.ensures.fronts)
-    (tables-email _ _ _ c.self.invariant _ from (omega arith) to (record { old_email = lies.old_email; new_name = lies.new_name; new_email = lies.new_email }) _ front)
+    (tables-email _ _ _ c.self.invariant _ from (omega arith) to lies _ front)
 
 pub returns : goal.returns
 returns c =
     let pool = c.self.inside.pool.items in
     let names = c.self.inside.names.items in
     let emails = c.self.inside.emails.items in
-    let row = c.args.row in
+    let row = c.args.texts in
     let from : c.last_end-names_start.result ≡ end_of 0 emails = c.last_end-names_start.ensures ∙ ap (end_of 0) c.deref.ensures.value in
-    let count : c.last_end-names_start.result + (row.names_end - row.names_start) - c.last_end-names_start.result ≡ row.names_end - row.names_start = omega arith in
+    let count : c.last_end-names_start.result + c.args.count - c.last_end-names_start.result ≡ c.args.count = omega arith in
     let loose = (contents pool names emails).loose in
     ap (λ es. contents pool names es) c.in_ok-push_row.ensures.emails
     ∙ contents-email pool names emails c.self.invariant _ from (omega arith)
@@ -45,6 +46,6 @@ returns c =
     })
     ∙ ap (λ (v : Contents). record {
       pool = v.pool;
-      groups = v.groups ++ record (group_of v.pool row []) { names = take (row.names_end - row.names_start) v.loose } ∷ [];
-      loose = drop (row.names_end - row.names_start) v.loose;
+      groups = v.groups ++ record (group_of v.pool row []) { names = take c.args.count v.loose } ∷ [];
+      loose = drop c.args.count v.loose;
     }) c.self.view_is

@@ -1,9 +1,9 @@
-use Rattle.std.proofs.Common.{◌≡◌, ◌≤◌, ◌<◌, ◌-◌, List, subst₂, length, sym, ap, ◌∙◌, subst, arith, Some, drop}
-use Rattle.std.proofs.lemmas.List.{length-map, length-drop, length-take-le}
+use Rattle.std.proofs.Common.{◌≡◌, ◌≤◌, ◌<◌, List, subst₂, length, sym, ap, ◌∙◌, subst, arith, Some}
+use Rattle.std.proofs.lemmas.List.{length-map}
 use Rattle.std.specs.List.{slice_get}
 use Rattle.mailmap_tables.specs.Groups.{Contents}
 use Rattle.mailmap_tables.specs.Pool.{RowsLie, names_of, group_of, email_group}
-use Rattle.mailmap_tables.specs.declared.tables.NameRow.{NameRow}
+use Rattle.mailmap_tables.specs.declared.texts.Texts.{Texts}
 use Rattle.mailmap_tables.specs.declared.tables.EmailRow.{EmailRow}
 use Rattle.mailmap_tables.proofs.Pooled.{range_at, rows_lie_at, slice_get-map_at}
 use Rattle.mailmap_tables.proofs.view.View.email.Goals as goal
@@ -36,8 +36,8 @@ returns-clause-group c =
     let lt : c.args.place < length emails = omega (arith, c.requires, ap (λ (v : Contents). length v.groups) c.self.view_is, length-map emails (email_group pool names)) in
     let ns : c.part.result.now ≡ names_of names row = c.part.ensures in
     ap (λ (v : Contents). slice_get v.groups c.args.place) (sym c.self.view_is) ∙ slice_get-map_at (email_group pool names) emails c.args.place row lt
-    ∙ ap (λ r. Some (email_group pool names r)) (sym c.at-row.ensures) ∙ ap (λ l. Some (group_of pool row l)) (sym ns)
-    ∙ ap (λ (v : Contents). Some (group_of v.pool row c.part.result.now)) c.self.view_is
+    ∙ ap (λ r. Some (email_group pool names r)) (sym c.at-row.ensures) ∙ ap (λ l. Some (group_of pool row.texts l)) (sym ns)
+    ∙ ap (λ (v : Contents). Some (group_of v.pool row.texts c.part.result.now)) c.self.view_is
 
 pub returns-clause-lie : goal.returns-clause-lie
 returns-clause-lie c =
@@ -47,33 +47,7 @@ returns-clause-lie c =
     let row = c.at-row.result in
     let lt : c.args.place < length emails = omega (arith, c.requires, ap (λ (v : Contents). length v.groups) c.self.view_is, length-map emails (email_group pool names)) in
     let ns : c.part.result.now ≡ names_of names row = c.part.ensures in
-    subst₂ (λ (v : Contents) (l : List NameRow). RowsLie v.pool row l) c.self.view_is (sym ns) (rows_lie_at pool names emails c.self.invariant c.args.place row lt c.at-row.ensures)
-
-pub returns-clause-up : goal.returns-clause-up
-returns-clause-up c =
-    let row = c.at-row.result in
-    let emails = c.self.inside.emails.now in
-    let names = c.self.inside.names.now in
-    let lt : c.args.place < length emails = omega (arith, c.requires, ap (λ (v : Contents). length v.groups) c.self.view_is, length-map emails (email_group c.self.inside.pool.now names)) in
-    let range = range_at 0 (length names) emails c.args.place row c.self.invariant.ranges lt in
-    rw c.at-row.ensures range.0
-
-pub returns-clause-count : goal.returns-clause-count
-returns-clause-count c =
-    let row = c.at-row.result in
-    let emails = c.self.inside.emails.now in
-    let names = c.self.inside.names.now in
-    let lt : c.args.place < length emails = omega (arith, c.requires, ap (λ (v : Contents). length v.groups) c.self.view_is, length-map emails (email_group c.self.inside.pool.now names)) in
-    let range = range_at 0 (length names) emails c.args.place row c.self.invariant.ranges lt in
-    let high : row.names_end ≤ length names = subst (λ (r : EmailRow). r.names_end ≤ length names) (sym c.at-row.ensures) range.1 in
-    let rest = drop row.names_start names in
-    omega (
-      arith,
-      high,
-      ap length c.part.ensures,
-      length-drop row.names_start names,
-      length-take-le (row.names_end - row.names_start) rest (omega (arith, high, length-drop row.names_start names)),
-    )
+    subst₂ (λ (v : Contents) (l : List Texts). RowsLie v.pool row.texts l) c.self.view_is (sym ns) (rows_lie_at pool names emails c.self.invariant c.args.place row lt c.at-row.ensures)
 
 pub at-row-requires : goal.at-row-requires
 at-row-requires c =

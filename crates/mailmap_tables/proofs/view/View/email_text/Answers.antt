@@ -5,6 +5,7 @@ use Rattle.mailmap_entries.specs.Folding.{folded}
 use Rattle.mailmap_entries.specs.Fronts.{front_number}
 use Rattle.mailmap_tables.specs.Groups.{Contents, EmailGroup}
 use Rattle.mailmap_tables.specs.Pool.{spelled, email_group, front_of}
+use Rattle.mailmap_tables.specs.Texts.{old_span}
 use Rattle.mailmap_tables.proofs.Pooled.{slice_get-map_at}
 use Rattle.mailmap_tables.proofs.view.View.email_text.Goals as goal
 
@@ -15,7 +16,7 @@ with_front-requires c =
     let row = c.at-row.result in
     let place = c.args.place in
     let lt : place < length emails = omega (arith, c.requires, ap (λ (v : Contents). length v.groups) c.self.view_is, length-map emails (email_group pool c.self.inside.names.now)) in
-    let text : spelled pool row.old_email ≡ c.text.result.now = ap (λ (v : Contents). spelled v.pool row.old_email) c.self.view_is ∙ sym c.text.ensures in
+    let text : spelled pool (old_span row.texts) ≡ c.text.result.now = ap (λ (v : Contents). spelled v.pool (old_span row.texts)) c.self.view_is ∙ sym (c.text.ensures ∙ ap (spelled c.args.self.now.pool) c.old.ensures) in
     c.at.ensures ∙ ap (λ l. get_or l place c.at.result) c.self.invariant.front_each
     ∙ get_or-map (front_of pool) emails place row c.at.result lt
     ∙ ap (front_of pool) (sym c.at-row.ensures)
@@ -33,8 +34,8 @@ returns c =
     ∙ slice_get-map_at (λ (g : EmailGroup). g.old_email) (map group emails) c.args.place (group row) lt_group
     ∙ ap (λ (g : EmailGroup). Some g.old_email) (get_or-map group emails c.args.place row (group row) lt)
     ∙ ap (λ r. Some (group r).old_email) (sym c.at-row.ensures)
-    ∙ ap (λ (v : Contents). Some (spelled v.pool row.old_email)) c.self.view_is
-    ∙ ap (λ t. Some t) (sym c.text.ensures ∙ sym c.with_front.ensures.text)
+    ∙ ap (λ (v : Contents). Some (spelled v.pool (old_span row.texts))) c.self.view_is
+    ∙ ap (λ t. Some t) (sym (c.text.ensures ∙ ap (spelled c.args.self.now.pool) c.old.ensures) ∙ sym c.with_front.ensures.text)
 
 pub at-row-requires : goal.at-row-requires
 at-row-requires c =

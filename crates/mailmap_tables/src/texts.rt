@@ -1,0 +1,194 @@
+//! The texts of a row: an old one, and the new name and the new email that stand for it, one behind another in the pool.
+ghost use Rattle.std.specs.Prelude.{◌≡◌, ◌≤◌, ◌<◌, ◌+◌, ◌++◌, None, Some, ◌-◌, min, IfOk, IsOk, IsSome, IsTrue, OnOk, OnErr, length, vec_len, vec_capacity};
+ghost use Rattle.std.specs.Option.{ForSome};
+ghost use Rattle.mailmap_tables.specs.Merging.{Extends};
+ghost use Rattle.mailmap_tables.specs.Pool.{LiesIn, RowSpells, TextsLie, bytes_of};
+ghost use Rattle.mailmap_tables.specs.Texts.{AreTogether, IsBare, byte_count, email_span, len_of, name_span, old_span, row_of, span_bytes, span_of};
+
+use std::alloc::AllocError;
+
+/// Where a text stands in the pool.
+#[derive(Clone, Copy)]
+pub struct Span {
+    pub start: usize,
+    pub len: usize,
+}
+
+/// A length that no text has. It says that there is no text.
+pub const NO_TEXT: usize = usize::MAX;
+
+/// Where the texts of a row stand in the pool: the old one starts there, and behind it come the new name and the new
+/// email, each with a length of its own or [`NO_TEXT`].
+#[derive(Clone, Copy)]
+pub struct Texts {
+    pub start: usize,
+    pub old_len: usize,
+    pub new_name_len: usize,
+    pub new_email_len: usize,
+}
+
+impl Texts {
+    /// An old text for which nothing stands yet.
+    #[tactic(auto, unfolding(crate::specs::Texts::span_of, crate::specs::Texts::name_span, crate::specs::Texts::email_span, crate::specs::Texts::byte_count))]
+    pub(crate) fn bare(old: Span) -> Texts
+        ensures { IsBare result old }
+    {
+        Texts {
+            start: old.start,
+            old_len: old.len,
+            new_name_len: NO_TEXT,
+            new_email_len: NO_TEXT,
+        }
+    }
+
+    /// The old text.
+    pub fn old(self) -> Span
+        ensures { result ≡ old_span self }
+    {
+        Span {
+            start: self.start,
+            len: self.old_len,
+        }
+    }
+
+    /// The new name, if there is one.
+    #[tactic(auto, unfolding(crate::specs::Texts::name_span))]
+    pub(crate) fn new_name(self) -> Option<Span>
+        requires { self.start + self.old_len ≤ usize.MAX }
+        ensures { result ≡ name_span self }
+    {
+        span_of(self.start + self.old_len, self.new_name_len)
+    }
+
+    /// The new email, if there is one.
+    #[tactic(auto, unfolding(crate::specs::Texts::email_span))]
+    pub(crate) fn new_email(self) -> Option<Span>
+        requires { self.start + self.old_len + byte_count self.new_name_len ≤ usize.MAX }
+        ensures { result ≡ email_span self }
+    {
+        let start = self.start + self.old_len + byte_count(self.new_name_len);
+        span_of(start, self.new_email_len)
+    }
+
+    /// How many bytes the texts have, as far as they can be counted.
+    pub(crate) fn len(self) -> usize {
+        self.old_len.saturating_add(self.fields_len())
+    }
+
+    /// How many bytes the new name and the new email have, as far as they can be counted.
+    pub(crate) fn fields_len(self) -> usize
+        ensures { result ≡ min (byte_count self.new_name_len + byte_count self.new_email_len) usize.MAX }
+    {
+        byte_count(self.new_name_len).saturating_add(byte_count(self.new_email_len))
+    }
+}
+
+// A text that starts there, if it has a length.
+#[tactic(auto, unfolding(crate::specs::Texts::span_of))]
+fn span_of(start: usize, len: usize) -> Option<Span>
+    ensures { result ≡ span_of start len }
+{
+    if len == NO_TEXT {
+        None
+    } else {
+        Some(Span { start, len })
+    }
+}
+
+// How many bytes a length stands for.
+#[tactic(auto, unfolding(crate::specs::Texts::byte_count))]
+fn byte_count(len: usize) -> usize
+    ensures { result ≡ byte_count len }
+{
+    if len == NO_TEXT { 0 } else { len }
+}
+
+// The length of a text, if there is one.
+fn len_of(span: Option<Span>) -> usize
+    ensures { result ≡ len_of span }
+{
+    match span {
+        Some(span) => span.len,
+        None => NO_TEXT,
+    }
+}
+
+/// The row of texts that stand in the pool. Where they stand one behind another, it is just that; else they are copied
+/// to the end of the pool.
+pub(crate) fn together(
+    pool: &mut Vec<u8>,
+    old: Span,
+    new_name: Option<Span>,
+    new_email: Option<Span>,
+) -> Result<Texts, AllocError>
+    requires old { LiesIn (length pool.old.items) old }
+    requires new_name { ForSome new_name (LiesIn (length pool.old.items)) }
+    requires new_email { ForSome new_email (LiesIn (length pool.old.items)) }
+    ensures grown { Extends pool.old.items pool.new.items }
+    ensures lies { IfOk result (TextsLie (length pool.new.items)) }
+    ensures spells { IfOk result (RowSpells pool.old.items pool.new.items old new_name new_email) }
+    ensures bytes { length pool.new.items ≤ length pool.old.items + (old.len + (span_bytes new_name + span_bytes new_email)) }
+    ensures capacity { vec_capacity pool.old ≤ vec_capacity pool.new }
+    ensures succeeds { vec_len pool.old + (old.len + (span_bytes new_name + span_bytes new_email)) ≤ vec_capacity pool.old → IsOk result }
+{
+    let len = pool.len();
+    if are_together(old, new_name, new_email) {
+        return Ok(row(old.start, old, new_name, new_email));
+    }
+    push_again(pool, Some(old))?;
+    push_again(pool, new_name)?;
+    push_again(pool, new_email)?;
+    Ok(row(len, old, new_name, new_email))
+}
+
+// The row of texts that stand one behind another from there on.
+fn row(start: usize, old: Span, new_name: Option<Span>, new_email: Option<Span>) -> Texts
+    ensures { result ≡ row_of start old new_name new_email }
+{
+    Texts {
+        start,
+        old_len: old.len,
+        new_name_len: len_of(new_name),
+        new_email_len: len_of(new_email),
+    }
+}
+
+// Whether texts stand one behind another.
+fn are_together(old: Span, new_name: Option<Span>, new_email: Option<Span>) -> bool
+    requires old { LiesIn (usize.MAX - 1) old }
+    requires new_name { ForSome new_name (LiesIn (usize.MAX - 1)) }
+    requires new_email { ForSome new_email (LiesIn (usize.MAX - 1)) }
+    ensures { IsTrue result → AreTogether old new_name new_email }
+{
+    let Some(end) = end_behind(new_name, old.start + old.len) else {
+        return false;
+    };
+    end_behind(new_email, end).is_some()
+}
+
+// Where a text that stands there ends, if it does stand there; there itself for no text.
+fn end_behind(span: Option<Span>, start: usize) -> Option<usize>
+    requires { ForSome span (LiesIn (usize.MAX - 1)) }
+    ensures stands { IsSome result → ForSome span (λ s. s.start ≡ start) }
+    ensures end { ForSome result (λ end. end ≡ start + span_bytes span) }
+{
+    match span {
+        None => Some(start),
+        Some(span) if span.start == start => Some(start + span.len),
+        Some(_) => None,
+    }
+}
+
+// Puts a text of the pool at its end once more, if there is one.
+fn push_again(pool: &mut Vec<u8>, span: Option<Span>) -> Result<(), AllocError>
+    requires { ForSome span (LiesIn (length pool.old.items)) }
+    ensures items { OnOk result (pool.new.items ≡ pool.old.items ++ bytes_of pool.old.items span) }
+    ensures same { OnErr result (pool.new.items ≡ pool.old.items) }
+    ensures capacity { vec_capacity pool.old ≤ vec_capacity pool.new }
+    ensures succeeds { vec_len pool.old + span_bytes span ≤ vec_capacity pool.old → IsOk result }
+{
+    match span {
+        Some(span) => pool.extend_from_within(span.start..span.start + span.len),
+        None => Ok(()),
+    }
+}
