@@ -10,3 +10,4 @@ pub mod Sorting
 pub mod Named
 pub mod Remaining
 pub mod Room
+pub mod Collecting
