@@ -2,7 +2,7 @@ use Rattle.std.proofs.Common.{◌≢◌, List, [], ◌∷◌, ◌++◌, map, sub
 use Rattle.std.specs.Iterator.{Yields}
 use Rattle.std.proofs.iter.Next.{Yields-more}
 use Rattle.std.proofs.lemmas.List.{map_push}
-use Rattle.mailmap_entries.specs.Entries.{Mapping, mapping_of}
+use Rattle.mailmap_entries.specs.Entries.{mapping_of}
 use Rattle.mailmap_entries.specs.declared.entry.Entry.{Entry as Item}
 use Rattle.mailmap_histories.specs.Histories.{accepted}
 use Rattle.mailmap_tables.specs.Collecting.{IsCollected}

@@ -1,4 +1,4 @@
-use Rattle.std.proofs.Common.{Some, map, ap, sym, subst}
+use Rattle.std.proofs.Common.{Some, map, sym, subst}
 use Rattle.mailmap_entries.specs.Entries.{mapping_of}
 use Rattle.mailmap_tables.specs.Collecting.{IsCollected}
 use Rattle.mailmap_tables.proofs.portions.Collected.end_portion.Goals as goal

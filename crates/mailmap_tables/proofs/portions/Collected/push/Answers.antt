@@ -1,6 +1,6 @@
-use Rattle.std.proofs.Common.{◌≡◌, ◌++◌, ◌∷◌, [], List, map, sym, ap, subst, ◌∙◌}
+use Rattle.std.proofs.Common.{◌≡◌, ◌++◌, ◌∷◌, [], map, sym, ap, subst, ◌∙◌}
 use Rattle.std.proofs.lemmas.List.{map_push}
-use Rattle.mailmap_entries.specs.Entries.{Mapping, mapping_of}
+use Rattle.mailmap_entries.specs.Entries.{mapping_of}
 use Rattle.mailmap_tables.specs.Collecting.{IsCollected}
 use Rattle.mailmap_tables.proofs.Collected.{on_ok_then}
 use Rattle.mailmap_tables.proofs.Joining.{collected_push}

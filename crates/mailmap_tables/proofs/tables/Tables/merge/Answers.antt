@@ -1,7 +1,7 @@
-use Rattle.std.proofs.Common.{◌≡◌, ◌≢◌, ◌∙◌, ◌++◌, [], List, Option, None, Some, true, unwrap_or, map, sym, ap, subst}
+use Rattle.std.proofs.Common.{◌≡◌, ◌≢◌, ◌++◌, [], List, Option, None, Some, true, map, sym, subst}
 use Rattle.std.specs.Iterator.{Yields}
 use Rattle.std.specs.List.{AllByRecursion}
-use Rattle.mailmap_entries.specs.Entries.{Mapping, mapping_of}
+use Rattle.mailmap_entries.specs.Entries.{mapping_of}
 use Rattle.mailmap_entries.specs.declared.entry.Entry.{Entry as Item}
 use Rattle.mailmap_histories.specs.Histories.{IsNormal, accepted, is_accepted}
 use Rattle.mailmap_tables.specs.Collecting.{IsCollected}
