@@ -8,6 +8,7 @@ pub mod Lookups
 pub mod Places
 pub mod Runs
 pub mod Collected
+pub mod Joining
 pub mod Arranged
 pub mod Rests
 pub mod Parting

@@ -11,3 +11,4 @@ pub mod Sorting
 pub mod Named
 pub mod Remaining
 pub mod Room
+pub mod Collecting

@@ -28,34 +28,6 @@ pub(crate) struct Placed<'e, 'a> {
     pub(crate) entry: &'e Entry<'a>,
 }
 
-// The accepted entries that an iterator gives.
-pub(crate) fn accepted_of<'a, I: Iterator<Item = Entry<'a>> + Drop>(
-    alloc: Global,
-    entries: I,
-) -> Result<Vec<Entry<'a>>, AllocError>
-    requires can { I.can_next entries }
-    requires finite { IsFinite (I.remaining entries) }
-    ensures ok { IfOk result (λ batch. (xs : List Item) × Drains I.next_gives entries xs × (map mapping_of batch.items ≡ accepted (map mapping_of xs))) }
-
-    // Memory is asked for only once an entry is accepted.
-    ensures refused { OnErr result ((xs : List Item) × (rest : I) × Yields I.next_gives entries xs rest × (accepted (map mapping_of xs) ≢ [])) }
-{
-    let mut batch = Vec::new(alloc);
-    for entry in entries {
-        if maps(&entry) {
-            batch.push(entry)?;
-        }
-    }
-    Ok(batch)
-}
-
-// Whether there is a new name or a new email.
-fn maps(entry: &Entry) -> bool
-    ensures { result ≡ is_accepted (mapping_of entry.now) }
-{
-    entry.new_name().is_some() || entry.new_email().is_some()
-}
-
 /// The entries in ascending order of their keys, those of one key in the order in which they came.
 pub(crate) fn sorted<'e, 'a>(
     alloc: Global,

@@ -6,6 +6,7 @@ mod batch;
 mod insert;
 pub mod listing;
 pub mod merge;
+mod portions;
 mod room;
 pub mod search;
 pub mod tables;

@@ -15,9 +15,10 @@ ghost use Rattle.mailmap_tables.specs.Pool.{spelled, LiesIn, NameLies, EmailLies
 ghost use Rattle.mailmap_tables.specs.Named.{named_group, fields_given};
 ghost use Rattle.mailmap_tables.specs.Room.{optional_bytes};
 
-use crate::batch::{Placed, accepted_of, sorted};
-use crate::insert::{is_small, merge_in_place};
+use crate::batch::{Placed, sorted};
+use crate::insert::merge_in_place;
 use crate::listing::Iter;
+use crate::portions::accepted_of;
 use crate::search::{place_email, place_name};
 use crate::tables::{NameRow, Tables};
 use crate::texts::{Span, Texts};
@@ -392,7 +393,11 @@ fn join_sorted(
 }
 
 // The standing tables with entries behind them.
-fn joined(alloc: Global, standing: &Tables, entries: &[Entry<'_>]) -> Result<Tables, AllocError>
+pub(crate) fn joined(
+    alloc: Global,
+    standing: &Tables,
+    entries: &[Entry<'_>],
+) -> Result<Tables, AllocError>
     requires standing { AreGroups standing.now.groups }
     requires accepted { AllByRecursion (λ m. is_accepted m ≡ true) (map mapping_of entries.now) }
     ensures { IfOk result (λ made. IsComplete made × IsNormal (listing standing.now.groups ++ map mapping_of entries.now) (listing made.groups)) }
@@ -422,22 +427,22 @@ impl Tables {
         ensures refused { OnErr result ((xs : List Item) × (rest : I) × Yields I.next_gives entries xs rest × (accepted (map mapping_of xs) ≢ [])) }
     {
         let alloc = self.allocator();
-        let batch = accepted_of(alloc, entries)?;
-        if batch.is_empty() {
+        let collected = accepted_of(alloc, self, entries)?;
+        if collected.is_joined() {
+            collected.put_into(self);
             return Ok(());
         }
-        if is_small(self, &batch) {
-            return merge_in_place(alloc, self, &batch);
+        if collected.is_small(self) {
+            return merge_in_place(alloc, self, &collected.batch);
         }
-        let merged = joined(alloc, self, &batch)?;
-        *self = thinned(merged)?;
+        *self = collected.tables(self)?;
         Ok(())
     }
 }
 
 // Written anew where no more than half of the pool is in use, so that merges which replace don't make it grow without
 // end.
-fn thinned(tables: Tables) -> Result<Tables, AllocError>
+pub(crate) fn thinned(tables: Tables) -> Result<Tables, AllocError>
     requires { IsComplete tables }
     ensures { IfOk result (λ made. IsComplete made × (listing made.groups ≡ listing tables.groups)) }
 {

@@ -1,56 +1,65 @@
-use Rattle.std.proofs.Common.{eqb-true, ◌≡◌, ◌∙◌, ◌++◌, [], List, true, map, arith, sym, ap, subst}
+use Rattle.std.proofs.Common.{◌≡◌, ◌≢◌, ◌++◌, [], List, Option, None, Some, true, map, sym, subst}
+use Rattle.std.specs.Iterator.{Yields}
 use Rattle.std.specs.List.{AllByRecursion}
-use Rattle.std.proofs.lemmas.List.{nil_from_length}
 use Rattle.mailmap_entries.specs.Entries.{mapping_of}
 use Rattle.mailmap_entries.specs.declared.entry.Entry.{Entry as Item}
 use Rattle.mailmap_histories.specs.Histories.{IsNormal, accepted, is_accepted}
-use Rattle.mailmap_histories.proofs.Building.{normal_accepted, normal_unchanged, accepted_good}
-use Rattle.mailmap_tables.specs.Groups.{IsComplete, listing}
-use Rattle.mailmap_tables.proofs.Collected.{on_ok_then}
-use Rattle.mailmap_tables.proofs.Grouped.{groups_normal}
+use Rattle.mailmap_tables.specs.Collecting.{IsCollected}
+use Rattle.mailmap_tables.specs.Groups.{Contents, IsComplete, listing}
+use Rattle.mailmap_tables.proofs.Collected.{on_err, on_ok_then}
+use Rattle.mailmap_tables.proofs.Joining.{collected_all, collected_good, collected_joined, collected_some}
 use Rattle.mailmap_tables.proofs.tables.Tables.merge.Goals as goal
 
-pub returns-then-is_empty-clause-ok : goal.returns-then-is_empty-clause-ok
-returns-then-is_empty-clause-ok g c =
-    let w = c.in_ok-batch.ensures.ok in
-    let items = c.in_ok-batch.batch.items in
-    let stood = c.args.self.now.groups in
-    let none : accepted (map mapping_of w.0) ≡ [] = sym w.2 ∙ ap (map mapping_of) (nil_from_length items (omega (arith, eqb-true _ _ (sym c.if-is_empty.ensures), c.in_ok-batch.batch.ok.0))) in
-    (w.0, w.1, c.requires.complete, normal_unchanged (listing stood) (map mapping_of w.0) none (groups_normal stood c.requires.complete.groups))
+pub tables-requires : goal.tables-requires
+tables-requires g c = let w = c.in_ok-collected.ensures.ok in (map mapping_of w.0, w.2)
 
-pub joined-requires-clause-accepted : goal.joined-requires-clause-accepted
-joined-requires-clause-accepted g c =
-    let w = c.in_ok-batch.ensures.ok in
-    subst (λ (l : List Item). AllByRecursion (λ m. is_accepted m ≡ true) (map mapping_of l)) (sym c.deref-2.ensures.value)
-    (subst (AllByRecursion (λ m. is_accepted m ≡ true)) (sym w.2) (accepted_good (map mapping_of w.0)))
-
-pub returns-clause-ok : goal.returns-clause-ok
-returns-clause-ok g c =
-    let w = c.in_ok-batch.ensures.ok in
-    let stood = listing c.args.self.now.groups in
-    let merged = listing c.in_ok-merged.merged.groups in (
+pub returns-then-is_joined-clause-ok : goal.returns-then-is_joined-clause-ok
+returns-then-is_joined-clause-ok g c =
+    let w = c.in_ok-collected.ensures.ok in
+    let stood = c.args.self.now in
+    let made = c.in_ok-collected.collected.made in
+    let all = subst (λ (l : List Item). IsCollected stood (map mapping_of w.0) made (map mapping_of l)) (c.is_joined.ensures.all c.if-is_joined.true) w.2 in (
       w.0,
       w.1,
-      c.in_ok-self.ensures.0,
-      subst (IsNormal (stood ++ map mapping_of w.0)) (sym c.in_ok-self.ensures.1)
-          (normal_accepted stood (map mapping_of w.0) merged
-          (subst (λ l. IsNormal (stood ++ l) merged) (ap (map mapping_of) c.deref-2.ensures.value ∙ w.2) c.in_ok-merged.ensures.1)),
+      subst IsComplete (sym c.put_into.ensures) all.complete,
+      subst (λ (t : Contents). IsNormal (listing stood.groups ++ map mapping_of w.0) (listing t.groups)) (sym c.put_into.ensures) (collected_all stood (map mapping_of w.0) made all),
     )
 
 pub merge_in_place-requires-clause-accepted : goal.merge_in_place-requires-clause-accepted
 merge_in_place-requires-clause-accepted g c =
-    let w = c.in_ok-batch.ensures.ok in
-    subst (λ (l : List Item). AllByRecursion (λ m. is_accepted m ≡ true) (map mapping_of l)) (sym c.deref-then-is_small.ensures.value)
-    (subst (AllByRecursion (λ m. is_accepted m ≡ true)) (sym w.2) (accepted_good (map mapping_of w.0)))
+    let w = c.in_ok-collected.ensures.ok in
+    subst (λ (l : List Item). AllByRecursion (λ m. is_accepted m ≡ true) (map mapping_of l)) (sym c.deref.ensures.value)
+    (collected_good c.args.self.now (map mapping_of w.0) c.in_ok-collected.collected.made _ w.2)
 
 pub returns-then-is_small-clause-ok : goal.returns-then-is_small-clause-ok
 returns-then-is_small-clause-ok g c =
-    let w = c.in_ok-batch.ensures.ok in
-    let stood = listing c.args.self.now.groups in
+    let w = c.in_ok-collected.ensures.ok in
+    let stood = c.args.self.now in
+    let h = map mapping_of w.0 in
     let new = c.merge_in_place.new.tables in
-    on_ok_then c.merge_in_place.result _ _ (λ (d : IsComplete new × IsNormal (stood ++ map mapping_of c.deref-then-is_small.result.now) (listing new.groups)). (
-      w.0,
-      w.1,
-      d.0,
-      normal_accepted stood (map mapping_of w.0) (listing new.groups) (subst (λ l. IsNormal (stood ++ l) (listing new.groups)) (ap (map mapping_of) c.deref-then-is_small.ensures.value ∙ w.2) d.1),
-    )) c.merge_in_place.ensures.ok
+    let alone = subst (λ (o : Option Contents). IsCollected stood h o (map mapping_of c.in_ok-collected.collected.batch.items)) (c.is_small.ensures c.if-is_small.true) w.2 in
+    on_ok_then c.merge_in_place.result _ _ (λ (d : IsComplete new × IsNormal (listing stood.groups ++ map mapping_of c.deref.result.now) (listing new.groups)).
+    let all = collected_joined stood h None _ alone new d.0 (subst (λ (l : List Item). IsNormal (listing stood.groups ++ map mapping_of l) (listing new.groups)) c.deref.ensures.value d.1) in
+    (w.0, w.1, d.0, collected_all stood h (Some new) all)) c.merge_in_place.ensures.ok
+
+pub returns-then-is_small-clause-refused : goal.returns-then-is_small-clause-refused
+returns-then-is_small-clause-refused g c =
+    let w = c.in_ok-collected.ensures.ok in
+    let some = collected_some mapping_of c.args.self.now (map mapping_of w.0) c.in_ok-collected.collected.made _ w.2 (c.is_joined.ensures.some c.if-is_joined.false) in
+    let why : (ys : List Item) × (rest : _) × Yields g.I.Iterator.next_gives c.args.entries ys rest × (accepted (map mapping_of ys) ≢ []) = (w.0, w.1.1.0, w.1.1.1, some) in
+    on_err _ _ why
+
+pub returns-in_err-self-clause-refused : goal.returns-in_err-self-clause-refused
+returns-in_err-self-clause-refused g c =
+    let w = c.in_ok-collected.ensures.ok in
+    let some = collected_some mapping_of c.args.self.now (map mapping_of w.0) c.in_ok-collected.collected.made _ w.2 (c.is_joined.ensures.some c.if-is_joined.false) in
+    let why : (ys : List Item) × (rest : _) × Yields g.I.Iterator.next_gives c.args.entries ys rest × (accepted (map mapping_of ys) ≢ []) = (w.0, w.1.1.0, w.1.1.1, some) in
+    on_err _ _ why
+
+pub returns-clause-ok : goal.returns-clause-ok
+returns-clause-ok g c =
+    let w = c.in_ok-collected.ensures.ok in
+    let stood = c.args.self.now in
+    let h = map mapping_of w.0 in
+    let all = c.in_ok-self.ensures h w.2 in
+    (w.0, w.1, all.complete, collected_all stood h (Some c.in_ok-self.field-0) all)

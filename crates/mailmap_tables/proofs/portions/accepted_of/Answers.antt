@@ -3,25 +3,28 @@ use Rattle.std.specs.Iterator.{Yields}
 use Rattle.std.proofs.iter.Next.{Yields-more}
 use Rattle.std.proofs.lemmas.List.{map_push}
 use Rattle.mailmap_entries.specs.Entries.{mapping_of}
-use Rattle.mailmap_histories.specs.Histories.{accepted}
 use Rattle.mailmap_entries.specs.declared.entry.Entry.{Entry as Item}
-use Rattle.mailmap_tables.proofs.Collected.{accepted-taken, accepted-ignored, some_taken, on_err}
-use Rattle.mailmap_tables.proofs.batch.accepted_of.Goals as goal
+use Rattle.mailmap_histories.specs.Histories.{accepted}
+use Rattle.mailmap_tables.specs.Collecting.{IsCollected}
+use Rattle.mailmap_tables.proofs.Collected.{accepted-ignored, some_taken, on_err}
+use Rattle.mailmap_tables.proofs.Joining.{collected_same}
+use Rattle.mailmap_tables.proofs.portions.accepted_of.Goals as goal
 
 pub loop-entry-init : goal.loop-entry-init
-loop-entry-init g c = record { can = search rules; finite = search rules; kept = ap (map mapping_of) c.new-batch.ensures.items }
+loop-entry-init g c = record { can = search rules; finite = search rules; kept = c.none-collected.ensures }
+
+pub push-requires-clause-collected : goal.push-requires-clause-collected
+push-requires-clause-collected g c = (map mapping_of c.loop-entry.yielded, c.loop-entry.invariant.kept)
 
 pub loop-entry-preserved-in-Continue-1 : goal.loop-entry-preserved-in-Continue-1
 loop-entry-preserved-in-Continue-1 g c =
     let x = c.in-Some.entry in
     let xs = c.loop-entry.yielded in
+    let kept = c.in_ok-push.ensures (map mapping_of xs) c.loop-entry.invariant.kept in
     record {
       can = search rules;
       finite = search rules;
-      kept = ap (map mapping_of) c.in_ok-push.ensures.items ∙ map_push mapping_of c.loop-entry.batch.items x
-          ∙ ap (λ l. l ++ mapping_of x ∷ []) c.loop-entry.invariant.kept
-          ∙ sym (accepted-taken (map mapping_of xs) (mapping_of x) (sym c.maps.ensures ∙ c.if-maps.true))
-          ∙ ap accepted (sym (map_push mapping_of xs x));
+      kept = subst (λ h. IsCollected c.args.standing.now h c.push.new.self.made (map mapping_of c.push.new.self.batch.items)) (sym (map_push mapping_of xs x)) kept;
     }
 
 pub returns-in_err-push-clause-refused : goal.returns-in_err-push-clause-refused
@@ -41,10 +44,10 @@ pub loop-entry-preserved : goal.loop-entry-preserved
 loop-entry-preserved g c =
     let x = c.in-Some.entry in
     let xs = c.loop-entry.yielded in
+    let same = collected_same c.args.standing.now (map mapping_of xs) c.loop-entry.collected.made (map mapping_of c.loop-entry.collected.batch.items) c.loop-entry.invariant.kept (mapping_of x)
+    (accepted-ignored (map mapping_of xs) (mapping_of x) (sym c.maps.ensures ∙ c.if-maps.false)) in
     record {
       can = search rules;
       finite = search rules;
-      kept = c.loop-entry.invariant.kept
-          ∙ sym (accepted-ignored (map mapping_of xs) (mapping_of x) (sym c.maps.ensures ∙ c.if-maps.false))
-          ∙ ap accepted (sym (map_push mapping_of xs x));
+      kept = subst (λ h. IsCollected c.args.standing.now h c.loop-entry.collected.made (map mapping_of c.loop-entry.collected.batch.items)) (sym (map_push mapping_of xs x)) same;
     }

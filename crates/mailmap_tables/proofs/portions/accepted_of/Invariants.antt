@@ -1,12 +1,12 @@
-use Rattle.std.proofs.Common.{◌≡◌, map}
+use Rattle.std.proofs.Common.{map}
 use Rattle.mailmap_entries.specs.Entries.{mapping_of}
-use Rattle.mailmap_histories.specs.Histories.{accepted}
-use Rattle.mailmap_tables.proofs.batch.accepted_of.Given as goal
+use Rattle.mailmap_tables.specs.Collecting.{IsCollected}
+use Rattle.mailmap_tables.proofs.portions.accepted_of.Given as goal
 
 abbrev pub invariant-loop-entry : goal.invariant-loop-entry
 invariant-loop-entry g l =
     record {
       can : (goal.iterator-loop-entry g).can_next l.entry-iterator;
       finite : (goal.iterator-loop-entry g).is_finite l.entry-iterator;
-      kept : map mapping_of l.batch.items ≡ accepted (map mapping_of l.yielded);
+      kept : IsCollected l.standing (map mapping_of l.yielded) l.collected.made (map mapping_of l.collected.batch.items);
     }

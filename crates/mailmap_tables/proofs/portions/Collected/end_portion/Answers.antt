@@ -1,0 +1,7 @@
+use Rattle.std.proofs.Common.{Some, map, sym, subst}
+use Rattle.mailmap_entries.specs.Entries.{mapping_of}
+use Rattle.mailmap_tables.specs.Collecting.{IsCollected}
+use Rattle.mailmap_tables.proofs.portions.Collected.end_portion.Goals as goal
+
+pub returns : goal.returns
+returns c = λ h is. subst (λ l. IsCollected c.args.standing.now h (Some c.in_ok-made.made) (map mapping_of l)) (sym c.clear.ensures.items) (c.in_ok-made.ensures h is)

@@ -1,0 +1,186 @@
+//! The accepted entries of an iterator on their way into tables. Where few keys come again and again, they are joined in
+//! portions, so that they take the memory of their keys and of one portion, however many they are.
+ghost use Rattle.std.specs.Prelude.{◌≡◌, ◌≢◌, ◌<◌, [], ◌++◌, ◌∷◌, List, IfOk, IsTrue, None, OnErr, OnOk, Some, false, true, map, unwrap_or};
+ghost use Rattle.std.specs.Iterator.{IsFinite, Drains, Yields};
+ghost use Rattle.mailmap_entries.specs.Entries.{Mapping, mapping_of};
+ghost use Rattle.mailmap_entries.specs.declared.entry.Entry.{Entry as Item};
+ghost use Rattle.mailmap_histories.specs.Histories.{accepted, is_accepted};
+ghost use Rattle.mailmap_tables.specs.Groups.{AreGroups, IsComplete};
+ghost use Rattle.mailmap_tables.specs.Collecting.{IsCollected};
+
+use crate::insert::is_small;
+use crate::merge::{joined, thinned};
+use crate::tables::Tables;
+use mailmap_entries::Entry;
+use mailmap_entries::fold::front::front_number;
+use std::alloc::{AllocError, Global};
+
+// So many entries are collected before the first look at how often their keys come.
+const PORTION: usize = 16_384;
+
+// So many of them are looked at.
+const SAMPLE: usize = 4_096;
+
+// A prime number, so that keys with like beginnings or endings go to different places.
+const PLACES: usize = 8_191;
+
+/// Entries behind tables that stand.
+#[derive(Drop)]
+pub(crate) struct Collected<'a> {
+    // the standing tables with all portions behind them, once there is one
+    pub(crate) made: Option<Tables>,
+    // the accepted entries behind those
+    pub(crate) batch: Vec<Entry<'a>>,
+    // when the batch has so many entries it is a portion
+    portion: usize,
+}
+
+/// The accepted entries that an iterator gives, to be put behind the standing tables.
+pub(crate) fn accepted_of<'a, I: Iterator<Item = Entry<'a>> + Drop>(
+    alloc: Global,
+    standing: &Tables,
+    entries: I,
+) -> Result<Collected<'a>, AllocError>
+    requires can { I.can_next entries }
+    requires finite { IsFinite (I.remaining entries) }
+    requires complete { IsComplete standing.now }
+    ensures ok { IfOk result (λ c. (xs : List Item) × Drains I.next_gives entries xs × IsCollected standing.now (map mapping_of xs) c.made (map mapping_of c.batch.items)) }
+
+    // Memory is asked for only once an entry is accepted.
+    ensures refused { OnErr result ((xs : List Item) × (rest : I) × Yields I.next_gives entries xs rest × (accepted (map mapping_of xs) ≢ [])) }
+{
+    let mut collected = Collected::none(alloc, standing);
+    for entry in entries {
+        if maps(&entry) {
+            collected.push(standing, entry)?;
+        }
+    }
+    Ok(collected)
+}
+
+// Whether there is a new name or a new email.
+fn maps(entry: &Entry) -> bool
+    ensures { result ≡ is_accepted (mapping_of entry.now) }
+{
+    entry.new_name().is_some() || entry.new_email().is_some()
+}
+
+impl<'a> Collected<'a> {
+    // No entry yet.
+    fn none(alloc: Global, standing: &Tables) -> Collected<'a>
+        requires { IsComplete standing.now }
+        ensures { IsCollected standing.now [] result.made (map mapping_of result.batch.items) }
+    {
+        Collected {
+            made: None,
+            batch: Vec::new(alloc),
+            portion: portion_behind(standing),
+        }
+    }
+
+    // Puts an accepted entry behind the others.
+    #[inline(always)]
+    fn push(&mut self, standing: &Tables, entry: Entry<'a>) -> Result<(), AllocError>
+        requires accepted { is_accepted (mapping_of entry) ≡ true }
+        requires collected { (h : List Mapping) × IsCollected standing.now h self.old.made (map mapping_of self.old.batch.items) }
+        ensures { OnOk result ((h : List Mapping) → IsCollected standing.now h self.old.made (map mapping_of self.old.batch.items)
+            → IsCollected standing.now (h ++ mapping_of entry.entry ∷ []) self.new.made (map mapping_of self.new.batch.items)) }
+    {
+        self.batch.push(entry)?;
+        if self.batch.len() < self.portion {
+            return Ok(());
+        }
+        self.end_portion(standing)
+    }
+
+    // Joins the batch with the tables, if its keys come again and again. Else the batch goes on without an end.
+    fn end_portion(&mut self, standing: &Tables) -> Result<(), AllocError>
+        requires { (h : List Mapping) × IsCollected standing.now h self.old.made (map mapping_of self.old.batch.items) }
+        ensures { OnOk result ((h : List Mapping) → IsCollected standing.now h self.old.made (map mapping_of self.old.batch.items)
+            → IsCollected standing.now h self.new.made (map mapping_of self.new.batch.items)) }
+    {
+        self.portion = usize::MAX;
+        if !come_again(*self.batch.allocator(), &self.batch)? {
+            return Ok(());
+        }
+        let made = self.tables(standing)?;
+        self.portion = portion_behind(&made);
+        self.made = Some(made);
+        self.batch.clear();
+        Ok(())
+    }
+
+    /// Whether there is no entry behind the tables.
+    pub(crate) fn is_joined(&self) -> bool
+        ensures all { result ≡ true → self.now.batch.items ≡ [] }
+        ensures some { result ≡ false → self.now.batch.items ≢ [] }
+    {
+        self.batch.is_empty()
+    }
+
+    /// Puts the tables that were made in the place of those that stand.
+    pub(crate) fn put_into(self, standing: &mut Tables)
+        ensures { standing.new ≡ unwrap_or self.entry.made standing.old }
+    {
+        let Collected { made, .. } = self;
+        if let Some(made) = made {
+            *standing = made;
+        }
+    }
+
+    /// Whether the entries are so few beside the standing tables that they are to be joined in place.
+    pub(crate) fn is_small(&self, standing: &Tables) -> bool
+        requires { AreGroups standing.now.groups }
+        ensures { IsTrue result → self.now.made ≡ None }
+    {
+        self.made.is_none() && is_small(standing, &self.batch)
+    }
+
+    /// The standing tables with all entries behind them.
+    pub(crate) fn tables(&self, standing: &Tables) -> Result<Tables, AllocError>
+        requires { (h : List Mapping) × IsCollected standing.now h self.now.made (map mapping_of self.now.batch.items) }
+        ensures { IfOk result (λ t. (h : List Mapping) → IsCollected standing.now h self.now.made (map mapping_of self.now.batch.items)
+            → IsCollected standing.now h (Some t) []) }
+    {
+        let alloc = *self.batch.allocator();
+        thinned(joined(alloc, self.base(standing), &self.batch)?)
+    }
+
+    // The tables that the batch goes behind.
+    fn base<'t>(&'t self, standing: &'t Tables) -> &'t Tables
+        ensures { result.now ≡ unwrap_or self.now.made standing.now }
+    {
+        match &self.made {
+            Some(made) => made,
+            None => standing,
+        }
+    }
+}
+
+// How many entries are to be joined at once behind tables: more than these have rows, so that passing those on costs less
+// than joining.
+fn portion_behind(tables: &Tables) -> usize {
+    PORTION.max(tables.view().row_count().saturating_mul(4))
+}
+
+// Whether the keys of entries come again and again, as far as a look at the first ones can tell.
+fn come_again(alloc: Global, entries: &[Entry<'_>]) -> Result<bool, AllocError> {
+    let sample = &entries[..entries.len().min(SAMPLE)];
+    let mut known: usize = 0;
+    let mut seen = vec![in alloc; 0u128; PLACES]?;
+    for entry in sample {
+        let number = key_number(entry);
+        let place = (number % PLACES as u128) as usize;
+        if seen[place] == number {
+            known = known.saturating_add(1);
+        }
+        seen[place] = number;
+    }
+    Ok(known >= sample.len() / 2)
+}
+
+// A number that entries of one key share, and few others.
+fn key_number(entry: &Entry<'_>) -> u128 {
+    let name = front_number(entry.old_name().unwrap_or(&[]));
+    front_number(entry.old_email()) ^ (name >> 3)
+}
