@@ -1,4 +1,4 @@
-use Rattle.std.proofs.Common.{◌≡◌, Some, None, Ok, sym, ap, ◌∙◌, rules}
+use Rattle.std.proofs.Common.{◌≡◌, Some, None, Ok, sym, ap, rules}
 use Rattle.std.specs.Option.{option_and_then}
 use Rattle.std.specs.Result.{result_ok}
 use Rattle.mailmap_entries.specs.Entries.{mapping_of}
@@ -18,5 +18,5 @@ pub returns-in-Some-Ok-clause-entry : goal.returns-in-Some-Ok-clause-entry
 unfolding entry
 returns-in-Some-Ok-clause-entry c =
     let line = c.args.line.now in
-    let ok : strict_reading line.place.line line.text.now ≡ Some (Ok (mapping_of c.in-Some-Ok.entry)) = search rules in
-    sym (ap (option_and_then result_ok) (taken line.place.line line.text.now (mapping_of c.in-Some-Ok.entry) ok))
+    let ok : strict_reading line.place.line line.text.now ≡ Some (Ok (mapping_of c.in-Some-Ok.read.entry)) = search rules in
+    sym (ap (option_and_then result_ok) (taken line.place.line line.text.now (mapping_of c.in-Some-Ok.read.entry) ok))
