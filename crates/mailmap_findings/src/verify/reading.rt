@@ -6,7 +6,7 @@ ghost use Rattle.mailmap_grammar.specs.Lines.{strict_reading, non_empty};
 ghost use Rattle.mailmap_grammar.specs.Trimming.{trim as spec_trim};
 ghost use Rattle.mailmap_entries.specs.Entries.{mapping_of};
 ghost use Rattle.mailmap_sifting.specs.Sifting.{placed_of};
-ghost use Rattle.mailmap_findings.specs.Places.{entry as spec_entry, line_of, placed};
+ghost use Rattle.mailmap_findings.specs.Places.{IsPieceOf, entry as spec_entry, line_of, placed};
 ghost use Rattle.mailmap_findings.specs.Findings.{finding_of, told_of, told_of_reading as spec_told};
 ghost use Rattle.mailmap_findings.specs.Steps.{told_alone};
 
@@ -45,10 +45,35 @@ pub(crate) fn readings<'a>(alloc: Global, lines: &[Line<'a>]) -> Result<LinesRea
     })
 }
 
-// The fault of a line that is read strictly, or else the text that is ignored; and the entry that the line gives. Where
-// the strict reading takes the line, the entry is the same one for lookups.
+// The fault of a line that is read strictly, or else the text that is ignored; and the entry that the line gives.
 #[inline]
 fn read_strictly<'a>(line: &Line<'a>) -> (Option<Kind<'a>>, Option<Entry<'a>>)
+    ensures told { option_map told_of result.0 ≡ spec_told line.now.text.now (strict_reading line.now.place.line line.now.text.now) }
+    ensures entry { option_map mapping_of result.1 ≡ spec_entry (line_of line.now) }
+{
+    let piece = Line {
+        place: line.place,
+        text: without_feed(line.text),
+    };
+    read_piece(&piece)
+}
+
+// The line without the line feed at its end. It says nothing, and without it lines are trimmed faster.
+#[inline]
+fn without_feed(line: &[u8]) -> &[u8]
+    ensures { IsPieceOf line.now result.now }
+{
+    let len = line.len();
+    if len == 0 || line[len - 1] != b'\n' {
+        return line;
+    }
+    &line[..len - 1]
+}
+
+// The same of a line with or without its line feed. Where the strict reading takes it, the entry is the same one for
+// lookups.
+#[inline]
+fn read_piece<'a>(line: &Line<'a>) -> (Option<Kind<'a>>, Option<Entry<'a>>)
     ensures told { option_map told_of result.0 ≡ spec_told line.now.text.now (strict_reading line.now.place.line line.now.text.now) }
     ensures entry { option_map mapping_of result.1 ≡ spec_entry (line_of line.now) }
 {
