@@ -5,6 +5,7 @@ pub mod Entries
 pub mod Accepted
 pub mod Mapped
 pub mod Walking
+pub mod Meeting
 pub mod Wholes
 pub mod Read
 pub mod Renumbered

@@ -1,29 +1,29 @@
 -- What lines say with their line feeds is what the pieces between line feeds say, and their entries are those of the buffers.
-use Rattle.std.proofs.Common.{◌≡◌, ◌⊎◌, ◌+◌, ◌==◌, ℕ, true, false, cond, Option, Some, None, option_to_list, Ok, Err, List, [], ◌∷◌, ◌++◌, map, inl, inr, ⊎_elim, append_assoc, append-nil, refl, sym, ap, ◌∙◌}
+use Rattle.std.proofs.Common.{take-append-drop, ◌<◌, ◌-◌, suc, length, take, drop, get_or, arith, ◌≡◌, ◌⊎◌, ◌+◌, ◌==◌, ℕ, true, false, cond, Option, Some, None, option_to_list, Ok, Err, List, [], ◌∷◌, ◌++◌, map, inl, inr, ⊎_elim, append_assoc, append-nil, refl, sym, ap, ◌∙◌}
 use Rattle.std.specs.List.{cons_option, flat_map}
 use Rattle.std.specs.Option.{option_and_then, option_map}
 use Rattle.std.specs.Result.{result_ok}
 use Rattle.std.specs.Char.{encode_utf8}
 use Rattle.std.proofs.lemmas.Bool.{cond_both, eqb-true}
-use Rattle.std.proofs.lemmas.List.{map-append}
+use Rattle.std.proofs.lemmas.List.{drop_all, map-append}
+use Rattle.std.proofs.Math.Seq.{drop-cons}
 use Rattle.std.proofs.lemmas.List.Concat.{flat_map-append}
 use Rattle.std.proofs.lemmas.List.Elements.{filter_map-append}
 use Rattle.mailmap_entries.specs.Entries.{Mapping}
 use Rattle.mailmap_entries.specs.Folding.{Text}
-use Rattle.mailmap_grammar.specs.Lines.{Reading, reading_by, line_reading, strict_line_reading, unless_blank, reading, strict_reading, readings_from, strict_readings, pieces, with_first, good, good_of}
+use Rattle.mailmap_grammar.specs.Trimming.{trim}
+use Rattle.mailmap_sifting.specs.declared.placed.Place.{Place}
+use Rattle.mailmap_findings.specs.Findings.{ignored, ignored_text, told_of_reading}
+use Rattle.mailmap_grammar.specs.Lines.{behind_emails, cut, non_empty, Reading, reading_by, line_reading, strict_line_reading, unless_blank, reading, strict_reading, readings_from, strict_readings, pieces, with_first, good, good_of}
 use Rattle.mailmap_grammar.proofs.Trimmed.{trim-white_end}
 use Rattle.mailmap_sifting.specs.Sifting.{PlacedMapping, entries}
-use Rattle.mailmap_findings.specs.Places.{Line, entry, placed, placed_entry, placed_from, whole_lines, lines_from, lines}
+use Rattle.mailmap_findings.specs.Places.{IsPieceOf, Line, entry, placed, placed_entry, placed_from, whole_lines, lines_from, lines}
 
 -- a line feed at the end says nothing
 reading_by-feed : (says : ℕ → Text → Reading) (n : ℕ) (z : Text) → reading_by says n (z ++ 10 ∷ []) ≡ reading_by says n z
 unfolding encode_utf8
 reading_by-feed says n [] = ap (unless_blank says n) (trim-white_end 10 [] refl)
 reading_by-feed says n (b ∷ z) = ap (λ t. cond (b == 35) None (unless_blank says n t)) (trim-white_end 10 (b ∷ z) refl)
-
--- a line is its piece, with a line feed or without
-abbrev IsPieceOf : Text → Text → Type 0
-IsPieceOf w p = (w ≡ p) ⊎ (w ≡ p ++ 10 ∷ [])
 
 abbrev ArePiecesOf : List Text → List Text → Type 0
 ArePiecesOf [] [] = Unit {0}
@@ -46,8 +46,33 @@ are_pieces (b ∷ s) =
       | false ↦ λ other. first_byte b (whole_lines s) (pieces s) (are_pieces s)
     ] refl
 
-same_reading : (says : ℕ → Text → Reading) (n : ℕ) (w p : Text) → IsPieceOf w p → reading_by says n w ≡ reading_by says n p
+pub same_reading : (says : ℕ → Text → Reading) (n : ℕ) (w p : Text) → IsPieceOf w p → reading_by says n w ≡ reading_by says n p
 same_reading says n w p is = ⊎_elim (λ e. ap (reading_by says n) e) (λ e. ap (reading_by says n) e ∙ reading_by-feed says n p) is
+
+-- what is told of it by what it says, and its entry, are the same
+told_alike : (w p : Text) → ignored w ≡ ignored p → (o : Option Reading) → told_of_reading w o ≡ told_of_reading p o
+told_alike w p is None = refl
+told_alike w p is (Some (Err f)) = refl
+told_alike w p is (Some (Ok e)) = ap (λ t. option_map ignored_text (non_empty t)) is
+
+same_ignored : (w p : Text) → IsPieceOf w p → ignored w ≡ ignored p
+unfolding encode_utf8
+same_ignored w p is = ⊎_elim (λ e. ap ignored e) (λ e. ap ignored e ∙ ap (λ t. trim (behind_emails (cut t))) (trim-white_end 10 p refl)) is
+
+pub same_told : (n : ℕ) (w p : Text) → IsPieceOf w p → told_of_reading w (strict_reading n w) ≡ told_of_reading p (strict_reading n p)
+same_told n w p is = told_alike w p (same_ignored w p is) (strict_reading n w) ∙ ap (told_of_reading p) (same_reading strict_line_reading n w p is)
+
+-- a line feed at the end
+pub last-feed : (s : Text) → 0 < length s → get_or s (length s - 1) 0 ≡ 10 → s ≡ take (length s - 1) s ++ 10 ∷ []
+last-feed s some is =
+    let n = length s - 1 in
+    let none : drop (suc n) s ≡ [] = drop_all (suc n) s (omega arith) in
+    let one : drop n s ≡ 10 ∷ [] = drop-cons s n 0 (omega arith) ∙ ap (λ x. x ∷ drop (suc n) s) is ∙ ap (λ r. 10 ∷ r) none in
+    sym (ap (λ r. take n s ++ r) (sym one) ∙ take-append-drop n s)
+
+pub same_entry : (place : Place) (w p : Text) → IsPieceOf w p → entry (record { place = place; text = w }) ≡ entry (record { place = place; text = p })
+unfolding entry
+same_entry place w p is = ap (option_and_then result_ok) (same_reading line_reading place.line w p is)
 
 -- ---- all that lines say
 

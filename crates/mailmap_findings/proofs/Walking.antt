@@ -1,11 +1,10 @@
 -- A walk over lines meets the entries that stay in step.
-use Rattle.std.proofs.Common.{◌≡◌, ◌≢◌, ◌<◌, ◌+◌, ℕ, suc, Bool, true, false, if◌then◌else◌, Option, Some, None, List, [], ◌∷◌, ◌++◌, map, take, drop, get_or, length, filter, append-nil, ⊎_elim, refl, sym, ap, subst, ◌∙◌, arith}
+use Rattle.std.proofs.Common.{◌≡◌, ◌≢◌, ◌<◌, ◌+◌, ℕ, suc, Bool, true, false, if◌then◌else◌, Some, None, List, [], ◌∷◌, ◌++◌, map, take, drop, get_or, length, filter, append-nil, ⊎_elim, refl, sym, ap, subst, ◌∙◌, arith}
 use Rattle.std.specs.Prelude.{◌||◌}
 use Rattle.std.specs.List.{AllByRecursion, cons_option, flat_map}
 use Rattle.std.specs.Option.{option_map}
 use Rattle.std.proofs.lemmas.Bool.{cases_Bool, cond-true, cond-false, and_parts, and_from, eqb-true, eq-eqb}
-use Rattle.mailmap_entries.specs.Entries.{Mapping}
-use Rattle.mailmap_sifting.specs.Sifting.{PlacedMapping, IsSublist, none, skips, keeps}
+use Rattle.mailmap_sifting.specs.Sifting.{PlacedMapping, IsSublist, skips, keeps}
 use Rattle.mailmap_sifting.specs.declared.placed.Place.{Place}
 use Rattle.mailmap_sifting.proofs.Sublists.{sublist_all}
 use Rattle.std.proofs.Math.Seq.{drop-cons}
@@ -124,7 +123,7 @@ step kept left l ls s = step_by kept left l ls (first_met l ls left s.walk.subli
 -- ---- the code's lines, of which those before a place were walked over
 
 module _ (ls : List the_line) (i : ℕ) (d : the_line) (within : i < length ls) where
-  lines_left : map line_of (drop i ls) ≡ line_of (get_or ls i d) ∷ map line_of (drop (i + 1) ls)
+  pub lines_left : map line_of (drop i ls) ≡ line_of (get_or ls i d) ∷ map line_of (drop (i + 1) ls)
   lines_left = let e : suc i ≡ i + 1 = omega arith in ap (map line_of) (drop-cons ls i d within ∙ ap (λ n. get_or ls i d ∷ drop n ls) e)
 
   pub line_step : (kept left : List PlacedMapping) → InStep kept left (map line_of (drop i ls)) → Step kept left (line_of (get_or ls i d)) (map line_of (drop (i + 1) ls))

@@ -5,7 +5,7 @@ use Rattle.std.specs.Option.{option_and_then, option_copied, option_map, option_
 use lib.Pointwise.{pointwise}
 use Rattle.mailmap_entries.specs.Entries.{Mapping}
 use Rattle.mailmap_entries.specs.Folding.{Text}
-use Rattle.mailmap_grammar.specs.Lines.{Fault, fault_of, Half, Absent, Unclosed, Closed, Reading, cut, non_empty, strict_reading}
+use Rattle.mailmap_grammar.specs.Lines.{Fault, fault_of, Reading, behind_emails, cut, non_empty, strict_reading}
 use Rattle.mailmap_grammar.specs.Trimming.{trim}
 use Rattle.mailmap_histories.specs.Histories.{Fields, fields_for, key}
 use Rattle.mailmap_histories.specs.Listings.{same_optional}
@@ -48,17 +48,6 @@ abbrev pub finding_of : the_finding.Finding → Finding
 finding_of f = record { place = f.place; told = told_of f.kind }
 
 -- ---- what a line says for itself
-
--- what stands behind the last email that counts: that of the second half, where `rest` has one
-abbrev pub behind_second : Text → Half → Text
-behind_second rest Absent = rest
-behind_second rest Unclosed = rest
-behind_second rest (Closed name email more) = more
-
-abbrev pub behind_emails : Half → Text
-behind_emails Absent = []
-behind_emails Unclosed = []
-behind_emails (Closed name email rest) = behind_second rest (cut rest)
 
 -- the text of a line with an entry that the entry has nothing of
 abbrev pub ignored : Text → Text

@@ -1,5 +1,5 @@
 -- The lines of buffers with the places where they stand, and the entries that they give.
-use Rattle.std.specs.Prelude.{◌+◌, ◌==◌, ◌&&◌, ◌||◌, ℕ, Bool, if◌then◌else◌, Option, List, [], ◌∷◌, ◌++◌, is_none}
+use Rattle.std.specs.Prelude.{◌≡◌, ◌⊎◌, ◌+◌, ◌==◌, ◌&&◌, ◌||◌, ℕ, Bool, if◌then◌else◌, Option, List, [], ◌∷◌, ◌++◌, is_none}
 use Rattle.std.specs.List.{filter_map, list_any}
 use Rattle.std.specs.Option.{option_map, option_and_then}
 use Rattle.std.specs.Result.{result_ok}
@@ -18,6 +18,10 @@ pub record Line : Type 0 where
 -- the code's line
 abbrev pub line_of : the_line → Line
 line_of l = record { place = l.place; text = l.text.now }
+
+-- a line is its piece, with a line feed or without
+abbrev pub IsPieceOf : Text → Text → Type 0
+IsPieceOf w p = (w ≡ p) ⊎ (w ≡ p ++ 10 ∷ [])
 
 -- the lines of a buffer as they stand: put together again they are the buffer
 unfoldable pub whole_lines : Text → List Text

@@ -22,6 +22,7 @@ use lines::{placed_entries, read_lines};
 use mailmap_grammar::lines::Error;
 pub use mailmap_sifting::Place;
 use mailmap_sifting::sift;
+use reading::{LinesRead, readings};
 use std::alloc::{AllocError, Global};
 
 /// What is told of a line.
@@ -69,9 +70,9 @@ pub fn verify<'a>(alloc: Global, buffers: &[&'a [u8]]) -> Result<Vec<Finding<'a>
     ensures { IfOk result (λ findings. AreFindings (map (λ b. b.now) buffers.now) (map finding_of findings.items)) }
 {
     let lines = read_lines(alloc, buffers)?;
-    let placed = placed_entries(alloc, &lines)?;
+    let LinesRead { told, placed } = readings(alloc, &lines)?;
     let sifted = sift(alloc, &placed)?;
-    walk::findings(alloc, &lines, &sifted)
+    walk::findings(alloc, &lines, told, &placed, &sifted)
 }
 
 /// The buffer without its lines whose entries have no effect. All other lines stay byte for byte, also comments and those
@@ -82,5 +83,5 @@ pub fn prune(alloc: Global, buffer: &[u8]) -> Result<Vec<u8>, AllocError>
     let lines = read_lines(alloc, &[buffer])?;
     let placed = placed_entries(alloc, &lines)?;
     let sifted = sift(alloc, &placed)?;
-    walk::text_left(alloc, &lines, sifted.kept())
+    walk::text_left(alloc, &lines, &placed, sifted.kept())
 }

@@ -7,6 +7,7 @@ use Rattle.mailmap_grammar.specs.declared.lines.Error.{Error}
 use Rattle.mailmap_grammar.specs.declared.lines.Error.TheVariants.{NoEmail, MissingClosingBracket, EmptyEmail, NothingToMap, UnclosedSecond}
 use Rattle.mailmap_grammar.specs.declared.halves.Half as the_half
 use Rattle.mailmap_grammar.specs.declared.halves.Half.TheVariants as variant
+use Rattle.mailmap_grammar.specs.declared.rests.WithRest.{WithRest}
 use Rattle.mailmap_grammar.specs.declared.lines.Strictness.{Strictness}
 use Rattle.mailmap_grammar.specs.declared.lines.Strictness.TheVariants.{Lenient, Strict}
 use Rattle.mailmap_entries.specs.Folding.{Text}
@@ -44,6 +45,11 @@ abbrev pub reading_of : Result Entry Error → Reading
 reading_of (Ok e) = Ok (mapping_of e)
 reading_of (Err e) = Err (fault_of e)
 
+-- the same, of an entry with the rest of its line
+abbrev pub reading_with_rest : Result WithRest Error → Reading
+reading_with_rest (Ok w) = Ok (mapping_of w.entry)
+reading_with_rest (Err e) = Err (fault_of e)
+
 -- what stands before the first byte b and what after it, or None where there is no b
 unfoldable pub split_once : ℕ → Text → Option (Text × Text)
 split_once b [] = None
@@ -78,6 +84,17 @@ abbrev pub trimmed_half : Half → Half
 trimmed_half Absent = Absent
 trimmed_half Unclosed = Unclosed
 trimmed_half (Closed a b c) = Closed (trim a) (trim b) c
+
+-- what stands behind the last email that counts: that of the second half, where `rest` has one
+abbrev pub behind_second : Text → Half → Text
+behind_second rest Absent = rest
+behind_second rest Unclosed = rest
+behind_second rest (Closed name email more) = more
+
+abbrev pub behind_emails : Half → Text
+behind_emails Absent = []
+behind_emails Unclosed = []
+behind_emails (Closed name email rest) = behind_second rest (cut rest)
 
 -- the code's half
 abbrev pub half_of : the_half.Half → Half

@@ -5,6 +5,7 @@
 pub mod halves;
 pub mod laws;
 pub mod lines;
+pub mod rests;
 pub mod writing;
 
 pub use lines::{parse, parse_ignore_errors, parse_strict};

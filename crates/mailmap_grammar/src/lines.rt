@@ -14,17 +14,19 @@
 //! - What stands behind the second half is ignored. So is a second half without its `<`, and one without its `>`,
 //!   unless lines are read strictly, by [`parse_strict`].
 //! - One email alone maps nothing.
-ghost use Rattle.std.specs.Prelude.{◌≡◌, ◌≤◌, option_map, length};
+ghost use Rattle.std.specs.Prelude.{◌≡◌, ◌≤◌, IfOk, IfSome, option_map, length};
 ghost use Rattle.std.specs.Option.{option_copied};
 ghost use Rattle.std.specs.Iterator.{YieldsFirstBy, item_count};
 ghost use Rattle.std.specs.List.Sorted.{IsStrictlySortedBy};
 ghost use Rattle.std.specs.Ordering.{nat_cmp};
 ghost use Rattle.mailmap_entries.specs.Entries.{mapping_of};
-ghost use Rattle.mailmap_grammar.specs.Lines.{reading_of, reading_by, line_reader, non_empty as spec_non_empty, by_both, readings, readings_from, strict_readings, pieces, fault_lines, good};
+ghost use Rattle.mailmap_grammar.specs.Lines.{behind_emails, cut, reading_of, reading_with_rest, reading_by, line_reader, non_empty as spec_non_empty, by_both, readings, readings_from, strict_readings, pieces, fault_lines, good};
+ghost use Rattle.mailmap_grammar.specs.Trimming.{trim as spec_trim};
 
 mod derived;
 
 use crate::halves::{Half, parse_name_and_email, trim};
+use crate::rests::WithRest;
 use bstr::ByteSlice;
 use mailmap_entries::Entry;
 use std::marker::Model;
@@ -304,6 +306,22 @@ pub fn read_line(
 ) -> Option<Result<Entry<'_>, Error<'_>>>
     ensures { option_map reading_of result ≡ reading_by (line_reader strictness) line text.now }
 {
+    match read_with_rest(text, line, strictness)? {
+        Ok(read) => Some(Ok(read.entry)),
+        Err(error) => Some(Err(error)),
+    }
+}
+
+/// What the line `text` says, and beside its entry what stands behind the last email that counts.
+#[inline(always)]
+pub(crate) fn read_with_rest(
+    text: &[u8],
+    line: usize,
+    strictness: Strictness,
+) -> Option<Result<WithRest<'_>, Error<'_>>>
+    ensures reading { option_map reading_with_rest result ≡ reading_by (line_reader strictness) line text.now }
+    ensures rest { IfSome result (λ r. IfOk r (λ w. w.rest.now ≡ behind_emails (cut (spec_trim text.now)))) }
+{
     if let Some(b'#') = text.first() {
         return None;
     }
@@ -316,8 +334,9 @@ pub fn read_line(
 
 /// What the trimmed line `input` says. A fault shows it as its input, under the number `line`.
 #[inline(always)]
-fn parse_line(input: &[u8], line: usize, strictness: Strictness) -> Result<Entry<'_>, Error<'_>>
-    ensures { reading_of result ≡ line_reader strictness line input.now }
+fn parse_line(input: &[u8], line: usize, strictness: Strictness) -> Result<WithRest<'_>, Error<'_>>
+    ensures reading { reading_with_rest result ≡ line_reader strictness line input.now }
+    ensures rest { IfOk result (λ w. w.rest.now ≡ behind_emails (cut input.now)) }
 {
     let (name, email, rest) = match parse_name_and_email(input) {
         Half::Absent => return Err(Error::NoEmail { line, input }),
@@ -327,21 +346,24 @@ fn parse_line(input: &[u8], line: usize, strictness: Strictness) -> Result<Entry
     if email.is_empty() {
         return Err(Error::EmptyEmail { line, input });
     }
-    match (parse_name_and_email(rest), strictness) {
+    let (entry, rest) = match (parse_name_and_email(rest), strictness) {
         (
             Half::Closed {
                 name: old_name,
                 email: old_email,
-                ..
+                rest: behind,
             },
             _,
-        ) => Ok(change_by_both(name, email, old_name, old_email)),
-        (Half::Unclosed, Strictness::Strict) => Err(Error::UnclosedSecond { line, input: rest }),
+        ) => (change_by_both(name, email, old_name, old_email), behind),
+        (Half::Unclosed, Strictness::Strict) => {
+            return Err(Error::UnclosedSecond { line, input: rest });
+        }
         _ => match non_empty(name) {
-            Some(name) => Ok(Entry::change_name_by_email(name, email)),
-            None => Err(Error::NothingToMap { line, input }),
+            Some(name) => (Entry::change_name_by_email(name, email), rest),
+            None => return Err(Error::NothingToMap { line, input }),
         },
-    }
+    };
+    Ok(WithRest { entry, rest })
 }
 
 /// The entry of a line with two halves, where either name may be empty and then is none.

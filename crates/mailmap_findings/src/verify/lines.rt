@@ -1,5 +1,5 @@
 //! The lines of buffers with their places.
-ghost use Rattle.std.specs.Prelude.{◌≡◌, ◌++◌, map, IfOk, OnOk};
+ghost use Rattle.std.specs.Prelude.{◌≡◌, ◌++◌, map, option_to_list, IfOk, OnOk};
 ghost use Rattle.std.specs.Option.{option_map};
 ghost use Rattle.mailmap_entries.specs.Entries.{mapping_of};
 ghost use Rattle.mailmap_sifting.specs.Sifting.{placed_of};
@@ -61,14 +61,24 @@ pub(crate) fn placed_entries<'a>(
 {
     let mut found = Vec::with_capacity(alloc, lines.len())?;
     for line in lines {
-        if let Some(entry) = entry_of(line) {
-            found.push(PlacedEntry {
-                place: line.place,
-                entry,
-            })?;
-        }
+        push_entry(&mut found, line.place, entry_of(line))?;
     }
     Ok(found)
+}
+
+/// Appends the entry of the line at this place, if it gives one.
+#[inline]
+pub(crate) fn push_entry<'a>(
+    found: &mut Vec<PlacedEntry<'a>>,
+    place: Place,
+    given: Option<Entry<'a>>,
+) -> Result<(), AllocError>
+    ensures { OnOk result (map placed_of found.new.items ≡ map placed_of found.old.items ++ option_to_list (option_map (λ e. record { place = place; entry = e }) (option_map mapping_of given.entry))) }
+{
+    if let Some(entry) = given {
+        found.push(PlacedEntry { place, entry })?;
+    }
+    Ok(())
 }
 
 /// The entry that a line gives, read leniently as for lookups.

@@ -11,10 +11,16 @@ sift-requires c = items_accepted (map line_of c.deref.result.now) c.deref-2.resu
 
 pub text_left-requires : goal.text_left-requires
 text_left-requires c =
-    is_walk (c.args.buffer.now ∷ []) (map line_of c.deref-3.result.now) (map placed_of c.deref-2.result.now) (map placed_of_reference c.kept.result.now)
-    (ap (map line_of) c.deref-3.ensures.value ∙ c.in_ok-lines.ensures)
-    (ap (map placed_of) c.deref-2.ensures.value ∙ c.in_ok-placed.ensures ∙ ap (λ l. placed (map line_of l)) (c.deref.ensures.value ∙ sym c.deref-3.ensures.value))
-    (subst (IsSifted (map placed_of c.deref-2.result.now)) (sym c.kept.ensures) c.in_ok-sifted.ensures.sifted)
+    let same = c.deref.ensures.value ∙ sym c.deref-3.ensures.value in
+    let entries = c.in_ok-placed.ensures ∙ ap (λ l. placed (map line_of l)) same in
+    record {
+      walk =
+          is_walk (c.args.buffer.now ∷ []) (map line_of c.deref-3.result.now) (map placed_of c.deref-2.result.now) (map placed_of_reference c.kept.result.now)
+          (ap (map line_of) c.deref-3.ensures.value ∙ c.in_ok-lines.ensures)
+          (ap (map placed_of) c.deref-2.ensures.value ∙ entries)
+          (subst (IsSifted (map placed_of c.deref-2.result.now)) (sym c.kept.ensures) c.in_ok-sifted.ensures.sifted);
+      entries = ap (map placed_of) c.deref-4.ensures.value ∙ entries;
+    }
 
 pub returns : goal.returns
 returns c =

@@ -1,22 +1,13 @@
-use Rattle.std.proofs.Common.{◌≡◌, Some, None, Ok, sym, ap, ◌∙◌, rules}
-use Rattle.std.specs.Option.{option_and_then}
-use Rattle.std.specs.Result.{result_ok}
-use Rattle.mailmap_entries.specs.Entries.{mapping_of}
-use Rattle.mailmap_grammar.specs.Lines.{strict_reading}
-use Rattle.mailmap_findings.specs.Places.{entry}
-use Rattle.mailmap_findings.proofs.Strict.{passed_over, taken}
+use Rattle.std.proofs.Common.{◌∙◌, sym}
+use Rattle.mailmap_findings.proofs.Read.{same_entry, same_told}
 use Rattle.mailmap_findings.proofs.verify.reading.read_strictly.Goals as goal
 
-pub returns-in-None-clause-entry : goal.returns-in-None-clause-entry
-unfolding entry
-returns-in-None-clause-entry c =
+pub returns-clause-told : goal.returns-clause-told
+returns-clause-told c =
     let line = c.args.line.now in
-    let none : strict_reading line.place.line line.text.now ≡ None = search rules in
-    sym (ap (option_and_then result_ok) (passed_over line.place.line line.text.now none))
+    c.read_piece.ensures.told ∙ sym (same_told line.place.line line.text.now c.without_feed.result.now c.without_feed.ensures)
 
-pub returns-in-Some-Ok-clause-entry : goal.returns-in-Some-Ok-clause-entry
-unfolding entry
-returns-in-Some-Ok-clause-entry c =
+pub returns-clause-entry : goal.returns-clause-entry
+returns-clause-entry c =
     let line = c.args.line.now in
-    let ok : strict_reading line.place.line line.text.now ≡ Some (Ok (mapping_of c.in-Some-Ok.entry)) = search rules in
-    sym (ap (option_and_then result_ok) (taken line.place.line line.text.now (mapping_of c.in-Some-Ok.entry) ok))
+    c.read_piece.ensures.entry ∙ sym (same_entry line.place line.text.now c.without_feed.result.now c.without_feed.ensures)
