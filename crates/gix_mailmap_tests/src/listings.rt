@@ -305,6 +305,64 @@ fn many_rounds_of_replaced_names_leave_the_snapshot_of_the_last(
     assert_copy_lists(&rt, rt.alloc(), worn, &SHORT)
 }
 
+/// The entries of some rows, so many times over.
+fn entries_over_and_over(
+    alloc: Global,
+    rows: &[Row],
+    times: usize,
+) -> Result<Vec<Entry<'static>>, AllocError> {
+    let once = entries_of(alloc, rows)?;
+    let mut entries = Vec::new(alloc);
+    for _ in 0..times {
+        entries.extend_from_slice(&once)?;
+    }
+    Ok(entries)
+}
+
+/// Wants these entries of a snapshot of some rows behind which entries are merged at once, and of its copy.
+fn assert_merged_at_once(
+    rt: &impl Abort,
+    alloc: Global,
+    stood: &[Row],
+    entries: &[Entry<'_>],
+    want: &[Row],
+) -> Result<(), AllocError> {
+    let mut snapshot = snapshot_of_rows(alloc, stood)?;
+    snapshot.merge(entries.iter().copied())?;
+    assert_copy_lists(rt, alloc, snapshot, want)
+}
+
+/// Where few keys come again and again, their entries are joined in portions, of which the last one may be whole or not.
+#[test]
+fn many_rounds_in_one_merge_leave_the_entries_of_the_last(
+    rt: HostRuntime,
+) -> Result<(), AllocError> {
+    static ROUND: [Row; 4] = [
+        Name(b"First", b"A@x"),
+        EmailOfName(b"n1@y", b"JANE", b"a@X"),
+        EmailOfName(b"n2@y", b"Jane", b"a@x"),
+        Name(b"Last", b"a@x"),
+    ];
+    static STOOD: [Row; 3] = [
+        Name(b"Ann", b"a@X"),
+        EmailOfName(b"n3@y", b"jane", b"a@x"),
+        Email(b"n4@y", b"b@x"),
+    ];
+    static ALONE: [Row; 2] = [Name(b"Last", b"A@x"), EmailOfName(b"n2@y", b"JANE", b"A@x")];
+    static BEHIND: [Row; 3] = [
+        Name(b"Last", b"a@X"),
+        EmailOfName(b"n2@y", b"jane", b"a@X"),
+        Email(b"n4@y", b"b@x"),
+    ];
+    let alloc = rt.alloc();
+    let whole = entries_over_and_over(alloc, &ROUND, 16_384)?;
+    assert_merged_at_once(&rt, alloc, &[], &whole, &ALONE)?;
+    assert_merged_at_once(&rt, alloc, &STOOD, &whole, &BEHIND)?;
+    let broken = entries_over_and_over(alloc, &ROUND, 10_000)?;
+    assert_merged_at_once(&rt, alloc, &[], &broken, &ALONE)?;
+    assert_merged_at_once(&rt, alloc, &STOOD, &broken, &BEHIND)
+}
+
 fn debug_text(alloc: Global, value: &impl Debug) -> Result<String, AllocError> {
     format!(in alloc; "{value:?}")
 }
