@@ -16,7 +16,7 @@ ghost use Rattle.mailmap_tables.specs.Named.{named_group, fields_given};
 ghost use Rattle.mailmap_tables.specs.Room.{optional_bytes};
 
 use crate::batch::{Placed, accepted_of, sorted};
-use crate::insert::{is_small, merge_in_place};
+use crate::insert::{merge_in_place, small};
 use crate::listing::Iter;
 use crate::search::{place_email, place_name};
 use crate::tables::{NameRow, Tables};
@@ -426,8 +426,8 @@ impl Tables {
         if batch.is_empty() {
             return Ok(());
         }
-        if is_small(self, &batch) {
-            return merge_in_place(alloc, self, &batch);
+        if let Some(stood) = small(self, &batch) {
+            return merge_in_place(alloc, self, &batch, stood);
         }
         let merged = joined(alloc, self, &batch)?;
         *self = thinned(merged)?;

@@ -40,17 +40,17 @@ returns-clause-ok g c =
 pub merge_in_place-requires-clause-accepted : goal.merge_in_place-requires-clause-accepted
 merge_in_place-requires-clause-accepted g c =
     let w = c.in_ok-batch.ensures.ok in
-    subst (λ (l : List Item). AllByRecursion (λ m. is_accepted m ≡ true) (map mapping_of l)) (sym c.deref-then-is_small.ensures.value)
+    subst (λ (l : List Item). AllByRecursion (λ m. is_accepted m ≡ true) (map mapping_of l)) (sym c.deref-in-Some.ensures.value)
     (subst (AllByRecursion (λ m. is_accepted m ≡ true)) (sym w.2) (accepted_good (map mapping_of w.0)))
 
-pub returns-then-is_small-clause-ok : goal.returns-then-is_small-clause-ok
-returns-then-is_small-clause-ok g c =
+pub returns-in-Some-clause-ok : goal.returns-in-Some-clause-ok
+returns-in-Some-clause-ok g c =
     let w = c.in_ok-batch.ensures.ok in
     let stood = listing c.args.self.now.groups in
     let new = c.merge_in_place.new.tables in
-    on_ok_then c.merge_in_place.result _ _ (λ (d : IsComplete new × IsNormal (stood ++ map mapping_of c.deref-then-is_small.result.now) (listing new.groups)). (
+    on_ok_then c.merge_in_place.result _ _ (λ (d : IsComplete new × IsNormal (stood ++ map mapping_of c.deref-in-Some.result.now) (listing new.groups)). (
       w.0,
       w.1,
       d.0,
-      normal_accepted stood (map mapping_of w.0) (listing new.groups) (subst (λ l. IsNormal (stood ++ l) (listing new.groups)) (ap (map mapping_of) c.deref-then-is_small.ensures.value ∙ w.2) d.1),
+      normal_accepted stood (map mapping_of w.0) (listing new.groups) (subst (λ l. IsNormal (stood ++ l) (listing new.groups)) (ap (map mapping_of) c.deref-in-Some.ensures.value ∙ w.2) d.1),
     )) c.merge_in_place.ensures.ok
