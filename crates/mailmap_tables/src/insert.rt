@@ -7,7 +7,7 @@ ghost use Rattle.mailmap_entries.specs.Entries.{mapping_of};
 ghost use Rattle.mailmap_entries.specs.Folding.{folded, text_cmp};
 ghost use Rattle.mailmap_histories.specs.Histories.{IsNormal, is_accepted, key, key_cmp};
 ghost use Rattle.mailmap_tables.specs.Groups.{AreGroups, EmailGroup, IsComplete, email_key, listing, name_key};
-ghost use Rattle.mailmap_tables.specs.Merging.{AllJoined, EmailRun, IsAscending, IsNamed, RunPut, first_email, mapping_at, name_text, placed_at};
+ghost use Rattle.mailmap_tables.specs.Merging.{AllJoined, EmailRun, IsAscending, IsNamed, RunPut, email_text, first_email, mapping_at, name_text, placed_at};
 ghost use Rattle.mailmap_tables.specs.Named.{named_group};
 ghost use Rattle.mailmap_tables.specs.Pool.{LiesIn, NameLies, name_group, spelled};
 ghost use Rattle.mailmap_tables.specs.Places.{IsFound, IsMissing};
@@ -21,7 +21,7 @@ use crate::merge::{
 use crate::room::Roomy;
 use crate::search::{place_email, place_name};
 use crate::tables::{NameRow, Tables};
-use crate::texts::Span;
+use crate::texts::{Span, Texts};
 use crate::view::View;
 use mailmap_entries::Entry;
 use std::alloc::{AllocError, Global};
@@ -30,36 +30,78 @@ use std::mem;
 // Batches of more entries are joined aside: they would move the rows of large tables more often than a copy does.
 const MOST_IN_PLACE: usize = 16;
 
-/// Whether a batch is so small beside the tables that it is to be joined in place. Behind it, less than half of the pool
-/// may be out of use.
-pub(crate) fn is_small(tables: &Tables, entries: &[Entry<'_>]) -> bool
-    requires { AreGroups tables.now.groups }
-{
-    entries.len() <= MOST_IN_PLACE
-        && entries.len() < tables.view().len()
-        && tables.stays_alive(replaced_len(&tables.view(), entries))
+// What stands in tables for the keys of entries.
+#[derive(Clone, Copy)]
+struct Standing {
+    // how many bytes are out of use behind the entries, or more
+    replaced: usize,
+    // how many bytes the fields of one of their emails have at most
+    fields: usize,
 }
 
-// How many bytes that stand for the keys of entries are out of use behind them, or more.
-fn replaced_len(tables: &View<'_>, entries: &[Entry<'_>]) -> usize
+/// How many bytes the fields have at most that stand for an email of a batch, if the batch is so small beside the tables
+/// that it is to be joined in place. Behind it, less than half of the pool may be out of use.
+pub(crate) fn small(tables: &Tables, entries: &[Entry<'_>]) -> Option<usize>
     requires { AreGroups tables.now.groups }
+    ensures { ForSome result (λ fields. StoodWithin fields tables.now.groups (map mapping_of entries.now)) }
 {
-    let mut len: usize = 0;
-    for entry in entries {
-        len = len.saturating_add(stood_len(tables, entry));
+    if MOST_IN_PLACE < entries.len() || tables.view().len() <= entries.len() {
+        return None;
     }
-    len
+    let found = stood(&tables.view(), entries);
+    if tables.stays_alive(found.replaced) {
+        Some(found.fields)
+    } else {
+        None
+    }
 }
 
-// How many bytes the fields have that stand for the key of an entry.
-fn stood_len(tables: &View<'_>, entry: &Entry<'_>) -> usize
+// What stands for the keys of entries.
+fn stood(tables: &View<'_>, entries: &[Entry<'_>]) -> Standing
     requires { AreGroups tables.now.groups }
+    ensures { StoodWithin result.fields tables.now.groups (map mapping_of entries.now) }
 {
-    let Ok(place) = place_email(tables, 0, entry.old_email()) else {
-        return 0;
-    };
-    let (texts, names) = tables.email(place);
-    match entry.old_name() {
+    let mut replaced: usize = 0;
+    let mut fields: usize = 0;
+    for entry in entries {
+        let one = stood_for(tables, entry);
+        replaced = replaced.saturating_add(one.replaced);
+        fields = fields.max(one.fields);
+    }
+    Standing { replaced, fields }
+}
+
+// What stands for the key of an entry.
+fn stood_for(tables: &View<'_>, entry: &Entry<'_>) -> Standing
+    requires { AreGroups tables.now.groups }
+    ensures { AllByRecursion (λ (g : EmailGroup). email_key g ≡ email_text (mapping_of entry.now) → own_bytes g ≤ result.fields) tables.now.groups }
+{
+    match place_email(tables, 0, entry.old_email()) {
+        Ok(place) => {
+            let (texts, names) = tables.email(place);
+            Standing {
+                replaced: replaced_len(tables, texts, names, entry.old_name()),
+                fields: tables.fields_len(texts),
+            }
+        }
+        Err(_) => Standing {
+            replaced: 0,
+            fields: 0,
+        },
+    }
+}
+
+// How many bytes the texts of an email have, or those of one of its names.
+fn replaced_len(
+    tables: &View<'_>,
+    texts: Texts,
+    names: &[NameRow],
+    old_name: Option<&[u8]>,
+) -> usize
+    requires lie { AllByRecursion (NameLies (length tables.now.pool)) names.now }
+    requires ascending { IsStrictlySortedBy text_cmp (map name_key (map (name_group tables.now.pool) names.now)) }
+{
+    match old_name {
         None => texts.len(),
         Some(name) => match place_name(tables, names, name) {
             Ok(place) => names[place].len(),
@@ -68,19 +110,21 @@ fn stood_len(tables: &View<'_>, entry: &Entry<'_>) -> usize
     }
 }
 
-/// Puts entries behind those that the tables have, in place. A refusal of memory leaves the tables as they were.
+/// Puts entries behind those that the tables have, in place, where the fields that stand for their emails have so many
+/// bytes at most. A refusal of memory leaves the tables as they were.
 pub(crate) fn merge_in_place(
     alloc: Global,
     tables: &mut Tables,
     entries: &[Entry<'_>],
+    stood: usize,
 ) -> Result<(), AllocError>
     requires complete { IsComplete tables.old }
     requires accepted { AllByRecursion (λ m. is_accepted m ≡ true) (map mapping_of entries.now) }
+    requires stood { StoodWithin stood tables.old.groups (map mapping_of entries.now) }
     ensures ok { OnOk result (IsComplete tables.new × IsNormal (listing tables.old.groups ++ map mapping_of entries.now) (listing tables.new.groups)) }
     ensures err { OnErr result (tables.new ≡ tables.old) }
 {
     let batch = sorted(alloc, entries)?;
-    let stood = fields_len(&tables.view(), &batch);
     let bytes = room_len(&batch, stood)?;
     let held = mem::replace(tables, Tables::new(alloc));
     match Roomy::new(held, batch.len(), bytes) {
@@ -93,32 +137,6 @@ pub(crate) fn merge_in_place(
             *tables = held;
             Err(AllocError)
         }
-    }
-}
-
-// How many bytes the fields have at most that stand for an email of a batch.
-fn fields_len(tables: &View<'_>, batch: &[Placed<'_, '_>]) -> usize
-    requires { AreGroups tables.now.groups }
-    ensures { StoodWithin result tables.now.groups (map mapping_at batch.now) }
-{
-    let mut most: usize = 0;
-    for placed in batch {
-        most = most.max(email_fields_len(tables, placed.entry.old_email()));
-    }
-    most
-}
-
-// How many bytes the fields have that stand for an email.
-fn email_fields_len(tables: &View<'_>, email: &[u8]) -> usize
-    requires { AreGroups tables.now.groups }
-    ensures { AllByRecursion (λ (g : EmailGroup). email_key g ≡ folded email.now → own_bytes g ≤ result) tables.now.groups }
-{
-    match place_email(tables, 0, email) {
-        Ok(place) => {
-            let (texts, _) = tables.email(place);
-            tables.fields_len(texts)
-        }
-        Err(_) => 0,
     }
 }
 

@@ -432,8 +432,8 @@ impl Tables {
             collected.put_into(self);
             return Ok(());
         }
-        if collected.is_small(self) {
-            return merge_in_place(alloc, self, &collected.batch);
+        if let Some(stood) = collected.small(self) {
+            return merge_in_place(alloc, self, &collected.batch, stood);
         }
         *self = collected.tables(self)?;
         Ok(())

@@ -1,14 +1,16 @@
 //! The accepted entries of an iterator on their way into tables. Where few keys come again and again, they are joined in
 //! portions, so that they take the memory of their keys and of one portion, however many they are.
-ghost use Rattle.std.specs.Prelude.{◌≡◌, ◌≢◌, ◌<◌, [], ◌++◌, ◌∷◌, List, IfOk, IsTrue, None, OnErr, OnOk, Some, false, true, map, unwrap_or};
+ghost use Rattle.std.specs.Prelude.{◌≡◌, ◌≢◌, ◌<◌, [], ◌++◌, ◌∷◌, List, IfOk, None, OnErr, OnOk, Some, false, true, map, unwrap_or};
 ghost use Rattle.std.specs.Iterator.{IsFinite, Drains, Yields};
+ghost use Rattle.std.specs.Option.{ForSome};
 ghost use Rattle.mailmap_entries.specs.Entries.{Mapping, mapping_of};
 ghost use Rattle.mailmap_entries.specs.declared.entry.Entry.{Entry as Item};
 ghost use Rattle.mailmap_histories.specs.Histories.{accepted, is_accepted};
 ghost use Rattle.mailmap_tables.specs.Groups.{AreGroups, IsComplete};
 ghost use Rattle.mailmap_tables.specs.Collecting.{IsCollected};
+ghost use Rattle.mailmap_tables.specs.Room.{StoodWithin};
 
-use crate::insert::is_small;
+use crate::insert::small;
 use crate::merge::{joined, thinned};
 use crate::tables::Tables;
 use mailmap_entries::Entry;
@@ -128,12 +130,17 @@ impl<'a> Collected<'a> {
         }
     }
 
-    /// Whether the entries are so few beside the standing tables that they are to be joined in place.
-    pub(crate) fn is_small(&self, standing: &Tables) -> bool
+    /// How many bytes the fields have at most that stand for an email of the batch, if the entries are so few beside the
+    /// standing tables that they are to be joined in place.
+    pub(crate) fn small(&self, standing: &Tables) -> Option<usize>
         requires { AreGroups standing.now.groups }
-        ensures { IsTrue result → self.now.made ≡ None }
+        ensures alone { ForSome result (λ fields. self.now.made ≡ None) }
+        ensures stood { ForSome result (λ fields. StoodWithin fields standing.now.groups (map mapping_of self.now.batch.items)) }
     {
-        self.made.is_none() && is_small(standing, &self.batch)
+        if self.made.is_some() {
+            return None;
+        }
+        small(standing, &self.batch)
     }
 
     /// The standing tables with all entries behind them.

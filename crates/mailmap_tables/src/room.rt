@@ -140,6 +140,7 @@ impl Roomy {
 
     /// The row of texts that stand in the pool, in the place of so many bytes. Those that don't stand one behind another
     /// are copied to the end of the pool, and are out of use where they stood.
+    #[inline(always)]
     pub(crate) fn together(
         &mut self,
         old: Span,

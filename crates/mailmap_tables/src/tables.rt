@@ -124,6 +124,7 @@ impl Tables {
 
     /// The row of texts that stand in the pool, in the place of so many bytes. Those that don't stand one behind another
     /// are copied to the end of the pool, and are out of use where they stood.
+    #[inline(always)]
     pub(crate) fn together(
         &mut self,
         old: Span,
@@ -146,6 +147,7 @@ impl Tables {
     }
 
     /// Puts an email behind the others, which takes the names that no email has taken yet.
+    #[inline(always)]
     pub fn push_email(&mut self, texts: Texts) -> Result<(), AllocError>
         requires { TextsLie (length self.old.pool) texts }
         ensures { OnOk result (self.new ≡ record {

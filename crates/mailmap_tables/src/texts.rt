@@ -104,6 +104,7 @@ fn byte_count(len: usize) -> usize
 }
 
 // The length of a text, if there is one.
+#[inline(always)]
 fn len_of(span: Option<Span>) -> usize
     ensures { result ≡ len_of span }
 {
@@ -115,6 +116,7 @@ fn len_of(span: Option<Span>) -> usize
 
 /// The row of texts that stand in the pool. Where they stand one behind another, it is just that; else they are copied
 /// to the end of the pool.
+#[inline(always)]
 pub(crate) fn together(
     pool: &mut Vec<u8>,
     old: Span,
@@ -142,6 +144,7 @@ pub(crate) fn together(
 }
 
 // The row of texts that stand one behind another from there on.
+#[inline(always)]
 fn row(start: usize, old: Span, new_name: Option<Span>, new_email: Option<Span>) -> Texts
     ensures { result ≡ row_of start old new_name new_email }
 {
@@ -154,6 +157,7 @@ fn row(start: usize, old: Span, new_name: Option<Span>, new_email: Option<Span>)
 }
 
 // Whether texts stand one behind another.
+#[inline(always)]
 fn are_together(old: Span, new_name: Option<Span>, new_email: Option<Span>) -> bool
     requires old { LiesIn (usize.MAX - 1) old }
     requires new_name { ForSome new_name (LiesIn (usize.MAX - 1)) }
@@ -167,6 +171,7 @@ fn are_together(old: Span, new_name: Option<Span>, new_email: Option<Span>) -> b
 }
 
 // Where a text that stands there ends, if it does stand there; there itself for no text.
+#[inline(always)]
 fn end_behind(span: Option<Span>, start: usize) -> Option<usize>
     requires { ForSome span (LiesIn (usize.MAX - 1)) }
     ensures stands { IsSome result → ForSome span (λ s. s.start ≡ start) }
@@ -180,6 +185,7 @@ fn end_behind(span: Option<Span>, start: usize) -> Option<usize>
 }
 
 // Puts a text of the pool at its end once more, if there is one.
+#[inline(never)]
 fn push_again(pool: &mut Vec<u8>, span: Option<Span>) -> Result<(), AllocError>
     requires { ForSome span (LiesIn (length pool.old.items)) }
     ensures items { OnOk result (pool.new.items ≡ pool.old.items ++ bytes_of pool.old.items span) }

@@ -1,9 +1,10 @@
-use Rattle.std.proofs.Common.{◌≡◌, ◌∙◌, ◌++◌, List, true, map, sym, subst}
+use Rattle.std.proofs.Common.{◌≡◌, ◌≤◌, ◌∙◌, ◌++◌, List, true, map, sum_by, sym, subst, arith}
 use Rattle.std.specs.List.{AllByRecursion}
-use Rattle.mailmap_entries.specs.Entries.{mapping_of}
+use Rattle.mailmap_entries.specs.Entries.{Mapping, mapping_of}
 use Rattle.mailmap_histories.specs.Histories.{IsNormal, is_accepted, key, key_cmp}
-use Rattle.mailmap_tables.specs.Groups.{Contents, IsComplete, listing}
-use Rattle.mailmap_tables.specs.Merging.{AllJoined, IsAscending, mapping_at, placed_at}
+use Rattle.mailmap_tables.specs.Groups.{Contents, EmailGroup, IsComplete, email_key, listing}
+use Rattle.mailmap_tables.specs.Merging.{AllJoined, IsAscending, email_text, mapping_at, placed_at}
+use Rattle.mailmap_tables.specs.Room.{StoodWithin, entry_room, own_bytes}
 use Rattle.mailmap_tables.specs.declared.batch.Placed.{Placed}
 use Rattle.mailmap_tables.proofs.Collected.{mapped_twice}
 use Rattle.mailmap_tables.proofs.WholeMerge.{joined_normal, of_placed, sorted_all}
@@ -33,3 +34,20 @@ returns-in-Ok-clause-ok c =
     (subst (λ (l : List Placed). AllJoined c.in-Ok.room.held.groups (map placed_at l) made.groups) c.deref-in-Ok.ensures.value c.insert_sorted.ensures.joined) in
     subst (λ (v : Contents). IsComplete v × IsNormal (listing gs ++ xs) (listing v.groups)) (sym c.into_tables.ensures)
     (record { groups = j.groups; no_loose = c.insert_sorted.ensures.no_loose }, joined_normal gs c.requires.complete.groups xs c.requires.accepted (map placed_at items) c.in_ok-batch.ensures made.groups j)
+
+pub insert_sorted-requires-clause-bytes : goal.insert_sorted-requires-clause-bytes
+insert_sorted-requires-clause-bytes c =
+    let items = c.in_ok-batch.batch.items in
+    let gs = c.args.tables.now.groups in
+    let n = c.args.stood in
+    let P : Mapping → Type 0 = λ m. AllByRecursion (λ (g : EmailGroup). email_key g ≡ email_text m → own_bytes g ≤ n) gs in
+    let all : StoodWithin n gs (map mapping_at items) = of_placed P items (sorted_all P (map mapping_of c.args.entries.now) (map placed_at items) c.in_ok-batch.ensures c.requires.stood) in
+    let same : c.in-Ok.room.held ≡ c.args.tables.now = c.in-Ok.ensures.held ∙ c.replace-held.ensures.value in
+    let bytes : sum_by (entry_room n) (map mapping_at c.deref.result.now) ≤ c.in-Ok.room.bytes = omega (arith, c.in_ok-bytes.ensures, c.in-Ok.ensures.bytes) in (
+      n,
+      (
+        subst (λ (v : Contents). StoodWithin n v.groups (map mapping_at c.deref-in-Ok.result.now)) (sym same)
+            (subst (λ (l : List Placed). StoodWithin n gs (map mapping_at l)) (sym c.deref-in-Ok.ensures.value) all),
+        subst (λ (l : List Placed). sum_by (entry_room n) (map mapping_at l) ≤ c.in-Ok.room.bytes) (c.deref.ensures.value ∙ sym c.deref-in-Ok.ensures.value) bytes,
+      ),
+    )

@@ -1,4 +1,4 @@
-use Rattle.std.proofs.Common.{◌≡◌, ◌≢◌, ◌++◌, [], List, Option, None, Some, true, map, sym, subst}
+use Rattle.std.proofs.Common.{◌≡◌, ◌≢◌, ◌++◌, [], List, Option, None, Some, true, map, refl, sym, subst}
 use Rattle.std.specs.Iterator.{Yields}
 use Rattle.std.specs.List.{AllByRecursion}
 use Rattle.mailmap_entries.specs.Entries.{mapping_of}
@@ -31,19 +31,19 @@ merge_in_place-requires-clause-accepted g c =
     subst (λ (l : List Item). AllByRecursion (λ m. is_accepted m ≡ true) (map mapping_of l)) (sym c.deref.ensures.value)
     (collected_good c.args.self.now (map mapping_of w.0) c.in_ok-collected.collected.made _ w.2)
 
-pub returns-then-is_small-clause-ok : goal.returns-then-is_small-clause-ok
-returns-then-is_small-clause-ok g c =
+pub returns-in-Some-clause-ok : goal.returns-in-Some-clause-ok
+returns-in-Some-clause-ok g c =
     let w = c.in_ok-collected.ensures.ok in
     let stood = c.args.self.now in
     let h = map mapping_of w.0 in
     let new = c.merge_in_place.new.tables in
-    let alone = subst (λ (o : Option Contents). IsCollected stood h o (map mapping_of c.in_ok-collected.collected.batch.items)) (c.is_small.ensures c.if-is_small.true) w.2 in
+    let alone = subst (λ (o : Option Contents). IsCollected stood h o (map mapping_of c.in_ok-collected.collected.batch.items)) (c.in-Some.ensures.alone c.in-Some.stood refl) w.2 in
     on_ok_then c.merge_in_place.result _ _ (λ (d : IsComplete new × IsNormal (listing stood.groups ++ map mapping_of c.deref.result.now) (listing new.groups)).
     let all = collected_joined stood h None _ alone new d.0 (subst (λ (l : List Item). IsNormal (listing stood.groups ++ map mapping_of l) (listing new.groups)) c.deref.ensures.value d.1) in
     (w.0, w.1, d.0, collected_all stood h (Some new) all)) c.merge_in_place.ensures.ok
 
-pub returns-then-is_small-clause-refused : goal.returns-then-is_small-clause-refused
-returns-then-is_small-clause-refused g c =
+pub returns-in-Some-clause-refused : goal.returns-in-Some-clause-refused
+returns-in-Some-clause-refused g c =
     let w = c.in_ok-collected.ensures.ok in
     let some = collected_some mapping_of c.args.self.now (map mapping_of w.0) c.in_ok-collected.collected.made _ w.2 (c.is_joined.ensures.some c.if-is_joined.false) in
     let why : (ys : List Item) × (rest : _) × Yields g.I.Iterator.next_gives c.args.entries ys rest × (accepted (map mapping_of ys) ≢ []) = (w.0, w.1.1.0, w.1.1.1, some) in

@@ -10,7 +10,7 @@ use Rattle.mailmap_tables.specs.Room.{own_bytes}
 use Rattle.mailmap_tables.proofs.Grouped.{none_has, not_below_itself}
 use Rattle.mailmap_tables.proofs.Parting.{found_key}
 use Rattle.mailmap_tables.proofs.Pooled.{all_at}
-use Rattle.mailmap_tables.proofs.insert.email_fields_len.Goals as goal
+use Rattle.mailmap_tables.proofs.insert.stood_for.Goals as goal
 
 module _ (k : Text) (n : ℕ) where
   abbrev Most : EmailGroup → Type 0
@@ -39,18 +39,19 @@ module _ (k : Text) (n : ℕ) where
 pub returns-in-Ok : goal.returns-in-Ok
 returns-in-Ok c =
     let v = c.args.tables.now in
-    let k = folded c.args.email.now in
-    let place = c.in-Ok.place in
+    let k = folded c.old_email.result.now in
     let t = c.email.result.0 in
     let g = group_of v.pool t c.email.result.1.now in
     let found = c.in-Ok.ensures.found in
-    let read : get_or v.groups place g ≡ g = get_or_from_slice_get v.groups place g g c.email.ensures.group in
-    let key : email_key g ≡ k = found_key email_key k 0 v.groups place g found (sym read) in
-    at_one k c.fields_len.result v.groups place g c.requires.ascending found.within (ap email_key read ∙ key) (omega (arith, ap own_bytes read, c.fields_len.ensures))
+    let read : get_or v.groups c.in-Ok.place g ≡ g = get_or_from_slice_get v.groups c.in-Ok.place g g c.email.ensures.group in
+    let key : email_key g ≡ k = found_key email_key k 0 v.groups c.in-Ok.place g found (sym read) in
+    subst (λ s. AllByRecursion (λ (h : EmailGroup). email_key h ≡ folded s → own_bytes h ≤ c.fields_len.result) v.groups) c.old_email.ensures
+    (at_one k c.fields_len.result v.groups c.in-Ok.place g c.requires.ascending found.within (ap email_key read ∙ key) (omega (arith, ap own_bytes read, c.fields_len.ensures)))
 
 pub returns-in-Err : goal.returns-in-Err
 returns-in-Err c =
     let v = c.args.tables.now in
-    let k = folded c.args.email.now in
+    let k = folded c.old_email.result.now in
     let missing = c.in-Err.ensures.missing in
-    none_at k 0 v.groups (none_has email_key k v.groups c.in-Err.field-0 missing.below missing.above)
+    subst (λ s. AllByRecursion (λ (h : EmailGroup). email_key h ≡ folded s → own_bytes h ≤ 0) v.groups) c.old_email.ensures
+    (none_at k 0 v.groups (none_has email_key k v.groups c.in-Err.field-0 missing.below missing.above))
