@@ -1,7 +1,6 @@
 //! Passes over a history, each of which lets entries go that change nothing.
-ghost use Rattle.std.specs.Prelude.{◌≡◌, All, [], IfOk, List};
+ghost use Rattle.std.specs.Prelude.{◌≡◌, All, [], IfOk};
 ghost use Rattle.std.specs.List.Sorted.{IsStrictlySortedBy};
-ghost use Rattle.mailmap_entries.specs.Entries.{Mapping};
 ghost use Rattle.mailmap_histories.specs.Histories.{key_cmp};
 ghost use Rattle.mailmap_sifting.specs.Sifting.{IsPass, IsSifted, entries as entries_told};
 ghost use Rattle.mailmap_sifting.specs.Numbers.{ArePlaces, IsNumbered, IsTable, behinds, told};
@@ -12,7 +11,8 @@ use crate::summary::{Behind, is_idle};
 use crate::table::Table;
 use std::alloc::{AllocError, Global};
 
-/// What stays of the entries where passes are made until one lets nothing go, and what that says.
+/// What stays of the entries where passes are made until one lets nothing go, and what that says. The table is first of no
+/// entry.
 pub(crate) fn settled<'p, 'a>(
     alloc: Global,
     keys: &[FrontedKey<'_>],
@@ -21,7 +21,7 @@ pub(crate) fn settled<'p, 'a>(
 ) -> Result<Vec<NumberedEntry<'p, 'a>>, AllocError>
     requires ascending { IsStrictlySortedBy key_cmp keys.now }
     requires numbered { All (IsNumbered keys.now) entries.now }
-    requires table { (h : List Mapping) × IsTable keys.now h table.old }
+    requires table { IsTable keys.now [] table.old }
     ensures sifted { IfOk result (λ kept. IsSifted (told entries.now) (told kept.items)) }
     ensures numbered { IfOk result (λ kept. All (IsNumbered keys.now) kept.items) }
     ensures table { IfOk result (λ kept. IsTable keys.now (entries_told (told kept.items)) table.new) }
@@ -31,12 +31,13 @@ pub(crate) fn settled<'p, 'a>(
     let mut kept = pass(alloc, keys, entries, table)?;
     while kept.len() < len {
         len = kept.len();
+        table.clear();
         kept = pass(alloc, keys, &kept, table)?;
     }
     Ok(kept)
 }
 
-// What stays of the entries in a pass from the first to the last.
+// What stays of the entries in a pass from the first to the last. The table is first of no entry.
 fn pass<'p, 'a>(
     alloc: Global,
     keys: &[FrontedKey<'_>],
@@ -45,13 +46,12 @@ fn pass<'p, 'a>(
 ) -> Result<Vec<NumberedEntry<'p, 'a>>, AllocError>
     requires ascending { IsStrictlySortedBy key_cmp keys.now }
     requires numbered { All (IsNumbered keys.now) entries.now }
-    requires table { (h : List Mapping) × IsTable keys.now h table.old }
+    requires table { IsTable keys.now [] table.old }
     ensures passed { IfOk result (λ kept. IsPass [] (told entries.now) (told kept.items)) }
     ensures numbered { IfOk result (λ kept. All (IsNumbered keys.now) kept.items) }
     ensures table { IfOk result (λ kept. IsTable keys.now (entries_told (told kept.items)) table.new) }
     ensures places { IfOk result (λ kept. ArePlaces keys.now (told kept.items) table.new) }
 {
-    table.clear();
     let mut behind = behind_each(alloc, keys, entries, table)?;
     table.clear();
     let mut kept = Vec::with_capacity(alloc, entries.len())?;

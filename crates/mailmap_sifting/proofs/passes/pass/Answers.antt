@@ -8,16 +8,13 @@ use Rattle.mailmap_sifting.proofs.Passing.{IsPassing, passed_going, passed_stayi
 use Rattle.mailmap_sifting.proofs.passes.pass.Goals as goal
 use Rattle.mailmap_sifting.proofs.passes.pass.Goals.{then-not-is_idle+in_ok-push, else-not-is_idle}
 
-pub behind_each-requires-clause-table : goal.behind_each-requires-clause-table
-behind_each-requires-clause-table c = c.clear.ensures.table c.args.keys.now c.requires.table.0 c.requires.table.1
-
 pub loop-x-init : goal.loop-x-init
 loop-x-init c =
     let keys = c.args.keys.now in
     let h = entries (told c.args.entries.now) in
     let filled = c.in_ok-behind.ensures.table in (
       c.in_ok-behind.ensures.behind,
-      (subst (λ l. IsTable keys (entries (told l)) c.clear-2.new.self) (sym c.in_ok-kept.ensures.items) (c.clear-2.ensures.table keys h filled), subst (λ l. ArePlaces keys (told l) c.clear-2.new.self) (sym c.in_ok-kept.ensures.items) (c.clear-2.ensures.places keys h filled)),
+      (subst (λ l. IsTable keys (entries (told l)) c.clear.new.self) (sym c.in_ok-kept.ensures.items) (c.clear.ensures.table keys h filled), subst (λ l. ArePlaces keys (told l) c.clear.new.self) (sym c.in_ok-kept.ensures.items) (c.clear.ensures.places keys h filled)),
       search rules,
       search rules,
     )

@@ -1,9 +1,12 @@
 use Rattle.std.proofs.Common.{◌≡◌, [], length, subst, arith}
 use Rattle.std.proofs.lemmas.List.{length-map}
-use Rattle.mailmap_sifting.specs.Sifting.{IsPass}
+use Rattle.mailmap_sifting.specs.Sifting.{IsPass, entries}
 use Rattle.mailmap_sifting.specs.Numbers.{placed_entry_of, told}
 use Rattle.mailmap_sifting.proofs.Settling.{further, over}
 use Rattle.mailmap_sifting.proofs.passes.settled.Goals as goal
+
+pub pass-requires-in-loop-len-clause-table : goal.pass-requires-in-loop-len-clause-table
+pass-requires-in-loop-len-clause-table c = c.clear.ensures.table c.args.keys.now (entries (told c.loop-len.kept.items)) c.loop-len.invariant.2
 
 pub loop-len-preserved : goal.loop-len-preserved
 loop-len-preserved c =
