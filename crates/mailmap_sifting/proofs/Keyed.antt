@@ -32,7 +32,7 @@ unequal_keys x y other =
       | false ↦ λ e. refl
     ] refl
 
-all_at : {X : Type 0} (P : X → Type 0) (xs : List X) (i : ℕ) (x : X) → AllByRecursion P xs → slice_get xs i ≡ Some x → P x
+pub all_at : {X : Type 0} (P : X → Type 0) (xs : List X) (i : ℕ) (x : X) → AllByRecursion P xs → slice_get xs i ≡ Some x → P x
 all_at P [] i x all e = absurd (cc)
 all_at P (y ∷ xs) zero x all e = let is : y ≡ x = cc in subst P is all.0
 all_at P (y ∷ xs) (suc i) x all e = all_at P xs i x all.1 e

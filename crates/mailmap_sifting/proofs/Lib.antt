@@ -3,7 +3,9 @@ pub mod Idle
 pub mod Sublists
 pub mod Kept
 pub mod Keyed
+pub mod Ascending
 pub mod Rows
 pub mod Walked
+pub mod Numbered
 pub mod Passing
 pub mod Settling

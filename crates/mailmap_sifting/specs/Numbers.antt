@@ -1,9 +1,10 @@
 -- Keys with their numbers, and tables that have a row for each number.
-use Rattle.std.specs.Prelude.{◌≡◌, ◌<◌, true, List, [], ◌∷◌, ◌++◌, ℕ, Option, Some, None, Contains, map, length}
+use Rattle.std.specs.Prelude.{◌≡◌, ◌<◌, ◌-◌, true, false, List, [], ◌∷◌, ◌++◌, ℕ, Option, Some, None, Contains, map, length}
 use Rattle.std.specs.Borrow.{Bor}
 use Rattle.std.specs.Option.{option_copied, option_map}
 use Rattle.std.specs.List.{slice_get, slice_index_or, AllByRecursion}
 use Rattle.std.specs.List.Sorted.{IsStrictlySortedBy}
+use Rattle.std.specs.Ordering.{is_lt}
 use Rattle.mailmap_entries.specs.Entries.{Mapping, mapping_of}
 use Rattle.mailmap_entries.specs.Folding.{Text}
 use Rattle.mailmap_histories.specs.Histories.{Key, Fields, key, key_cmp, is_accepted, new_fields, spelling}
@@ -68,6 +69,23 @@ pub record IsNumbered (keys : List Key) (x : NumberedEntry) : Type 0 where
   pub own : IsNumber keys (key (entry_of x)) x.key
   pub of_email : IsNumber keys (email_key (key (entry_of x)).0) x.email
   pub accepted : is_accepted (entry_of x) ≡ true
+
+-- ---- keys as they come in their order
+
+abbrev pub last_key : List Key → Option Key
+last_key keys = slice_get keys (length keys - 1)
+
+abbrev pub last_email : List Key → Option Text
+last_email keys = option_map (λ k. k.0) (last_key keys)
+
+-- the key is not below the last one
+abbrev pub IsReached : List Key → Key → Type 0
+IsReached keys k = (l : Key) → last_key keys ≡ Some l → is_lt (key_cmp k l) ≡ false
+
+-- the keys ascend, and the last one's email has this number
+pub record AreAscending (keys : List Key) (email : ℕ) : Type 0 where
+  pub ascending : IsStrictlySortedBy key_cmp keys
+  pub of_email : (l : Key) → last_key keys ≡ Some l → IsNumber keys (email_key l.0) email
 
 -- ---- tables
 

@@ -1,13 +1,13 @@
 //! The keys of a history in ascending order, each once. A key's number is its place among them.
-ghost use Rattle.std.specs.Prelude.{◌≡◌, Contains, IfOk, OnOk, IfSome, IfNone, None, All};
+ghost use Rattle.std.specs.Prelude.{◌≡◌, ◌≢◌, [], ℕ, Contains, IfOk, OnOk, IfSome, IfNone, None, Some, true, false};
 ghost use Rattle.std.specs.Option.{option_copied, option_map, option_cmp};
+ghost use Rattle.std.specs.Ordering.{eq_by_cmp};
 ghost use Rattle.std.specs.List.Sorted.{IsStrictlySortedBy};
 ghost use Rattle.mailmap_entries.specs.Entries.{mapping_of};
 ghost use Rattle.mailmap_entries.specs.Folding.{folded, text_cmp};
 ghost use Rattle.mailmap_histories.specs.Histories.{Key, key, key_cmp};
-ghost use Rattle.mailmap_sifting.specs.Numbers.{HasKeys, IsNumber, email_key};
+ghost use Rattle.mailmap_sifting.specs.Numbers.{AreAscending, IsNumber, IsReached, email_key, last_email, last_key};
 
-use crate::placed::PlacedEntry;
 use mailmap_entries::Entry;
 use mailmap_entries::fold::front::Fronted;
 use mailmap_entries::fold::{Steps, cmp_ignore_ascii_case};
@@ -54,6 +54,16 @@ impl<'a> FrontedKey<'a> {
             name: None,
         }
     }
+
+    // The same without its name.
+    fn of_email_alone(&self) -> FrontedKey<'a>
+        ensures { result ≡ email_key self.now.0 }
+    {
+        FrontedKey {
+            email: self.email,
+            name: None,
+        }
+    }
 }
 
 fn compare(a: &FrontedKey, b: &FrontedKey) -> Ordering
@@ -76,44 +86,105 @@ fn compare_names(a: Option<&[u8]>, b: Option<&[u8]>) -> Ordering
     }
 }
 
-/// The keys of entries, and the keys of their emails, in ascending order, each once.
-pub(crate) fn distinct_keys<'a>(
-    alloc: Global,
-    entries: &[PlacedEntry<'a>],
-) -> Result<Vec<FrontedKey<'a>>, AllocError>
-    ensures ascending { IfOk result (λ keys. IsStrictlySortedBy key_cmp keys.items) }
-    ensures all { IfOk result (λ keys. All (λ x. HasKeys keys.items (mapping_of x.entry)) entries.now) }
-{
-    let mut keys = keys_of(alloc, entries)?;
-    keys.sort_by(compare)?;
-    keys.dedup_by(|b, a| compare(b, a).is_eq());
-    Ok(keys)
+/// The keys of entries that come in the order of their keys, and the keys of their emails, each once.
+#[derive(Drop)]
+pub(crate) struct AscendingKeys<'a> {
+    pub(crate) keys: Vec<FrontedKey<'a>>,
+    /// The number of the last email.
+    pub(crate) email: usize,
 }
 
-// The same, as the entries come.
-fn keys_of<'a>(
-    alloc: Global,
-    entries: &[PlacedEntry<'a>],
-) -> Result<Vec<FrontedKey<'a>>, AllocError>
-    ensures { IfOk result (λ keys. All (λ x. HasKeys keys.items (mapping_of x.entry)) entries.now) }
-{
-    let mut keys = Vec::with_capacity(alloc, entries.len().saturating_mul(2))?;
-    for placed in entries {
-        push_keys(&mut keys, &placed.entry)?;
+impl<'a> AscendingKeys<'a> {
+    /// No key yet, and room for so many.
+    pub(crate) fn new(alloc: Global, len: usize) -> Result<AscendingKeys<'a>, AllocError>
+        ensures { IfOk result (λ keys. keys.keys.items ≡ []) }
+    {
+        Ok(AscendingKeys {
+            keys: Vec::with_capacity(alloc, len)?,
+            email: 0,
+        })
     }
-    Ok(keys)
+
+    /// Adds the key of an entry, and that of its email, where they are not there.
+    pub(crate) fn push(&mut self, entry: &Entry<'a>) -> Result<(), AllocError>
+        requires ascending { AreAscending self.old.keys.items self.old.email }
+        requires up { IsReached self.old.keys.items (key (mapping_of entry.now)) }
+        ensures ascending { OnOk result (AreAscending self.new.keys.items self.new.email) }
+        ensures last { OnOk result (last_key self.new.keys.items ≡ Some (key (mapping_of entry.now))) }
+        ensures keeps { OnOk result ((k : Key) (i : ℕ) → IsNumber self.old.keys.items k i → IsNumber self.new.keys.items k i) }
+    {
+        let key = FrontedKey::of(entry);
+        self.push_email(&key)?;
+        self.push_key(key)
+    }
+
+    // Adds the key of a key's email, if the last one is of another.
+    fn push_email(&mut self, key: &FrontedKey<'a>) -> Result<(), AllocError>
+        requires ascending { AreAscending self.old.keys.items self.old.email }
+        requires up { IsReached self.old.keys.items key.now }
+        ensures ascending { OnOk result (AreAscending self.new.keys.items self.new.email) }
+        ensures up { OnOk result (IsReached self.new.keys.items key.now) }
+        ensures email { OnOk result (last_email self.new.keys.items ≡ Some key.now.0) }
+        ensures keeps { OnOk result ((k : Key) (i : ℕ) → IsNumber self.old.keys.items k i → IsNumber self.new.keys.items k i) }
+    {
+        if is_last_email(&self.keys, key) {
+            return Ok(());
+        }
+        self.email = self.keys.len();
+        self.keys.push(key.of_email_alone())?;
+        Ok(())
+    }
+
+    // Adds a key, if the last one is another. Its email is that of the last one.
+    fn push_key(&mut self, key: FrontedKey<'a>) -> Result<(), AllocError>
+        requires ascending { AreAscending self.old.keys.items self.old.email }
+        requires up { IsReached self.old.keys.items key }
+        requires email { last_email self.old.keys.items ≡ Some key.0 }
+        ensures ascending { OnOk result (AreAscending self.new.keys.items self.new.email) }
+        ensures last { OnOk result (last_key self.new.keys.items ≡ Some key.entry) }
+        ensures keeps { OnOk result ((k : Key) (i : ℕ) → IsNumber self.old.keys.items k i → IsNumber self.new.keys.items k i) }
+    {
+        if is_last_name(&self.keys, &key) {
+            return Ok(());
+        }
+        self.keys.push(key)?;
+        Ok(())
+    }
 }
 
-// Adds the key of an entry, and that of its email.
-fn push_keys<'a>(keys: &mut Vec<FrontedKey<'a>>, entry: &Entry<'a>) -> Result<(), AllocError>
-    ensures has { OnOk result (HasKeys keys.new.items (mapping_of entry.now)) }
-    ensures keeps { OnOk result ((k : Key) → Contains keys.old.items k → Contains keys.new.items k) }
+// Whether the last of the keys has this email.
+fn is_last_email(keys: &[FrontedKey], key: &FrontedKey) -> bool
+    ensures yes { result ≡ true → last_email keys.now ≡ Some key.now.0 }
+    ensures no { result ≡ false → last_email keys.now ≢ Some key.now.0 }
 {
-    keys.push(FrontedKey::of(entry))?;
-    if let Some(_) = entry.old_name() {
-        keys.push(FrontedKey::of_email(entry.old_email()))?;
+    match keys.last() {
+        Some(last) => have_same_email(last, key),
+        None => false,
     }
-    Ok(())
+}
+
+fn have_same_email(a: &FrontedKey, b: &FrontedKey) -> bool
+    ensures { result ≡ eq_by_cmp text_cmp a.now.0 b.now.0 }
+{
+    Steps::new().compare_fronted(a.email, b.email).is_eq()
+}
+
+// Whether the last of the keys, which has this email, has this name.
+fn is_last_name(keys: &[FrontedKey], key: &FrontedKey) -> bool
+    requires { last_email keys.now ≡ Some key.now.0 }
+    ensures yes { result ≡ true → last_key keys.now ≡ Some key.now }
+    ensures no { result ≡ false → last_key keys.now ≢ Some key.now }
+{
+    match keys.last() {
+        Some(last) => have_same_name(last, key),
+        None => false,
+    }
+}
+
+fn have_same_name(a: &FrontedKey, b: &FrontedKey) -> bool
+    ensures { result ≡ eq_by_cmp (option_cmp text_cmp) a.now.1 b.now.1 }
+{
+    compare_names(a.name, b.name).is_eq()
 }
 
 /// The number of a key, `None` where it is not there.

@@ -1,14 +1,15 @@
 //! Entries with the numbers of their keys, so that tables have a row for each key.
-ghost use Rattle.std.specs.Prelude.{◌≡◌, Contains, IfOk, All, map, true};
+ghost use Rattle.std.specs.Prelude.{◌≡◌, ◌<◌, slice_set, vec_len, IfOk, All, Some, map, true};
 ghost use Rattle.std.specs.List.Sorted.{IsStrictlySortedBy};
 ghost use Rattle.mailmap_entries.specs.Entries.{mapping_of};
 ghost use Rattle.mailmap_histories.specs.Histories.{key, key_cmp, is_accepted};
 ghost use Rattle.mailmap_sifting.specs.Sifting.{placed_of};
-ghost use Rattle.mailmap_sifting.specs.Numbers.{HasKeys, IsNumber, IsNumbered, email_key, told};
+ghost use Rattle.mailmap_sifting.specs.Numbers.{AreAscending, IsNumbered, last_key, told};
 
-use crate::keys::{FrontedKey, find};
+use crate::keys::{AscendingKeys, FrontedKey};
 use crate::placed::PlacedEntry;
 use mailmap_entries::Entry;
+use mailmap_tables::batch::sorted;
 use std::alloc::{AllocError, Global};
 
 /// An entry, the number of its key, and that of the key of its email, without an old name.
@@ -19,58 +20,88 @@ pub(crate) struct NumberedEntry<'p, 'a> {
     pub(crate) email: usize,
 }
 
-/// Entries with the numbers of their keys.
+/// The keys of entries, and the entries with their numbers.
+#[derive(Drop)]
+pub(crate) struct Numbering<'p, 'a> {
+    pub(crate) keys: Vec<FrontedKey<'a>>,
+    pub(crate) entries: Vec<NumberedEntry<'p, 'a>>,
+}
+
+/// The entries with the numbers of their keys. They are sorted once, so that only neighbours are compared.
 pub(crate) fn numbered<'p, 'a>(
     alloc: Global,
-    keys: &[FrontedKey<'_>],
     entries: &'p [PlacedEntry<'a>],
-) -> Result<Vec<NumberedEntry<'p, 'a>>, AllocError>
-    requires ascending { IsStrictlySortedBy key_cmp keys.now }
-    requires has { All (λ x. HasKeys keys.now (mapping_of x.entry)) entries.now }
-    requires accepted { All (λ x. is_accepted (mapping_of x.entry) ≡ true) entries.now }
-    ensures placed { IfOk result (λ xs. told xs.items ≡ map placed_of entries.now) }
-    ensures numbered { IfOk result (λ xs. All (IsNumbered keys.now) xs.items) }
+) -> Result<Numbering<'p, 'a>, AllocError>
+    requires { All (λ x. is_accepted (mapping_of x.entry) ≡ true) entries.now }
+    ensures ascending { IfOk result (λ n. IsStrictlySortedBy key_cmp n.keys.items) }
+    ensures placed { IfOk result (λ n. told n.entries.items ≡ map placed_of entries.now) }
+    ensures numbered { IfOk result (λ n. All (IsNumbered n.keys.items) n.entries.items) }
 {
-    let mut numbered = Vec::with_capacity(alloc, entries.len())?;
-    for placed in entries {
-        numbered.push(number(keys, placed))?;
+    let plain = without_places(alloc, entries)?;
+    let order = sorted(alloc, &plain)?;
+    let mut keys = AscendingKeys::new(alloc, entries.len())?;
+    let mut numbered = unnumbered(alloc, entries)?;
+    for at in &order {
+        keys.push(at.entry)?;
+        put(&mut numbered, at.index, number(&keys, &entries[at.index]));
     }
-    Ok(numbered)
+    Ok(Numbering {
+        keys: keys.keys,
+        entries: numbered,
+    })
 }
 
-fn number<'p, 'a>(keys: &[FrontedKey<'_>], placed: &'p PlacedEntry<'a>) -> NumberedEntry<'p, 'a>
-    requires ascending { IsStrictlySortedBy key_cmp keys.now }
-    requires has { HasKeys keys.now (mapping_of placed.now.entry) }
+// Puts an entry in the place of another one.
+fn put<'p, 'a>(xs: &mut Vec<NumberedEntry<'p, 'a>>, index: usize, x: NumberedEntry<'p, 'a>)
+    requires { index < vec_len xs.old }
+    ensures { xs.new.items ≡ slice_set xs.old.items index x.entry }
+{
+    xs[index] = x;
+}
+
+// The entry whose key is the last one.
+fn number<'p, 'a>(keys: &AscendingKeys<'_>, placed: &'p PlacedEntry<'a>) -> NumberedEntry<'p, 'a>
+    requires ascending { AreAscending keys.now.keys.items keys.now.email }
+    requires last { last_key keys.now.keys.items ≡ Some (key (mapping_of placed.now.entry)) }
     requires accepted { is_accepted (mapping_of placed.now.entry) ≡ true }
     ensures placed { result.placed.now ≡ placed.now }
-    ensures numbered { IsNumbered keys.now result }
+    ensures numbered { IsNumbered keys.now.keys.items result }
 {
-    let key = number_of(keys, &FrontedKey::of(&placed.entry));
-    let email = email_number(keys, &placed.entry, key);
-    NumberedEntry { placed, key, email }
-}
-
-// The number of an entry's email, where that of its key is known.
-fn email_number(keys: &[FrontedKey<'_>], entry: &Entry<'_>, number: usize) -> usize
-    requires ascending { IsStrictlySortedBy key_cmp keys.now }
-    requires has { HasKeys keys.now (mapping_of entry.now) }
-    requires number { IsNumber keys.now (key (mapping_of entry.now)) number }
-    ensures { IsNumber keys.now (email_key (key (mapping_of entry.now)).0) result }
-{
-    match entry.old_name() {
-        Some(_) => number_of(keys, &FrontedKey::of_email(entry.old_email())),
-        None => number,
+    NumberedEntry {
+        placed,
+        key: keys.keys.len() - 1,
+        email: keys.email,
     }
 }
 
-// The number of a key that is there.
-fn number_of(keys: &[FrontedKey<'_>], key: &FrontedKey<'_>) -> usize
-    requires ascending { IsStrictlySortedBy key_cmp keys.now }
-    requires has { Contains keys.now key.now }
-    ensures { IsNumber keys.now key.now result }
+// The entries alone.
+fn without_places<'a>(
+    alloc: Global,
+    entries: &[PlacedEntry<'a>],
+) -> Result<Vec<Entry<'a>>, AllocError>
+    ensures { IfOk result (λ plain. plain.items ≡ map (λ x. x.entry) entries.now) }
 {
-    match find(keys, key) {
-        Some(number) => number,
-        None => unreachable!(),
+    let mut plain = Vec::with_capacity(alloc, entries.len())?;
+    for placed in entries {
+        plain.push(placed.entry)?;
     }
+    Ok(plain)
+}
+
+// The entries with a number that says nothing.
+fn unnumbered<'p, 'a>(
+    alloc: Global,
+    entries: &'p [PlacedEntry<'a>],
+) -> Result<Vec<NumberedEntry<'p, 'a>>, AllocError>
+    ensures { IfOk result (λ xs. told xs.items ≡ map placed_of entries.now) }
+{
+    let mut unnumbered = Vec::with_capacity(alloc, entries.len())?;
+    for placed in entries {
+        unnumbered.push(NumberedEntry {
+            placed,
+            key: 0,
+            email: 0,
+        })?;
+    }
+    Ok(unnumbered)
 }

@@ -8,8 +8,8 @@ ghost use Rattle.mailmap_sifting.specs.Sifting.{IsSifted, entries, last_place, p
 ghost use Rattle.mailmap_sifting.specs.Numbers.{IsSiftedState, SiftedHistory, fields_of, told};
 
 use crate::answers::scan;
-use crate::keys::{FrontedKey, distinct_keys, find};
-use crate::numbers::{NumberedEntry, numbered};
+use crate::keys::{FrontedKey, find};
+use crate::numbers::{NumberedEntry, Numbering, numbered};
 use crate::passes::settled;
 use crate::placed::{Place, PlacedEntry};
 use crate::summary::Fields;
@@ -49,8 +49,10 @@ pub fn sift<'p, 'a>(
     ensures history { IfOk result (λ s. s.history ≡ map placed_of entries.now) }
     ensures sifted { IfOk result (λ s. IsSifted (map placed_of entries.now) s.kept) }
 {
-    let keys = distinct_keys(alloc, entries)?;
-    let numbered = numbered(alloc, &keys, entries)?;
+    let Numbering {
+        keys,
+        entries: numbered,
+    } = numbered(alloc, entries)?;
     let mut table = Table::none(alloc, &keys)?;
     let kept = settled(alloc, &keys, &numbered, &mut table)?;
     let kept = without_numbers(alloc, &kept)?;

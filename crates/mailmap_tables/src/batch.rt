@@ -21,15 +21,15 @@ use std::alloc::{AllocError, Global};
 use std::cmp::Ordering;
 use std::marker::Model;
 
-/// An accepted entry of a batch, and its place among them.
+/// An entry of a batch, and its place among them.
 #[derive(Clone, Copy)]
-pub(crate) struct Placed<'e, 'a> {
-    pub(crate) index: usize,
-    pub(crate) entry: &'e Entry<'a>,
+pub struct Placed<'e, 'a> {
+    pub index: usize,
+    pub entry: &'e Entry<'a>,
 }
 
 /// The entries in ascending order of their keys, those of one key in the order in which they came.
-pub(crate) fn sorted<'e, 'a>(
+pub fn sorted<'e, 'a>(
     alloc: Global,
     entries: &'e [Entry<'a>],
 ) -> Result<Vec<Placed<'e, 'a>>, AllocError>

@@ -2,7 +2,7 @@
 //! part of what it gives to users.
 #![tactic(auto)]
 
-mod batch;
+pub mod batch;
 mod insert;
 pub mod listing;
 pub mod merge;

@@ -1,8 +1,7 @@
-use Rattle.std.proofs.Common.{◌≡◌, take, map}
-use Rattle.std.specs.List.{All}
-use Rattle.mailmap_sifting.specs.Sifting.{placed_of}
-use Rattle.mailmap_sifting.specs.Numbers.{IsNumbered, told}
+use Rattle.std.proofs.Common.{map}
+use Rattle.mailmap_tables.specs.Merging.{placed_at}
+use Rattle.mailmap_sifting.proofs.Numbered.{IsNumbering}
 use Rattle.mailmap_sifting.proofs.numbers.numbered.Given as goal
 
-abbrev pub invariant-loop-placed : goal.invariant-loop-placed
-invariant-loop-placed l = (told l.numbered.items ≡ map placed_of (take l.placed-index l.entries)) × All (IsNumbered l.keys) l.numbered.items
+abbrev pub invariant-loop-at : goal.invariant-loop-at
+invariant-loop-at l = IsNumbering l.entries (map placed_at l.at-items) l.at-index l.keys.keys.items l.keys.email l.numbered.items

@@ -1,0 +1,170 @@
+-- A walk over sorted entries that numbers them.
+use Rattle.std.proofs.Common.{◌≡◌, ◌≢◌, ◌<◌, ◌≤◌, ◌+◌, ◌-◌, ◌==◌, ℕ, true, false, List, [], ◌∷◌, map, drop, length, get_or, set, Some, refl, sym, ap, subst, ◌∙◌, arith}
+use Rattle.std.specs.Prelude.{All, Contains}
+use Rattle.std.specs.List.{slice_get, AllByRecursion, enumerate_from}
+use Rattle.std.specs.List.Sorted.{IsPermutation, IsStrictlySortedBy}
+use Rattle.std.specs.Ordering.{is_lt}
+use Rattle.std.proofs.Math.Seq.{map-set_same}
+use Rattle.std.proofs.lemmas.Bool.{eqb-true, eqb-false}
+use Rattle.std.proofs.lemmas.Grind.{get_or-set_at}
+use Rattle.std.proofs.lemmas.List.{drop_more, length-map, get_or-map, get_or-set_other}
+use Rattle.std.proofs.lemmas.List.FromFn.{length-enumerate_from, get_or-enumerate_from}
+use Rattle.std.proofs.lemmas.List.Sorted.{Contains-permutation, IsPermutation-sym}
+use Rattle.std.proofs.lemmas.Option.{slice_get-get_or, slice_get_within, get_or_from_slice_get}
+use Rattle.mailmap_entries.specs.Entries.{Mapping, mapping_of}
+use Rattle.mailmap_histories.specs.Histories.{Key, key, key_cmp, is_accepted}
+use Rattle.mailmap_tables.specs.Merging.{IsAscending, IsSorted, placed_at}
+use Rattle.mailmap_tables.specs.declared.batch.Placed.{Placed}
+use Rattle.mailmap_entries.specs.declared.entry.Entry.{Entry}
+use Rattle.mailmap_sifting.specs.Sifting.{placed_of}
+use Rattle.mailmap_sifting.specs.Numbers.{AreAscending, IsNumber, email_key, IsNumbered, IsReached, entry_of, last_key, placed_entry_of, told}
+use Rattle.mailmap_sifting.specs.declared.numbers.NumberedEntry.{NumberedEntry}
+use Rattle.mailmap_sifting.specs.declared.placed.PlacedEntry.{PlacedEntry}
+
+abbrev Indexed : Type 0
+Indexed = ℕ × Mapping
+
+-- ---- an order of entries
+
+module _ (ms : List Mapping) (ps : List Indexed) (moved : IsPermutation (enumerate_from 0 ms) ps) where
+  -- each stands where it says
+  pub stands : (p : Indexed) → Contains ps p → slice_get ms p.0 ≡ Some p.1
+  stands p has =
+      let here = Contains-permutation ps (enumerate_from 0 ms) p (IsPermutation-sym (enumerate_from 0 ms) ps moved) has in
+      let within : here.0 < length ms = omega (arith, here.1, length-enumerate_from 0 ms) in
+      let is : (0 + here.0, get_or ms here.0 p.1) ≡ p = sym (get_or-enumerate_from 0 ms here.0 p within) ∙ here.2 in
+      let none_before : 0 + here.0 ≡ here.0 = omega arith in
+      let place : p.0 ≡ here.0 = sym (ap (λ q. q.0) is) ∙ none_before in
+      ap (slice_get ms) place ∙ slice_get-get_or ms here.0 p.1 within ∙ ap (λ q. Some q.1) is
+
+  -- and each place comes
+  pub comes : (i : ℕ) (m : Mapping) → slice_get ms i ≡ Some m → Contains ps (i, m)
+  comes i m is =
+      let within : i < length ms = slice_get_within ms i m is in
+      let counted : i < length (enumerate_from 0 ms) = omega (arith, within, length-enumerate_from 0 ms) in
+      let none_before : 0 + i ≡ i = omega arith in
+      let read : get_or (enumerate_from 0 ms) i (i, m) ≡ (i, m) = get_or-enumerate_from 0 ms i (i, m) within ∙ (λ k. (none_before k, get_or_from_slice_get ms i m m is k)) in
+      Contains-permutation (enumerate_from 0 ms) ps (i, m) moved (i, counted, read)
+
+-- a history's entries in the order of their keys
+pub record IsOrder (history : List PlacedEntry) (ps : List Indexed) : Type 0 where
+  pub moved : IsPermutation (enumerate_from 0 (map mapping_of (map (λ x. x.entry) history))) ps
+  pub ascending : IsAscending key_cmp (map (λ p. key p.1) ps)
+
+pub order_from : (history : List PlacedEntry) (plain read : List Entry) (order items : List Placed) → plain ≡ map (λ x. x.entry) history → read ≡ plain
+    → IsSorted (map mapping_of read) (map placed_at order) → items ≡ order → IsOrder history (map placed_at items)
+order_from history plain read order items is reads sorted same =
+    subst (λ l. IsOrder history (map placed_at l)) (sym same)
+    (record { moved = subst (λ l. IsPermutation (enumerate_from 0 (map mapping_of l)) (map placed_at order)) (reads ∙ is) sorted.moved; ascending = sorted.ascending })
+
+pub found_at : (items : List Placed) (i : ℕ) (at : Placed) → i < length items → at ≡ get_or items i at → (i < length (map placed_at items)) × (placed_at at ≡ get_or (map placed_at items) i (placed_at at))
+found_at items i at within is = (omega (arith, length-map items placed_at), ap placed_at is ∙ sym (get_or-map placed_at items i at (placed_at at) within))
+
+-- an index of an order is that of an entry
+pub entry_there : (history : List PlacedEntry) (ps : List Indexed) (p : Indexed) → IsOrder history ps → Contains ps p → (p.0 < length history) × ((d : PlacedEntry) → mapping_of (get_or history p.0 d).entry ≡ p.1)
+entry_there history ps p order has =
+    let plain : List Entry = map (λ x. x.entry) history in
+    let is : slice_get (map mapping_of plain) p.0 ≡ Some p.1 = stands (map mapping_of plain) ps order.moved p has in
+    let inside : p.0 < length (map mapping_of plain) = slice_get_within (map mapping_of plain) p.0 p.1 is in
+    let in_plain : p.0 < length plain = omega (arith, length-map plain mapping_of) in
+    let within : p.0 < length history = omega (arith, length-map history (λ (x : PlacedEntry). x.entry)) in (
+      within,
+      λ d. ap mapping_of (sym (get_or-map (λ (x : PlacedEntry). x.entry) history p.0 d d.entry within))
+          ∙ sym (get_or-map mapping_of plain p.0 d.entry p.1 in_plain)
+          ∙ get_or_from_slice_get (map mapping_of plain) p.0 p.1 p.1 is,
+    )
+
+pub told_at : (history : List PlacedEntry) (xs : List NumberedEntry) (i : ℕ) (y : NumberedEntry) (d : PlacedEntry) → told xs ≡ map placed_of history → i < length xs → i < length history
+    → placed_entry_of (get_or xs i y) ≡ placed_of (get_or history i d)
+told_at history xs i y d whole within inside =
+    sym (get_or-map placed_entry_of xs i y (placed_of d) within) ∙ ap (λ l. get_or l i (placed_of d)) whole ∙ get_or-map placed_of history i d (placed_of d) inside
+
+pub same_length : (history : List PlacedEntry) (xs : List NumberedEntry) → told xs ≡ map placed_of history → length xs ≡ length history
+same_length history xs whole = omega (arith, length-map xs placed_entry_of, length-map history placed_of, ap length whole)
+
+-- ---- the walk
+
+-- before the one at i of an order: the keys are those of the ones before it, which are numbered, and no other key is below
+pub record IsNumbering (history : List PlacedEntry) (ps : List Indexed) (i : ℕ) (keys : List Key) (email : ℕ) (xs : List NumberedEntry) : Type 0 where
+  pub whole : told xs ≡ map placed_of history
+  pub keyed : AreAscending keys email
+  pub ascending : IsAscending key_cmp (map (λ p. key p.1) (drop i ps))
+  pub reached : AllByRecursion (λ p. IsReached keys (key p.1)) (drop i ps)
+  pub numbered : (j : ℕ) (p : Indexed) (d : NumberedEntry) → j < i → get_or ps j p ≡ p → IsNumbered keys (get_or xs p.0 d)
+
+some_out : {X : Type 0} (x y : X) → Some x ≡ Some y → x ≡ y
+some_out x y e = cc
+
+all_reached : (keys : List Key) (k : Key) → last_key keys ≡ Some k → (qs : List Indexed) → AllByRecursion (λ l. is_lt (key_cmp l k) ≡ false) (map (λ p. key p.1) qs) → AllByRecursion (λ p. IsReached keys (key p.1)) qs
+all_reached keys k last [] all = tt
+all_reached keys k last (q ∷ qs) all = (λ l is. subst (λ m. is_lt (key_cmp (key q.1) m) ≡ false) (some_out k l (sym last ∙ is)) all.0, all_reached keys k last qs all.1)
+
+module _ (history : List PlacedEntry) (ps : List Indexed) (i : ℕ) (keys : List Key) (email : ℕ) (xs : List NumberedEntry) (so : IsNumbering history ps i keys email xs)
+    (p : Indexed) (within : i < length ps) (is : p ≡ get_or ps i p) where
+  rest : drop i ps ≡ p ∷ drop (i + 1) ps
+  rest = drop_more ps i p within ∙ ap (λ q. q ∷ drop (i + 1) ps) (sym is)
+
+  pub reached_next : IsReached keys (key p.1)
+  reached_next = (subst (AllByRecursion (λ q. IsReached keys (key q.1))) rest so.reached).0
+
+  pub numbered_next : (keys' : List Key) (email' : ℕ) (y : NumberedEntry) → AreAscending keys' email' → last_key keys' ≡ Some (key p.1)
+      → ((k : Key) (n : ℕ) → IsNumber keys k n → IsNumber keys' k n) → p.0 < length xs → placed_entry_of y ≡ placed_entry_of (get_or xs p.0 y)
+      → IsNumbered keys' y → IsNumbering history ps (i + 1) keys' email' (set xs p.0 y)
+  numbered_next keys' email' y keyed last keeps inside same good =
+      let up = subst (λ l. IsAscending key_cmp (map (λ q. key q.1) l)) rest so.ascending in
+      record {
+        whole = map-set_same placed_entry_of xs p.0 y y same ∙ so.whole;
+        keyed = keyed;
+        ascending = up.1;
+        reached = all_reached keys' (key p.1) last (drop (i + 1) ps) up.0;
+        numbered = λ j q d lt at. elim (q.0 == p.0) as (λ b. (q.0 == p.0) ≡ b → IsNumbered keys' (get_or (set xs p.0 y) q.0 d)) [
+          | true ↦ λ e. subst (IsNumbered keys') (sym (get_or-set_at xs p.0 q.0 y d (eqb-true q.0 p.0 e) inside)) good
+          | false ↦ λ e.
+              let apart : q.0 ≢ p.0 = eqb-false q.0 p.0 e in
+              let before : j < i = by j q lt at apart in
+              let old = so.numbered j q d before at in
+              subst (IsNumbered keys') (sym (get_or-set_other xs p.0 q.0 y d apart)) (record { own = keeps _ _ old.own; of_email = keeps _ _ old.of_email; accepted = old.accepted })
+        ] refl;
+      }
+    where
+      by : (j : ℕ) (q : Indexed) → j < i + 1 → get_or ps j q ≡ q → q.0 ≢ p.0 → j < i
+      by j q lt at apart =
+          elim (j == i) as (λ b. (j == i) ≡ b → j < i) [
+            | true ↦ λ e.
+                let here : j ≡ i = eqb-true j i e in
+                let first : slice_get ps i ≡ Some q = ap (slice_get ps) (sym here) ∙ slice_get-get_or ps j q (omega arith) ∙ ap (λ z. Some z) at in
+                let second : slice_get ps i ≡ Some p = slice_get-get_or ps i p within ∙ ap (λ z. Some z) (sym is) in
+                absurd (apart (ap (λ z. z.0) (some_out q p (sym first ∙ second))))
+            | false ↦ λ e. let other : j ≢ i = eqb-false j i e in omega arith
+          ] refl
+
+none_keyed : (email : ℕ) → AreAscending [] email
+unfolding IsStrictlySortedBy
+none_keyed email = record { ascending = tt; of_email = λ l is. absurd (cc) }
+
+-- none was walked
+pub none_numbered : (history : List PlacedEntry) (ps : List Indexed) (keys : List Key) (email : ℕ) (xs : List NumberedEntry) → keys ≡ [] → told xs ≡ map placed_of history → IsOrder history ps
+    → IsNumbering history ps 0 keys email xs
+none_numbered history ps keys email xs none whole order =
+    subst (λ l. IsNumbering history ps 0 l email xs) (sym none) (record {
+      whole = whole;
+      keyed = none_keyed email;
+      ascending = order.ascending;
+      reached = all ps;
+      numbered = λ j p d lt at. absurd (omega (arith, lt));
+    })
+  where
+    all : (qs : List Indexed) → AllByRecursion (λ p. IsReached [] (key p.1)) qs
+    all [] = tt
+    all (q ∷ qs) = (λ l is. absurd (cc), all qs)
+
+-- at the end all are numbered
+pub all_numbered : (history : List PlacedEntry) (ps : List Indexed) (i : ℕ) (keys : List Key) (email : ℕ) (xs : List NumberedEntry)
+    → IsOrder history ps → length ps ≤ i → IsNumbering history ps i keys email xs → All (IsNumbered keys) xs
+all_numbered history ps i keys email xs order over so m d within =
+    let plain : List Entry = map (λ x. x.entry) history in
+    let ms : List Mapping = map mapping_of plain in
+    let w : Mapping = (placed_entry_of d).entry in
+    let inside : m < length ms = omega (arith, length-map plain mapping_of, length-map history (λ (x : PlacedEntry). x.entry), same_length history xs so.whole) in
+    let has = comes ms ps order.moved m (get_or ms m w) (slice_get-get_or ms m w inside) in
+    so.numbered has.0 (m, get_or ms m w) d (omega (arith, has.1)) has.2
