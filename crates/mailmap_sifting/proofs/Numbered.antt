@@ -1,5 +1,5 @@
 -- A walk over sorted entries that numbers them.
-use Rattle.std.proofs.Common.{◌≡◌, ◌≢◌, ◌<◌, ◌≤◌, ◌+◌, ◌-◌, ◌==◌, ℕ, true, false, List, [], ◌∷◌, map, drop, length, get_or, set, Some, refl, sym, ap, subst, ◌∙◌, arith}
+use Rattle.std.proofs.Common.{◌≡◌, ◌≢◌, ◌<◌, ◌≤◌, ◌+◌, ◌-◌, ◌==◌, ℕ, true, false, List, [], ◌∷◌, map, drop, length, get_or, set, Some, None, refl, sym, ap, subst, ◌∙◌, arith}
 use Rattle.std.specs.Prelude.{All, Contains}
 use Rattle.std.specs.List.{slice_get, AllByRecursion, enumerate_from}
 use Rattle.std.specs.List.Sorted.{IsPermutation, IsStrictlySortedBy}
@@ -13,11 +13,9 @@ use Rattle.std.proofs.lemmas.List.Sorted.{Contains-permutation, IsPermutation-sy
 use Rattle.std.proofs.lemmas.Option.{slice_get-get_or, slice_get_within, get_or_from_slice_get}
 use Rattle.mailmap_entries.specs.Entries.{Mapping, mapping_of}
 use Rattle.mailmap_histories.specs.Histories.{Key, key, key_cmp, is_accepted}
-use Rattle.mailmap_tables.specs.Merging.{IsAscending, IsSorted, placed_at}
-use Rattle.mailmap_tables.specs.declared.batch.Placed.{Placed}
-use Rattle.mailmap_entries.specs.declared.entry.Entry.{Entry}
+use Rattle.mailmap_tables.specs.Merging.{IsAscending, IsSorted}
 use Rattle.mailmap_sifting.specs.Sifting.{placed_of}
-use Rattle.mailmap_sifting.specs.Numbers.{AreAscending, IsNumber, email_key, IsNumbered, IsReached, entry_of, last_key, placed_entry_of, told}
+use Rattle.mailmap_sifting.specs.Numbers.{AreAscending, IsNumber, email_key, IsNumbered, IsReached, entry_of, last_key, placed_entry_of, said, told}
 use Rattle.mailmap_sifting.specs.declared.numbers.NumberedEntry.{NumberedEntry}
 use Rattle.mailmap_sifting.specs.declared.placed.PlacedEntry.{PlacedEntry}
 
@@ -46,33 +44,39 @@ module _ (ms : List Mapping) (ps : List Indexed) (moved : IsPermutation (enumera
       let read : get_or (enumerate_from 0 ms) i (i, m) ≡ (i, m) = get_or-enumerate_from 0 ms i (i, m) within ∙ (λ k. (none_before k, get_or_from_slice_get ms i m m is k)) in
       Contains-permutation (enumerate_from 0 ms) ps (i, m) moved (i, counted, read)
 
--- a history's entries in the order of their keys
-pub record IsOrder (history : List PlacedEntry) (ps : List Indexed) : Type 0 where
-  pub moved : IsPermutation (enumerate_from 0 (map mapping_of (map (λ x. x.entry) history))) ps
-  pub ascending : IsAscending key_cmp (map (λ p. key p.1) ps)
+no_mapping : Mapping
+no_mapping = record { new_name = None; new_email = None; old_name = None; old_email = [] }
 
-pub order_from : (history : List PlacedEntry) (plain read : List Entry) (order items : List Placed) → plain ≡ map (λ x. x.entry) history → read ≡ plain
-    → IsSorted (map mapping_of read) (map placed_at order) → items ≡ order → IsOrder history (map placed_at items)
-order_from history plain read order items is reads sorted same =
-    subst (λ l. IsOrder history (map placed_at l)) (sym same)
-    (record { moved = subst (λ l. IsPermutation (enumerate_from 0 (map mapping_of l)) (map placed_at order)) (reads ∙ is) sorted.moved; ascending = sorted.ascending })
+-- what stands at a place of an order
+pub record IsFound (history : List PlacedEntry) (ps : List Indexed) (i index : ℕ) (p : Indexed) : Type 0 where
+  pub within : i < length ps
+  pub at : p ≡ get_or ps i p
+  pub place : p.0 ≡ index
+  pub inside : index < length history
+  pub says : (d : PlacedEntry) → mapping_of (get_or history index d).entry ≡ p.1
 
-pub found_at : (items : List Placed) (i : ℕ) (at : Placed) → i < length items → at ≡ get_or items i at → (i < length (map placed_at items)) × (placed_at at ≡ get_or (map placed_at items) i (placed_at at))
-found_at items i at within is = (omega (arith, length-map items placed_at), ap placed_at is ∙ sym (get_or-map placed_at items i at (placed_at at) within))
-
--- an index of an order is that of an entry
-pub entry_there : (history : List PlacedEntry) (ps : List Indexed) (p : Indexed) → IsOrder history ps → Contains ps p → (p.0 < length history) × ((d : PlacedEntry) → mapping_of (get_or history p.0 d).entry ≡ p.1)
-entry_there history ps p order has =
-    let plain : List Entry = map (λ x. x.entry) history in
-    let is : slice_get (map mapping_of plain) p.0 ≡ Some p.1 = stands (map mapping_of plain) ps order.moved p has in
-    let inside : p.0 < length (map mapping_of plain) = slice_get_within (map mapping_of plain) p.0 p.1 is in
-    let in_plain : p.0 < length plain = omega (arith, length-map plain mapping_of) in
-    let within : p.0 < length history = omega (arith, length-map history (λ (x : PlacedEntry). x.entry)) in (
-      within,
-      λ d. ap mapping_of (sym (get_or-map (λ (x : PlacedEntry). x.entry) history p.0 d d.entry within))
-          ∙ sym (get_or-map mapping_of plain p.0 d.entry p.1 in_plain)
-          ∙ get_or_from_slice_get (map mapping_of plain) p.0 p.1 p.1 is,
-    )
+pub found_at : (history : List PlacedEntry) (order : List ℕ) (ps : List Indexed) (i index : ℕ) → order ≡ map (λ p. p.0) ps → IsSorted (said history) ps → i < length order → index ≡ get_or order i index
+    → (p : Indexed) × IsFound history ps i index p
+found_at history order ps i index places sorted inside is =
+    let firsts : List ℕ = map (λ (q : Indexed). q.0) ps in
+    let within : i < length ps = omega (arith, ap length places, length-map ps (λ (q : Indexed). q.0)) in
+    let d : Indexed = (index, no_mapping) in
+    let p : Indexed = get_or ps i d in
+    let some : slice_get ps i ≡ Some p = slice_get-get_or ps i d within in
+    let at : get_or ps i p ≡ p = get_or_from_slice_get ps i p p some in
+    let read : get_or order i index ≡ get_or firsts i index = ap (λ l. get_or l i index) places in
+    let place : p.0 ≡ index = sym (get_or-map (λ (q : Indexed). q.0) ps i d index within) ∙ sym read ∙ sym is in
+    let stood : slice_get (said history) p.0 ≡ Some p.1 = stands (said history) ps sorted.moved p (i, within, at) in
+    let said_there : slice_get (said history) index ≡ Some p.1 = subst (λ n. slice_get (said history) n ≡ Some p.1) place stood in
+    let counted : index < length (said history) = slice_get_within (said history) index p.1 said_there in
+    let there : index < length history = omega (arith, length-map history (λ (x : PlacedEntry). mapping_of x.entry)) in
+    (p, record {
+      within = within;
+      at = sym at;
+      place = place;
+      inside = there;
+      says = λ x. sym (get_or-map (λ (y : PlacedEntry). mapping_of y.entry) history index x p.1 there) ∙ get_or_from_slice_get (said history) index p.1 p.1 said_there;
+    })
 
 pub told_at : (history : List PlacedEntry) (xs : List NumberedEntry) (i : ℕ) (y : NumberedEntry) (d : PlacedEntry) → told xs ≡ map placed_of history → i < length xs → i < length history
     → placed_entry_of (get_or xs i y) ≡ placed_of (get_or history i d)
@@ -91,6 +95,13 @@ pub record IsNumbering (history : List PlacedEntry) (ps : List Indexed) (i : ℕ
   pub ascending : IsAscending key_cmp (map (λ p. key p.1) (drop i ps))
   pub reached : AllByRecursion (λ p. IsReached keys (key p.1)) (drop i ps)
   pub numbered : (j : ℕ) (p : Indexed) (d : NumberedEntry) → j < i → get_or ps j p ≡ p → IsNumbered keys (get_or xs p.0 d)
+
+-- an order of the entries, and how far it was walked
+pub record IsWalk (history : List PlacedEntry) (order : List ℕ) (i : ℕ) (keys : List Key) (email : ℕ) (xs : List NumberedEntry) : Type 0 where
+  pub placed : List Indexed
+  pub places : order ≡ map (λ p. p.0) placed
+  pub sorted : IsSorted (said history) placed
+  pub so : IsNumbering history placed i keys email xs
 
 some_out : {X : Type 0} (x y : X) → Some x ≡ Some y → x ≡ y
 some_out x y e = cc
@@ -143,13 +154,13 @@ unfolding IsStrictlySortedBy
 none_keyed email = record { ascending = tt; of_email = λ l is. absurd (cc) }
 
 -- none was walked
-pub none_numbered : (history : List PlacedEntry) (ps : List Indexed) (keys : List Key) (email : ℕ) (xs : List NumberedEntry) → keys ≡ [] → told xs ≡ map placed_of history → IsOrder history ps
+pub none_numbered : (history : List PlacedEntry) (ps : List Indexed) (keys : List Key) (email : ℕ) (xs : List NumberedEntry) → keys ≡ [] → told xs ≡ map placed_of history → IsSorted (said history) ps
     → IsNumbering history ps 0 keys email xs
-none_numbered history ps keys email xs none whole order =
+none_numbered history ps keys email xs none whole sorted =
     subst (λ l. IsNumbering history ps 0 l email xs) (sym none) (record {
       whole = whole;
       keyed = none_keyed email;
-      ascending = order.ascending;
+      ascending = sorted.ascending;
       reached = all ps;
       numbered = λ j p d lt at. absurd (omega (arith, lt));
     })
@@ -160,11 +171,10 @@ none_numbered history ps keys email xs none whole order =
 
 -- at the end all are numbered
 pub all_numbered : (history : List PlacedEntry) (ps : List Indexed) (i : ℕ) (keys : List Key) (email : ℕ) (xs : List NumberedEntry)
-    → IsOrder history ps → length ps ≤ i → IsNumbering history ps i keys email xs → All (IsNumbered keys) xs
-all_numbered history ps i keys email xs order over so m d within =
-    let plain : List Entry = map (λ x. x.entry) history in
-    let ms : List Mapping = map mapping_of plain in
+    → IsSorted (said history) ps → length ps ≤ i → IsNumbering history ps i keys email xs → All (IsNumbered keys) xs
+all_numbered history ps i keys email xs sorted over so m d within =
+    let ms : List Mapping = said history in
     let w : Mapping = (placed_entry_of d).entry in
-    let inside : m < length ms = omega (arith, length-map plain mapping_of, length-map history (λ (x : PlacedEntry). x.entry), same_length history xs so.whole) in
-    let has = comes ms ps order.moved m (get_or ms m w) (slice_get-get_or ms m w inside) in
+    let inside : m < length ms = omega (arith, length-map history (λ (x : PlacedEntry). mapping_of x.entry), same_length history xs so.whole) in
+    let has = comes ms ps sorted.moved m (get_or ms m w) (slice_get-get_or ms m w inside) in
     so.numbered has.0 (m, get_or ms m w) d (omega (arith, has.1)) has.2

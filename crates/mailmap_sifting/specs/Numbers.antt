@@ -8,6 +8,7 @@ use Rattle.std.specs.Ordering.{is_lt}
 use Rattle.mailmap_entries.specs.Entries.{Mapping, mapping_of}
 use Rattle.mailmap_entries.specs.Folding.{Text}
 use Rattle.mailmap_histories.specs.Histories.{Key, Fields, key, key_cmp, is_accepted, new_fields, spelling}
+use Rattle.mailmap_tables.specs.Merging.{IsSorted}
 use Rattle.mailmap_sifting.specs.Sifting.{PlacedMapping, IsSifted, placed_of, entries, last_place}
 use Rattle.mailmap_sifting.specs.Summaries.{KeySummary, Summary, behind_of, key_summary, summary}
 use Rattle.mailmap_sifting.specs.declared.numbers.NumberedEntry.{NumberedEntry}
@@ -69,6 +70,18 @@ pub record IsNumbered (keys : List Key) (x : NumberedEntry) : Type 0 where
   pub own : IsNumber keys (key (entry_of x)) x.key
   pub of_email : IsNumber keys (email_key (key (entry_of x)).0) x.email
   pub accepted : is_accepted (entry_of x) ≡ true
+
+-- ---- the order of keys
+
+-- what the entries of a history say
+abbrev pub said : List PlacedEntry → List Mapping
+said history = map (λ x. mapping_of x.entry) history
+
+-- the places of a history's entries in the order of their keys, those of one key in the order in which they came
+pub record IsKeyOrder (history : List Mapping) (places : List ℕ) : Type 0 where
+  pub placed : List (ℕ × Mapping)
+  pub sorted : IsSorted history placed
+  pub places_are : places ≡ map (λ p. p.0) placed
 
 -- ---- keys as they come in their order
 

@@ -6,6 +6,7 @@ mod answers;
 mod keys;
 pub mod laws;
 mod numbers;
+mod order;
 mod passes;
 mod placed;
 mod sifted;

@@ -1,5 +1,5 @@
 //! Entries with the numbers of their keys, so that tables have a row for each key.
-ghost use Rattle.std.specs.Prelude.{◌≡◌, ◌<◌, slice_set, vec_len, IfOk, All, Some, map, true};
+ghost use Rattle.std.specs.Prelude.{◌≡◌, ◌<◌, slice_set, length, IfOk, All, Some, map, true};
 ghost use Rattle.std.specs.List.Sorted.{IsStrictlySortedBy};
 ghost use Rattle.mailmap_entries.specs.Entries.{mapping_of};
 ghost use Rattle.mailmap_histories.specs.Histories.{key, key_cmp, is_accepted};
@@ -7,9 +7,8 @@ ghost use Rattle.mailmap_sifting.specs.Sifting.{placed_of};
 ghost use Rattle.mailmap_sifting.specs.Numbers.{AreAscending, IsNumbered, last_key, told};
 
 use crate::keys::{AscendingKeys, FrontedKey};
+use crate::order::order;
 use crate::placed::PlacedEntry;
-use mailmap_entries::Entry;
-use mailmap_tables::batch::sorted;
 use std::alloc::{AllocError, Global};
 
 /// An entry, the number of its key, and that of the key of its email, without an old name.
@@ -37,13 +36,13 @@ pub(crate) fn numbered<'p, 'a>(
     ensures placed { IfOk result (λ n. told n.entries.items ≡ map placed_of entries.now) }
     ensures numbered { IfOk result (λ n. All (IsNumbered n.keys.items) n.entries.items) }
 {
-    let plain = without_places(alloc, entries)?;
-    let order = sorted(alloc, &plain)?;
+    let order = order(alloc, entries)?;
     let mut keys = AscendingKeys::new(alloc, entries.len())?;
     let mut numbered = unnumbered(alloc, entries)?;
-    for at in &order {
-        keys.push(at.entry)?;
-        put(&mut numbered, at.index, number(&keys, &entries[at.index]));
+    for &index in &order {
+        let placed = &entries[index];
+        keys.push(&placed.entry)?;
+        put(&mut numbered, index, number(&keys, placed));
     }
     Ok(Numbering {
         keys: keys.keys,
@@ -52,9 +51,9 @@ pub(crate) fn numbered<'p, 'a>(
 }
 
 // Puts an entry in the place of another one.
-fn put<'p, 'a>(xs: &mut Vec<NumberedEntry<'p, 'a>>, index: usize, x: NumberedEntry<'p, 'a>)
-    requires { index < vec_len xs.old }
-    ensures { xs.new.items ≡ slice_set xs.old.items index x.entry }
+fn put<'p, 'a>(xs: &mut [NumberedEntry<'p, 'a>], index: usize, x: NumberedEntry<'p, 'a>)
+    requires { index < length xs.old }
+    ensures { xs.new ≡ slice_set xs.old index x.entry }
 {
     xs[index] = x;
 }
@@ -72,20 +71,6 @@ fn number<'p, 'a>(keys: &AscendingKeys<'_>, placed: &'p PlacedEntry<'a>) -> Numb
         key: keys.keys.len() - 1,
         email: keys.email,
     }
-}
-
-// The entries alone.
-fn without_places<'a>(
-    alloc: Global,
-    entries: &[PlacedEntry<'a>],
-) -> Result<Vec<Entry<'a>>, AllocError>
-    ensures { IfOk result (λ plain. plain.items ≡ map (λ x. x.entry) entries.now) }
-{
-    let mut plain = Vec::with_capacity(alloc, entries.len())?;
-    for placed in entries {
-        plain.push(placed.entry)?;
-    }
-    Ok(plain)
 }
 
 // The entries with a number that says nothing.

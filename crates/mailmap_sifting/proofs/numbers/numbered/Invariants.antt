@@ -1,7 +1,5 @@
-use Rattle.std.proofs.Common.{map}
-use Rattle.mailmap_tables.specs.Merging.{placed_at}
-use Rattle.mailmap_sifting.proofs.Numbered.{IsNumbering}
+use Rattle.mailmap_sifting.proofs.Numbered.{IsWalk}
 use Rattle.mailmap_sifting.proofs.numbers.numbered.Given as goal
 
-abbrev pub invariant-loop-at : goal.invariant-loop-at
-invariant-loop-at l = IsNumbering l.entries (map placed_at l.at-items) l.at-index l.keys.keys.items l.keys.email l.numbered.items
+abbrev pub invariant-loop-index : goal.invariant-loop-index
+invariant-loop-index l = IsWalk l.entries l.index-items l.index-index l.keys.keys.items l.keys.email l.numbered.items
