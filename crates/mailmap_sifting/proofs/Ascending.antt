@@ -1,5 +1,5 @@
 -- Keys as they come in ascending order.
-use Rattle.std.proofs.Common.{◌≡◌, ◌≢◌, ◌<◌, ◌+◌, ◌-◌, ℕ, zero, suc, true, false, true≢false, List, [], ◌∷◌, ◌++◌, length, get_or, Option, Some, None, option_map, Less, Equal, Greater, is_eq, Bool, length-append, refl, sym, ap, subst, ◌∙◌, arith}
+use Rattle.std.proofs.Common.{◌≡◌, ◌≢◌, ◌+◌, ◌-◌, ℕ, zero, suc, true, false, true≢false, List, [], ◌∷◌, ◌++◌, length, get_or, Option, Some, None, option_map, Less, Equal, Greater, is_eq, Bool, length-append, refl, sym, ap, subst, ◌∙◌, arith}
 use Rattle.std.specs.Cmp.{Equal-is, tied_itself}
 use Rattle.std.specs.Cmp.Lexicographic.{nat_list_cmp_total, options_total}
 use Rattle.std.specs.List.{slice_get, AllByRecursion}
@@ -7,7 +7,7 @@ use Rattle.std.specs.List.Sorted.{IsStrictlySortedBy}
 use Rattle.std.specs.Option.{option_cmp}
 use Rattle.std.specs.Ordering.{eq_by_cmp, is_lt, ordering_reverse, ordering_then}
 use Rattle.std.proofs.lemmas.Map.Lookups.{exact_bytes}
-use Rattle.std.proofs.lemmas.Option.{slice_get-get_or, slice_get_within}
+use Rattle.std.proofs.lemmas.Option.{slice_get-get_or}
 use Rattle.mailmap_entries.specs.Folding.{Text, text_cmp}
 use Rattle.mailmap_histories.specs.Histories.{Key, key_cmp}
 use Rattle.mailmap_histories.proofs.Keys.{keys_total, keys_exact}

@@ -3,14 +3,12 @@ use Rattle.std.proofs.Common.{◌≡◌, ◌≢◌, ◌<◌, ◌+◌, ℕ, zero,
 use Rattle.std.specs.Prelude.{Contains, IfSome, IfNone}
 use Rattle.std.specs.Result.{result_ok}
 use Rattle.std.specs.Cmp.{Equal-is, tied_itself}
-use Rattle.std.specs.List.{slice_get, AllByRecursion, HoldsAt, dedup}
-use Rattle.std.specs.List.Sorted.{IsStrictlySortedBy, IsSorted, IsPartitionPoint, IsPermutation, IsNonDecreasingBy, IsSearchInRange, IsBinarySearchResult}
+use Rattle.std.specs.List.{slice_get, AllByRecursion, HoldsAt}
+use Rattle.std.specs.List.Sorted.{IsStrictlySortedBy, IsSorted, IsPartitionPoint, IsNonDecreasingBy, IsSearchInRange, IsBinarySearchResult}
 use Rattle.std.specs.Ordering.{eq_by_cmp, is_lt, ordering_index, ordering_reverse}
 use Rattle.std.proofs.lemmas.Bool.{ltb-true, ltb-false}
-use Rattle.std.proofs.lemmas.Cmp.{eq_by_cmp_equiv}
 use Rattle.std.proofs.lemmas.List.Elements.{All-from_recursion}
-use Rattle.std.proofs.lemmas.List.Kept.{IsStrictlySortedBy-dedup, Contains-dedup}
-use Rattle.std.proofs.lemmas.List.Sorted.{Contains-permutation, searchable_from_sorted}
+use Rattle.std.proofs.lemmas.List.Sorted.{searchable_from_sorted}
 use Rattle.std.proofs.lemmas.Option.{slice_get-get_or}
 use Rattle.std.proofs.Math.Dec.{ltb}
 use Rattle.mailmap_histories.specs.Histories.{Key, key_cmp}
@@ -78,11 +76,3 @@ pub searched : (ks : List Key) (k : Key) (r : Result ℕ ℕ) → IsStrictlySort
     → IfSome (result_ok r) (λ i. slice_get ks i ≡ Some k) × IfNone (result_ok r) (Contains ks k → ⊥)
 searched ks k (Ok i) up within is = (found ks k i within is, tt)
 searched ks k (Err i) up within is = (tt, missing ks k i (is (searchable ks k up)))
-
--- ---- a sort that leaves each key once
-
-pub ascending_once : (ks : List Key) → IsSorted key_cmp ks → IsStrictlySortedBy key_cmp (dedup (eq_by_cmp key_cmp) ks)
-ascending_once ks up = IsStrictlySortedBy-dedup keys_total (λ x y. refl) ks up
-
-pub still_there : (old sorted : List Key) (k : Key) → IsPermutation old sorted → Contains old k → Contains (dedup (eq_by_cmp key_cmp) sorted) k
-still_there old sorted k moved has = Contains-dedup (eq_by_cmp_equiv keys_total) equal_keys sorted k (Contains-permutation old sorted k moved has)

@@ -12,6 +12,7 @@ use Rattle.mailmap_tables.specs.Merging.{IsSorted}
 use Rattle.mailmap_sifting.specs.Sifting.{PlacedMapping, IsSifted, placed_of, entries, last_place}
 use Rattle.mailmap_sifting.specs.Summaries.{KeySummary, Summary, behind_of, key_summary, summary}
 use Rattle.mailmap_sifting.specs.declared.numbers.NumberedEntry.{NumberedEntry}
+use Rattle.mailmap_sifting.specs.declared.numbers.Numbers.{Numbers as KeyNumbers}
 use Rattle.mailmap_sifting.specs.declared.placed.Place.{Place}
 use Rattle.mailmap_sifting.specs.declared.placed.PlacedEntry.{PlacedEntry}
 use Rattle.mailmap_sifting.specs.declared.summary.Behind.{Behind}
@@ -65,6 +66,14 @@ pub record HasKeys (keys : List Key) (e : Mapping) : Type 0 where
 -- the number of a key is its place
 abbrev pub IsNumber : List Key → Key → ℕ → Type 0
 IsNumber keys k i = slice_get keys i ≡ Some k
+
+-- the number of a key, and that of the key of its email
+pub record AreNumbers (keys : List Key) (k : Key) (n : KeyNumbers) : Type 0 where
+  pub own : IsNumber keys k n.key
+  pub of_email : IsNumber keys (email_key k.0) n.email
+
+abbrev pub numbers_of : NumberedEntry → KeyNumbers
+numbers_of x = record { key = x.key; email = x.email }
 
 pub record IsNumbered (keys : List Key) (x : NumberedEntry) : Type 0 where
   pub own : IsNumber keys (key (entry_of x)) x.key

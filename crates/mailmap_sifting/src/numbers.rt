@@ -1,10 +1,10 @@
 //! Entries with the numbers of their keys, so that tables have a row for each key.
-ghost use Rattle.std.specs.Prelude.{◌≡◌, ◌<◌, slice_set, length, IfOk, All, Some, map, true};
+ghost use Rattle.std.specs.Prelude.{◌≡◌, ◌<◌, length, IfOk, All, Some, map, true};
 ghost use Rattle.std.specs.List.Sorted.{IsStrictlySortedBy};
 ghost use Rattle.mailmap_entries.specs.Entries.{mapping_of};
-ghost use Rattle.mailmap_histories.specs.Histories.{key, key_cmp, is_accepted};
+ghost use Rattle.mailmap_histories.specs.Histories.{Key, key_cmp, is_accepted};
 ghost use Rattle.mailmap_sifting.specs.Sifting.{placed_of};
-ghost use Rattle.mailmap_sifting.specs.Numbers.{AreAscending, IsNumbered, last_key, told};
+ghost use Rattle.mailmap_sifting.specs.Numbers.{AreAscending, AreNumbers, IsNumbered, last_key, numbers_of, told};
 
 use crate::keys::{AscendingKeys, FrontedKey};
 use crate::order::order;
@@ -26,6 +26,13 @@ pub(crate) struct Numbering<'p, 'a> {
     pub(crate) entries: Vec<NumberedEntry<'p, 'a>>,
 }
 
+// The number of a key, and that of the key of its email.
+#[derive(Clone, Copy)]
+struct Numbers {
+    key: usize,
+    email: usize,
+}
+
 /// The entries with the numbers of their keys. They are sorted once, so that only neighbours are compared.
 pub(crate) fn numbered<'p, 'a>(
     alloc: Global,
@@ -38,55 +45,45 @@ pub(crate) fn numbered<'p, 'a>(
 {
     let order = order(alloc, entries)?;
     let mut keys = AscendingKeys::new(alloc, entries.len())?;
-    let mut numbered = unnumbered(alloc, entries)?;
+    let mut numbers = vec![in alloc; Numbers { key: 0, email: 0 }; entries.len()]?;
     for &index in &order {
         let placed = &entries[index];
         keys.push(&placed.entry)?;
-        put(&mut numbered, index, number(&keys, placed));
+        numbers[index] = last_numbers(&keys);
     }
+    let entries = with_numbers(alloc, entries, &numbers)?;
     Ok(Numbering {
         keys: keys.keys,
-        entries: numbered,
+        entries,
     })
 }
 
-// Puts an entry in the place of another one.
-fn put<'p, 'a>(xs: &mut [NumberedEntry<'p, 'a>], index: usize, x: NumberedEntry<'p, 'a>)
-    requires { index < length xs.old }
-    ensures { xs.new ≡ slice_set xs.old index x.entry }
-{
-    xs[index] = x;
-}
-
-// The entry whose key is the last one.
-fn number<'p, 'a>(keys: &AscendingKeys<'_>, placed: &'p PlacedEntry<'a>) -> NumberedEntry<'p, 'a>
+// Those of the last key.
+fn last_numbers(keys: &AscendingKeys<'_>) -> Numbers
     requires ascending { AreAscending keys.now.keys.items keys.now.email }
-    requires last { last_key keys.now.keys.items ≡ Some (key (mapping_of placed.now.entry)) }
-    requires accepted { is_accepted (mapping_of placed.now.entry) ≡ true }
-    ensures placed { result.placed.now ≡ placed.now }
-    ensures numbered { IsNumbered keys.now.keys.items result }
+    requires some { 0 < length keys.now.keys.items }
+    ensures { (k : Key) → last_key keys.now.keys.items ≡ Some k → AreNumbers keys.now.keys.items k result }
 {
-    NumberedEntry {
-        placed,
+    Numbers {
         key: keys.keys.len() - 1,
         email: keys.email,
     }
 }
 
-// The entries with a number that says nothing.
-fn unnumbered<'p, 'a>(
+// Each entry with its numbers.
+fn with_numbers<'p, 'a>(
     alloc: Global,
     entries: &'p [PlacedEntry<'a>],
+    numbers: &[Numbers],
 ) -> Result<Vec<NumberedEntry<'p, 'a>>, AllocError>
-    ensures { IfOk result (λ xs. told xs.items ≡ map placed_of entries.now) }
+    requires { length numbers.now ≡ length entries.now }
+    ensures placed { IfOk result (λ xs. told xs.items ≡ map placed_of entries.now) }
+    ensures numbers { IfOk result (λ xs. map numbers_of xs.items ≡ numbers.now) }
 {
-    let mut unnumbered = Vec::with_capacity(alloc, entries.len())?;
-    for placed in entries {
-        unnumbered.push(NumberedEntry {
-            placed,
-            key: 0,
-            email: 0,
-        })?;
+    let mut numbered = Vec::with_capacity(alloc, entries.len())?;
+    for (index, placed) in entries.iter().enumerate() {
+        let Numbers { key, email } = numbers[index];
+        numbered.push(NumberedEntry { placed, key, email })?;
     }
-    Ok(unnumbered)
+    Ok(numbered)
 }

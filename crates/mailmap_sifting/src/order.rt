@@ -9,10 +9,7 @@ use mailmap_tables::batch::sorted;
 use std::alloc::{AllocError, Global};
 
 /// The places of the entries in the order of their keys, those of one key in the order in which they came.
-pub(crate) fn order(
-    alloc: Global,
-    entries: &[PlacedEntry<'_>],
-) -> Result<Vec<usize>, AllocError>
+pub(crate) fn order(alloc: Global, entries: &[PlacedEntry<'_>]) -> Result<Vec<usize>, AllocError>
     ensures { IfOk result (λ places. IsKeyOrder (said entries.now) places.items) }
 {
     let plain = without_places(alloc, entries)?;

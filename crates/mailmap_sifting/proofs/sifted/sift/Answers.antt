@@ -1,8 +1,7 @@
 use Rattle.std.proofs.Common.{◌≡◌, map, sym, ap, subst, ◌∙◌}
 use Rattle.std.specs.Prelude.{All}
-use Rattle.mailmap_entries.specs.Entries.{mapping_of}
 use Rattle.mailmap_sifting.specs.Sifting.{IsSifted, entries, placed_of, placed_of_reference}
-use Rattle.mailmap_sifting.specs.Numbers.{AreKnown, ArePlaces, HasKeys, IsNumbered, IsTable, told}
+use Rattle.mailmap_sifting.specs.Numbers.{AreKnown, ArePlaces, IsNumbered, IsTable, told}
 use Rattle.mailmap_sifting.proofs.Walked.{known_numbered}
 use Rattle.mailmap_sifting.proofs.sifted.sift.Goals as goal
 

@@ -1,0 +1,12 @@
+use Rattle.std.proofs.Common.{◌≡◌, ◌-◌, length, ap, ◌∙◌, arith}
+use Rattle.std.specs.List.{slice_get}
+use Rattle.mailmap_sifting.proofs.numbers.last_numbers.Goals as goal
+
+pub returns : goal.returns
+returns c =
+    let keys = c.args.keys.now.keys in
+    let place : c.len.result - 1 ≡ length keys.items - 1 = omega (arith, c.len.ensures, keys.ok.0) in
+    λ k last. record {
+      own = ap (slice_get keys.items) place ∙ last;
+      of_email = c.requires.ascending.of_email k last;
+    }
