@@ -5,5 +5,7 @@ pub mod Kept
 pub mod Keyed
 pub mod Rows
 pub mod Walked
+pub mod Crowds
 pub mod Passing
 pub mod Settling
+pub mod Marking
