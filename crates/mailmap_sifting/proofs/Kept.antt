@@ -25,7 +25,7 @@ abbrev pub Placed : Type 0
 Placed = List PlacedMapping
 
 -- an entry that is kept, with what comes behind it
-entries_kept : (kept : Placed) (x : PlacedMapping) (xs : Placed) → entries (kept ++ x ∷ []) ++ entries xs ≡ entries kept ++ x.entry ∷ entries xs
+pub entries_kept : (kept : Placed) (x : PlacedMapping) (xs : Placed) → entries (kept ++ x ∷ []) ++ entries xs ≡ entries kept ++ x.entry ∷ entries xs
 entries_kept kept x xs = ap (λ l. l ++ entries xs) (map-append (λ (y : PlacedMapping). y.entry) kept (x ∷ [])) ∙ append_assoc (entries kept) (x.entry ∷ []) (entries xs)
 
 -- ---- the normal list is the same

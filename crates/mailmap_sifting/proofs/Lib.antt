@@ -7,5 +7,7 @@ pub mod Ascending
 pub mod Rows
 pub mod Walked
 pub mod Numbered
+pub mod Crowds
 pub mod Passing
 pub mod Settling
+pub mod Marking

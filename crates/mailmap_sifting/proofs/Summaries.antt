@@ -37,7 +37,7 @@ spelling_parts a b email = first_parts (λ e. e.old_email) (λ e. eq_by_cmp text
 pub picked_one : (p : Mapping → Bool) (e : Mapping) → is_accepted e ≡ true → filter p (accepted (e ∷ [])) ≡ cond (p e) (e ∷ []) []
 picked_one p e good = ap (λ b. filter p (cond b (e ∷ []) [])) good
 
-of_key_one : (e : Mapping) → is_accepted e ≡ true → of_key (e ∷ []) (key e) ≡ e ∷ []
+pub of_key_one : (e : Mapping) → is_accepted e ≡ true → of_key (e ∷ []) (key e) ≡ e ∷ []
 of_key_one e good =
     picked_one (λ x. eq_by_cmp key_cmp (key e) (key x)) e good ∙ ap (λ o. cond (is_eq o) (e ∷ []) []) (tied_itself keys_total (key e))
 
@@ -79,16 +79,20 @@ of_key_without a e c k = picked_without (λ x. eq_by_cmp key_cmp k (key x)) a e 
 pub of_email_without : (a : List Mapping) (e : Mapping) (c : List Mapping) (email : Text) → eq_by_cmp text_cmp email (folded e.old_email) ≡ false → of_email (a ++ e ∷ c) email ≡ of_email (a ++ c) email
 of_email_without a e c email = picked_without (λ x. eq_by_cmp text_cmp email (folded x.old_email)) a e c
 
--- at another key
-pub summary_without : (a : List Mapping) (e : Mapping) (c : List Mapping) (k : Key) → eq_by_cmp key_cmp k (key e) ≡ false → key_summary (a ++ e ∷ c) k ≡ key_summary (a ++ c) k
-summary_without a e c k other =
-    let same = of_key_without a e c k other in
+-- of the same entries of a key the same is said
+pub same_summary : (h g : List Mapping) (k : Key) → of_key h k ≡ of_key g k → key_summary h k ≡ key_summary g k
+same_summary h g k same =
     λ i. record {
       old_name = first (filter_map (λ x. x.old_name) (same i));
       name = last_given (λ x. x.new_name) (same i);
       email = last_given (λ x. x.new_email) (same i);
       last = option_map new_fields (last (same i));
     }
+
+-- at another key
+pub summary_without : (a : List Mapping) (e : Mapping) (c : List Mapping) (k : Key) → eq_by_cmp key_cmp k (key e) ≡ false → key_summary (a ++ e ∷ c) k ≡ key_summary (a ++ c) k
+summary_without a e c k other =
+    same_summary (a ++ e ∷ c) (a ++ c) k (of_key_without a e c k other)
 
 -- of another email
 pub spelling_without : (a : List Mapping) (e : Mapping) (c : List Mapping) (email : Text) → eq_by_cmp text_cmp email (folded e.old_email) ≡ false → spelling (a ++ e ∷ c) email ≡ spelling (a ++ c) email

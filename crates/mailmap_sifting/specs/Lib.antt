@@ -4,3 +4,4 @@ pub use Rattle.mailmap_histories.specs.Histories
 pub mod Summaries
 pub mod Sifting
 pub mod Numbers
+pub mod Crowded

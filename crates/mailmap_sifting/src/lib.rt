@@ -3,6 +3,7 @@
 #![tactic(auto)]
 
 mod answers;
+mod crowded;
 mod keys;
 pub mod laws;
 mod numbers;

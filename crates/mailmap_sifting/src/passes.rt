@@ -1,10 +1,12 @@
 //! Passes over a history, each of which lets entries go that change nothing.
-ghost use Rattle.std.specs.Prelude.{◌≡◌, All, [], IfOk};
+ghost use Rattle.std.specs.Prelude.{◌≡◌, All, [], IfOk, length};
 ghost use Rattle.std.specs.List.Sorted.{IsStrictlySortedBy};
 ghost use Rattle.mailmap_histories.specs.Histories.{key_cmp};
+ghost use Rattle.mailmap_sifting.specs.Crowded.{AreAlone, crowded_of};
 ghost use Rattle.mailmap_sifting.specs.Sifting.{IsPass, IsSifted, entries as entries_told};
 ghost use Rattle.mailmap_sifting.specs.Numbers.{ArePlaces, IsNumbered, IsTable, behinds, told};
 
+use crate::crowded::crowded_emails;
 use crate::keys::FrontedKey;
 use crate::numbers::NumberedEntry;
 use crate::summary::{Behind, is_idle};
@@ -27,35 +29,46 @@ pub(crate) fn settled<'p, 'a>(
     ensures table { IfOk result (λ kept. IsTable keys.now (entries_told (told kept.items)) table.new) }
     ensures places { IfOk result (λ kept. ArePlaces keys.now (told kept.items) table.new) }
 {
+    let crowded = crowded_emails(alloc, keys, entries)?;
     let mut len = entries.len();
-    let mut kept = pass(alloc, keys, entries, table)?;
+    let mut kept = pass(alloc, keys, &crowded, entries, table)?;
     while kept.len() < len {
         len = kept.len();
         table.clear();
-        kept = pass(alloc, keys, &kept, table)?;
+        kept = pass(alloc, keys, &crowded, &kept, table)?;
     }
+    append_others(keys, &crowded, &kept, table);
     Ok(kept)
 }
 
-// What stays of the entries in a pass from the first to the last. The table is first of no entry.
+// What stays of the entries in a pass from the first to the last. The table is first of no entry, and then of those that
+// stay of the crowded emails.
 fn pass<'p, 'a>(
     alloc: Global,
     keys: &[FrontedKey<'_>],
+    crowded: &[bool],
     entries: &[NumberedEntry<'p, 'a>],
     table: &mut Table<'p, 'a>,
 ) -> Result<Vec<NumberedEntry<'p, 'a>>, AllocError>
     requires ascending { IsStrictlySortedBy key_cmp keys.now }
     requires numbered { All (IsNumbered keys.now) entries.now }
+    requires rows { length crowded.now ≡ length keys.now }
+    requires alone { AreAlone keys.now crowded.now (entries_told (told entries.now)) }
     requires table { IsTable keys.now [] table.old }
     ensures passed { IfOk result (λ kept. IsPass [] (told entries.now) (told kept.items)) }
     ensures numbered { IfOk result (λ kept. All (IsNumbered keys.now) kept.items) }
-    ensures table { IfOk result (λ kept. IsTable keys.now (entries_told (told kept.items)) table.new) }
-    ensures places { IfOk result (λ kept. ArePlaces keys.now (told kept.items) table.new) }
+    ensures alone { IfOk result (λ kept. AreAlone keys.now crowded.now (entries_told (told kept.items))) }
+    ensures table { IfOk result (λ kept. IsTable keys.now (entries_told (crowded_of keys.now crowded.now (told kept.items))) table.new) }
+    ensures places { IfOk result (λ kept. ArePlaces keys.now (crowded_of keys.now crowded.now (told kept.items)) table.new) }
 {
-    let mut behind = behind_each(alloc, keys, entries, table)?;
+    let mut behind = behind_each(alloc, keys, crowded, entries, table)?;
     table.clear();
     let mut kept = Vec::with_capacity(alloc, entries.len())?;
     for x in entries {
+        if !crowded[x.email] {
+            kept.push(*x)?;
+            continue;
+        }
         let Some(later) = behind.pop() else {
             unreachable!()
         };
@@ -67,26 +80,53 @@ fn pass<'p, 'a>(
     Ok(kept)
 }
 
-// What stands behind each entry, that of the last entry first. The table, which is of no entry, is then of all of them.
+// What stands behind each entry of a crowded email, that of the last entry first. The table, which is of no entry, is then
+// of all of these.
 fn behind_each<'p, 'a>(
     alloc: Global,
     keys: &[FrontedKey<'_>],
+    crowded: &[bool],
     entries: &[NumberedEntry<'p, 'a>],
     table: &mut Table<'p, 'a>,
 ) -> Result<Vec<Behind>, AllocError>
     requires ascending { IsStrictlySortedBy key_cmp keys.now }
     requires numbered { All (IsNumbered keys.now) entries.now }
+    requires rows { length crowded.now ≡ length keys.now }
     requires table { IsTable keys.now [] table.old }
-    ensures behind { IfOk result (λ behind. behind.items ≡ behinds (told entries.now)) }
-    ensures table { IfOk result (λ behind. IsTable keys.now (entries_told (told entries.now)) table.new) }
+    ensures behind { IfOk result (λ behind. behind.items ≡ behinds (crowded_of keys.now crowded.now (told entries.now))) }
+    ensures table { IfOk result (λ behind. IsTable keys.now (entries_told (crowded_of keys.now crowded.now (told entries.now))) table.new) }
 {
     let mut behind = Vec::with_capacity(alloc, entries.len())?;
     let mut left = entries.len();
     while left > 0 {
         left -= 1;
         let x = &entries[left];
-        behind.push(Behind::of(&x.placed.entry, &table.summary(x)))?;
-        table.prepend(x);
+        if crowded[x.email] {
+            behind.push(Behind::of(&x.placed.entry, &table.summary(x)))?;
+            table.prepend(x);
+        }
     }
     Ok(behind)
+}
+
+// Adds the entries of the other emails to a table of those of the crowded ones.
+fn append_others<'p, 'a>(
+    keys: &[FrontedKey<'_>],
+    crowded: &[bool],
+    entries: &[NumberedEntry<'p, 'a>],
+    table: &mut Table<'p, 'a>,
+)
+    requires ascending { IsStrictlySortedBy key_cmp keys.now }
+    requires numbered { All (IsNumbered keys.now) entries.now }
+    requires rows { length crowded.now ≡ length keys.now }
+    requires table { IsTable keys.now (entries_told (crowded_of keys.now crowded.now (told entries.now))) table.old }
+    requires places { ArePlaces keys.now (crowded_of keys.now crowded.now (told entries.now)) table.old }
+    ensures table { IsTable keys.now (entries_told (told entries.now)) table.new }
+    ensures places { ArePlaces keys.now (told entries.now) table.new }
+{
+    for x in entries {
+        if !crowded[x.email] {
+            table.append(x);
+        }
+    }
 }

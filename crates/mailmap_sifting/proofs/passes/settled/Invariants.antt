@@ -1,4 +1,5 @@
 use Rattle.std.specs.List.{All}
+use Rattle.mailmap_sifting.specs.Crowded.{AreAlone, crowded_of}
 use Rattle.mailmap_sifting.specs.Sifting.{entries}
 use Rattle.mailmap_sifting.specs.Numbers.{ArePlaces, IsNumbered, IsTable, told}
 use Rattle.mailmap_sifting.proofs.Settling.{IsSettling}
@@ -8,8 +9,9 @@ abbrev pub invariant-loop-len : goal.invariant-loop-len
 invariant-loop-len l =
     IsSettling (told l.entries) l.len (told l.kept.items)
     × All (IsNumbered l.keys) l.kept.items
-    × IsTable l.keys (entries (told l.kept.items)) l.table
-    × ArePlaces l.keys (told l.kept.items) l.table
+    × AreAlone l.keys l.crowded.items (entries (told l.kept.items))
+    × IsTable l.keys (entries (crowded_of l.keys l.crowded.items (told l.kept.items))) l.table
+    × ArePlaces l.keys (crowded_of l.keys l.crowded.items (told l.kept.items)) l.table
 
 abbrev pub decreases-loop-len : goal.decreases-loop-len
 decreases-loop-len l = l.len
