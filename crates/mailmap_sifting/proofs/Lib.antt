@@ -9,3 +9,4 @@ pub mod Crowds
 pub mod Passing
 pub mod Settling
 pub mod Marking
+pub mod Forgetting
