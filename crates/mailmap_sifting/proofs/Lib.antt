@@ -11,3 +11,4 @@ pub mod Crowds
 pub mod Passing
 pub mod Settling
 pub mod Marking
+pub mod Forgetting

@@ -14,7 +14,7 @@ use Rattle.mailmap_entries.specs.Entries.{Mapping}
 use Rattle.mailmap_entries.specs.Folding.{Text, folded, text_cmp}
 use Rattle.mailmap_histories.specs.Histories.{Key, key, key_cmp, is_accepted, spelling}
 use Rattle.mailmap_sifting.specs.Summaries.{key_summary, own_summary, joined_summary}
-use Rattle.mailmap_sifting.specs.Numbers.{IsNumber, IsTableOf, email_key}
+use Rattle.mailmap_sifting.specs.Numbers.{AreBlank, IsNumber, IsTableOf, email_key}
 use Rattle.mailmap_sifting.proofs.Keyed.{same_number, unequal_keys}
 use Rattle.mailmap_sifting.proofs.Summaries.{summary_parts, summary_own, summary_without, spelling_parts, spelling_own, spelling_without}
 
@@ -46,13 +46,19 @@ blank keys key_of view f z rows n is counted says x i number =
     subst (λ l. (i < length l) × ((d : _) → view (get_or l i d) ≡ f x)) (sym is)
     (omega (arith, length-replicate n z), λ d. ap view (get_or-replicate n i z d within) ∙ says x)
 
--- a table of which all rows are made the same
-pub wiped : {X Y W Z : Type 0} (keys : List Key) (key_of : X → Key) (view : Z → Y) (view' : Z → W) (f : X → Y) (g : X → W) (z : Z) (rows rows' : List Z) (n : ℕ)
-    → IsTableOf keys key_of f view rows → rows' ≡ replicate n z → n ≡ length rows → ((x : X) → view' z ≡ g x) → IsTableOf keys key_of g view' rows'
-wiped keys key_of view view' f g z rows rows' n table is counted says x i number =
-    let within : i < n = omega (arith, counted, (table x i number).0) in
-    subst (λ l. (i < length l) × ((d : _) → view' (get_or l i d) ≡ g x)) (sym is)
-    (omega (arith, length-replicate n z), λ d. ap view' (get_or-replicate n i z d within) ∙ says x)
+-- the row at the number of x is made blank, and of any other no less is asked
+pub row_blanked : {X Y Z : Type 0} (keys : List Key) (key_of : X → Key) (left left' : X → Type 0) (blank : Y) (view : Z → Y) (rows : List Z) (x : X) (i : ℕ) (z : Z)
+    → IsStrictlySortedBy key_cmp keys → AreBlank keys key_of left blank view rows → IsNumber keys (key_of x) i
+    → view z ≡ blank → ((y : X) → y ≢ x → left' y → left y) → AreBlank keys key_of left' blank view (set rows i z)
+row_blanked {X} keys key_of left left' blank view rows x i z up old is new others y j n =
+    let within : i < length rows = (old x i is).0 in
+    elim (j == i) as (λ b. (j == i) ≡ b → (j < length (set rows i z)) × (left' y → (d : _) → view (get_or (set rows i z) j d) ≡ blank)) [
+      | true ↦ λ e. let same : j ≡ i = eqb-true j i e in (omega (arith, length-set rows i z), λ asked d. ap view (get_or-set_at rows i j z d same within) ∙ new)
+      | false ↦ λ e.
+          let apart : j ≢ i = eqb-false j i e in
+          let other : y ≢ x = λ y_is. apart (same_number keys j i (key_of x) up (subst (λ a. slice_get keys j ≡ Some (key_of a)) y_is n) is) in
+          (omega (arith, length-set rows i z, (old y j n).0), λ asked d. ap view (get_or-set_other rows i j z d apart) ∙ (old y j n).1 (others y other asked) d)
+    ] refl
 
 -- ---- with an entry behind, or before
 

@@ -7,10 +7,10 @@ use Rattle.std.specs.List.Sorted.{IsStrictlySortedBy}
 use Rattle.std.specs.Ordering.{is_lt}
 use Rattle.mailmap_entries.specs.Entries.{Mapping, mapping_of}
 use Rattle.mailmap_entries.specs.Folding.{Text}
-use Rattle.mailmap_histories.specs.Histories.{Key, Fields, key, key_cmp, is_accepted, new_fields, spelling}
+use Rattle.mailmap_histories.specs.Histories.{Key, Fields, key, key_cmp, is_accepted, new_fields, of_email, of_key, spelling}
 use Rattle.mailmap_tables.specs.Merging.{IsSorted}
 use Rattle.mailmap_sifting.specs.Sifting.{PlacedMapping, IsSifted, placed_of, entries, last_place}
-use Rattle.mailmap_sifting.specs.Summaries.{KeySummary, Summary, behind_of, key_summary, summary}
+use Rattle.mailmap_sifting.specs.Summaries.{KeySummary, Summary, behind_of, key_summary, no_summary, summary}
 use Rattle.mailmap_sifting.specs.declared.numbers.NumberedEntry.{NumberedEntry}
 use Rattle.mailmap_sifting.specs.declared.numbers.Numbers.{Numbers as KeyNumbers}
 use Rattle.mailmap_sifting.specs.declared.placed.Place.{Place}
@@ -123,6 +123,15 @@ pub record IsTable (keys : List Key) (h : List Mapping) (t : Table) : Type 0 whe
 -- they say where the last of the entries xs of each key stands
 abbrev pub ArePlaces : List Key → List PlacedMapping → Table → Type 0
 ArePlaces keys xs t = IsTableOf keys (λ k. k) (last_place xs) place_of t.summaries.items
+
+-- the rows of which nothing is asked any more are blank
+abbrev pub AreBlank : {X Y Z : Type 0} → List Key → (X → Key) → (X → Type 0) → Y → (Z → Y) → List Z → Type 0
+AreBlank {X} {Y} {Z} keys key_of left blank view rows = (x : X) (i : ℕ) → IsNumber keys (key_of x) i → (i < length rows) × (left x → (d : Z) → view (slice_index_or rows i d) ≡ blank)
+
+-- the tables say nothing of keys and emails that have no entry in h
+pub record IsForgetting (keys : List Key) (h : List Mapping) (t : Table) : Type 0 where
+  pub summaries : AreBlank keys (λ k. k) (λ k. of_key h k ≡ []) no_summary key_summary_of t.summaries.items
+  pub spellings : AreBlank keys email_key (λ email. of_email h email ≡ []) None option_copied t.spellings.items
 
 -- ---- passes
 

@@ -34,7 +34,7 @@ pub(crate) fn settled<'p, 'a>(
     let mut kept = pass(alloc, keys, &crowded, entries, table)?;
     while kept.len() < len {
         len = kept.len();
-        table.clear();
+        forget_crowded(keys, &crowded, &kept, table);
         kept = pass(alloc, keys, &crowded, &kept, table)?;
     }
     append_others(keys, &crowded, &kept, table);
@@ -62,7 +62,7 @@ fn pass<'p, 'a>(
     ensures places { IfOk result (λ kept. ArePlaces keys.now (crowded_of keys.now crowded.now (told kept.items)) table.new) }
 {
     let mut behind = behind_each(alloc, keys, crowded, entries, table)?;
-    table.clear();
+    forget_crowded(keys, crowded, entries, table);
     let mut kept = Vec::with_capacity(alloc, entries.len())?;
     for x in entries {
         if !crowded[x.email] {
@@ -107,6 +107,27 @@ fn behind_each<'p, 'a>(
         }
     }
     Ok(behind)
+}
+
+// Makes a table of the entries of the crowded emails one of no entry. Only their rows are touched.
+fn forget_crowded<'p, 'a>(
+    keys: &[FrontedKey<'_>],
+    crowded: &[bool],
+    entries: &[NumberedEntry<'p, 'a>],
+    table: &mut Table<'p, 'a>,
+)
+    requires ascending { IsStrictlySortedBy key_cmp keys.now }
+    requires numbered { All (IsNumbered keys.now) entries.now }
+    requires rows { length crowded.now ≡ length keys.now }
+    requires table { IsTable keys.now (entries_told (crowded_of keys.now crowded.now (told entries.now))) table.old }
+    ensures table { IsTable keys.now [] table.new }
+    ensures places { ArePlaces keys.now [] table.new }
+{
+    for x in entries {
+        if crowded[x.email] {
+            table.forget(x);
+        }
+    }
 }
 
 // Adds the entries of the other emails to a table of those of the crowded ones.

@@ -18,7 +18,7 @@ pub(crate) struct Table<'p, 'a> {
 
 impl<'p, 'a> Table<'p, 'a> {
     ghost use Rattle.mailmap_sifting.specs.Summaries.{summary};
-    ghost use Rattle.mailmap_sifting.specs.Numbers.{ArePlaces, IsTable, IsNumbered, summary_of, entry_of, placed_entry_of};
+    ghost use Rattle.mailmap_sifting.specs.Numbers.{ArePlaces, IsForgetting, IsTable, IsNumbered, summary_of, entry_of, placed_entry_of};
     ghost use Rattle.mailmap_sifting.specs.Sifting.{PlacedMapping};
 
     /// Of no entry.
@@ -31,13 +31,14 @@ impl<'p, 'a> Table<'p, 'a> {
         })
     }
 
-    /// Forgets all entries.
-    pub(crate) fn clear(&mut self)
-        ensures table { (keys : List Key) (h : List Mapping) → IsTable keys h self.old → IsTable keys [] self.new }
-        ensures places { (keys : List Key) (h : List Mapping) → IsTable keys h self.old → ArePlaces keys [] self.new }
+    /// Makes the rows of an entry's key and email blank.
+    pub(crate) fn forget(&mut self, x: &NumberedEntry)
+        requires key { x.now.key < vec_len self.old.summaries }
+        requires email { x.now.email < vec_len self.old.spellings }
+        ensures { (keys : List Key) (h : List Mapping) → IsStrictlySortedBy key_cmp keys → IsNumbered keys x.now → IsForgetting keys (entry_of x.now ∷ h) self.old → IsForgetting keys h self.new }
     {
-        self.summaries.fill(KeySummary::none());
-        self.spellings.fill(None);
+        self.summaries[x.key] = KeySummary::none();
+        self.spellings[x.email] = None;
     }
 
     /// What is said of an entry's key and of its email.

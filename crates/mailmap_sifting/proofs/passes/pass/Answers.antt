@@ -14,13 +14,11 @@ pub loop-x-init : goal.loop-x-init
 loop-x-init c =
     let keys = c.args.keys.now in
     let some = crowded_of keys c.args.crowded.now in
-    let h = entries (some (told c.args.entries.now)) in
-    let filled = c.in_ok-behind.ensures.table in
     let nothing = sym c.in_ok-kept.ensures.items in
     record {
       asked = c.in_ok-behind.ensures.behind;
-      table = subst (λ l. IsTable keys (entries (some (told l))) c.clear.new.self) nothing (c.clear.ensures.table keys h filled);
-      places = subst (λ l. ArePlaces keys (some (told l)) c.clear.new.self) nothing (c.clear.ensures.places keys h filled);
+      table = subst (λ l. IsTable keys (entries (some (told l))) c.forget_crowded.new.table) nothing c.forget_crowded.ensures.table;
+      places = subst (λ l. ArePlaces keys (some (told l)) c.forget_crowded.new.table) nothing c.forget_crowded.ensures.places;
       numbered = search rules;
       alone = search rules;
       left = search rules;

@@ -6,20 +6,16 @@ use Rattle.mailmap_sifting.specs.Numbers.{ArePlaces, IsTable, placed_entry_of, t
 use Rattle.mailmap_sifting.proofs.Settling.{further, over}
 use Rattle.mailmap_sifting.proofs.passes.settled.Goals as goal
 
-pub pass-requires-in-loop-len-clause-table : goal.pass-requires-in-loop-len-clause-table
-pass-requires-in-loop-len-clause-table c =
-    c.clear.ensures.table c.args.keys.now (entries (crowded_of c.args.keys.now c.in_ok-crowded.crowded.items (told c.loop-len.kept.items))) c.loop-len.invariant.3
-
 pub loop-len-preserved : goal.loop-len-preserved
 loop-len-preserved c =
     let keys = c.args.keys.now in
     let kept = c.loop-len.kept.items in
     let more = told c.in_ok-kept-2.kept.items in
-    let marks = c.deref-in-loop-len.ensures.value in
+    let marks = c.deref-in-loop-len-3.ensures.value in
     let table = c.pass-in-loop-len.new.table in
     let counted : length (told kept) ≡ c.len-len.result = omega (arith, length-map kept placed_entry_of, c.len-len.ensures, c.loop-len.kept.ok.0) in (
       further (told c.args.entries.now) (told kept) more c.loop-len.len c.len-len.result c.loop-len.invariant.0 counted
-          (subst (λ l. IsPass [] (told l) more) c.deref-in-loop-len-2.ensures.value c.in_ok-kept-2.ensures.passed),
+          (subst (λ l. IsPass [] (told l) more) c.deref-in-loop-len-4.ensures.value c.in_ok-kept-2.ensures.passed),
       c.in_ok-kept-2.ensures.numbered,
       subst (λ l. AreAlone keys l (entries more)) marks c.in_ok-kept-2.ensures.alone,
       subst (λ l. IsTable keys (entries (crowded_of keys l more)) table) marks c.in_ok-kept-2.ensures.table,
