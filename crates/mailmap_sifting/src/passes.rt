@@ -29,12 +29,13 @@ pub(crate) fn settled<'p, 'a>(
     ensures table { IfOk result (λ kept. IsTable keys.now (entries_told (told kept.items)) table.new) }
     ensures places { IfOk result (λ kept. ArePlaces keys.now (told kept.items) table.new) }
 {
-    let crowded = crowded_emails(alloc, keys, entries)?;
+    let mut crowded = crowded_emails(alloc, keys, entries)?;
     let mut len = entries.len();
     let mut kept = pass(alloc, keys, &crowded, entries, table)?;
     while kept.len() < len {
         len = kept.len();
         forget_crowded(keys, &crowded, &kept, table);
+        crowded = crowded_emails(alloc, keys, &kept)?;
         kept = pass(alloc, keys, &crowded, &kept, table)?;
     }
     append_others(keys, &crowded, &kept, table);

@@ -11,12 +11,13 @@ loop-len-preserved c =
     let keys = c.args.keys.now in
     let kept = c.loop-len.kept.items in
     let more = told c.in_ok-kept-2.kept.items in
-    let marks = c.deref-in-loop-len-3.ensures.value in
+    let marks = c.deref-in-loop-len-4.ensures.value in
     let table = c.pass-in-loop-len.new.table in
     let counted : length (told kept) ≡ c.len-len.result = omega (arith, length-map kept placed_entry_of, c.len-len.ensures, c.loop-len.kept.ok.0) in (
       further (told c.args.entries.now) (told kept) more c.loop-len.len c.len-len.result c.loop-len.invariant.0 counted
-          (subst (λ l. IsPass [] (told l) more) c.deref-in-loop-len-4.ensures.value c.in_ok-kept-2.ensures.passed),
+          (subst (λ l. IsPass [] (told l) more) c.deref-in-loop-len-5.ensures.value c.in_ok-kept-2.ensures.passed),
       c.in_ok-kept-2.ensures.numbered,
+      c.in_ok-crowded-2.ensures.rows,
       subst (λ l. AreAlone keys l (entries more)) marks c.in_ok-kept-2.ensures.alone,
       subst (λ l. IsTable keys (entries (crowded_of keys l more)) table) marks c.in_ok-kept-2.ensures.table,
       subst (λ l. ArePlaces keys (crowded_of keys l more) table) marks c.in_ok-kept-2.ensures.places,
