@@ -9,6 +9,7 @@ mod numbers;
 mod order;
 mod passes;
 mod placed;
+mod search;
 mod sifted;
 mod summary;
 mod table;
