@@ -4,6 +4,7 @@ pub mod Sublists
 pub mod Kept
 pub mod Keyed
 pub mod Ascending
+pub mod Searched
 pub mod Rows
 pub mod Walked
 pub mod Numbered

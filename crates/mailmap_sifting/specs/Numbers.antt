@@ -7,6 +7,7 @@ use Rattle.std.specs.List.Sorted.{IsStrictlySortedBy}
 use Rattle.std.specs.Ordering.{is_lt}
 use Rattle.mailmap_entries.specs.Entries.{Mapping, mapping_of}
 use Rattle.mailmap_entries.specs.Folding.{Text}
+use Rattle.mailmap_entries.specs.Fronts.{AreBytes, front_number}
 use Rattle.mailmap_histories.specs.Histories.{Key, Fields, key, key_cmp, is_accepted, new_fields, of_email, of_key, spelling}
 use Rattle.mailmap_tables.specs.Merging.{IsSorted}
 use Rattle.mailmap_sifting.specs.Sifting.{PlacedMapping, IsSifted, placed_of, entries, last_place}
@@ -108,6 +109,13 @@ IsReached keys k = (l : Key) → last_key keys ≡ Some l → is_lt (key_cmp k l
 pub record AreAscending (keys : List Key) (email : ℕ) : Type 0 where
   pub ascending : IsStrictlySortedBy key_cmp keys
   pub of_email : (l : Key) → last_key keys ≡ Some l → IsNumber keys (email_key l.0) email
+
+-- ---- searches
+
+-- the fronts of the emails of keys
+pub record AreFronts (keys : List Key) (fronts : List ℕ) : Type 0 where
+  pub are : fronts ≡ map (λ k. front_number 16 k.0) keys
+  pub bytes : AllByRecursion (λ k. AreBytes k.0) keys
 
 -- ---- tables
 

@@ -9,13 +9,14 @@ ghost use Rattle.mailmap_histories.specs.Histories as told;
 ghost use Rattle.mailmap_histories.specs.Histories.{key_cmp, last_fields, given_fields};
 ghost use Rattle.mailmap_sifting.specs.Numbers.{AreKnown, IsNumber, IsTable, email_key, fields_of};
 
-use crate::keys::{FrontedKey, find};
+use crate::keys::FrontedKey;
+use crate::search::{SearchedKeys, find};
 use crate::summary::Fields;
 use crate::table::Table;
 
 /// What a history answers to a name and an email, `None` where it maps neither.
 pub(crate) fn scan<'a>(
-    keys: &[FrontedKey<'_>],
+    keys: &SearchedKeys<'_>,
     table: &Table<'_, 'a>,
     name: &[u8],
     email: &[u8],
@@ -32,7 +33,7 @@ pub(crate) fn scan<'a>(
 
 // The fields for a name and an email, whose number is known.
 fn fields_for<'a>(
-    keys: &[FrontedKey<'_>],
+    keys: &SearchedKeys<'_>,
     table: &Table<'_, 'a>,
     number: usize,
     name: &[u8],

@@ -4,6 +4,7 @@ ghost use Rattle.std.specs.Option.{option_copied, option_map, option_cmp};
 ghost use Rattle.std.specs.Ordering.{eq_by_cmp};
 ghost use Rattle.std.specs.List.Sorted.{IsStrictlySortedBy};
 ghost use Rattle.mailmap_entries.specs.Entries.{mapping_of};
+ghost use Rattle.mailmap_entries.specs.Fronts.{IsFront};
 ghost use Rattle.mailmap_entries.specs.Folding.{folded, text_cmp};
 ghost use Rattle.mailmap_histories.specs.Histories.{Key, key, key_cmp};
 ghost use Rattle.mailmap_sifting.specs.Numbers.{AreAscending, IsNumber, IsReached, email_key, last_email, last_key};
@@ -55,6 +56,13 @@ impl<'a> FrontedKey<'a> {
         }
     }
 
+    /// The first bytes of the email as a number.
+    pub(crate) fn front(&self) -> u128
+        ensures { IsFront result self.now.0 }
+    {
+        self.email.front
+    }
+
     // The same without its name.
     fn of_email_alone(&self) -> FrontedKey<'a>
         ensures { result ≡ email_key self.now.0 }
@@ -66,7 +74,7 @@ impl<'a> FrontedKey<'a> {
     }
 }
 
-fn compare(a: &FrontedKey, b: &FrontedKey) -> Ordering
+pub(crate) fn compare(a: &FrontedKey, b: &FrontedKey) -> Ordering
     ensures { result ≡ key_cmp a.now b.now }
 {
     match Steps::new().compare_fronted(a.email, b.email) {
@@ -185,13 +193,4 @@ fn have_same_name(a: &FrontedKey, b: &FrontedKey) -> bool
     ensures { result ≡ eq_by_cmp (option_cmp text_cmp) a.now.1 b.now.1 }
 {
     compare_names(a.name, b.name).is_eq()
-}
-
-/// The number of a key, `None` where it is not there.
-pub(crate) fn find(keys: &[FrontedKey<'_>], key: &FrontedKey<'_>) -> Option<usize>
-    requires { IsStrictlySortedBy key_cmp keys.now }
-    ensures some { IfSome result (IsNumber keys.now key.now) }
-    ensures none { IfNone result (Contains keys.now key.now → ⊥) }
-{
-    keys.binary_search_by(|k| compare(k, key)).ok()
 }

@@ -10,6 +10,7 @@ mod numbers;
 mod order;
 mod passes;
 mod placed;
+mod search;
 mod sifted;
 mod summary;
 mod table;

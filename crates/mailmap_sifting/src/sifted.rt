@@ -8,10 +8,11 @@ ghost use Rattle.mailmap_sifting.specs.Sifting.{IsSifted, entries, last_place, p
 ghost use Rattle.mailmap_sifting.specs.Numbers.{IsSiftedState, SiftedHistory, fields_of, told};
 
 use crate::answers::scan;
-use crate::keys::{FrontedKey, find};
+use crate::keys::FrontedKey;
 use crate::numbers::{NumberedEntry, Numbering, numbered};
 use crate::passes::settled;
 use crate::placed::{Place, PlacedEntry};
+use crate::search::{SearchedKeys, find};
 use crate::summary::Fields;
 use crate::table::Table;
 use mailmap_entries::Entry;
@@ -22,7 +23,7 @@ use std::marker::Model;
 #[derive(Drop)]
 pub struct Sifted<'p, 'a> {
     history: &'p [PlacedEntry<'a>],
-    keys: Vec<FrontedKey<'a>>,
+    keys: SearchedKeys<'a>,
     kept: Vec<&'p PlacedEntry<'a>>,
     // what the kept entries say, which is what the history says
     table: Table<'p, 'a>,
@@ -33,7 +34,7 @@ impl<'p, 'a> Model for Sifted<'p, 'a> {
 
     ghost view = { λ s. record { history = map placed_of s.history.now; kept = map placed_of_reference s.kept.items } };
 
-    ghost invariant = { λ s. IsSiftedState s.keys.items (map placed_of s.history.now) (map placed_of_reference s.kept.items) s.table };
+    ghost invariant = { λ s. IsSiftedState s.keys (map placed_of s.history.now) (map placed_of_reference s.kept.items) s.table };
 }
 
 /// Which of the entries stay: passes from the first entry to the last are made until one lets nothing go, and in each
@@ -56,6 +57,7 @@ pub fn sift<'p, 'a>(
     let mut table = Table::none(alloc, &keys)?;
     let kept = settled(alloc, &keys, &numbered, &mut table)?;
     let kept = without_numbers(alloc, &kept)?;
+    let keys = SearchedKeys::new(alloc, keys)?;
     Ok(Sifted {
         history: entries,
         keys,

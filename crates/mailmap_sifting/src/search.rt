@@ -1,0 +1,87 @@
+//! Where a key stands among keys in ascending order.
+ghost use Rattle.std.specs.Prelude.{◌≡◌, ◌<◌, List, Contains, IfOk, IfSome, IfNone, Some, length, map, slice_get};
+ghost use Rattle.std.specs.List.Sorted.{IsStrictlySortedBy};
+ghost use Rattle.mailmap_histories.specs.Histories.{Key, key_cmp};
+ghost use Rattle.mailmap_sifting.specs.Numbers.{AreFronts, IsNumber};
+
+use crate::keys::{FrontedKey, compare};
+use mailmap_entries::fold::{Probe, search};
+use std::alloc::{AllocError, Global};
+use std::cmp::Ordering;
+use std::marker::Model;
+
+/// Keys, and the fronts of their emails apart from them: these lie close together, and settle most steps of a search.
+#[derive(Drop)]
+pub(crate) struct SearchedKeys<'a> {
+    keys: Vec<FrontedKey<'a>>,
+    fronts: Vec<u128>,
+}
+
+impl<'a> Model for SearchedKeys<'a> {
+    ghost Value = { List Key };
+
+    ghost view = { λ s. s.keys.items };
+
+    ghost invariant = { λ s. AreFronts s.keys.items s.fronts.items };
+}
+
+impl<'a> SearchedKeys<'a> {
+    /// The keys with their fronts.
+    pub(crate) fn new(
+        alloc: Global,
+        keys: Vec<FrontedKey<'a>>,
+    ) -> Result<SearchedKeys<'a>, AllocError>
+        ensures { IfOk result (λ searched. searched ≡ keys.entry.items) }
+    {
+        let mut fronts = Vec::with_capacity(alloc, keys.len())?;
+        for key in &keys {
+            fronts.push(key.front())?;
+        }
+        Ok(SearchedKeys { keys, fronts })
+    }
+
+    // How the key of a number compares to a key.
+    fn compare_at(&self, number: usize, key: &FrontedKey<'_>) -> Ordering
+        requires { number < length self.now }
+        ensures { slice_get (map (λ k. key_cmp k key.now) self.now) number ≡ Some result }
+    {
+        let front = key.front();
+        match self.fronts[number].cmp(&front) {
+            Ordering::Equal => compare(&self.keys[number], key),
+            unequal => unequal,
+        }
+    }
+}
+
+// How keys compare to a key.
+#[derive(Drop)]
+struct KeyProbe<'k> {
+    keys: &'k SearchedKeys<'k>,
+    key: &'k FrontedKey<'k>,
+    steps: usize,
+}
+
+impl Probe for KeyProbe<'_> {
+    ghost answers = { λ p. map (λ k. key_cmp k p.key.now) p.keys.now };
+
+    ghost asked = { λ p. p.steps };
+
+    fn ask(&mut self, place: usize) -> Ordering {
+        self.steps += 1;
+        self.keys.compare_at(place, self.key)
+    }
+}
+
+/// The number of a key, `None` where it is not there.
+pub(crate) fn find(keys: &SearchedKeys<'_>, key: &FrontedKey<'_>) -> Option<usize>
+    requires { IsStrictlySortedBy key_cmp keys.now }
+    ensures some { IfSome result (IsNumber keys.now key.now) }
+    ensures none { IfNone result (Contains keys.now key.now → ⊥) }
+{
+    let mut probe = KeyProbe {
+        keys,
+        key,
+        steps: 0,
+    };
+    search(keys.keys.len(), &mut probe).ok()
+}
