@@ -263,19 +263,16 @@ names_done email from g ms0 a b named0 st =
     let all : done.names ≡ st.names = sym done.loose ∙ take-append-drop from st.names in
     record { names = st.names; changed = st.changed; joined = subst (NamesJoined g.names ms0) all done.joined }
 
--- ---- an email, whose fields come behind its names
+-- ---- an email, whose fields come before its names
 
-pub email_extended : (place : ℕ) (g : EmailGroup) (us js : List Mapping) (a b c e : Contents) (own : Fields) → place < length a.groups → AllByRecursion (λ m. m.old_name ≡ None) us → AllByRecursion (λ m. is_accepted m ≡ true) us
-    → NamesExtended place g js a b → Extends b.pool c.pool → c.groups ≡ b.groups → c.loose ≡ b.loose → HoldsAt (λ (h : EmailGroup). e ≡ with_email_at c place (record h { own = own })) c.groups place → own ≡ fold give g.own us
-    → EmailExtended place g (us ++ js) a e
-email_extended place g us js a b c e own lt none good ext grown groups loose holds given =
-    let h : EmailGroup = record g { names = ext.names } in
-    let there : get_or c.groups place g ≡ h = ap (λ l. get_or l place g) groups ∙ changed_group place h a b g lt ext.changed in
-    let is : e ≡ with_email_at c place (record h { own = own }) = holds g ∙ (λ i. with_email_at c place (record (there i) { own = own })) in
+pub email_extended : (place : ℕ) (g : EmailGroup) (us js : List Mapping) (a b c : Contents) (own : Fields) → place < length a.groups → AllByRecursion (λ m. m.old_name ≡ None) us → AllByRecursion (λ m. is_accepted m ≡ true) us
+    → EmailChanged place (record g { own = own }) a b → NamesExtended place (record g { own = own }) js b c → own ≡ fold give g.own us → EmailExtended place g (us ++ js) a c
+email_extended place g us js a b c own lt none good changed ext given =
+    let h : EmailGroup = record g { own = own } in
     record {
-      group = record h { own = own };
-      changed = changed_twice place h (record h { own = own }) a b e lt ext.changed (changed_from place (record h { own = own }) b c e grown groups loose is);
-      joined = subst (λ (o : Fields). EmailJoined g (us ++ js) (record h { own = o })) (sym given) (email_joined g us js ext.names none good ext.joined);
+      group = record h { names = ext.names };
+      changed = changed_twice place h (record h { names = ext.names }) a b c lt changed ext.changed;
+      joined = subst (λ (o : Fields). EmailJoined g (us ++ js) (record g { own = o; names = ext.names })) (sym given) (email_joined g us js ext.names none good ext.joined);
     }
 
 -- ---- an email for a run

@@ -19,6 +19,7 @@ pub mod RowCount
 pub mod Given
 pub mod Passing
 pub mod EmailPuts
+pub mod OwnTexts
 pub mod RunPuts
 pub mod EmailsLoop
 pub mod SortedRuns

@@ -1,9 +1,14 @@
 -- What the entries of a batch give, on its way out.
-use Rattle.std.specs.Option.{option_copied}
+use Rattle.std.specs.Prelude.{◌≡◌}
+use Rattle.std.specs.Option.{option_copied, option_or}
+use Rattle.mailmap_entries.specs.Folding.{Text}
 use Rattle.mailmap_tables.specs.Groups.{NameGroup}
+use Rattle.mailmap_tables.specs.Pool.{fields_of, spelled}
+use Rattle.mailmap_tables.specs.Texts.{old_span}
 use Rattle.mailmap_histories.specs.Histories.{Fields}
 use Rattle.mailmap_tables.specs.declared.merge.Given.{Given}
 use Rattle.mailmap_tables.specs.declared.merge.Named.{Named}
+use Rattle.mailmap_tables.specs.declared.texts.Texts.{Texts}
 
 -- what the name says
 abbrev pub named_group : Named → NameGroup
@@ -11,3 +16,12 @@ named_group n = record { old_name = n.old_name.now; new_name = option_copied n.n
 
 abbrev pub fields_given : Given → Fields
 fields_given g = record { name = option_copied g.new_name; email = option_copied g.new_email }
+
+-- each field as it is given, and else as it stood
+abbrev pub given_or : Fields → Fields → Fields
+given_or given stood = record { name = option_or given.name stood.name; email = option_or given.email stood.email }
+
+-- a row spells in one pool the email that another row spells in another, and its fields with those that are given
+pub record OwnSpells (old new : Text) (stood : Texts) (given : Fields) (own : Texts) : Type 0 where
+  pub old_same : spelled new (old_span own) ≡ spelled old (old_span stood)
+  pub fields : fields_of new own ≡ given_or given (fields_of old stood)

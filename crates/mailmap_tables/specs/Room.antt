@@ -3,6 +3,7 @@ use Rattle.std.specs.Prelude.{◌≡◌, ◌≤◌, ◌+◌, ◌++◌, ℕ, List
 use Rattle.std.specs.List.{AllByRecursion}
 use Rattle.mailmap_entries.specs.Entries.{Mapping}
 use Rattle.mailmap_entries.specs.Folding.{Text}
+use Rattle.mailmap_histories.specs.Histories.{Fields}
 use Rattle.mailmap_tables.specs.Groups.{NameGroup, EmailGroup, Contents, email_key}
 use Rattle.mailmap_tables.specs.Merging.{Extends, NamePut, NamesJoined, EmailJoined, email_text}
 use Rattle.mailmap_tables.specs.declared.tables.EmailRow.{EmailRow}
@@ -47,6 +48,10 @@ own_bytes g = optional_bytes g.own.name + optional_bytes g.own.email
 -- how many bytes an email may take where entries join it: their texts, and copies of all that says something then
 abbrev pub email_room : EmailGroup → List Mapping → ℕ
 email_room g ms = length g.old_email + own_bytes g + (sum_by field_bytes ms + sum_by field_bytes ms)
+
+-- and where fields are given for it
+abbrev pub own_room : EmailGroup → Fields → ℕ
+own_room g f = let given = optional_bytes f.name + optional_bytes f.email in length g.old_email + own_bytes g + (given + given)
 
 -- the fields that stand for an email of these entries have at most so many bytes
 abbrev pub StoodWithin : ℕ → List EmailGroup → List Mapping → Type 0

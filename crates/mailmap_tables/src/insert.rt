@@ -8,15 +8,15 @@ ghost use Rattle.mailmap_entries.specs.Folding.{folded, text_cmp};
 ghost use Rattle.mailmap_histories.specs.Histories.{IsNormal, is_accepted, key, key_cmp};
 ghost use Rattle.mailmap_tables.specs.Groups.{AreGroups, EmailGroup, IsComplete, email_key, listing, name_key};
 ghost use Rattle.mailmap_tables.specs.Merging.{AllJoined, EmailRun, IsAscending, IsNamed, RunPut, email_text, first_email, mapping_at, name_text, placed_at};
-ghost use Rattle.mailmap_tables.specs.Named.{named_group};
+ghost use Rattle.mailmap_tables.specs.Named.{fields_given, given_or, named_group};
 ghost use Rattle.mailmap_tables.specs.Pool.{LiesIn, NameLies, name_group, spelled};
 ghost use Rattle.mailmap_tables.specs.Places.{IsFound, IsMissing};
-ghost use Rattle.mailmap_tables.specs.Room.{EmailExtended, HasRoom, NamePlacedAt, NamesExtended, StoodWithin, TookRoom, entry_bytes, entry_room, field_bytes, first_emails, email_room, name_bytes, optional_bytes, own_bytes};
+ghost use Rattle.mailmap_tables.specs.Room.{EmailChanged, EmailExtended, HasRoom, NamePlacedAt, NamesExtended, StoodWithin, TookRoom, entry_bytes, entry_room, field_bytes, first_emails, email_room, name_bytes, optional_bytes, own_bytes, own_room};
 
 use crate::batch::{Placed, sorted};
 use crate::merge::{
-    Named, before, behind, earliest, email_run, front_name, last_given, rest, span_len, text_len,
-    unnamed_run,
+    Given, Named, before, behind, earliest, email_run, front_name, last_given, rest, span_len,
+    text_len, unnamed_run,
 };
 use crate::room::Roomy;
 use crate::search::{place_email, place_name};
@@ -209,7 +209,8 @@ fn insert_run(tables: &mut Roomy, from: usize, run: &[Placed<'_, '_>]) -> usize
     }
 }
 
-// Joins entries with the email at a place, and gives the place behind it.
+// Joins entries with the email at a place, and gives the place behind it. Its own texts come first, for those of a new
+// email to stand right behind it.
 fn extend_email(tables: &mut Roomy, place: usize, run: &[Placed<'_, '_>]) -> usize
     requires within { place < length tables.old.held.groups }
     requires ascending { HoldsAt (λ (g : EmailGroup). IsStrictlySortedBy text_cmp (map name_key g.names)) tables.old.held.groups place }
@@ -221,17 +222,27 @@ fn extend_email(tables: &mut Roomy, place: usize, run: &[Placed<'_, '_>]) -> usi
     ensures room { HoldsAt (λ (g : EmailGroup). TookRoom (email_room g (map mapping_at run.now)) 0 (length run.now) tables.old tables.new) tables.old.held.groups place }
 {
     let len = unnamed_run(run);
+    extend_own(tables, place, last_given(before(run, len)));
     extend_names(tables, place, behind(run, len));
-    let given = last_given(before(run, len));
+    let count = tables.view().len();
+    prove!(place < count);
+    place + 1
+}
+
+// Gives the email at a place the fields that are given for it. Where its old email is the last text of the pool, they come
+// to stand right behind it.
+fn extend_own(tables: &mut Roomy, place: usize, given: Given<'_>)
+    requires within { place < length tables.old.held.groups }
+    requires bytes { HoldsAt (λ (g : EmailGroup). own_room g (fields_given given) ≤ tables.old.bytes) tables.old.held.groups place }
+    ensures changed { HoldsAt (λ (g : EmailGroup). EmailChanged place (record g { own = given_or (fields_given given.entry) g.own }) tables.old.held tables.new.held) tables.old.held.groups place }
+    ensures room { HoldsAt (λ (g : EmailGroup). TookRoom (own_room g (fields_given given.entry)) 0 0 tables.old tables.new) tables.old.held.groups place }
+{
     let (texts, _) = tables.view().email(place);
     let (stood_name, stood_email) = tables.view().fields(texts);
     let new_name = push_given(tables, given.new_name, stood_name);
     let new_email = push_given(tables, given.new_email, stood_email);
     let own = tables.together(texts.old(), new_name, new_email, 0);
     tables.replace_texts(place, own);
-    let count = tables.view().len();
-    prove!(place < count);
-    place + 1
 }
 
 // Puts a text out if there is one, and else keeps that which stood.

@@ -11,8 +11,8 @@ ghost use Rattle.std.specs.Iterator.{IsFinite, Drains, Yields};
 ghost use Rattle.mailmap_histories.specs.Histories.{IsNormal, accepted, is_accepted, key, key_cmp, no_fields};
 ghost use Rattle.mailmap_entries.specs.declared.entry.Entry.{Entry as Item};
 ghost use Rattle.mailmap_tables.specs.Merging.{IsAscending, first_email, IsNamed, mapping_at, placed_at, email_text, name_text, Extends, NamePut, NameRun, NamesPut, EmailRun, IsEarliest, give, EmailPut, RunPut, AllJoined};
-ghost use Rattle.mailmap_tables.specs.Pool.{spelled, LiesIn, NameLies, EmailLies, RowsLie, name_group, group_of};
-ghost use Rattle.mailmap_tables.specs.Named.{named_group, fields_given};
+ghost use Rattle.mailmap_tables.specs.Pool.{spelled, LiesIn, NameLies, EmailLies, RowsLie, TextsLie, name_group, group_of};
+ghost use Rattle.mailmap_tables.specs.Named.{OwnSpells, named_group, fields_given};
 ghost use Rattle.mailmap_tables.specs.Room.{optional_bytes};
 
 use crate::batch::{Placed, sorted};
@@ -275,7 +275,22 @@ pub(crate) fn before<'s, 'e, 'a>(batch: &'s [Placed<'e, 'a>], place: usize) -> &
     &batch[..place]
 }
 
-// Puts an email out: what stood of it, and the entries of a batch for it.
+// Puts out the fields that are given for an email, and gives the row of its own texts with them. Where its old email is
+// the last text of the pool, they come to stand right behind it.
+fn own_texts(out: &mut Tables, texts: Texts, given: Given<'_>) -> Result<Texts, AllocError>
+    requires { TextsLie (length out.old.pool) texts }
+    ensures grown { OnOk result ((more : List ℕ) × (out.new ≡ record out.old { pool = out.old.pool ++ more })) }
+    ensures lies { IfOk result (TextsLie (length out.new.pool)) }
+    ensures spells { IfOk result (OwnSpells out.old.pool out.new.pool texts (fields_given given.entry)) }
+{
+    let (stood_name, stood_email) = out.view().fields(texts);
+    let new_name = push_given(out, given.new_name, stood_name)?;
+    let new_email = push_given(out, given.new_email, stood_email)?;
+    out.together(texts.old(), new_name, new_email, 0)
+}
+
+// Puts an email out: what stood of it, and the entries of a batch for it. Its own texts come first, for those of a new
+// email to stand right behind it.
 fn join_email(
     out: &mut Tables,
     texts: Texts,
@@ -289,12 +304,8 @@ fn join_email(
     ensures { OnOk result (EmailPut (group_of out.old.pool texts names.now) (map mapping_at batch.now) out.old out.new) }
 {
     let len = unnamed_run(batch);
+    let own = own_texts(out, texts, last_given(before(batch, len)))?;
     join_names(out, names, behind(batch, len))?;
-    let given = last_given(before(batch, len));
-    let (stood_name, stood_email) = out.view().fields(texts);
-    let new_name = push_given(out, given.new_name, stood_name)?;
-    let new_email = push_given(out, given.new_email, stood_email)?;
-    let own = out.together(texts.old(), new_name, new_email, 0)?;
     out.push_email(own)
 }
 
