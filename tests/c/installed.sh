@@ -6,7 +6,7 @@ set -euo pipefail
 top="$(cd "$(dirname "$0")/../.." && pwd)"
 work="$(mktemp -d)"
 trap 'rm -rf "$work"' EXIT
-prefix=/opt/mailmap
+prefix=/usr/local
 make -s -C "$top" install DESTDIR="$work/root" PREFIX="$prefix"
 installed="$work/root$prefix"
 "$top/tests/c/page.py" "$top/docs/C.md" "$work"
