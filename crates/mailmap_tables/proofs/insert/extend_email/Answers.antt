@@ -9,14 +9,13 @@ use Rattle.mailmap_histories.proofs.Parts.{all_front}
 use Rattle.mailmap_tables.specs.Groups.{Contents, EmailGroup, name_key}
 use Rattle.mailmap_tables.specs.Merging.{IsAscending, IsNamed, bare, give, mapping_at, name_text}
 use Rattle.mailmap_tables.specs.Named.{fields_given, given_or}
-use Rattle.mailmap_tables.specs.Room.{EmailExtended, NamesExtended, field_bytes, optional_bytes, own_bytes}
+use Rattle.mailmap_tables.specs.Room.{EmailExtended, NamesExtended, field_bytes, optional_bytes}
 use Rattle.mailmap_tables.specs.declared.batch.Placed.{Placed}
 use Rattle.mailmap_tables.proofs.Bytes.{given_bytes, parted_bytes}
 use Rattle.mailmap_tables.proofs.EmailPuts.{ascending_rest, name_of, named_behind, names_ascend}
 use Rattle.mailmap_tables.proofs.FrontRuns.{all_mapped}
 use Rattle.mailmap_tables.proofs.Given.{fold-give}
 use Rattle.mailmap_tables.proofs.InPlace.{changed_group, changed_length, email_extended}
-use Rattle.mailmap_tables.proofs.RowEdits.{get_or_any}
 use Rattle.mailmap_tables.proofs.insert.extend_email.Goals as goal
 
 pub extend_own-requires-clause-bytes : goal.extend_own-requires-clause-bytes

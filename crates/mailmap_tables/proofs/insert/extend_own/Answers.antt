@@ -6,12 +6,12 @@ use Rattle.mailmap_entries.specs.Folding.{Text}
 use Rattle.mailmap_histories.specs.Histories.{Fields}
 use Rattle.mailmap_tables.specs.Groups.{Contents, EmailGroup}
 use Rattle.mailmap_tables.specs.Merging.{Extends, bare}
-use Rattle.mailmap_tables.specs.Named.{OwnSpells, fields_given, given_or}
+use Rattle.mailmap_tables.specs.Named.{fields_given, given_or}
 use Rattle.mailmap_tables.specs.Pool.{LiesIn, TextsLie, fields_of, group_of, spelled}
 use Rattle.mailmap_tables.specs.Texts.{email_span, name_span, old_span, span_bytes}
 use Rattle.mailmap_tables.specs.declared.texts.Span.{Span}
 use Rattle.mailmap_tables.specs.declared.texts.Texts.{Texts}
-use Rattle.mailmap_tables.specs.Room.{optional_bytes, own_bytes, own_room, with_email_at}
+use Rattle.mailmap_tables.specs.Room.{optional_bytes, own_bytes, with_email_at}
 use Rattle.mailmap_tables.proofs.Bytes.{or_bytes, spans_bytes}
 use Rattle.mailmap_tables.proofs.EmailPuts.{lies_on, options_lie_on, options_on}
 use Rattle.mailmap_tables.proofs.InPlace.{changed_from}
