@@ -1,4 +1,5 @@
 pub mod Summaries
+mod Givers
 pub mod Idle
 pub mod Sublists
 pub mod Kept

@@ -1,6 +1,6 @@
 -- A table of which one row changes.
-use Rattle.std.proofs.Common.{◌≡◌, ◌≢◌, ◌<◌, ◌==◌, ◌++◌, ℕ, true, false, List, [], ◌∷◌, length, get_or, set, replicate, Bor, Option, Some, None, append-nil, refl, sym, ap, subst, ◌∙◌, arith}
-use Rattle.std.specs.Option.{option_copied, option_or}
+use Rattle.std.proofs.Common.{◌≡◌, ◌≢◌, ◌<◌, ◌==◌, ◌++◌, ℕ, true, false, List, [], ◌∷◌, length, get_or, set, replicate, Some, append-nil, refl, sym, ap, subst, ◌∙◌, arith}
+use Rattle.std.specs.Option.{option_or}
 use Rattle.std.specs.List.{slice_get}
 use Rattle.std.specs.List.Sorted.{IsStrictlySortedBy}
 use Rattle.std.specs.Ordering.{eq_by_cmp}
@@ -61,10 +61,6 @@ row_blanked {X} keys key_of left left' blank view rows x i z up old is new other
     ] refl
 
 -- ---- with an entry behind, or before
-
-pub copied_or : {X : Type 0} (o p : Option (Bor X)) → option_copied (option_or o p) ≡ option_or (option_copied o) (option_copied p)
-copied_or None p = refl
-copied_or (Some x) p = refl
 
 pub email_keys : (a b : Text) → email_key a ≡ email_key b → a ≡ b
 email_keys a b e = ap (λ k. k.0) e

@@ -1,7 +1,7 @@
 -- Keys with their numbers, and tables that have a row for each number.
 use Rattle.std.specs.Prelude.{◌≡◌, ◌<◌, ◌-◌, true, false, List, [], ◌∷◌, ◌++◌, ℕ, Option, Some, None, Contains, map, length}
 use Rattle.std.specs.Borrow.{Bor}
-use Rattle.std.specs.Option.{option_copied, option_map}
+use Rattle.std.specs.Option.{option_and_then, option_copied, option_map}
 use Rattle.std.specs.List.{slice_get, slice_index_or, AllByRecursion}
 use Rattle.std.specs.List.Sorted.{IsStrictlySortedBy}
 use Rattle.std.specs.Ordering.{is_lt}
@@ -17,9 +17,10 @@ use Rattle.mailmap_sifting.specs.declared.numbers.Numbers.{Numbers as KeyNumbers
 use Rattle.mailmap_sifting.specs.declared.placed.Place.{Place}
 use Rattle.mailmap_sifting.specs.declared.placed.PlacedEntry.{PlacedEntry}
 use Rattle.mailmap_sifting.specs.declared.summary.Behind.{Behind}
-use Rattle.mailmap_sifting.specs.declared.summary.Fields.{Fields as FieldSlices}
-use Rattle.mailmap_sifting.specs.declared.summary.KeySummary.{KeySummary as KeySlices}
-use Rattle.mailmap_sifting.specs.declared.summary.Summary.{Summary as Slices}
+use Rattle.mailmap_sifting.specs.declared.fields.Fields.{Fields as FieldSlices}
+use Rattle.mailmap_sifting.specs.declared.key_summary.KeySummary.{KeySummary as KeyEntries}
+use Rattle.mailmap_sifting.specs.declared.summary.EmailSummary.{EmailSummary as EmailEntries}
+use Rattle.mailmap_sifting.specs.declared.summary.Summary.{Summary as SummaryEntries}
 use Rattle.mailmap_sifting.specs.declared.table.Table.{Table}
 
 -- ---- what the program's values say
@@ -32,20 +33,28 @@ abbrev pub last_fields_of : Option (Bor PlacedEntry) → Option Fields
 last_fields_of o = option_map (λ x. new_fields (mapping_of x.now.entry)) o
 
 -- where it stands
-abbrev pub place_of : KeySlices → Option Place
+abbrev pub place_of : KeyEntries → Option Place
 place_of s = option_map (λ x. x.now.place) s.last
 
-abbrev pub key_summary_of : KeySlices → KeySummary
+-- the text that an entry gives, where there is one
+abbrev pub given_by : (Mapping → Option Text) → Option (Bor PlacedEntry) → Option Text
+given_by f o = option_and_then (λ x. f (mapping_of x.now.entry)) o
+
+-- the spelling of the first entry
+abbrev pub spelling_of : EmailEntries → Option Text
+spelling_of s = option_map (λ x. (mapping_of x.now.entry).old_email) s.first
+
+abbrev pub key_summary_of : KeyEntries → KeySummary
 key_summary_of s =
     record {
-      old_name = option_copied s.old_name;
-      name = option_copied s.name;
-      email = option_copied s.email;
+      old_name = given_by (λ e. e.old_name) s.old_name;
+      name = given_by (λ e. e.new_name) s.name;
+      email = given_by (λ e. e.new_email) s.email;
       last = last_fields_of s.last;
     }
 
-abbrev pub summary_of : Slices → Summary
-summary_of s = record { of_key = key_summary_of s.of_key; spelling = option_copied s.spelling }
+abbrev pub summary_of : SummaryEntries → Summary
+summary_of s = record { of_key = key_summary_of s.of_key; spelling = spelling_of s.of_email }
 
 abbrev pub entry_of : NumberedEntry → Mapping
 entry_of x = mapping_of x.placed.now.entry
@@ -126,7 +135,7 @@ IsTableOf {X} {Y} {Z} keys key_of f view rows = (x : X) (i : ℕ) → IsNumber k
 -- the tables say what the history h says of each key and of each email
 pub record IsTable (keys : List Key) (h : List Mapping) (t : Table) : Type 0 where
   pub summaries : IsTableOf keys (λ k. k) (key_summary h) key_summary_of t.summaries.items
-  pub spellings : IsTableOf keys email_key (spelling h) option_copied t.spellings.items
+  pub spellings : IsTableOf keys email_key (spelling h) spelling_of t.spellings.items
 
 -- they say where the last of the entries xs of each key stands
 abbrev pub ArePlaces : List Key → List PlacedMapping → Table → Type 0
@@ -139,7 +148,7 @@ AreBlank {X} {Y} {Z} keys key_of left blank view rows = (x : X) (i : ℕ) → Is
 -- the tables say nothing of keys and emails that have no entry in h
 pub record IsForgetting (keys : List Key) (h : List Mapping) (t : Table) : Type 0 where
   pub summaries : AreBlank keys (λ k. k) (λ k. of_key h k ≡ []) no_summary key_summary_of t.summaries.items
-  pub spellings : AreBlank keys email_key (λ email. of_email h email ≡ []) None option_copied t.spellings.items
+  pub spellings : AreBlank keys email_key (λ email. of_email h email ≡ []) None spelling_of t.spellings.items
 
 -- ---- passes
 

@@ -9,9 +9,9 @@ ghost use Rattle.mailmap_histories.specs.Histories as told;
 ghost use Rattle.mailmap_histories.specs.Histories.{key_cmp, last_fields, given_fields};
 ghost use Rattle.mailmap_sifting.specs.Numbers.{AreKnown, IsNumber, IsTable, email_key, fields_of};
 
+use crate::fields::Fields;
 use crate::keys::FrontedKey;
 use crate::search::{SearchedKeys, find};
-use crate::summary::Fields;
 use crate::table::Table;
 
 /// What a history answers to a name and an email, `None` where it maps neither.
@@ -26,7 +26,7 @@ pub(crate) fn scan<'a>(
     ensures { (h : List Mapping) → AreKnown keys.now h → IsTable keys.now h table.now → option_map fields_of result ≡ told.scan h name.now email.now }
 {
     let number = find(keys, &FrontedKey::of_email(email))?;
-    let spelling = table.spellings[number]?;
+    let spelling = table.spellings[number].spelling()?;
     let fields = fields_for(keys, table, number, name, email);
     answered(email, fields, spelling)
 }

@@ -4,6 +4,8 @@
 
 mod answers;
 mod crowded;
+mod fields;
+mod key_summary;
 mod keys;
 pub mod laws;
 mod numbers;
@@ -15,6 +17,6 @@ mod sifted;
 mod summary;
 mod table;
 
+pub use fields::Fields;
 pub use placed::{Place, PlacedEntry};
 pub use sifted::{Sifted, sift};
-pub use summary::Fields;

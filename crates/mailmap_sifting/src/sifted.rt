@@ -8,12 +8,12 @@ ghost use Rattle.mailmap_sifting.specs.Sifting.{IsSifted, entries, last_place, p
 ghost use Rattle.mailmap_sifting.specs.Numbers.{IsSiftedState, SiftedHistory, fields_of, told};
 
 use crate::answers::scan;
+use crate::fields::Fields;
 use crate::keys::FrontedKey;
 use crate::numbers::{NumberedEntry, Numbering, numbered};
 use crate::passes::settled;
 use crate::placed::{Place, PlacedEntry};
 use crate::search::{SearchedKeys, find};
-use crate::summary::Fields;
 use crate::table::Table;
 use mailmap_entries::Entry;
 use std::alloc::{AllocError, Global};

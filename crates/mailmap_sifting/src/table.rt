@@ -4,16 +4,17 @@ ghost use Rattle.std.specs.List.Sorted.{IsStrictlySortedBy};
 ghost use Rattle.mailmap_entries.specs.Entries.{Mapping};
 ghost use Rattle.mailmap_histories.specs.Histories.{Key, key, key_cmp};
 
+use crate::key_summary::KeySummary;
 use crate::keys::FrontedKey;
 use crate::numbers::NumberedEntry;
-use crate::summary::{KeySummary, Summary};
+use crate::summary::{EmailSummary, Summary};
 use std::alloc::{AllocError, Global};
 
-/// A summary for each key, and a first spelling for each email.
+/// A summary for each key, and one for each email.
 #[derive(Drop)]
 pub(crate) struct Table<'p, 'a> {
     pub(crate) summaries: Vec<KeySummary<'p, 'a>>,
-    pub(crate) spellings: Vec<Option<&'a [u8]>>,
+    pub(crate) spellings: Vec<EmailSummary<'p, 'a>>,
 }
 
 impl<'p, 'a> Table<'p, 'a> {
@@ -27,7 +28,7 @@ impl<'p, 'a> Table<'p, 'a> {
     {
         Ok(Table {
             summaries: vec![in alloc; KeySummary::none(); keys.len()]?,
-            spellings: vec![in alloc; None; keys.len()]?,
+            spellings: vec![in alloc; EmailSummary::none(); keys.len()]?,
         })
     }
 
@@ -38,7 +39,7 @@ impl<'p, 'a> Table<'p, 'a> {
         ensures { (keys : List Key) (h : List Mapping) → IsStrictlySortedBy key_cmp keys → IsNumbered keys x.now → IsForgetting keys (entry_of x.now ∷ h) self.old → IsForgetting keys h self.new }
     {
         self.summaries[x.key] = KeySummary::none();
-        self.spellings[x.email] = None;
+        self.spellings[x.email] = EmailSummary::none();
     }
 
     /// What is said of an entry's key and of its email.
@@ -49,7 +50,7 @@ impl<'p, 'a> Table<'p, 'a> {
     {
         Summary {
             of_key: self.summaries[x.key],
-            spelling: self.spellings[x.email],
+            of_email: self.spellings[x.email],
         }
     }
 
@@ -61,7 +62,7 @@ impl<'p, 'a> Table<'p, 'a> {
         ensures places { (keys : List Key) (xs : List PlacedMapping) → IsStrictlySortedBy key_cmp keys → IsNumbered keys x.now → ArePlaces keys xs self.old → ArePlaces keys (xs ++ placed_entry_of x.now ∷ []) self.new }
     {
         self.summaries[x.key] = self.summaries[x.key].joined(KeySummary::of(x.placed));
-        self.spellings[x.email] = self.spellings[x.email].or(Some(x.placed.entry.old_email()));
+        self.spellings[x.email] = self.spellings[x.email].joined(EmailSummary::of(x.placed));
     }
 
     /// Puts an entry before the others.
@@ -71,6 +72,6 @@ impl<'p, 'a> Table<'p, 'a> {
         ensures { (keys : List Key) (h : List Mapping) → IsStrictlySortedBy key_cmp keys → IsNumbered keys x.now → IsTable keys h self.old → IsTable keys (entry_of x.now ∷ h) self.new }
     {
         self.summaries[x.key] = KeySummary::of(x.placed).joined(self.summaries[x.key]);
-        self.spellings[x.email] = Some(x.placed.entry.old_email());
+        self.spellings[x.email] = EmailSummary::of(x.placed);
     }
 }

@@ -1,10 +1,10 @@
-use Rattle.std.proofs.Common.{[], ◌∷◌, ◌++◌, Some, sym, ap, ap₂, ◌∙◌}
-use Rattle.std.specs.Option.{option_copied, option_or}
+use Rattle.std.proofs.Common.{[], ◌∷◌, ◌++◌, sym, ap, ap₂, ◌∙◌}
+use Rattle.std.specs.Option.{option_or}
 use Rattle.mailmap_entries.specs.Folding.{folded}
 use Rattle.mailmap_histories.specs.Histories.{key, spelling}
 use Rattle.mailmap_sifting.specs.Summaries.{key_summary, joined_summary}
-use Rattle.mailmap_sifting.specs.Numbers.{email_key, entry_of, key_summary_of, place_of, placed_entry_of}
-use Rattle.mailmap_sifting.proofs.Rows.{row_changed, email_keys, appended, not_appended, spelled_behind, not_spelled_behind, copied_or}
+use Rattle.mailmap_sifting.specs.Numbers.{email_key, entry_of, key_summary_of, place_of, placed_entry_of, spelling_of}
+use Rattle.mailmap_sifting.proofs.Rows.{row_changed, email_keys, appended, not_appended, spelled_behind, not_spelled_behind}
 use Rattle.mailmap_sifting.proofs.Walked.{last_place-own, last_place-other}
 use Rattle.mailmap_sifting.specs.Sifting.{last_place}
 use Rattle.mailmap_sifting.proofs.table.Table.append.Goals as goal
@@ -16,9 +16,8 @@ returns-clause-table c = λ keys h up n t.
       summaries = row_changed keys (λ k. k) key_summary_of (key_summary h) (key_summary (h ++ e ∷ [])) _ (key e) _ _ up (λ a b e. e) t.summaries n.own
           (c.joined.ensures.summary ∙ ap₂ joined_summary (ap key_summary_of c.index.ensures ∙ (t.summaries _ _ n.own).1 c.index.result.now) c.of.ensures.summary ∙ sym (appended h e n.accepted))
           (not_appended h e);
-      spellings = row_changed keys email_key option_copied (spelling h) (spelling (h ++ e ∷ [])) _ (folded e.old_email) _ _ up email_keys t.spellings n.of_email
-          (ap option_copied c.or.ensures ∙ copied_or c.index-2.result.now _
-          ∙ ap₂ option_or (ap option_copied c.index-2.ensures ∙ (t.spellings _ _ n.of_email).1 c.index-2.result.now) (ap (λ t. Some t) c.old_email.ensures)
+      spellings = row_changed keys email_key spelling_of (spelling h) (spelling (h ++ e ∷ [])) _ (folded e.old_email) _ _ up email_keys t.spellings n.of_email
+          (c.joined-2.ensures ∙ ap₂ option_or (ap spelling_of c.index-2.ensures ∙ (t.spellings _ _ n.of_email).1 c.index-2.result.now) c.of-2.ensures
           ∙ sym (spelled_behind h e n.accepted))
           (not_spelled_behind h e);
     }
