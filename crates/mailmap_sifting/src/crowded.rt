@@ -7,14 +7,14 @@ ghost use Rattle.mailmap_sifting.specs.Crowded.{AreAlone};
 ghost use Rattle.mailmap_sifting.specs.Sifting.{entries as entries_told};
 ghost use Rattle.mailmap_sifting.specs.Numbers.{IsNumbered, told};
 
-use crate::keys::FrontedKey;
+use crate::keys::KeptKey;
 use crate::numbers::NumberedEntry;
 use std::alloc::{AllocError, Global};
 
 /// Marks the emails of which some key comes twice, by their numbers.
 pub(crate) fn crowded_emails(
     alloc: Global,
-    keys: &[FrontedKey<'_>],
+    keys: &[KeptKey<'_>],
     entries: &[NumberedEntry<'_, '_>],
 ) -> Result<Vec<bool>, AllocError>
     requires ascending { IsStrictlySortedBy key_cmp keys.now }

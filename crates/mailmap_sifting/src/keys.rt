@@ -63,13 +63,48 @@ impl<'a> FrontedKey<'a> {
         self.email.front
     }
 
-    // The same without its name.
-    fn of_email_alone(&self) -> FrontedKey<'a>
+    // As it is kept.
+    fn kept(&self) -> KeptKey<'a>
+        ensures { result ≡ self.now }
+    {
+        KeptKey {
+            email: self.email.text,
+            name: self.name,
+        }
+    }
+
+    // The same without its name, as it is kept.
+    fn of_email_alone(&self) -> KeptKey<'a>
         ensures { result ≡ email_key self.now.0 }
     {
-        FrontedKey {
-            email: self.email,
+        KeptKey {
+            email: self.email.text,
             name: None,
+        }
+    }
+}
+
+/// A key without that number, as many are kept.
+#[derive(Drop)]
+pub(crate) struct KeptKey<'a> {
+    email: &'a [u8],
+    name: Option<&'a [u8]>,
+}
+
+impl<'a> Model for KeptKey<'a> {
+    ghost Value = { Key };
+
+    ghost view = { λ k. (folded k.email.now, option_map folded (option_copied k.name)) };
+}
+
+impl<'a> KeptKey<'a> {
+    /// The same with the first bytes of its email.
+    pub(crate) fn fronted(&self) -> FrontedKey<'a>
+        ensures { result ≡ self.now }
+    {
+        FrontedKey {
+            email: Fronted::new(self.email),
+            name: self.name,
         }
     }
 }
@@ -97,7 +132,7 @@ fn compare_names(a: Option<&[u8]>, b: Option<&[u8]>) -> Ordering
 /// The keys of entries that come in the order of their keys, and the keys of their emails, each once.
 #[derive(Drop)]
 pub(crate) struct AscendingKeys<'a> {
-    pub(crate) keys: Vec<FrontedKey<'a>>,
+    pub(crate) keys: Vec<KeptKey<'a>>,
     /// The number of the last email.
     pub(crate) email: usize,
 }
@@ -155,13 +190,13 @@ impl<'a> AscendingKeys<'a> {
         if is_last_name(&self.keys, &key) {
             return Ok(());
         }
-        self.keys.push(key)?;
+        self.keys.push(key.kept())?;
         Ok(())
     }
 }
 
 // Whether the last of the keys has this email.
-fn is_last_email(keys: &[FrontedKey], key: &FrontedKey) -> bool
+fn is_last_email(keys: &[KeptKey], key: &FrontedKey) -> bool
     ensures yes { result ≡ true → last_email keys.now ≡ Some key.now.0 }
     ensures no { result ≡ false → last_email keys.now ≢ Some key.now.0 }
 {
@@ -171,14 +206,16 @@ fn is_last_email(keys: &[FrontedKey], key: &FrontedKey) -> bool
     }
 }
 
-fn have_same_email(a: &FrontedKey, b: &FrontedKey) -> bool
+fn have_same_email(a: &KeptKey, b: &FrontedKey) -> bool
     ensures { result ≡ eq_by_cmp text_cmp a.now.0 b.now.0 }
 {
-    Steps::new().compare_fronted(a.email, b.email).is_eq()
+    Steps::new()
+        .compare_fronted(Fronted::new(a.email), b.email)
+        .is_eq()
 }
 
 // Whether the last of the keys, which has this email, has this name.
-fn is_last_name(keys: &[FrontedKey], key: &FrontedKey) -> bool
+fn is_last_name(keys: &[KeptKey], key: &FrontedKey) -> bool
     requires { last_email keys.now ≡ Some key.now.0 }
     ensures yes { result ≡ true → last_key keys.now ≡ Some key.now }
     ensures no { result ≡ false → last_key keys.now ≢ Some key.now }
@@ -189,7 +226,7 @@ fn is_last_name(keys: &[FrontedKey], key: &FrontedKey) -> bool
     }
 }
 
-fn have_same_name(a: &FrontedKey, b: &FrontedKey) -> bool
+fn have_same_name(a: &KeptKey, b: &FrontedKey) -> bool
     ensures { result ≡ eq_by_cmp (option_cmp text_cmp) a.now.1 b.now.1 }
 {
     compare_names(a.name, b.name).is_eq()

@@ -6,7 +6,7 @@ ghost use Rattle.mailmap_histories.specs.Histories.{Key, key_cmp, is_accepted};
 ghost use Rattle.mailmap_sifting.specs.Sifting.{placed_of};
 ghost use Rattle.mailmap_sifting.specs.Numbers.{AreAscending, AreNumbers, IsNumbered, last_key, numbers_of, told};
 
-use crate::keys::{AscendingKeys, FrontedKey};
+use crate::keys::{AscendingKeys, KeptKey};
 use crate::order::order;
 use crate::placed::PlacedEntry;
 use std::alloc::{AllocError, Global};
@@ -22,7 +22,7 @@ pub(crate) struct NumberedEntry<'p, 'a> {
 /// The keys of entries, and the entries with their numbers.
 #[derive(Drop)]
 pub(crate) struct Numbering<'p, 'a> {
-    pub(crate) keys: Vec<FrontedKey<'a>>,
+    pub(crate) keys: Vec<KeptKey<'a>>,
     pub(crate) entries: Vec<NumberedEntry<'p, 'a>>,
 }
 

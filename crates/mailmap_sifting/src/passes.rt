@@ -7,7 +7,7 @@ ghost use Rattle.mailmap_sifting.specs.Sifting.{IsPass, IsSifted, entries as ent
 ghost use Rattle.mailmap_sifting.specs.Numbers.{ArePlaces, IsNumbered, IsTable, behinds, told};
 
 use crate::crowded::crowded_emails;
-use crate::keys::FrontedKey;
+use crate::keys::KeptKey;
 use crate::numbers::NumberedEntry;
 use crate::summary::{Behind, is_idle};
 use crate::table::Table;
@@ -17,7 +17,7 @@ use std::alloc::{AllocError, Global};
 /// entry. Emails are marked anew before each pass, since fewer of them have a key that comes twice.
 pub(crate) fn settled<'p, 'a>(
     alloc: Global,
-    keys: &[FrontedKey<'_>],
+    keys: &[KeptKey<'_>],
     entries: &[NumberedEntry<'p, 'a>],
     table: &mut Table<'p, 'a>,
 ) -> Result<Vec<NumberedEntry<'p, 'a>>, AllocError>
@@ -46,7 +46,7 @@ pub(crate) fn settled<'p, 'a>(
 // stay of the crowded emails.
 fn pass<'p, 'a>(
     alloc: Global,
-    keys: &[FrontedKey<'_>],
+    keys: &[KeptKey<'_>],
     crowded: &[bool],
     entries: &[NumberedEntry<'p, 'a>],
     table: &mut Table<'p, 'a>,
@@ -85,7 +85,7 @@ fn pass<'p, 'a>(
 // of all of these.
 fn behind_each<'p, 'a>(
     alloc: Global,
-    keys: &[FrontedKey<'_>],
+    keys: &[KeptKey<'_>],
     crowded: &[bool],
     entries: &[NumberedEntry<'p, 'a>],
     table: &mut Table<'p, 'a>,
@@ -112,7 +112,7 @@ fn behind_each<'p, 'a>(
 
 // Makes a table of the entries of the crowded emails one of no entry. Only their rows are touched.
 fn forget_crowded<'p, 'a>(
-    keys: &[FrontedKey<'_>],
+    keys: &[KeptKey<'_>],
     crowded: &[bool],
     entries: &[NumberedEntry<'p, 'a>],
     table: &mut Table<'p, 'a>,
@@ -133,7 +133,7 @@ fn forget_crowded<'p, 'a>(
 
 // Adds the entries of the other emails to a table of those of the crowded ones.
 fn append_others<'p, 'a>(
-    keys: &[FrontedKey<'_>],
+    keys: &[KeptKey<'_>],
     crowded: &[bool],
     entries: &[NumberedEntry<'p, 'a>],
     table: &mut Table<'p, 'a>,

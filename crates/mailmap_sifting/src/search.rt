@@ -4,7 +4,7 @@ ghost use Rattle.std.specs.List.Sorted.{IsStrictlySortedBy};
 ghost use Rattle.mailmap_histories.specs.Histories.{Key, key_cmp};
 ghost use Rattle.mailmap_sifting.specs.Numbers.{AreFronts, IsNumber};
 
-use crate::keys::{FrontedKey, compare};
+use crate::keys::{FrontedKey, KeptKey, compare};
 use mailmap_entries::fold::{Probe, search};
 use std::alloc::{AllocError, Global};
 use std::cmp::Ordering;
@@ -13,7 +13,7 @@ use std::marker::Model;
 /// Keys, and the fronts of their emails apart from them: these lie close together, and settle most steps of a search.
 #[derive(Drop)]
 pub(crate) struct SearchedKeys<'a> {
-    keys: Vec<FrontedKey<'a>>,
+    keys: Vec<KeptKey<'a>>,
     fronts: Vec<u128>,
 }
 
@@ -27,15 +27,12 @@ impl<'a> Model for SearchedKeys<'a> {
 
 impl<'a> SearchedKeys<'a> {
     /// The keys with their fronts.
-    pub(crate) fn new(
-        alloc: Global,
-        keys: Vec<FrontedKey<'a>>,
-    ) -> Result<SearchedKeys<'a>, AllocError>
+    pub(crate) fn new(alloc: Global, keys: Vec<KeptKey<'a>>) -> Result<SearchedKeys<'a>, AllocError>
         ensures { IfOk result (λ searched. searched ≡ keys.entry.items) }
     {
         let mut fronts = Vec::with_capacity(alloc, keys.len())?;
         for key in &keys {
-            fronts.push(key.front())?;
+            fronts.push(key.fronted().front())?;
         }
         Ok(SearchedKeys { keys, fronts })
     }
@@ -47,7 +44,7 @@ impl<'a> SearchedKeys<'a> {
     {
         let front = key.front();
         match self.fronts[number].cmp(&front) {
-            Ordering::Equal => compare(&self.keys[number], key),
+            Ordering::Equal => compare(&self.keys[number].fronted(), key),
             unequal => unequal,
         }
     }

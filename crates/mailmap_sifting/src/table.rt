@@ -5,7 +5,7 @@ ghost use Rattle.mailmap_entries.specs.Entries.{Mapping};
 ghost use Rattle.mailmap_histories.specs.Histories.{Key, key, key_cmp};
 
 use crate::key_summary::KeySummary;
-use crate::keys::FrontedKey;
+use crate::keys::KeptKey;
 use crate::numbers::NumberedEntry;
 use crate::summary::{EmailSummary, Summary};
 use std::alloc::{AllocError, Global};
@@ -23,7 +23,7 @@ impl<'p, 'a> Table<'p, 'a> {
     ghost use Rattle.mailmap_sifting.specs.Sifting.{PlacedMapping};
 
     /// Of no entry.
-    pub(crate) fn none(alloc: Global, keys: &[FrontedKey<'_>]) -> Result<Table<'p, 'a>, AllocError>
+    pub(crate) fn none(alloc: Global, keys: &[KeptKey<'_>]) -> Result<Table<'p, 'a>, AllocError>
         ensures { IfOk result (IsTable keys.now []) }
     {
         Ok(Table {

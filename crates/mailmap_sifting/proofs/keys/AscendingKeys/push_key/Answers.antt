@@ -1,4 +1,4 @@
-use Rattle.std.proofs.Common.{◌≢◌, Some, sym, ap, subst, ◌∙◌}
+use Rattle.std.proofs.Common.{◌≢◌, ◌++◌, [], ◌∷◌, Some, sym, ap, subst, ◌∙◌}
 use Rattle.mailmap_sifting.specs.Numbers.{AreAscending, IsNumber, last_email, last_key}
 use Rattle.mailmap_sifting.proofs.Ascending.{kept_behind, named_ascending, named_last}
 use Rattle.mailmap_sifting.proofs.keys.AscendingKeys.push_key.Goals as goal
@@ -11,10 +11,10 @@ returns-clause-ascending c =
     let ks = c.args.self.now.keys.items in
     let k = c.args.key in
     let other = subst (λ l. last_key l ≢ Some k) c.deref.ensures.value (c.is_last_name.ensures.no c.if-is_last_name.false) in
-    subst (λ l. AreAscending l c.args.self.now.email) (sym c.in_ok-push.ensures.items) (named_ascending ks c.args.self.now.email k c.requires.ascending c.requires.up c.requires.email other)
+    subst (λ l. AreAscending l c.args.self.now.email) (sym (c.in_ok-push.ensures.items ∙ ap (λ k. ks ++ k ∷ []) c.kept.ensures)) (named_ascending ks c.args.self.now.email k c.requires.ascending c.requires.up c.requires.email other)
 
 pub returns-clause-last : goal.returns-clause-last
-returns-clause-last c = ap last_key c.in_ok-push.ensures.items ∙ named_last c.args.self.now.keys.items c.args.self.now.email c.args.key c.requires.ascending c.requires.up
+returns-clause-last c = ap last_key (c.in_ok-push.ensures.items ∙ ap (λ k. c.args.self.now.keys.items ++ k ∷ []) c.kept.ensures) ∙ named_last c.args.self.now.keys.items c.args.self.now.email c.args.key c.requires.ascending c.requires.up
 
 pub returns-clause-keeps : goal.returns-clause-keeps
 returns-clause-keeps c = λ k i is. subst (λ l. IsNumber l k i) (sym c.in_ok-push.ensures.items) (kept_behind c.args.self.now.keys.items _ i k is)
