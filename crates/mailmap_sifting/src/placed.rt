@@ -1,6 +1,8 @@
 //! Entries with the places where they stand.
+ghost use Rattle.mailmap_entries.specs.Entries.{mapping_of};
 
 use mailmap_entries::Entry;
+use mailmap_tables::batch::HasEntry;
 
 /// Where a line stands: its buffer, counted from 0, and its number in that buffer, counted from 1.
 ///
@@ -16,4 +18,13 @@ pub struct Place {
 pub struct PlacedEntry<'a> {
     pub place: Place,
     pub entry: Entry<'a>,
+}
+
+impl<'a> HasEntry<'a> for PlacedEntry<'a> {
+    ghost mapped = { λ x. mapping_of x.entry };
+
+    #[inline(always)]
+    fn entry(&self) -> &Entry<'a> {
+        &self.entry
+    }
 }

@@ -4,7 +4,7 @@ ghost use Rattle.std.specs.Iterator.{IsFinite, Drains, Yields};
 ghost use Rattle.std.specs.Option.{ForSome, option_copied, option_map, option_cmp};
 ghost use Rattle.std.specs.Ordering.{nat_cmp};
 ghost use Rattle.std.specs.List.{AllByRecursion, enumerate_from, fold};
-ghost use Rattle.mailmap_entries.specs.Entries.{mapping_of};
+ghost use Rattle.mailmap_entries.specs.Entries.{Mapping, mapping_of};
 ghost use Rattle.mailmap_entries.specs.Folding.{Text, folded, text_cmp};
 ghost use Rattle.mailmap_histories.specs.Histories.{accepted, is_accepted, key, key_cmp, no_fields};
 ghost use Rattle.mailmap_entries.specs.Fronts.{IsFront, front_number};
@@ -28,12 +28,29 @@ pub struct Placed<'e, 'a> {
     pub entry: &'e Entry<'a>,
 }
 
+/// What has an entry: an entry itself, or one with more beside it.
+pub trait HasEntry<'a> {
+    ghost mapped: { Self → Mapping };
+
+    fn entry(&self) -> &Entry<'a>
+        ensures { mapping_of result.now ≡ mapped self.now };
+}
+
+impl<'a> HasEntry<'a> for Entry<'a> {
+    ghost mapped = { λ e. mapping_of e };
+
+    #[inline(always)]
+    fn entry(&self) -> &Entry<'a> {
+        self
+    }
+}
+
 /// The entries in ascending order of their keys, those of one key in the order in which they came.
-pub fn sorted<'e, 'a>(
+pub fn sorted<'e, 'a, T: HasEntry<'a>>(
     alloc: Global,
-    entries: &'e [Entry<'a>],
+    entries: &'e [T],
 ) -> Result<Vec<Placed<'e, 'a>>, AllocError>
-    ensures { IfOk result (λ batch. IsSorted (map mapping_of entries.now) (map placed_at batch.items)) }
+    ensures { IfOk result (λ batch. IsSorted (map T.mapped entries.now) (map placed_at batch.items)) }
 {
     if let Some(batch) = ascending(alloc, entries)? {
         return Ok(batch);
@@ -44,14 +61,15 @@ pub fn sorted<'e, 'a>(
 }
 
 // The entries in order, if their old emails came in the order of their fronts already.
-fn ascending<'e, 'a>(
+fn ascending<'e, 'a, T: HasEntry<'a>>(
     alloc: Global,
-    entries: &'e [Entry<'a>],
+    entries: &'e [T],
 ) -> Result<Option<Vec<Placed<'e, 'a>>>, AllocError>
-    ensures { IfOk result (λ found. ForSome found (λ batch. IsSorted (map mapping_of entries.now) (map placed_at batch.items))) }
+    ensures { IfOk result (λ found. ForSome found (λ batch. IsSorted (map T.mapped entries.now) (map placed_at batch.items))) }
 {
     let mut runs = Runs::new(alloc, entries.len())?;
-    for (index, entry) in entries.iter().enumerate() {
+    for (index, item) in entries.iter().enumerate() {
+        let entry = item.entry();
         let front = front_number(entry.old_email());
         if front < runs.front {
             return Ok(None);
@@ -92,14 +110,15 @@ impl<'e, 'a> Model for FrontedEntry<'e, 'a> {
 }
 
 // Each entry with its place.
-fn with_places<'e, 'a>(
+fn with_places<'e, 'a, T: HasEntry<'a>>(
     alloc: Global,
-    entries: &'e [Entry<'a>],
+    entries: &'e [T],
 ) -> Result<Vec<FrontedEntry<'e, 'a>>, AllocError>
-    ensures { IfOk result (λ batch. map placed_at batch.items ≡ enumerate_from 0 (map mapping_of entries.now)) }
+    ensures { IfOk result (λ batch. map placed_at batch.items ≡ enumerate_from 0 (map T.mapped entries.now)) }
 {
     let mut batch = Vec::with_capacity(alloc, entries.len())?;
-    for (index, entry) in entries.iter().enumerate() {
+    for (index, item) in entries.iter().enumerate() {
+        let entry = item.entry();
         batch.push(with_front(Placed { index, entry }))?;
     }
     Ok(batch)

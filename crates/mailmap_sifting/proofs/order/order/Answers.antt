@@ -1,9 +1,7 @@
-use Rattle.std.proofs.Common.{◌≡◌, List, [], ◌∷◌, map, refl, ap, subst, ◌∙◌, arith}
+use Rattle.std.proofs.Common.{◌≡◌, List, [], ◌∷◌, map, refl, ap, ◌∙◌, arith}
 use Rattle.std.proofs.lemmas.List.{take_all}
-use Rattle.mailmap_entries.specs.Entries.{mapping_of}
-use Rattle.mailmap_tables.specs.Merging.{IsSorted, placed_at}
+use Rattle.mailmap_tables.specs.Merging.{placed_at}
 use Rattle.mailmap_tables.specs.declared.batch.Placed.{Placed}
-use Rattle.mailmap_sifting.specs.Numbers.{said}
 use Rattle.mailmap_sifting.proofs.order.order.Goals as goal
 
 indices : (ps : List Placed) → map (λ (p : Placed). p.index) ps ≡ map (λ p. p.0) (map placed_at ps)
@@ -14,9 +12,8 @@ pub returns : goal.returns
 returns c =
     let ps : List Placed = c.in_ok-sorted.sorted.items in
     let read : List Placed = c.deref-at-items.result.now in
-    let said_there : map mapping_of c.deref.result.now ≡ said c.args.entries.now = ap (map mapping_of) c.deref.ensures.value ∙ c.in_ok-plain.ensures in
     record {
       placed = map placed_at ps;
-      sorted = subst (λ l. IsSorted l (map placed_at ps)) said_there c.in_ok-sorted.ensures;
+      sorted = c.in_ok-sorted.ensures;
       places_are = c.loop-at.invariant ∙ ap (map (λ (p : Placed). p.index)) (take_all c.loop-at.at-index read (omega (arith, c.loop-at-test.false)) ∙ c.deref-at-items.ensures.value) ∙ indices ps;
     }

@@ -1,37 +1,39 @@
 use Rattle.std.proofs.Common.{◌≡◌, ◌+◌, ◌∷◌, [], ◌++◌, map, take, length, unwrap_or, refl, sym, ap, subst, ◌∙◌, arith}
 use Rattle.std.specs.List.{enumerate_from}
 use Rattle.std.proofs.lemmas.List.{map_more, map_push, length-map, length-take-le, take_all}
-use Rattle.mailmap_entries.specs.Entries.{mapping_of}
 use Rattle.mailmap_tables.specs.Merging.{IsSorted, placed_at}
 use Rattle.mailmap_tables.proofs.Arranged.{sorted_from}
 use Rattle.mailmap_tables.proofs.Collected.{enumerate_from-push}
 use Rattle.mailmap_tables.proofs.batch.ascending.Goals as goal
 
 pub loop-index-init : goal.loop-index-init
-loop-index-init c = ([], refl, c.in_ok-runs.ensures.none)
+loop-index-init g c = ([], refl, c.in_ok-runs.ensures.none)
 
 pub loop-index-preserved : goal.loop-index-preserved
-loop-index-preserved c =
+loop-index-preserved g c =
+    let mapped = g.T.HasEntry.mapped in
     let xs = c.args.entries.now in
     let i = c.loop-index.index in
     let x = c.index-entries-index.result in
     let inv = c.loop-index.invariant in
-    let front = map mapping_of (take i xs) in
-    let size : i ≡ 0 + length front = omega (arith, length-map (take i xs) mapping_of, length-take-le i xs (omega arith)) in
-    let grown : map mapping_of (take (i + 1) xs) ≡ front ++ mapping_of x ∷ [] = map_more mapping_of xs i x (omega arith) ∙ ap (λ e. front ++ mapping_of e ∷ []) (sym c.index-entries-index.is) in (
+    let front = map mapped (take i xs) in
+    let size : i ≡ 0 + length front = omega (arith, length-map (take i xs) mapped, length-take-le i xs (omega arith)) in
+    let grown : map mapped (take (i + 1) xs) ≡ front ++ mapped x ∷ [] = map_more mapped xs i x (omega arith) ∙ ap (λ e. front ++ mapped e ∷ []) (sym c.index-entries-index.is) in (
       _,
       map_push placed_at inv.0 _
-          ∙ ap (λ l. l ++ (i, mapping_of x) ∷ []) inv.1
-          ∙ sym (enumerate_from-push 0 i front (mapping_of x) size)
+          ∙ ap (λ m. map placed_at inv.0 ++ (i, m) ∷ []) c.entry-entry.ensures
+          ∙ ap (λ l. l ++ (i, mapped x) ∷ []) inv.1
+          ∙ sym (enumerate_from-push 0 i front (mapped x) size)
           ∙ ap (enumerate_from 0) (sym grown),
       c.in_ok-push.ensures.pushed inv.0 inv.2,
     )
 
 pub returns : goal.returns
-returns c = λ x e.
+returns g c = λ x e.
+    let mapped = g.T.HasEntry.mapped in
     let xs = c.args.entries.now in
     let inv = c.loop-index.invariant in
     let made = c.in_ok-finish.field-0 in
     let whole : take c.loop-index.index xs ≡ xs = take_all c.loop-index.index xs (omega (arith, c.loop-index-test.false)) in
-    subst (λ (v : _). IsSorted (map mapping_of xs) (map placed_at v.items)) (ap (λ o. unwrap_or o made) e)
-    (sorted_from (map mapping_of xs) inv.0 made.items (inv.1 ∙ ap (λ l. enumerate_from 0 (map mapping_of l)) whole) (c.in_ok-finish.ensures inv.0 inv.2))
+    subst (λ (v : _). IsSorted (map mapped xs) (map placed_at v.items)) (ap (λ o. unwrap_or o made) e)
+    (sorted_from (map mapped xs) inv.0 made.items (inv.1 ∙ ap (λ l. enumerate_from 0 (map mapped l)) whole) (c.in_ok-finish.ensures inv.0 inv.2))

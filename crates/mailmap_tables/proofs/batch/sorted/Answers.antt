@@ -3,7 +3,6 @@ use Rattle.std.specs.Cmp.{IsStrictWeakOrder}
 use Rattle.std.specs.Ordering.{is_lt, nat_cmp}
 use Rattle.std.proofs.lemmas.Cmp.{nat_cmp_total}
 use Rattle.std.proofs.lemmas.List.Sorted.{ranks_by, answers_always}
-use Rattle.mailmap_entries.specs.Entries.{mapping_of}
 use Rattle.mailmap_tables.specs.Merging.{IsAscending, IsSorted, placed_at}
 use Rattle.mailmap_tables.specs.Sorting.{IsArranged, email_front}
 use Rattle.mailmap_tables.specs.declared.batch.Placed.{Placed}
@@ -18,13 +17,13 @@ order : IsStrictWeakOrder by_front
 order = ranks_by nat_cmp_total email_front
 
 pub in_runs-requires : goal.in_runs-requires
-in_runs-requires c =
+in_runs-requires g c =
     let compares = answers_always _ (λ a r. is_lt r ≡ by_front a.0.now a.1.0.now) _ (λ f a r f' k. let e : r ≡ nat_cmp (email_front a.0.now) (email_front a.1.0.now) = search rules in ap is_lt e) in
     subst (λ l. IsAscending nat_cmp (map email_front l)) (sym c.deref.ensures.value) (fronts_ascend c.sort_by.new.self.items (c.in_ok-sort_by.ensures.sorted by_front order compares))
 
 pub returns : goal.returns
-returns c =
-    let xs = map mapping_of c.args.entries.now in
+returns g c =
+    let xs = map g.T.HasEntry.mapped c.args.entries.now in
     let old = c.in_ok-batch-2.batch.items in
     let mid = c.sort_by.new.self.items in
     let compares = answers_always _ (λ a r. is_lt r ≡ by_front a.0.now a.1.0.now) _ (λ f a r f' k. let e : r ≡ nat_cmp (email_front a.0.now) (email_front a.1.0.now) = search rules in ap is_lt e) in
