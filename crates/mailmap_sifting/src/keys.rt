@@ -209,9 +209,8 @@ fn is_last_email(keys: &[KeptKey], key: &FrontedKey) -> bool
 fn have_same_email(a: &KeptKey, b: &FrontedKey) -> bool
     ensures { result ≡ eq_by_cmp text_cmp a.now.0 b.now.0 }
 {
-    Steps::new()
-        .compare_fronted(Fronted::new(a.email), b.email)
-        .is_eq()
+    let front = Fronted::new(a.email);
+    Steps::new().compare_fronted(front, b.email).is_eq()
 }
 
 // Whether the last of the keys, which has this email, has this name.
