@@ -1,26 +1,31 @@
 -- A walk over sorted entries that numbers them.
-use Rattle.std.proofs.Common.{◌≡◌, ◌≢◌, ◌<◌, ◌≤◌, ◌+◌, ◌-◌, ◌==◌, ℕ, true, false, List, [], ◌∷◌, map, drop, length, get_or, set, Some, None, refl, sym, ap, subst, ◌∙◌, arith}
+use Rattle.std.proofs.Common.{◌≡◌, ◌≢◌, ◌<◌, ◌≤◌, ◌+◌, ◌-◌, ◌==◌, ℕ, true, false, List, [], ◌∷◌, map, drop, length, get_or, set, Some, refl, sym, ap, subst, ◌∙◌, arith}
 use Rattle.std.specs.Prelude.{All, Contains}
 use Rattle.std.specs.List.{slice_get, AllByRecursion, enumerate_from}
 use Rattle.std.specs.List.Sorted.{IsPermutation, IsStrictlySortedBy}
 use Rattle.std.specs.Ordering.{is_lt}
 use Rattle.std.proofs.lemmas.Bool.{eqb-true, eqb-false}
 use Rattle.std.proofs.lemmas.Grind.{get_or-set_at}
-use Rattle.std.proofs.lemmas.List.{length-set, drop_more, length-map, get_or_default, get_or-map, get_or-set_other}
+use Rattle.std.proofs.lemmas.List.{length-set, drop_more, length-map, get_or-map, get_or-set_other, map-set}
 use Rattle.std.proofs.lemmas.List.FromFn.{length-enumerate_from, get_or-enumerate_from}
 use Rattle.std.proofs.lemmas.List.Sorted.{Contains-permutation, IsPermutation-sym}
+use Rattle.std.proofs.Math.Seq.{map-set_same}
 use Rattle.std.proofs.lemmas.Option.{slice_get-get_or, slice_get_within, get_or_from_slice_get}
 use Rattle.mailmap_entries.specs.Entries.{Mapping, mapping_of}
 use Rattle.mailmap_histories.specs.Histories.{Key, key, key_cmp, is_accepted}
-use Rattle.mailmap_tables.specs.Merging.{IsAscending, IsSorted}
+use Rattle.mailmap_tables.specs.Merging.{IsAscending, IsSorted, placed_at}
+use Rattle.mailmap_tables.specs.declared.batch.Placed.{Placed}
 use Rattle.mailmap_sifting.specs.Sifting.{placed_of}
-use Rattle.mailmap_sifting.specs.Numbers.{AreAscending, AreNumbers, IsNumber, numbers_of, IsNumbered, IsReached, entry_of, last_key, placed_entry_of, said, told}
+use Rattle.mailmap_sifting.specs.Numbers.{AreAscending, AreNumbers, KeyNumbers, IsNumber, numbers_of, IsNumbered, IsReached, entry_of, last_key, placed_entry_of, told}
 use Rattle.mailmap_sifting.specs.declared.numbers.NumberedEntry.{NumberedEntry}
-use Rattle.mailmap_sifting.specs.declared.numbers.Numbers.{Numbers}
 use Rattle.mailmap_sifting.specs.declared.placed.PlacedEntry.{PlacedEntry}
 
 abbrev Indexed : Type 0
 Indexed = ℕ × Mapping
+
+-- what the entries of a history say
+abbrev pub said : List PlacedEntry → List Mapping
+said history = map (λ x. mapping_of x.entry) history
 
 -- ---- an order of entries
 
@@ -44,64 +49,45 @@ module _ (ms : List Mapping) (ps : List Indexed) (moved : IsPermutation (enumera
       let read : get_or (enumerate_from 0 ms) i (i, m) ≡ (i, m) = get_or-enumerate_from 0 ms i (i, m) within ∙ (λ k. (none_before k, get_or_from_slice_get ms i m m is k)) in
       Contains-permutation (enumerate_from 0 ms) ps (i, m) moved (i, counted, read)
 
-no_mapping : Mapping
-no_mapping = record { new_name = None; new_email = None; old_name = None; old_email = [] }
-
 -- what stands at a place of an order
-pub record IsFound (history : List PlacedEntry) (ps : List Indexed) (i index : ℕ) (p : Indexed) : Type 0 where
+pub record IsFound (history : List PlacedEntry) (ps : List Indexed) (i : ℕ) (p : Indexed) : Type 0 where
   pub within : i < length ps
   pub at : p ≡ get_or ps i p
-  pub place : p.0 ≡ index
-  pub inside : index < length history
-  pub says : (d : PlacedEntry) → mapping_of (get_or history index d).entry ≡ p.1
+  pub inside : p.0 < length history
+  pub says : (d : PlacedEntry) → mapping_of (get_or history p.0 d).entry ≡ p.1
 
-found_at : (history : List PlacedEntry) (order : List ℕ) (ps : List Indexed) (i index : ℕ) → order ≡ map (λ p. p.0) ps → IsSorted (said history) ps → i < length order → index ≡ get_or order i index
-    → (p : Indexed) × IsFound history ps i index p
-found_at history order ps i index places sorted inside is =
-    let firsts : List ℕ = map (λ (q : Indexed). q.0) ps in
-    let within : i < length ps = omega (arith, ap length places, length-map ps (λ (q : Indexed). q.0)) in
-    let d : Indexed = (index, no_mapping) in
-    let p : Indexed = get_or ps i d in
-    let some : slice_get ps i ≡ Some p = slice_get-get_or ps i d within in
-    let at : get_or ps i p ≡ p = get_or_from_slice_get ps i p p some in
-    let read : get_or order i index ≡ get_or firsts i index = ap (λ l. get_or l i index) places in
-    let place : p.0 ≡ index = sym (get_or-map (λ (q : Indexed). q.0) ps i d index within) ∙ sym read ∙ sym is in
-    let stood : slice_get (said history) p.0 ≡ Some p.1 = stands (said history) ps sorted.moved p (i, within, at) in
-    let said_there : slice_get (said history) index ≡ Some p.1 = subst (λ n. slice_get (said history) n ≡ Some p.1) place stood in
-    let counted : index < length (said history) = slice_get_within (said history) index p.1 said_there in
-    let there : index < length history = omega (arith, length-map history (λ (x : PlacedEntry). mapping_of x.entry)) in (
-      p,
-      record {
-        within = within;
-        at = sym at;
-        place = place;
-        inside = there;
-        says = λ x. sym (get_or-map (λ (y : PlacedEntry). mapping_of y.entry) history index x p.1 there) ∙ get_or_from_slice_get (said history) index p.1 p.1 said_there;
-      },
-    )
+pub found_at : (history : List PlacedEntry) (order : List Placed) (i : ℕ) (at : Placed) → IsSorted (said history) (map placed_at order) → i < length order → at ≡ get_or order i at
+    → IsFound history (map placed_at order) i (placed_at at)
+found_at history order i at sorted inside is =
+    let ps : List Indexed = map placed_at order in
+    let p : Indexed = placed_at at in
+    let within : i < length ps = omega (arith, length-map order placed_at) in
+    let read : get_or ps i p ≡ p = get_or-map placed_at order i at p inside ∙ ap placed_at (sym is) in
+    let stood : slice_get (said history) p.0 ≡ Some p.1 = stands (said history) ps sorted.moved p (i, within, read) in
+    let counted : p.0 < length (said history) = slice_get_within (said history) p.0 p.1 stood in
+    let there : p.0 < length history = omega (arith, length-map history (λ (x : PlacedEntry). mapping_of x.entry)) in
+    record {
+      within = within;
+      at = sym read;
+      inside = there;
+      says = λ x. sym (get_or-map (λ (y : PlacedEntry). mapping_of y.entry) history p.0 x p.1 there) ∙ get_or_from_slice_get (said history) p.0 p.1 p.1 stood;
+    }
 
 -- ---- the walk
 
 -- before the one at i of an order: the keys are those of the ones before it, which are numbered, and no other key is below
-pub record IsNumbering (history : List PlacedEntry) (ps : List Indexed) (i : ℕ) (keys : List Key) (email : ℕ) (xs : List Numbers) : Type 0 where
+pub record IsNumbering (history : List PlacedEntry) (ps : List Indexed) (i : ℕ) (keys : List Key) (email : ℕ) (xs : List KeyNumbers) : Type 0 where
   pub whole : length xs ≡ length history
   pub keyed : AreAscending keys email
   pub ascending : IsAscending key_cmp (map (λ p. key p.1) (drop i ps))
   pub reached : AllByRecursion (λ p. IsReached keys (key p.1)) (drop i ps)
-  pub numbered : (j : ℕ) (p : Indexed) (d : Numbers) → j < i → get_or ps j p ≡ p → AreNumbers keys (key p.1) (get_or xs p.0 d)
+  pub numbered : (j : ℕ) (p : Indexed) (d : KeyNumbers) → j < i → get_or ps j p ≡ p → AreNumbers keys (key p.1) (get_or xs p.0 d)
 
--- an order of the entries, and how far it was walked
-pub record IsWalk (history : List PlacedEntry) (order : List ℕ) (i : ℕ) (keys : List Key) (email : ℕ) (xs : List Numbers) : Type 0 where
-  pub placed : List Indexed
-  pub places : order ≡ map (λ p. p.0) placed
-  pub sorted : IsSorted (said history) placed
-  pub so : IsNumbering history placed i keys email xs
-
--- the next place is that of an entry
-pub next_found : (history : List PlacedEntry) (order : List ℕ) (i : ℕ) (keys : List Key) (email : ℕ) (xs : List Numbers) (walk : IsWalk history order i keys email xs) → i < length order
-    → (p : Indexed) × IsFound history walk.placed i (get_or order i 0) p
-next_found history order i keys email xs walk inside =
-    found_at history order walk.placed i (get_or order i 0) walk.places walk.sorted inside (get_or_default order i 0 (get_or order i 0) inside)
+-- how far an order was walked, whose entries have rows
+pub record IsWalk (history : List PlacedEntry) (order : List Placed) (i : ℕ) (keys : List Key) (email : ℕ) (rows : List NumberedEntry) : Type 0 where
+  pub sorted : IsSorted (said history) (map placed_at order)
+  pub so : IsNumbering history (map placed_at order) i keys email (map numbers_of rows)
+  pub placed : told rows ≡ map placed_of history
 
 some_out : {X : Type 0} (x y : X) → Some x ≡ Some y → x ≡ y
 some_out x y e = cc
@@ -110,7 +96,7 @@ all_reached : (keys : List Key) (k : Key) → last_key keys ≡ Some k → (qs :
 all_reached keys k last [] all = tt
 all_reached keys k last (q ∷ qs) all = (λ l is. subst (λ m. is_lt (key_cmp (key q.1) m) ≡ false) (some_out k l (sym last ∙ is)) all.0, all_reached keys k last qs all.1)
 
-module _ (history : List PlacedEntry) (ps : List Indexed) (i : ℕ) (keys : List Key) (email : ℕ) (xs : List Numbers) (so : IsNumbering history ps i keys email xs)
+module _ (history : List PlacedEntry) (ps : List Indexed) (i : ℕ) (keys : List Key) (email : ℕ) (xs : List KeyNumbers) (so : IsNumbering history ps i keys email xs)
     (p : Indexed) (within : i < length ps) (is : p ≡ get_or ps i p) where
   rest : drop i ps ≡ p ∷ drop (i + 1) ps
   rest = drop_more ps i p within ∙ ap (λ q. q ∷ drop (i + 1) ps) (sym is)
@@ -118,7 +104,7 @@ module _ (history : List PlacedEntry) (ps : List Indexed) (i : ℕ) (keys : List
   pub reached_next : IsReached keys (key p.1)
   reached_next = (subst (AllByRecursion (λ q. IsReached keys (key q.1))) rest so.reached).0
 
-  pub numbered_next : IsSorted (said history) ps → (keys' : List Key) (email' : ℕ) (y : Numbers) → AreAscending keys' email' → last_key keys' ≡ Some (key p.1)
+  pub numbered_next : IsSorted (said history) ps → (keys' : List Key) (email' : ℕ) (y : KeyNumbers) → AreAscending keys' email' → last_key keys' ≡ Some (key p.1)
       → ((k : Key) (n : ℕ) → IsNumber keys k n → IsNumber keys' k n) → p.0 < length xs → AreNumbers keys' (key p.1) y → IsNumbering history ps (i + 1) keys' email' (set xs p.0 y)
   numbered_next sorted keys' email' y keyed last keeps inside good =
       let up = subst (λ l. IsAscending key_cmp (map (λ q. key q.1) l)) rest so.ascending in
@@ -156,31 +142,51 @@ module _ (history : List PlacedEntry) (ps : List Indexed) (i : ℕ) (keys : List
             | false ↦ λ e. let other : j ≢ i = eqb-false j i e in omega arith
           ] refl
 
+-- a row that gets other numbers
+rows_stay : (history : List PlacedEntry) (rows : List NumberedEntry) (i : ℕ) (row : NumberedEntry) (d : PlacedEntry) → told rows ≡ map placed_of history → i < length history
+    → placed_entry_of row ≡ placed_of (get_or history i d) → told (set rows i row) ≡ map placed_of history
+rows_stay history rows i row d same inside is =
+    let within : i < length rows = omega (arith, length-map rows placed_entry_of, length-map history placed_of, ap length same) in
+    let read : placed_entry_of (get_or rows i row) ≡ placed_of (get_or history i d) =
+    sym (get_or-map placed_entry_of rows i row (placed_of d) within) ∙ ap (λ l. get_or l i (placed_of d)) same ∙ get_or-map placed_of history i d (placed_of d) inside in
+    map-set_same placed_entry_of rows i row row (is ∙ sym read) ∙ same
+
 -- the entry at a place of an order gets its numbers
-pub numbered_at : (history : List PlacedEntry) (ps : List Indexed) (i index : ℕ) (keys : List Key) (email : ℕ) (xs : List Numbers) → IsNumbering history ps i keys email xs → (p : Indexed) → IsFound history ps i index p
-    → IsSorted (said history) ps → (keys' : List Key) (email' : ℕ) (y : Numbers) → AreAscending keys' email' → last_key keys' ≡ Some (key p.1)
-    → ((k : Key) (n : ℕ) → IsNumber keys k n → IsNumber keys' k n) → AreNumbers keys' (key p.1) y → IsNumbering history ps (i + 1) keys' email' (set xs index y)
-numbered_at history ps i index keys email xs so p at sorted keys' email' y keyed last keeps good =
-    let inside : index < length history = at.inside in
-    let there : index < length xs = omega (arith, so.whole) in
-    subst (λ n. IsNumbering history ps (i + 1) keys' email' (set xs n y)) at.place
-    (numbered_next history ps i keys email xs so p at.within at.at sorted keys' email' y keyed last keeps (subst (λ n. n < length xs) (sym at.place) there) good)
+pub walked : (history : List PlacedEntry) (order : List Placed) (i : ℕ) (keys : List Key) (email : ℕ) (rows : List NumberedEntry) (walk : IsWalk history order i keys email rows)
+    (p : Indexed) → IsFound history (map placed_at order) i p → (keys' : List Key) (email' : ℕ) (row : NumberedEntry) (d : PlacedEntry) → AreAscending keys' email' → last_key keys' ≡ Some (key p.1)
+    → ((k : Key) (n : ℕ) → IsNumber keys k n → IsNumber keys' k n) → AreNumbers keys' (key p.1) (numbers_of row) → placed_entry_of row ≡ placed_of (get_or history p.0 d)
+    → IsWalk history order (i + 1) keys' email' (set rows p.0 row)
+walked history order i keys email rows walk p at keys' email' row d keyed last keeps good is =
+    let ps : List Indexed = map placed_at order in
+    let inside : p.0 < length history = at.inside in
+    let there : p.0 < length (map numbers_of rows) = omega (arith, walk.so.whole) in
+    record {
+      sorted = walk.sorted;
+      so = subst (IsNumbering history ps (i + 1) keys' email') (sym (map-set numbers_of rows p.0 row))
+          (numbered_next history ps i keys email (map numbers_of rows) walk.so p at.within at.at walk.sorted keys' email' (numbers_of row) keyed last keeps there good);
+      placed = rows_stay history rows p.0 row d walk.placed inside is;
+    }
 
 none_keyed : (email : ℕ) → AreAscending [] email
 unfolding IsStrictlySortedBy
 none_keyed email = record { ascending = tt; of_email = λ l is. absurd (cc) }
 
 -- none was walked
-pub none_numbered : (history : List PlacedEntry) (ps : List Indexed) (keys : List Key) (email : ℕ) (xs : List Numbers) → keys ≡ [] → length xs ≡ length history → IsSorted (said history) ps
-    → IsNumbering history ps 0 keys email xs
-none_numbered history ps keys email xs none whole sorted =
-    subst (λ l. IsNumbering history ps 0 l email xs) (sym none) (record {
-      whole = whole;
-      keyed = none_keyed email;
-      ascending = sorted.ascending;
-      reached = all ps;
-      numbered = λ j p d lt at. absurd (omega (arith, lt));
-    })
+pub none_walked : (history : List PlacedEntry) (order : List Placed) (keys : List Key) (email : ℕ) (rows : List NumberedEntry) → keys ≡ [] → told rows ≡ map placed_of history
+    → IsSorted (said history) (map placed_at order) → IsWalk history order 0 keys email rows
+none_walked history order keys email rows none placed sorted =
+    let ps : List Indexed = map placed_at order in
+    record {
+      sorted = sorted;
+      so = subst (λ l. IsNumbering history ps 0 l email (map numbers_of rows)) (sym none) (record {
+        whole = omega (arith, length-map rows numbers_of, length-map rows placed_entry_of, length-map history placed_of, ap length placed);
+        keyed = none_keyed email;
+        ascending = sorted.ascending;
+        reached = all ps;
+        numbered = λ j p d lt at. absurd (omega (arith, lt));
+      });
+      placed = placed;
+    }
   where
     all : (qs : List Indexed) → AllByRecursion (λ p. IsReached [] (key p.1)) qs
     all [] = tt
@@ -191,19 +197,21 @@ pub some_key : (keys : List Key) (k : Key) → last_key keys ≡ Some k → 0 < 
 some_key keys k is = let within : length keys - 1 < length keys = slice_get_within keys (length keys - 1) k is in omega arith
 
 -- at the end all are numbered
-pub all_numbered : (history : List PlacedEntry) (ps : List Indexed) (i : ℕ) (keys : List Key) (email : ℕ) (xs : List Numbers) → IsSorted (said history) ps → length ps ≤ i → IsNumbering history ps i keys email xs
-    → All (λ (x : PlacedEntry). is_accepted (mapping_of x.entry) ≡ true) history → (ys : List NumberedEntry) → told ys ≡ map placed_of history → map numbers_of ys ≡ xs → All (IsNumbered keys) ys
-all_numbered history ps i keys email xs sorted over so accepted ys whole same m d within =
-    let y : NumberedEntry = get_or ys m d in
+pub all_numbered : (history : List PlacedEntry) (order : List Placed) (i : ℕ) (keys : List Key) (email : ℕ) (rows : List NumberedEntry) → length order ≤ i → IsWalk history order i keys email rows
+    → All (λ (x : PlacedEntry). is_accepted (mapping_of x.entry) ≡ true) history → All (IsNumbered keys) rows
+all_numbered history order i keys email rows over walk accepted m d within =
+    let ps : List Indexed = map placed_at order in
+    let y : NumberedEntry = get_or rows m d in
     let e : PlacedEntry = y.placed.now in
-    let inside : m < length history = omega (arith, length-map ys placed_entry_of, length-map history placed_of, ap length whole) in
+    let inside : m < length history = omega (arith, length-map rows placed_entry_of, length-map history placed_of, ap length walk.placed) in
     let told_there : placed_entry_of y ≡ placed_of (get_or history m e) =
-    sym (get_or-map placed_entry_of ys m d (placed_of e) within) ∙ ap (λ l. get_or l m (placed_of e)) whole ∙ get_or-map placed_of history m e (placed_of e) inside in
+    sym (get_or-map placed_entry_of rows m d (placed_of e) within) ∙ ap (λ l. get_or l m (placed_of e)) walk.placed ∙ get_or-map placed_of history m e (placed_of e) inside in
     let says : entry_of y ≡ mapping_of (get_or history m e).entry = ap (λ x. x.entry) told_there in
     let is : slice_get (said history) m ≡ Some (entry_of y) =
     slice_get-get_or (said history) m (entry_of y) (omega (arith, length-map history (λ (x : PlacedEntry). mapping_of x.entry)))
     ∙ ap (λ x. Some x) (get_or-map (λ (x : PlacedEntry). mapping_of x.entry) history m e (entry_of y) inside ∙ sym says) in
-    let has = comes (said history) ps sorted.moved m (entry_of y) is in
-    let read : get_or xs m (numbers_of d) ≡ numbers_of y = ap (λ l. get_or l m (numbers_of d)) (sym same) ∙ get_or-map numbers_of ys m d (numbers_of d) within in
-    let ns : AreNumbers keys (key (entry_of y)) (numbers_of y) = subst (AreNumbers keys (key (entry_of y))) read (so.numbered has.0 (m, entry_of y) (numbers_of d) (omega (arith, has.1)) has.2) in
+    let has = comes (said history) ps walk.sorted.moved m (entry_of y) is in
+    let read : get_or (map numbers_of rows) m (numbers_of d) ≡ numbers_of y = get_or-map numbers_of rows m d (numbers_of d) within in
+    let before : has.0 < i = omega (arith, has.1, length-map order placed_at) in
+    let ns : AreNumbers keys (key (entry_of y)) (numbers_of y) = subst (AreNumbers keys (key (entry_of y))) read (walk.so.numbered has.0 (m, entry_of y) (numbers_of d) before has.2) in
     record { own = ns.own; of_email = ns.of_email; accepted = ap is_accepted says ∙ accepted m e inside }

@@ -1,7 +1,7 @@
 -- A pass that is under way.
-use Rattle.std.proofs.Common.{◌≡◌, ◌≢◌, ◌<◌, ◌+◌, ℕ, Bool, true, false, true≢false, not, cond, List, [], ◌∷◌, ◌++◌, drop, length, get_or, take, append-nil, append_assoc, length-append, arith, refl, sym, ap, ap₂, subst, ◌∙◌}
+use Rattle.std.proofs.Common.{◌≡◌, ◌≢◌, ◌<◌, ◌≤◌, ◌+◌, ℕ, Bool, true, false, true≢false, not, cond, List, [], ◌∷◌, ◌++◌, drop, length, get_or, set, take, append-nil, append_assoc, length-append, arith, refl, sym, ap, ap₂, subst, ◌∙◌}
 use Rattle.std.specs.Prelude.{All}
-use Rattle.std.proofs.lemmas.List.{map_push}
+use Rattle.std.proofs.lemmas.List.{map_push, length-take, length-set, get_or-take, get_or-drop, drop-drop, drop-set-lt, take_more_set}
 use Rattle.std.proofs.lemmas.List.Elements.{All-push, filter-append}
 use Rattle.mailmap_entries.specs.Folding.{Text, folded}
 use Rattle.mailmap_histories.specs.Histories.{Key, key}
@@ -127,6 +127,46 @@ module _ (keys : List Key) (crowded : List Bool) (all : List NumberedEntry) (i :
         (λ idle. true≢false (sym ((idle_decides (entries (told kept)) (entry_of x) (entries rest) n.accepted).1 idle) ∙ sym decides ∙ works))
         (subst (λ h. IsTable keys h after) (sym (ap entries grown ∙ entries-more (crowded_of keys crowded (told kept)) (placed_entry_of x))) table)
         (subst (λ l. ArePlaces keys l after) (sym grown) places)
+
+-- ---- the same, where those that stay come to stand first among the entries
+
+-- Before the entry i of the first len: the first kept stayed, and the entries from i on stand where they stood.
+pub record IsPassingThere (keys : List Key) (crowded : List Bool) (old : List NumberedEntry) (len i : ℕ) (behind : List Behind) (before : Table) (now : List NumberedEntry) (kept : ℕ) : Type 0 where
+  pub whole : length now ≡ length old
+  pub first : kept ≤ i
+  pub rest : drop i now ≡ drop i old
+  pub so : IsPassing keys crowded (take len old) i behind before (take kept now)
+
+module _ (keys : List Key) (crowded : List Bool) (old : List NumberedEntry) (len i : ℕ) (under : i < len) (fits : len ≤ length old)
+    (behind : List Behind) (before : Table) (now : List NumberedEntry) (kept : ℕ) (there : IsPassingThere keys crowded old len i behind before now kept) where
+  pub inside : i < length (take len old)
+  inside = omega (arith, length-take len old)
+
+  pub stood : (x : NumberedEntry) → x ≡ get_or now i x → x ≡ get_or (take len old) i x
+  stood x is =
+      let here : get_or now (i + 0) x ≡ get_or old (i + 0) x = sym (get_or-drop i now 0 x) ∙ ap (λ l. get_or l 0 x) there.rest ∙ get_or-drop i old 0 x in
+      let at : i + 0 ≡ i = omega arith in
+      is ∙ subst (λ n. get_or now n x ≡ get_or old n x) at here ∙ sym (get_or-take len old i x under)
+
+  later : drop (i + 1) now ≡ drop (i + 1) old
+  later = sym (drop-drop 1 i now) ∙ ap (drop 1) there.rest ∙ drop-drop 1 i old
+
+  -- one that stays
+  pub kept_there : (x : NumberedEntry) (behind' : List Behind) (after : Table) → IsPassing keys crowded (take len old) (i + 1) behind' after (take kept now ++ x ∷ [])
+      → IsPassingThere keys crowded old len (i + 1) behind' after (set now kept x) (kept + 1)
+  kept_there x behind' after so =
+      let room : kept < length now = omega (arith, there.whole, there.first) in
+      record {
+        whole = length-set now kept x ∙ there.whole;
+        first = omega (arith, there.first);
+        rest = drop-set-lt (i + 1) now kept x (omega (arith, there.first)) ∙ later;
+        so = subst (IsPassing keys crowded (take len old) (i + 1) behind' after) (sym (take_more_set now kept x room)) so;
+      }
+
+  -- and one that goes
+  pub passed_there : (behind' : List Behind) (after : Table) → IsPassing keys crowded (take len old) (i + 1) behind' after (take kept now)
+      → IsPassingThere keys crowded old len (i + 1) behind' after now kept
+  passed_there behind' after so = record { whole = there.whole; first = omega (arith, there.first); rest = later; so = so }
 
 -- ---- a table of those of crowded emails, to which the others are added
 

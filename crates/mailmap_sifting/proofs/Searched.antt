@@ -1,5 +1,5 @@
 -- A search among keys by the fronts of their emails.
-use Rattle.std.proofs.Common.{◌≡◌, ◌≢◌, ◌<◌, ◌+◌, ℕ, List, [], ◌∷◌, ◌++◌, length, map, take, get_or, Some, Result, Ok, Err, Equal, Ordering, refl, sym, ap, subst, ◌∙◌, arith}
+use Rattle.std.proofs.Common.{◌≡◌, ◌≢◌, ◌<◌, ℕ, List, [], ◌∷◌, length, map, get_or, Some, Result, Ok, Err, Equal, Ordering, refl, sym, ap, subst, ◌∙◌, arith}
 use Rattle.std.specs.Prelude.{Contains, IfOk, IfErr, IfSome, IfNone}
 use Rattle.std.specs.Cmp.{tied_itself}
 use Rattle.std.specs.List.{slice_get}
@@ -8,7 +8,7 @@ use Rattle.std.specs.Option.{option_cmp}
 use Rattle.std.specs.Ordering.{nat_cmp, ordering_then}
 use Rattle.std.specs.Result.{result_ok}
 use Rattle.std.specs.declared.cmp.Ordering.TheVariants.{Less, Greater}
-use Rattle.std.proofs.lemmas.List.{get_or-map, length-map, map_push, take_more}
+use Rattle.std.proofs.lemmas.List.{get_or-map, length-map}
 use Rattle.std.proofs.lemmas.Option.{slice_get-get_or}
 use Rattle.mailmap_entries.specs.Folding.{text_cmp}
 use Rattle.mailmap_entries.specs.Fronts.{AreBytes, IsFront, front_number}
@@ -16,23 +16,9 @@ use Rattle.mailmap_entries.specs.Search.{IsPartitioned}
 use Rattle.mailmap_entries.proofs.Fronts.{front_settles, then_settled}
 use Rattle.mailmap_histories.specs.Histories.{Key, key_cmp}
 use Rattle.mailmap_histories.proofs.Keys.{keys_total, keys_exact}
-use Rattle.mailmap_histories.proofs.Parts.{all_append}
 use Rattle.mailmap_tables.proofs.Lookups.{IsPartitioned-from_ascending, found-key, missing-all}
 use Rattle.mailmap_sifting.specs.Numbers.{AreFronts, IsNumber}
 use Rattle.mailmap_sifting.proofs.Keyed.{all_at}
-
-pub no_fronts : (keys : List Key) (fronts : List ℕ) → fronts ≡ [] → AreFronts (take 0 keys) fronts
-no_fronts keys fronts none = record { are = none; bytes = tt }
-
-pub next_front : (keys : List Key) (i : ℕ) (d : Key) (fronts : List ℕ) (front : ℕ) → i < length keys → AreFronts (take i keys) fronts → IsFront front (get_or keys i d).0
-    → AreFronts (take (i + 1) keys) (fronts ++ front ∷ [])
-next_front keys i d fronts front within so is =
-    let k : Key = get_or keys i d in
-    let of_key : Key → ℕ = λ q. front_number 16 q.0 in
-    subst (λ l. AreFronts l (fronts ++ front ∷ [])) (sym (take_more keys i d within)) (record {
-      are = ap (λ l. l ++ front ∷ []) so.are ∙ ap (λ n. map of_key (take i keys) ++ n ∷ []) is.is ∙ sym (map_push of_key (take i keys) k);
-      bytes = all_append (λ q. AreBytes q.0) (take i keys) (k ∷ []) so.bytes (is.bytes, tt);
-    })
 
 module _ (keys : List Key) (number : ℕ) (d : Key) (within : number < length keys) where
   abbrev k : Key

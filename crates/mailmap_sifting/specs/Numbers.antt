@@ -9,11 +9,9 @@ use Rattle.mailmap_entries.specs.Entries.{Mapping, mapping_of}
 use Rattle.mailmap_entries.specs.Folding.{Text}
 use Rattle.mailmap_entries.specs.Fronts.{AreBytes, front_number}
 use Rattle.mailmap_histories.specs.Histories.{Key, Fields, key, key_cmp, is_accepted, new_fields, of_email, of_key, spelling}
-use Rattle.mailmap_tables.specs.Merging.{IsSorted}
 use Rattle.mailmap_sifting.specs.Sifting.{PlacedMapping, IsSifted, placed_of, entries, last_place}
 use Rattle.mailmap_sifting.specs.Summaries.{KeySummary, Summary, behind_of, key_summary, no_summary, summary}
 use Rattle.mailmap_sifting.specs.declared.numbers.NumberedEntry.{NumberedEntry}
-use Rattle.mailmap_sifting.specs.declared.numbers.Numbers.{Numbers as KeyNumbers}
 use Rattle.mailmap_sifting.specs.declared.placed.Place.{Place}
 use Rattle.mailmap_sifting.specs.declared.placed.PlacedEntry.{PlacedEntry}
 use Rattle.mailmap_sifting.specs.declared.summary.Behind.{Behind}
@@ -78,6 +76,10 @@ abbrev pub IsNumber : List Key → Key → ℕ → Type 0
 IsNumber keys k i = slice_get keys i ≡ Some k
 
 -- the number of a key, and that of the key of its email
+pub record KeyNumbers : Type 0 where
+  pub key : ℕ
+  pub email : ℕ
+
 pub record AreNumbers (keys : List Key) (k : Key) (n : KeyNumbers) : Type 0 where
   pub own : IsNumber keys k n.key
   pub of_email : IsNumber keys (email_key k.0) n.email
@@ -89,18 +91,6 @@ pub record IsNumbered (keys : List Key) (x : NumberedEntry) : Type 0 where
   pub own : IsNumber keys (key (entry_of x)) x.key
   pub of_email : IsNumber keys (email_key (key (entry_of x)).0) x.email
   pub accepted : is_accepted (entry_of x) ≡ true
-
--- ---- the order of keys
-
--- what the entries of a history say
-abbrev pub said : List PlacedEntry → List Mapping
-said history = map (λ x. mapping_of x.entry) history
-
--- the places of a history's entries in the order of their keys, those of one key in the order in which they came
-pub record IsKeyOrder (history : List Mapping) (places : List ℕ) : Type 0 where
-  pub placed : List (ℕ × Mapping)
-  pub sorted : IsSorted history placed
-  pub places_are : places ≡ map (λ p. p.0) placed
 
 -- ---- keys as they come in their order
 

@@ -7,7 +7,7 @@ ghost use Rattle.mailmap_entries.specs.Entries.{mapping_of};
 ghost use Rattle.mailmap_entries.specs.Fronts.{IsFront};
 ghost use Rattle.mailmap_entries.specs.Folding.{folded, text_cmp};
 ghost use Rattle.mailmap_histories.specs.Histories.{Key, key, key_cmp};
-ghost use Rattle.mailmap_sifting.specs.Numbers.{AreAscending, IsNumber, IsReached, email_key, last_email, last_key};
+ghost use Rattle.mailmap_sifting.specs.Numbers.{AreAscending, AreFronts, IsNumber, IsReached, email_key, last_email, last_key};
 
 use mailmap_entries::Entry;
 use mailmap_entries::fold::front::Fronted;
@@ -129,10 +129,12 @@ fn compare_names(a: Option<&[u8]>, b: Option<&[u8]>) -> Ordering
     }
 }
 
-/// The keys of entries that come in the order of their keys, and the keys of their emails, each once.
+/// The keys of entries that come in the order of their keys, and the keys of their emails, each once, with the fronts of
+/// their emails.
 #[derive(Drop)]
 pub(crate) struct AscendingKeys<'a> {
     pub(crate) keys: Vec<KeptKey<'a>>,
+    pub(crate) fronts: Vec<u128>,
     /// The number of the last email.
     pub(crate) email: usize,
 }
@@ -140,10 +142,12 @@ pub(crate) struct AscendingKeys<'a> {
 impl<'a> AscendingKeys<'a> {
     /// No key yet, and room for so many.
     pub(crate) fn new(alloc: Global, len: usize) -> Result<AscendingKeys<'a>, AllocError>
-        ensures { IfOk result (λ keys. keys.keys.items ≡ []) }
+        ensures keys { IfOk result (λ keys. keys.keys.items ≡ []) }
+        ensures fronts { IfOk result (λ keys. keys.fronts.items ≡ []) }
     {
         Ok(AscendingKeys {
             keys: Vec::with_capacity(alloc, len)?,
+            fronts: Vec::with_capacity(alloc, len)?,
             email: 0,
         })
     }
@@ -152,7 +156,9 @@ impl<'a> AscendingKeys<'a> {
     pub(crate) fn push(&mut self, entry: &Entry<'a>) -> Result<(), AllocError>
         requires ascending { AreAscending self.old.keys.items self.old.email }
         requires up { IsReached self.old.keys.items (key (mapping_of entry.now)) }
+        requires fronts { AreFronts self.old.keys.items self.old.fronts.items }
         ensures ascending { OnOk result (AreAscending self.new.keys.items self.new.email) }
+        ensures fronts { OnOk result (AreFronts self.new.keys.items self.new.fronts.items) }
         ensures last { OnOk result (last_key self.new.keys.items ≡ Some (key (mapping_of entry.now))) }
         ensures keeps { OnOk result ((k : Key) (i : ℕ) → IsNumber self.old.keys.items k i → IsNumber self.new.keys.items k i) }
     {
@@ -165,7 +171,9 @@ impl<'a> AscendingKeys<'a> {
     fn push_email(&mut self, key: &FrontedKey<'a>) -> Result<(), AllocError>
         requires ascending { AreAscending self.old.keys.items self.old.email }
         requires up { IsReached self.old.keys.items key.now }
+        requires fronts { AreFronts self.old.keys.items self.old.fronts.items }
         ensures ascending { OnOk result (AreAscending self.new.keys.items self.new.email) }
+        ensures fronts { OnOk result (AreFronts self.new.keys.items self.new.fronts.items) }
         ensures up { OnOk result (IsReached self.new.keys.items key.now) }
         ensures email { OnOk result (last_email self.new.keys.items ≡ Some key.now.0) }
         ensures keeps { OnOk result ((k : Key) (i : ℕ) → IsNumber self.old.keys.items k i → IsNumber self.new.keys.items k i) }
@@ -175,6 +183,7 @@ impl<'a> AscendingKeys<'a> {
         }
         self.email = self.keys.len();
         self.keys.push(key.of_email_alone())?;
+        self.fronts.push(key.front())?;
         Ok(())
     }
 
@@ -182,8 +191,10 @@ impl<'a> AscendingKeys<'a> {
     fn push_key(&mut self, key: FrontedKey<'a>) -> Result<(), AllocError>
         requires ascending { AreAscending self.old.keys.items self.old.email }
         requires up { IsReached self.old.keys.items key }
+        requires fronts { AreFronts self.old.keys.items self.old.fronts.items }
         requires email { last_email self.old.keys.items ≡ Some key.0 }
         ensures ascending { OnOk result (AreAscending self.new.keys.items self.new.email) }
+        ensures fronts { OnOk result (AreFronts self.new.keys.items self.new.fronts.items) }
         ensures last { OnOk result (last_key self.new.keys.items ≡ Some key.entry) }
         ensures keeps { OnOk result ((k : Key) (i : ℕ) → IsNumber self.old.keys.items k i → IsNumber self.new.keys.items k i) }
     {
@@ -191,6 +202,7 @@ impl<'a> AscendingKeys<'a> {
             return Ok(());
         }
         self.keys.push(key.kept())?;
+        self.fronts.push(key.front())?;
         Ok(())
     }
 }

@@ -9,7 +9,6 @@ mod key_summary;
 mod keys;
 pub mod laws;
 mod numbers;
-mod order;
 mod passes;
 mod placed;
 mod search;

@@ -1,5 +1,5 @@
 //! Passes over a history, each of which lets entries go that change nothing.
-ghost use Rattle.std.specs.Prelude.{◌≡◌, All, [], IfOk, length};
+ghost use Rattle.std.specs.Prelude.{◌≡◌, ◌≤◌, All, [], IfOk, OnOk, length, take};
 ghost use Rattle.std.specs.List.Sorted.{IsStrictlySortedBy};
 ghost use Rattle.mailmap_histories.specs.Histories.{key_cmp};
 ghost use Rattle.mailmap_sifting.specs.Crowded.{AreAlone, crowded_of};
@@ -13,70 +13,77 @@ use crate::summary::{Behind, is_idle};
 use crate::table::Table;
 use std::alloc::{AllocError, Global};
 
-/// What stays of the entries where passes are made until one lets nothing go, and what that says. The table is first of no
-/// entry. Emails are marked anew before each pass, since fewer of them have a key that comes twice.
-pub(crate) fn settled<'p, 'a>(
+/// Makes passes over the entries until one lets nothing go. Those that stay come to stand first, and their number is the
+/// answer. The table is first of no entry, and then of those that stay. Emails are marked anew before each pass, since
+/// fewer of them have a key that comes twice.
+pub(crate) fn settle<'p, 'a>(
     alloc: Global,
     keys: &[KeptKey<'_>],
-    entries: &[NumberedEntry<'p, 'a>],
+    entries: &mut [NumberedEntry<'p, 'a>],
     table: &mut Table<'p, 'a>,
-) -> Result<Vec<NumberedEntry<'p, 'a>>, AllocError>
+) -> Result<usize, AllocError>
     requires ascending { IsStrictlySortedBy key_cmp keys.now }
-    requires numbered { All (IsNumbered keys.now) entries.now }
+    requires numbered { All (IsNumbered keys.now) entries.old }
     requires table { IsTable keys.now [] table.old }
-    ensures sifted { IfOk result (λ kept. IsSifted (told entries.now) (told kept.items)) }
-    ensures numbered { IfOk result (λ kept. All (IsNumbered keys.now) kept.items) }
-    ensures table { IfOk result (λ kept. IsTable keys.now (entries_told (told kept.items)) table.new) }
-    ensures places { IfOk result (λ kept. ArePlaces keys.now (told kept.items) table.new) }
+    ensures within { IfOk result (λ kept. kept ≤ length entries.new) }
+    ensures sifted { IfOk result (λ kept. IsSifted (told entries.old) (told (take kept entries.new))) }
+    ensures numbered { IfOk result (λ kept. All (IsNumbered keys.now) (take kept entries.new)) }
+    ensures table { IfOk result (λ kept. IsTable keys.now (entries_told (told (take kept entries.new))) table.new) }
+    ensures places { IfOk result (λ kept. ArePlaces keys.now (told (take kept entries.new)) table.new) }
 {
-    let mut crowded = crowded_emails(alloc, keys, entries)?;
     let mut len = entries.len();
-    let mut kept = pass(alloc, keys, &crowded, entries, table)?;
-    while kept.len() < len {
-        len = kept.len();
-        forget_crowded(keys, &crowded, &kept, table);
-        crowded = crowded_emails(alloc, keys, &kept)?;
-        kept = pass(alloc, keys, &crowded, &kept, table)?;
+    let mut crowded = crowded_emails(alloc, keys, entries)?;
+    let mut kept = pass(alloc, keys, &crowded, entries, len, table)?;
+    while kept < len {
+        len = kept;
+        forget_crowded(keys, &crowded, &entries[..len], table);
+        crowded = crowded_emails(alloc, keys, &entries[..len])?;
+        kept = pass(alloc, keys, &crowded, entries, len, table)?;
     }
-    append_others(keys, &crowded, &kept, table);
+    append_others(keys, &crowded, &entries[..kept], table);
     Ok(kept)
 }
 
-// What stays of the entries in a pass from the first to the last. The table is first of no entry, and then of those that
-// stay of the crowded emails.
+// A pass over the first `len` entries. Those that stay come to stand first, and their number is the answer. The table is
+// first of no entry, and then of those that stay of the crowded emails.
 fn pass<'p, 'a>(
     alloc: Global,
     keys: &[KeptKey<'_>],
     crowded: &[bool],
-    entries: &[NumberedEntry<'p, 'a>],
+    entries: &mut [NumberedEntry<'p, 'a>],
+    len: usize,
     table: &mut Table<'p, 'a>,
-) -> Result<Vec<NumberedEntry<'p, 'a>>, AllocError>
+) -> Result<usize, AllocError>
     requires ascending { IsStrictlySortedBy key_cmp keys.now }
-    requires numbered { All (IsNumbered keys.now) entries.now }
+    requires within { len ≤ length entries.old }
+    requires numbered { All (IsNumbered keys.now) (take len entries.old) }
     requires rows { length crowded.now ≡ length keys.now }
-    requires alone { AreAlone keys.now crowded.now (entries_told (told entries.now)) }
+    requires alone { AreAlone keys.now crowded.now (entries_told (told (take len entries.old))) }
     requires table { IsTable keys.now [] table.old }
-    ensures passed { IfOk result (λ kept. IsPass [] (told entries.now) (told kept.items)) }
-    ensures numbered { IfOk result (λ kept. All (IsNumbered keys.now) kept.items) }
-    ensures alone { IfOk result (λ kept. AreAlone keys.now crowded.now (entries_told (told kept.items))) }
-    ensures table { IfOk result (λ kept. IsTable keys.now (entries_told (crowded_of keys.now crowded.now (told kept.items))) table.new) }
-    ensures places { IfOk result (λ kept. ArePlaces keys.now (crowded_of keys.now crowded.now (told kept.items)) table.new) }
+    ensures len { IfOk result (λ kept. kept ≤ len) }
+    ensures whole { OnOk result (length entries.new ≡ length entries.old) }
+    ensures passed { IfOk result (λ kept. IsPass [] (told (take len entries.old)) (told (take kept entries.new))) }
+    ensures numbered { IfOk result (λ kept. All (IsNumbered keys.now) (take kept entries.new)) }
+    ensures alone { IfOk result (λ kept. AreAlone keys.now crowded.now (entries_told (told (take kept entries.new)))) }
+    ensures table { IfOk result (λ kept. IsTable keys.now (entries_told (crowded_of keys.now crowded.now (told (take kept entries.new)))) table.new) }
+    ensures places { IfOk result (λ kept. ArePlaces keys.now (crowded_of keys.now crowded.now (told (take kept entries.new))) table.new) }
 {
-    let mut behind = behind_each(alloc, keys, crowded, entries, table)?;
-    forget_crowded(keys, crowded, entries, table);
-    let mut kept = Vec::with_capacity(alloc, entries.len())?;
-    for x in entries {
-        if !crowded[x.email] {
-            kept.push(*x)?;
-            continue;
+    let mut behind = behind_each(alloc, keys, crowded, &entries[..len], table)?;
+    forget_crowded(keys, crowded, &entries[..len], table);
+    let mut kept = 0;
+    for index in 0..len {
+        let x = entries[index];
+        if crowded[x.email] {
+            let Some(later) = behind.pop() else {
+                unreachable!()
+            };
+            if is_idle(&table.summary(&x), &x.placed.entry, later) {
+                continue;
+            }
+            table.append(&x);
         }
-        let Some(later) = behind.pop() else {
-            unreachable!()
-        };
-        if !is_idle(&table.summary(x), &x.placed.entry, later) {
-            table.append(x);
-            kept.push(*x)?;
-        }
+        entries[kept] = x;
+        kept += 1;
     }
     Ok(kept)
 }

@@ -1,12 +1,11 @@
 //! Where a key stands among keys in ascending order.
-ghost use Rattle.std.specs.Prelude.{◌≡◌, ◌<◌, List, Contains, IfOk, IfSome, IfNone, Some, length, map, slice_get};
+ghost use Rattle.std.specs.Prelude.{◌≡◌, ◌<◌, List, Contains, IfSome, IfNone, Some, length, map, slice_get};
 ghost use Rattle.std.specs.List.Sorted.{IsStrictlySortedBy};
 ghost use Rattle.mailmap_histories.specs.Histories.{Key, key_cmp};
 ghost use Rattle.mailmap_sifting.specs.Numbers.{AreFronts, IsNumber};
 
 use crate::keys::{FrontedKey, KeptKey, compare};
 use mailmap_entries::fold::{Probe, search};
-use std::alloc::{AllocError, Global};
 use std::cmp::Ordering;
 use std::marker::Model;
 
@@ -27,14 +26,11 @@ impl<'a> Model for SearchedKeys<'a> {
 
 impl<'a> SearchedKeys<'a> {
     /// The keys with their fronts.
-    pub(crate) fn new(alloc: Global, keys: Vec<KeptKey<'a>>) -> Result<SearchedKeys<'a>, AllocError>
-        ensures { IfOk result (λ searched. searched ≡ keys.entry.items) }
+    pub(crate) fn new(keys: Vec<KeptKey<'a>>, fronts: Vec<u128>) -> SearchedKeys<'a>
+        requires { AreFronts keys.items fronts.items }
+        ensures { result ≡ keys.entry.items }
     {
-        let mut fronts = Vec::with_capacity(alloc, keys.len())?;
-        for key in &keys {
-            fronts.push(key.fronted().front())?;
-        }
-        Ok(SearchedKeys { keys, fronts })
+        SearchedKeys { keys, fronts }
     }
 
     // How the key of a number compares to a key.

@@ -9,9 +9,9 @@ ghost use Rattle.mailmap_sifting.specs.Numbers.{IsSiftedState, SiftedHistory, fi
 
 use crate::answers::scan;
 use crate::fields::Fields;
-use crate::keys::FrontedKey;
-use crate::numbers::{NumberedEntry, Numbering, numbered};
-use crate::passes::settled;
+use crate::keys::{AscendingKeys, FrontedKey};
+use crate::numbers::{NumberedEntry, number, unnumbered};
+use crate::passes::settle;
 use crate::placed::{Place, PlacedEntry};
 use crate::search::{SearchedKeys, find};
 use crate::table::Table;
@@ -50,14 +50,26 @@ pub fn sift<'p, 'a>(
     ensures history { IfOk result (λ s. s.history ≡ map placed_of entries.now) }
     ensures sifted { IfOk result (λ s. IsSifted (map placed_of entries.now) s.kept) }
 {
-    let Numbering {
-        keys,
-        entries: numbered,
-    } = numbered(alloc, entries)?;
+    let mut rows = unnumbered(alloc, entries)?;
+    sift_numbered(alloc, entries, &mut rows)
+}
+
+// The same, where the entries have rows for their numbers.
+fn sift_numbered<'p, 'a>(
+    alloc: Global,
+    entries: &'p [PlacedEntry<'a>],
+    rows: &mut [NumberedEntry<'p, 'a>],
+) -> Result<Sifted<'p, 'a>, AllocError>
+    requires accepted { All (λ x. is_accepted (mapping_of x.entry) ≡ true) entries.now }
+    requires placed { told rows.old ≡ map placed_of entries.now }
+    ensures history { IfOk result (λ s. s.history ≡ map placed_of entries.now) }
+    ensures sifted { IfOk result (λ s. IsSifted (map placed_of entries.now) s.kept) }
+{
+    let AscendingKeys { keys, fronts, .. } = number(alloc, entries, rows)?;
     let mut table = Table::none(alloc, &keys)?;
-    let kept = settled(alloc, &keys, &numbered, &mut table)?;
-    let kept = without_numbers(alloc, &kept)?;
-    let keys = SearchedKeys::new(alloc, keys)?;
+    let len = settle(alloc, &keys, rows, &mut table)?;
+    let kept = without_numbers(alloc, &rows[..len])?;
+    let keys = SearchedKeys::new(keys, fronts);
     Ok(Sifted {
         history: entries,
         keys,

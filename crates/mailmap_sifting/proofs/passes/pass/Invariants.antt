@@ -1,5 +1,5 @@
-use Rattle.mailmap_sifting.proofs.Passing.{IsPassing}
+use Rattle.mailmap_sifting.proofs.Passing.{IsPassingThere}
 use Rattle.mailmap_sifting.proofs.passes.pass.Given as goal
 
-abbrev pub invariant-loop-x : goal.invariant-loop-x
-invariant-loop-x l = IsPassing l.keys l.fn.crowded l.entries l.x-index l.behind.items l.table l.kept.items
+abbrev pub invariant-loop-index : goal.invariant-loop-index
+invariant-loop-index l = IsPassingThere l.keys l.fn.crowded l.fn.entries l.len l.index l.behind.items l.table l.entries l.kept

@@ -1,9 +1,9 @@
 use Rattle.std.proofs.Common.{◌≡◌, ◌-◌, length, ap, ◌∙◌, arith}
 use Rattle.std.specs.List.{slice_get}
-use Rattle.mailmap_sifting.proofs.numbers.last_numbers.Goals as goal
+use Rattle.mailmap_sifting.proofs.numbers.with_last_numbers.Goals as goal
 
-pub returns : goal.returns
-returns c =
+pub returns-clause-numbers : goal.returns-clause-numbers
+returns-clause-numbers c =
     let keys = c.args.keys.now.keys in
     let place : c.len.result - 1 ≡ length keys.items - 1 = omega (arith, c.len.ensures, keys.ok.0) in
     λ k last. record {
