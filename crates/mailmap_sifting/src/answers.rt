@@ -16,7 +16,7 @@ use crate::table::Table;
 
 /// What a history answers to a name and an email, `None` where it maps neither.
 pub(crate) fn scan<'a>(
-    keys: &SearchedKeys<'_>,
+    keys: &SearchedKeys<'_, '_>,
     table: &Table<'_, 'a>,
     name: &[u8],
     email: &[u8],
@@ -33,7 +33,7 @@ pub(crate) fn scan<'a>(
 
 // The fields for a name and an email, whose number is known.
 fn fields_for<'a>(
-    keys: &SearchedKeys<'_>,
+    keys: &SearchedKeys<'_, '_>,
     table: &Table<'_, 'a>,
     number: usize,
     name: &[u8],

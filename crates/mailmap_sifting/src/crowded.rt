@@ -14,7 +14,7 @@ use std::alloc::{AllocError, Global};
 /// Marks the emails of which some key comes twice, by their numbers.
 pub(crate) fn crowded_emails(
     alloc: Global,
-    keys: &[KeptKey<'_>],
+    keys: &[KeptKey<'_, '_>],
     entries: &[NumberedEntry<'_, '_>],
 ) -> Result<Vec<bool>, AllocError>
     requires ascending { IsStrictlySortedBy key_cmp keys.now }

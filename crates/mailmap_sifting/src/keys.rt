@@ -1,5 +1,5 @@
 //! The keys of a history in ascending order, each once. A key's number is its place among them.
-ghost use Rattle.std.specs.Prelude.{◌≡◌, ◌≢◌, [], ℕ, Contains, IfOk, OnOk, IfSome, IfNone, None, Some, true, false};
+ghost use Rattle.std.specs.Prelude.{◌≡◌, ◌≢◌, [], ℕ, Contains, IfOk, OnOk, IfSome, IfNone, None, Some, true, false, if◌then◌else◌};
 ghost use Rattle.std.specs.Option.{option_copied, option_map, option_cmp};
 ghost use Rattle.std.specs.Ordering.{eq_by_cmp};
 ghost use Rattle.std.specs.List.Sorted.{IsStrictlySortedBy};
@@ -62,50 +62,58 @@ impl<'a> FrontedKey<'a> {
     {
         self.email.front
     }
-
-    // As it is kept.
-    fn kept(&self) -> KeptKey<'a>
-        ensures { result ≡ self.now }
-    {
-        KeptKey {
-            email: self.email.text,
-            name: self.name,
-        }
-    }
-
-    // The same without its name, as it is kept.
-    fn of_email_alone(&self) -> KeptKey<'a>
-        ensures { result ≡ email_key self.now.0 }
-    {
-        KeptKey {
-            email: self.email.text,
-            name: None,
-        }
-    }
 }
 
-/// A key without that number, as many are kept.
+/// The key of an entry, or the one that its email has without an old name. It refers to the entry, since many are kept.
 #[derive(Drop)]
-pub(crate) struct KeptKey<'a> {
-    email: &'a [u8],
-    name: Option<&'a [u8]>,
+pub(crate) struct KeptKey<'p, 'a> {
+    entry: &'p Entry<'a>,
+    // whether the old name of the entry is part of it
+    has_name: bool,
 }
 
-impl<'a> Model for KeptKey<'a> {
+impl<'p, 'a> Model for KeptKey<'p, 'a> {
     ghost Value = { Key };
 
-    ghost view = { λ k. (folded k.email.now, option_map folded (option_copied k.name)) };
+    ghost view = { λ k. if k.has_name then key (mapping_of k.entry.now) else email_key (key (mapping_of k.entry.now)).0 };
 }
 
-impl<'a> KeptKey<'a> {
+impl<'p, 'a> KeptKey<'p, 'a> {
+    /// The key of an entry.
+    pub(crate) fn of(entry: &'p Entry<'a>) -> KeptKey<'p, 'a>
+        ensures { result ≡ key (mapping_of entry.now) }
+    {
+        KeptKey {
+            entry,
+            has_name: true,
+        }
+    }
+
+    /// The key that entries of its email have without an old name.
+    pub(crate) fn of_email(entry: &'p Entry<'a>) -> KeptKey<'p, 'a>
+        ensures { result ≡ email_key (key (mapping_of entry.now)).0 }
+    {
+        KeptKey {
+            entry,
+            has_name: false,
+        }
+    }
+
+    fn name(&self) -> Option<&'a [u8]>
+        ensures { option_map folded (option_copied result) ≡ self.now.1 }
+    {
+        if self.has_name {
+            self.entry.old_name()
+        } else {
+            None
+        }
+    }
+
     /// The same with the first bytes of its email.
     pub(crate) fn fronted(&self) -> FrontedKey<'a>
         ensures { result ≡ self.now }
     {
-        FrontedKey {
-            email: Fronted::new(self.email),
-            name: self.name,
-        }
+        FrontedKey::new(self.entry.old_email(), self.name())
     }
 }
 
@@ -132,16 +140,16 @@ fn compare_names(a: Option<&[u8]>, b: Option<&[u8]>) -> Ordering
 /// The keys of entries that come in the order of their keys, and the keys of their emails, each once, with the fronts of
 /// their emails.
 #[derive(Drop)]
-pub(crate) struct AscendingKeys<'a> {
-    pub(crate) keys: Vec<KeptKey<'a>>,
+pub(crate) struct AscendingKeys<'p, 'a> {
+    pub(crate) keys: Vec<KeptKey<'p, 'a>>,
     pub(crate) fronts: Vec<u128>,
     /// The number of the last email.
     pub(crate) email: usize,
 }
 
-impl<'a> AscendingKeys<'a> {
+impl<'p, 'a> AscendingKeys<'p, 'a> {
     /// No key yet, and room for so many.
-    pub(crate) fn new(alloc: Global, len: usize) -> Result<AscendingKeys<'a>, AllocError>
+    pub(crate) fn new(alloc: Global, len: usize) -> Result<AscendingKeys<'p, 'a>, AllocError>
         ensures keys { IfOk result (λ keys. keys.keys.items ≡ []) }
         ensures fronts { IfOk result (λ keys. keys.fronts.items ≡ []) }
     {
@@ -153,7 +161,7 @@ impl<'a> AscendingKeys<'a> {
     }
 
     /// Adds the key of an entry, and that of its email, where they are not there.
-    pub(crate) fn push(&mut self, entry: &Entry<'a>) -> Result<(), AllocError>
+    pub(crate) fn push(&mut self, entry: &'p Entry<'a>) -> Result<(), AllocError>
         requires ascending { AreAscending self.old.keys.items self.old.email }
         requires up { IsReached self.old.keys.items (key (mapping_of entry.now)) }
         requires fronts { AreFronts self.old.keys.items self.old.fronts.items }
@@ -162,47 +170,53 @@ impl<'a> AscendingKeys<'a> {
         ensures last { OnOk result (last_key self.new.keys.items ≡ Some (key (mapping_of entry.now))) }
         ensures keeps { OnOk result ((k : Key) (i : ℕ) → IsNumber self.old.keys.items k i → IsNumber self.new.keys.items k i) }
     {
-        let key = FrontedKey::of(entry);
-        self.push_email(&key)?;
-        self.push_key(key)
+        let fronted = FrontedKey::of(entry);
+        self.push_email(entry, &fronted)?;
+        self.push_key(entry, &fronted)
     }
 
-    // Adds the key of a key's email, if the last one is of another.
-    fn push_email(&mut self, key: &FrontedKey<'a>) -> Result<(), AllocError>
+    // Adds the key of an entry's email, if the last one is of another.
+    fn push_email(
+        &mut self,
+        entry: &'p Entry<'a>,
+        fronted: &FrontedKey<'_>,
+    ) -> Result<(), AllocError>
+        requires own { fronted.now ≡ key (mapping_of entry.now) }
         requires ascending { AreAscending self.old.keys.items self.old.email }
-        requires up { IsReached self.old.keys.items key.now }
+        requires up { IsReached self.old.keys.items fronted.now }
         requires fronts { AreFronts self.old.keys.items self.old.fronts.items }
         ensures ascending { OnOk result (AreAscending self.new.keys.items self.new.email) }
         ensures fronts { OnOk result (AreFronts self.new.keys.items self.new.fronts.items) }
-        ensures up { OnOk result (IsReached self.new.keys.items key.now) }
-        ensures email { OnOk result (last_email self.new.keys.items ≡ Some key.now.0) }
+        ensures up { OnOk result (IsReached self.new.keys.items fronted.now) }
+        ensures email { OnOk result (last_email self.new.keys.items ≡ Some fronted.now.0) }
         ensures keeps { OnOk result ((k : Key) (i : ℕ) → IsNumber self.old.keys.items k i → IsNumber self.new.keys.items k i) }
     {
-        if is_last_email(&self.keys, key) {
+        if is_last_email(&self.keys, fronted) {
             return Ok(());
         }
         self.email = self.keys.len();
-        self.keys.push(key.of_email_alone())?;
-        self.fronts.push(key.front())?;
+        self.keys.push(KeptKey::of_email(entry))?;
+        self.fronts.push(fronted.front())?;
         Ok(())
     }
 
-    // Adds a key, if the last one is another. Its email is that of the last one.
-    fn push_key(&mut self, key: FrontedKey<'a>) -> Result<(), AllocError>
+    // Adds the key of an entry, if the last one is another. Its email is that of the last one.
+    fn push_key(&mut self, entry: &'p Entry<'a>, fronted: &FrontedKey<'_>) -> Result<(), AllocError>
+        requires own { fronted.now ≡ key (mapping_of entry.now) }
         requires ascending { AreAscending self.old.keys.items self.old.email }
-        requires up { IsReached self.old.keys.items key }
+        requires up { IsReached self.old.keys.items fronted.now }
         requires fronts { AreFronts self.old.keys.items self.old.fronts.items }
-        requires email { last_email self.old.keys.items ≡ Some key.0 }
+        requires email { last_email self.old.keys.items ≡ Some fronted.now.0 }
         ensures ascending { OnOk result (AreAscending self.new.keys.items self.new.email) }
         ensures fronts { OnOk result (AreFronts self.new.keys.items self.new.fronts.items) }
-        ensures last { OnOk result (last_key self.new.keys.items ≡ Some key.entry) }
+        ensures last { OnOk result (last_key self.new.keys.items ≡ Some fronted.now) }
         ensures keeps { OnOk result ((k : Key) (i : ℕ) → IsNumber self.old.keys.items k i → IsNumber self.new.keys.items k i) }
     {
-        if is_last_name(&self.keys, &key) {
+        if is_last_name(&self.keys, fronted) {
             return Ok(());
         }
-        self.keys.push(key.kept())?;
-        self.fronts.push(key.front())?;
+        self.keys.push(KeptKey::of(entry))?;
+        self.fronts.push(fronted.front())?;
         Ok(())
     }
 }
@@ -221,7 +235,7 @@ fn is_last_email(keys: &[KeptKey], key: &FrontedKey) -> bool
 fn have_same_email(a: &KeptKey, b: &FrontedKey) -> bool
     ensures { result ≡ eq_by_cmp text_cmp a.now.0 b.now.0 }
 {
-    let front = Fronted::new(a.email);
+    let front = Fronted::new(a.entry.old_email());
     Steps::new().compare_fronted(front, b.email).is_eq()
 }
 
@@ -240,5 +254,5 @@ fn is_last_name(keys: &[KeptKey], key: &FrontedKey) -> bool
 fn have_same_name(a: &KeptKey, b: &FrontedKey) -> bool
     ensures { result ≡ eq_by_cmp (option_cmp text_cmp) a.now.1 b.now.1 }
 {
-    compare_names(a.name, b.name).is_eq()
+    compare_names(a.name(), b.name).is_eq()
 }

@@ -42,7 +42,7 @@ pub(crate) fn number<'p, 'a>(
     alloc: Global,
     entries: &'p [PlacedEntry<'a>],
     rows: &mut [NumberedEntry<'p, 'a>],
-) -> Result<AscendingKeys<'a>, AllocError>
+) -> Result<AscendingKeys<'p, 'a>, AllocError>
     requires accepted { All (λ x. is_accepted (mapping_of x.entry) ≡ true) entries.now }
     requires placed { told rows.old ≡ map placed_of entries.now }
     ensures ascending { IfOk result (λ keys. IsStrictlySortedBy key_cmp keys.keys.items) }
@@ -63,7 +63,7 @@ pub(crate) fn number<'p, 'a>(
 // An entry with the numbers of the last key, which is its own.
 fn with_last_numbers<'p, 'a>(
     placed: &'p PlacedEntry<'a>,
-    keys: &AscendingKeys<'_>,
+    keys: &AscendingKeys<'_, '_>,
 ) -> NumberedEntry<'p, 'a>
     requires ascending { AreAscending keys.now.keys.items keys.now.email }
     requires some { 0 < length keys.now.keys.items }

@@ -18,7 +18,7 @@ use std::alloc::{AllocError, Global};
 /// fewer of them have a key that comes twice.
 pub(crate) fn settle<'p, 'a>(
     alloc: Global,
-    keys: &[KeptKey<'_>],
+    keys: &[KeptKey<'_, '_>],
     entries: &mut [NumberedEntry<'p, 'a>],
     table: &mut Table<'p, 'a>,
 ) -> Result<usize, AllocError>
@@ -48,7 +48,7 @@ pub(crate) fn settle<'p, 'a>(
 // first of no entry, and then of those that stay of the crowded emails.
 fn pass<'p, 'a>(
     alloc: Global,
-    keys: &[KeptKey<'_>],
+    keys: &[KeptKey<'_, '_>],
     crowded: &[bool],
     entries: &mut [NumberedEntry<'p, 'a>],
     len: usize,
@@ -92,7 +92,7 @@ fn pass<'p, 'a>(
 // of all of these.
 fn behind_each<'p, 'a>(
     alloc: Global,
-    keys: &[KeptKey<'_>],
+    keys: &[KeptKey<'_, '_>],
     crowded: &[bool],
     entries: &[NumberedEntry<'p, 'a>],
     table: &mut Table<'p, 'a>,
@@ -119,7 +119,7 @@ fn behind_each<'p, 'a>(
 
 // Makes a table of the entries of the crowded emails one of no entry. Only their rows are touched.
 fn forget_crowded<'p, 'a>(
-    keys: &[KeptKey<'_>],
+    keys: &[KeptKey<'_, '_>],
     crowded: &[bool],
     entries: &[NumberedEntry<'p, 'a>],
     table: &mut Table<'p, 'a>,
@@ -140,7 +140,7 @@ fn forget_crowded<'p, 'a>(
 
 // Adds the entries of the other emails to a table of those of the crowded ones.
 fn append_others<'p, 'a>(
-    keys: &[KeptKey<'_>],
+    keys: &[KeptKey<'_, '_>],
     crowded: &[bool],
     entries: &[NumberedEntry<'p, 'a>],
     table: &mut Table<'p, 'a>,

@@ -11,12 +11,12 @@ use std::marker::Model;
 
 /// Keys, and the fronts of their emails apart from them: these lie close together, and settle most steps of a search.
 #[derive(Drop)]
-pub(crate) struct SearchedKeys<'a> {
-    keys: Vec<KeptKey<'a>>,
+pub(crate) struct SearchedKeys<'p, 'a> {
+    keys: Vec<KeptKey<'p, 'a>>,
     fronts: Vec<u128>,
 }
 
-impl<'a> Model for SearchedKeys<'a> {
+impl<'p, 'a> Model for SearchedKeys<'p, 'a> {
     ghost Value = { List Key };
 
     ghost view = { λ s. s.keys.items };
@@ -24,9 +24,9 @@ impl<'a> Model for SearchedKeys<'a> {
     ghost invariant = { λ s. AreFronts s.keys.items s.fronts.items };
 }
 
-impl<'a> SearchedKeys<'a> {
+impl<'p, 'a> SearchedKeys<'p, 'a> {
     /// The keys with their fronts.
-    pub(crate) fn new(keys: Vec<KeptKey<'a>>, fronts: Vec<u128>) -> SearchedKeys<'a>
+    pub(crate) fn new(keys: Vec<KeptKey<'p, 'a>>, fronts: Vec<u128>) -> SearchedKeys<'p, 'a>
         requires { AreFronts keys.items fronts.items }
         ensures { result ≡ keys.entry.items }
     {
@@ -48,13 +48,13 @@ impl<'a> SearchedKeys<'a> {
 
 // How keys compare to a key.
 #[derive(Drop)]
-struct KeyProbe<'k> {
-    keys: &'k SearchedKeys<'k>,
-    key: &'k FrontedKey<'k>,
+struct KeyProbe<'k, 'p, 'b> {
+    keys: &'k SearchedKeys<'p, 'p>,
+    key: &'k FrontedKey<'b>,
     steps: usize,
 }
 
-impl Probe for KeyProbe<'_> {
+impl Probe for KeyProbe<'_, '_, '_> {
     ghost answers = { λ p. map (λ k. key_cmp k p.key.now) p.keys.now };
 
     ghost asked = { λ p. p.steps };
@@ -66,7 +66,7 @@ impl Probe for KeyProbe<'_> {
 }
 
 /// The number of a key, `None` where it is not there.
-pub(crate) fn find(keys: &SearchedKeys<'_>, key: &FrontedKey<'_>) -> Option<usize>
+pub(crate) fn find<'p>(keys: &SearchedKeys<'p, 'p>, key: &FrontedKey<'_>) -> Option<usize>
     requires { IsStrictlySortedBy key_cmp keys.now }
     ensures some { IfSome result (IsNumber keys.now key.now) }
     ensures none { IfNone result (Contains keys.now key.now → ⊥) }

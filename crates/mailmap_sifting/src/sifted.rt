@@ -23,7 +23,7 @@ use std::marker::Model;
 #[derive(Drop)]
 pub struct Sifted<'p, 'a> {
     history: &'p [PlacedEntry<'a>],
-    keys: SearchedKeys<'a>,
+    keys: SearchedKeys<'p, 'a>,
     kept: Vec<&'p PlacedEntry<'a>>,
     // what the kept entries say, which is what the history says
     table: Table<'p, 'a>,

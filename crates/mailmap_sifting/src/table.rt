@@ -23,7 +23,7 @@ impl<'p, 'a> Table<'p, 'a> {
     ghost use Rattle.mailmap_sifting.specs.Sifting.{PlacedMapping};
 
     /// Of no entry.
-    pub(crate) fn none(alloc: Global, keys: &[KeptKey<'_>]) -> Result<Table<'p, 'a>, AllocError>
+    pub(crate) fn none(alloc: Global, keys: &[KeptKey<'_, '_>]) -> Result<Table<'p, 'a>, AllocError>
         ensures { IfOk result (IsTable keys.now []) }
     {
         Ok(Table {
