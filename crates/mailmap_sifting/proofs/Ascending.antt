@@ -13,7 +13,7 @@ use Rattle.mailmap_histories.specs.Histories.{Key, key_cmp}
 use Rattle.mailmap_histories.proofs.Keys.{keys_total, keys_exact}
 use Rattle.mailmap_histories.proofs.Parts.{all_append}
 use Rattle.mailmap_sifting.specs.Numbers.{AreAscending, IsNumber, IsReached, email_key, last_email, last_key}
-use Rattle.mailmap_sifting.proofs.Keyed.{all_at}
+use Rattle.mailmap_sifting.proofs.Keyed.{all_at, some_out}
 
 -- ---- one more at the end
 
@@ -77,15 +77,12 @@ none_is_first : (o : Option Text) → is_lt (option_cmp text_cmp o None) ≡ fal
 none_is_first None = refl
 none_is_first (Some t) = refl
 
-own_email_first : (k : Key) → is_lt (key_cmp k (email_key k.0)) ≡ false
+pub own_email_first : (k : Key) → is_lt (key_cmp k (email_key k.0)) ≡ false
 own_email_first k = ap (λ o. is_lt (ordering_then o (option_cmp text_cmp k.1 None))) (tied_itself nat_list_cmp_total k.0) ∙ none_is_first k.1
 
 -- no key is below itself
 pub itself_reached : (k : Key) → is_lt (key_cmp k k) ≡ false
 itself_reached k = ap is_lt (tied_itself keys_total k)
-
-some_out : {X : Type 0} (x y : X) → Some x ≡ Some y → x ≡ y
-some_out x y e = cc
 
 -- ---- what a push does
 

@@ -7,6 +7,9 @@ use Rattle.std.specs.Ordering.{eq_by_cmp}
 use Rattle.mailmap_histories.specs.Histories.{Key, key_cmp}
 use Rattle.mailmap_histories.proofs.Keys.{keys_total, keys_exact}
 
+pub some_out : {X : Type 0} (x y : X) → Some x ≡ Some y → x ≡ y
+some_out x y e = cc
+
 not_below_itself : (k : Key) → key_cmp k k ≡ Less → ⊥
 not_below_itself k less = let same : key_cmp k k ≡ Equal = tied_itself keys_total k in cc
 

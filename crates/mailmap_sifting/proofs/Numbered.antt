@@ -19,6 +19,7 @@ use Rattle.mailmap_sifting.specs.Sifting.{placed_of}
 use Rattle.mailmap_sifting.specs.Numbers.{AreAscending, AreNumbers, KeyNumbers, IsNumber, numbers_of, IsNumbered, IsReached, entry_of, last_key, placed_entry_of, told}
 use Rattle.mailmap_sifting.specs.declared.numbers.NumberedEntry.{NumberedEntry}
 use Rattle.mailmap_sifting.specs.declared.placed.PlacedEntry.{PlacedEntry}
+use Rattle.mailmap_sifting.proofs.Keyed.{some_out}
 
 abbrev Indexed : Type 0
 Indexed = ℕ × Mapping
@@ -88,9 +89,6 @@ pub record IsWalk (history : List PlacedEntry) (order : List Placed) (i : ℕ) (
   pub sorted : IsSorted (said history) (map placed_at order)
   pub so : IsNumbering history (map placed_at order) i keys email (map numbers_of rows)
   pub placed : told rows ≡ map placed_of history
-
-some_out : {X : Type 0} (x y : X) → Some x ≡ Some y → x ≡ y
-some_out x y e = cc
 
 all_reached : (keys : List Key) (k : Key) → last_key keys ≡ Some k → (qs : List Indexed) → AllByRecursion (λ l. is_lt (key_cmp l k) ≡ false) (map (λ p. key p.1) qs) → AllByRecursion (λ p. IsReached keys (key p.1)) qs
 all_reached keys k last [] all = tt

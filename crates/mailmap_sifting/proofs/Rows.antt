@@ -15,11 +15,8 @@ use Rattle.mailmap_entries.specs.Folding.{Text, folded, text_cmp}
 use Rattle.mailmap_histories.specs.Histories.{Key, key, key_cmp, is_accepted, spelling}
 use Rattle.mailmap_sifting.specs.Summaries.{key_summary, own_summary, joined_summary}
 use Rattle.mailmap_sifting.specs.Numbers.{AreBlank, IsNumber, IsTableOf, email_key}
-use Rattle.mailmap_sifting.proofs.Keyed.{same_number, unequal_keys}
+use Rattle.mailmap_sifting.proofs.Keyed.{same_number, some_out, unequal_keys}
 use Rattle.mailmap_sifting.proofs.Summaries.{summary_parts, summary_own, summary_without, spelling_parts, spelling_own, spelling_without}
-
-some_out : {X : Type 0} (x y : X) → Some x ≡ Some y → x ≡ y
-some_out x y e = cc
 
 -- the row at the number of x changes as what is said of x does, and nothing else is said of any other
 pub row_changed : {X Y Z : Type 0} (keys : List Key) (key_of : X → Key) (view : Z → Y) (f g : X → Y) (rows : List Z) (x : X) (i : ℕ) (z : Z)

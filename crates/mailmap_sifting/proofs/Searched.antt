@@ -1,24 +1,27 @@
 -- A search among keys by the fronts of their emails.
-use Rattle.std.proofs.Common.{◌≡◌, ◌≢◌, ◌<◌, ℕ, List, [], ◌∷◌, length, map, get_or, Some, Result, Ok, Err, Equal, Ordering, refl, sym, ap, subst, ◌∙◌, arith}
+use Rattle.std.proofs.Common.{◌≡◌, ◌≢◌, ◌<◌, ◌+◌, ℕ, List, [], ◌∷◌, length, map, get_or, Some, Result, Ok, Err, Equal, Ordering, refl, sym, ap, subst, ◌∙◌, arith, zero, suc, false, true≢false, IsSome, Option, None, ⊎_elim, Less, Greater}
 use Rattle.std.specs.Prelude.{Contains, IfOk, IfErr, IfSome, IfNone}
 use Rattle.std.specs.Cmp.{tied_itself}
+use Rattle.std.specs.Cmp.Lexicographic.{nat_list_cmp_total}
 use Rattle.std.specs.List.{slice_get}
 use Rattle.std.specs.List.Sorted.{IsPartitionPoint, IsSearchInRange, IsStrictlySortedBy}
 use Rattle.std.specs.Option.{option_cmp}
-use Rattle.std.specs.Ordering.{nat_cmp, ordering_then}
+use Rattle.std.specs.Ordering.{is_lt, nat_cmp, ordering_reverse, ordering_then}
 use Rattle.std.specs.Result.{result_ok}
-use Rattle.std.specs.declared.cmp.Ordering.TheVariants.{Less, Greater}
 use Rattle.std.proofs.lemmas.List.{get_or-map, length-map}
 use Rattle.std.proofs.lemmas.Option.{slice_get-get_or}
-use Rattle.mailmap_entries.specs.Folding.{text_cmp}
+use Rattle.std.proofs.lemmas.Bool.{cases_order}
+use Rattle.std.proofs.lemmas.Map.Lookups.{exact_bytes}
+use Rattle.mailmap_entries.specs.Folding.{Text, text_cmp}
 use Rattle.mailmap_entries.specs.Fronts.{AreBytes, IsFront, front_number}
 use Rattle.mailmap_entries.specs.Search.{IsPartitioned}
 use Rattle.mailmap_entries.proofs.Fronts.{front_settles, then_settled}
 use Rattle.mailmap_histories.specs.Histories.{Key, key_cmp}
 use Rattle.mailmap_histories.proofs.Keys.{keys_total, keys_exact}
 use Rattle.mailmap_tables.proofs.Lookups.{IsPartitioned-from_ascending, found-key, missing-all}
-use Rattle.mailmap_sifting.specs.Numbers.{AreFronts, IsNumber}
-use Rattle.mailmap_sifting.proofs.Keyed.{all_at}
+use Rattle.mailmap_sifting.specs.Numbers.{AreFronts, IsNumber, email_key}
+use Rattle.mailmap_sifting.proofs.Ascending.{itself_reached, own_email_first}
+use Rattle.mailmap_sifting.proofs.Keyed.{all_at, some_out}
 
 module _ (keys : List Key) (number : ℕ) (d : Key) (within : number < length keys) where
   abbrev k : Key
@@ -57,3 +60,74 @@ told_by_search keys q (Ok i) within is missing =
 told_by_search keys q (Err i) within is missing =
     let all = missing-all key_cmp (λ (k : Key). k) q keys i within missing in
     (tt, λ has. all has.0 q has.1 (ap (λ k. key_cmp k q) has.2 ∙ tied_itself keys_total q))
+
+-- ---- the keys of one email
+
+-- a key that stands before another is below it
+below : (ks : List Key) (i j : ℕ) (a b : Key) → IsStrictlySortedBy key_cmp ks → slice_get ks i ≡ Some a → slice_get ks j ≡ Some b → i < j → key_cmp a b ≡ Less
+unfolding IsStrictlySortedBy
+below [] i j a b up p q lt = absurd (cc)
+below (x ∷ ks) i zero a b up p q lt = absurd (omega (arith, lt))
+below (x ∷ ks) zero (suc j) a b up p q lt = let is : x ≡ a = cc in subst (λ y. key_cmp y b ≡ Less) is (all_at (λ y. key_cmp x y ≡ Less) ks j b up.0 q)
+below (x ∷ ks) (suc i) (suc j) a b up p q lt = below ks i j a b up.1 p q (omega (arith, lt))
+
+-- a key between that of an email and another of this email is of this email
+of_one_email : (q m : Key) → key_cmp (email_key q.0) m ≡ Less → is_lt (key_cmp q m) ≡ false → m.0 ≡ q.0
+of_one_email q m above reached =
+    elim (text_cmp m.0 q.0) as (λ o. text_cmp m.0 q.0 ≡ o → m.0 ≡ q.0) [
+      | Less ↦ λ e.
+          let down : text_cmp q.0 m.0 ≡ Greater = nat_list_cmp_total.antisymm q.0 m.0 ∙ ap ordering_reverse e in
+          let not_above : key_cmp (email_key q.0) m ≡ Greater = ap (λ o. ordering_then o (option_cmp text_cmp None m.1)) down in
+          absurd (cc)
+      | Equal ↦ λ e. exact_bytes m.0 q.0 e
+      | Greater ↦ λ e.
+          let up : text_cmp q.0 m.0 ≡ Less = nat_list_cmp_total.antisymm q.0 m.0 ∙ ap ordering_reverse e in
+          absurd (true≢false (sym (ap (λ o. is_lt (ordering_then o (option_cmp text_cmp q.1 m.1))) up) ∙ reached))
+    ] refl
+
+none_named : (o : Option Text) → IsSome o → o ≡ None → ⊥
+none_named None named e = true≢false (sym named)
+none_named (Some t) named e = cc
+
+-- behind the key of an email, where a key of it with a name is there, a key of this email stands next
+module _ (ks : List Key) (up : IsStrictlySortedBy key_cmp ks) (number : ℕ) (q : Key) (named : IsSome q.1) (is : IsNumber ks (email_key q.0) number) (has : Contains ks q) where
+  abbrev place : ℕ
+  place = has.0
+
+  there : slice_get ks place ≡ Some q
+  there = slice_get-get_or ks place q has.1 ∙ ap (λ k. Some k) has.2
+
+  behind : number < place
+  behind =
+      ⊎_elim
+      (λ same. absurd (none_named q.1 named (ap (λ (k : Key). k.1) (some_out q (email_key q.0) (sym there ∙ ap (slice_get ks) same ∙ is)))))
+      (⊎_elim (λ less. absurd (true≢false (sym (ap is_lt (below ks place number q (email_key q.0) up there is less)) ∙ own_email_first q))) (λ more. more))
+      (cases_order place number)
+
+  abbrev next : Key
+  next = get_or ks (number + 1) q
+
+  within : number + 1 < length ks
+  within = let last : place < length ks = has.1 in omega (arith, behind)
+
+  stands_next : slice_get ks (number + 1) ≡ Some next
+  stands_next = slice_get-get_or ks (number + 1) q within
+
+  reached : is_lt (key_cmp q next) ≡ false
+  reached =
+      ⊎_elim
+      (λ same. subst (λ k. is_lt (key_cmp q k) ≡ false) (some_out q next (sym there ∙ ap (slice_get ks) same ∙ stands_next)) (itself_reached q))
+      (⊎_elim (λ less. absurd (omega (arith, behind, less)))
+      (λ more. ap is_lt (keys_total.antisymm q next ∙ ap ordering_reverse (below ks (number + 1) place next q up stands_next there more))))
+      (cases_order place (number + 1))
+
+  pub next_within : (fronts : List ℕ) → AreFronts ks fronts → number + 1 < length fronts
+  next_within fronts so = omega (arith, within, ap length so.are, length-map ks (λ (k : Key). front_number 16 k.0))
+
+  pub next_front : (fronts : List ℕ) → AreFronts ks fronts → (n : ℕ) → IsFront n q.0 → slice_get fronts (number + 1) ≡ Some n
+  next_front fronts so n front =
+      let of_key : Key → ℕ = λ k. front_number 16 k.0 in
+      let same : next.0 ≡ q.0 = of_one_email q next (below ks number (number + 1) (email_key q.0) next up is stands_next (omega arith)) reached in
+      ap (λ l. slice_get l (number + 1)) so.are
+      ∙ slice_get-get_or (map of_key ks) (number + 1) n (omega (arith, within, length-map ks of_key))
+      ∙ ap (λ f. Some f) (get_or-map of_key ks (number + 1) q n within ∙ ap (front_number 16) same ∙ sym front.is)

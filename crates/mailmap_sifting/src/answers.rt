@@ -11,7 +11,7 @@ ghost use Rattle.mailmap_sifting.specs.Numbers.{AreKnown, IsNumber, IsTable, ema
 
 use crate::fields::Fields;
 use crate::keys::FrontedKey;
-use crate::search::{SearchedKeys, find};
+use crate::search::{SearchedKeys, find, find_named};
 use crate::table::Table;
 
 /// What a history answers to a name and an email, `None` where it maps neither.
@@ -46,7 +46,7 @@ fn fields_for<'a>(
         → fields_of result ≡ unwrap_or (last_fields h (folded email.now, Some (folded name.now))) (given_fields h (folded email.now)) }
 {
     let given = table.summaries[number].given();
-    match find(keys, &FrontedKey::new(email, Some(name))) {
+    match find_named(keys, number, &FrontedKey::new(email, Some(name))) {
         Some(named) => table.summaries[named].last_or(given),
         None => given,
     }

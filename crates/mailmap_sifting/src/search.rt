@@ -1,8 +1,8 @@
 //! Where a key stands among keys in ascending order.
-ghost use Rattle.std.specs.Prelude.{◌≡◌, ◌<◌, List, Contains, IfSome, IfNone, Some, length, map, slice_get};
+ghost use Rattle.std.specs.Prelude.{◌≡◌, ◌<◌, List, Contains, IfSome, IfNone, IsSome, Some, length, map, slice_get};
 ghost use Rattle.std.specs.List.Sorted.{IsStrictlySortedBy};
 ghost use Rattle.mailmap_histories.specs.Histories.{Key, key_cmp};
-ghost use Rattle.mailmap_sifting.specs.Numbers.{AreFronts, IsNumber};
+ghost use Rattle.mailmap_sifting.specs.Numbers.{AreFronts, IsNumber, email_key};
 
 use crate::keys::{FrontedKey, KeptKey, compare};
 use mailmap_entries::fold::{Probe, search};
@@ -77,4 +77,23 @@ pub(crate) fn find<'p>(keys: &SearchedKeys<'p, 'p>, key: &FrontedKey<'_>) -> Opt
         steps: 0,
     };
     search(keys.keys.len(), &mut probe).ok()
+}
+
+/// The same of a key with a name, whose email has this number. The keys of an email stand together, that without a name
+/// first. So where the next email begins otherwise, nothing is searched for.
+pub(crate) fn find_named<'p>(
+    keys: &SearchedKeys<'p, 'p>,
+    number: usize,
+    key: &FrontedKey<'_>,
+) -> Option<usize>
+    requires ascending { IsStrictlySortedBy key_cmp keys.now }
+    requires named { IsSome key.now.1 }
+    requires number { IsNumber keys.now (email_key key.now.0) number }
+    ensures some { IfSome result (IsNumber keys.now key.now) }
+    ensures none { IfNone result (Contains keys.now key.now → ⊥) }
+{
+    match keys.fronts.get(number + 1) {
+        Some(front) if *front == key.front() => find(keys, key),
+        _ => None,
+    }
 }
