@@ -1,12 +1,12 @@
 -- Which texts the lines of contacts are.
-use Rattle.std.proofs.Common.{◌≡◌, ◌≢◌, ◌⊎◌, ℕ, Bool, true, false, cond, ◌==◌, List, [], ◌∷◌, ◌++◌, ⊎_elim, inl, inr, append-nil, append_assoc, refl, sym, ap, subst, ◌∙◌}
+use Rattle.std.proofs.Common.{◌≡◌, ◌≢◌, ℕ, true, false, cond, ◌==◌, List, [], ◌∷◌, ◌++◌, ⊎_elim, inl, inr, append-nil, append_assoc, refl, sym, ap, subst, ◌∙◌}
 use Rattle.std.specs.Prelude.{◌&&◌}
 use Rattle.std.specs.List.{AllByRecursion, AllZip}
-use Rattle.std.proofs.lemmas.Bool.{cases_Bool, cond-true, cond-false, ne_eqb, eqb-true, eq-eqb, eqb-false}
+use Rattle.std.proofs.lemmas.Bool.{cases_Bool, cond-true, cond-false, ne_eqb, eqb-true, eqb-false}
 use Rattle.mailmap_entries.specs.Folding.{Text}
-use Rattle.mailmap_grammar.specs.Lines.{ArePieces, HoldsNo, fed, pieces, with_first}
+use Rattle.mailmap_grammar.specs.Lines.{HoldsNo, fed, pieces, with_first}
 use Rattle.mailmap_grammar.proofs.LineFeeds.{all_parts, are_pieces}
-use Rattle.gix_mailmap.specs.Contacts.{AreLines, IsBare, feeds, lines}
+use Rattle.gix_mailmap.specs.Contacts.{AreLines, IsBare, lines}
 
 no_end : (b : ℕ) (x y : List Text) → cond (b == 13 && false) x y ≡ y
 no_end b x y = elim (b == 13) as (λ t. cond (t && false) x y ≡ y) [ true ↦ refl | false ↦ refl ]

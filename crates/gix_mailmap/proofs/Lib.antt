@@ -4,7 +4,6 @@ pub mod WritableValues
 pub mod WrittenExamples
 pub mod WrittenLine
 pub mod WrittenText
-pub mod Drained
 pub mod Contacts
 pub mod Dividers
 pub mod ContactLines

@@ -3,7 +3,6 @@ use Rattle.std.proofs.Common.{◌≡◌, ℕ, true, false, cond, Option, Some, N
 use Rattle.std.specs.List.{All, AllByRecursion, cons_option}
 use Rattle.std.specs.Option.{option_and_then, option_map}
 use Rattle.std.specs.Result.{result_ok}
-use Rattle.std.proofs.lemmas.Bool.{or_right}
 use Rattle.std.proofs.lemmas.List.Elements.{All-from_recursion}
 use Rattle.mailmap_entries.specs.Entries.{Mapping, mapping_of}
 use Rattle.mailmap_entries.specs.Folding.{Text}
@@ -12,7 +11,7 @@ use Rattle.mailmap_grammar.specs.Trimming.{trim}
 use Rattle.mailmap_histories.specs.Histories.{is_accepted}
 use Rattle.mailmap_sifting.specs.Sifting.{PlacedMapping, placed_of}
 use Rattle.mailmap_sifting.specs.declared.placed.PlacedEntry.{PlacedEntry}
-use Rattle.mailmap_findings.specs.Places.{Line, entry, placed, placed_entry}
+use Rattle.mailmap_findings.specs.Places.{Line, entry, placed}
 
 abbrev IsGood : Reading → Type 0
 IsGood (Ok m) = is_accepted m ≡ true

@@ -3,7 +3,7 @@ use Rattle.std.proofs.Common.{◌≡◌, ◌≢◌, Bool, true, false, true≢fa
 use Rattle.std.specs.Prelude.{◌||◌, ◌&&◌, ◌↔◌, Contains, is_none, not}
 use Rattle.std.specs.List.{AllByRecursion, cons_option, flat_map, list_any}
 use Rattle.std.specs.Option.{option_and_then, option_map}
-use Rattle.std.proofs.lemmas.Bool.{and_right, or_right}
+use Rattle.std.proofs.lemmas.Bool.{and_right}
 use Rattle.std.proofs.lemmas.List.Elements.{All-contains_itself, recursion_from_All}
 use Rattle.std.proofs.lemmas.List.Folds.{list_any-append}
 use Rattle.mailmap_entries.specs.Entries.{Mapping}
@@ -13,8 +13,8 @@ use Rattle.mailmap_histories.specs.Histories.{IsNormal, is_accepted, key}
 use Rattle.mailmap_sifting.specs.Sifting.{IsSifted, PlacedMapping, entries, last_place}
 use Rattle.mailmap_sifting.specs.declared.placed.Place.{Place}
 use Rattle.mailmap_sifting.proofs.Kept.{last_stays, one_sifted, sifted_normal, sifted_sublist, some_sifted}
-use Rattle.mailmap_findings.specs.Findings.{AreFindings, Contact, Finding, IsPruned, Told, contact, findings, has_no_effect, ignored, ignored_text, is_idle, is_left, line_findings, mapped, no_effect, same_contact, told_of_contact, told_of_entry, told_of_line, told_of_reading, itself_mapped}
-use Rattle.mailmap_findings.specs.Places.{Line, entry, lines, placed, placed_entry, same_place, stands_at}
+use Rattle.mailmap_findings.specs.Findings.{AreFindings, Contact, Finding, IsPruned, Told, contact, findings, has_no_effect, ignored, ignored_text, is_idle, is_left, mapped, no_effect, same_contact, told_of_contact, told_of_entry, told_of_line, told_of_reading, itself_mapped}
+use Rattle.mailmap_findings.specs.Places.{Line, entry, lines, placed, same_place, stands_at}
 use Rattle.mailmap_findings.specs.Steps.{AreApart}
 use Rattle.mailmap_findings.proofs.Accepted.{placed_accepted}
 use Rattle.mailmap_findings.proofs.Placing.{apart_lines}

@@ -1,11 +1,10 @@
 -- Findings stand in the order of their lines.
-use Rattle.std.proofs.Common.{◌≡◌, ◌+◌, ◌≤◌, ℕ, List, [], ◌∷◌, ◌++◌, map, inl, inr, refl, sym, subst, arith}
+use Rattle.std.proofs.Common.{◌+◌, ℕ, List, [], ◌∷◌, ◌++◌, map, inl, inr, refl, sym, subst, arith}
 use Rattle.std.specs.List.{AllByRecursion, flat_map}
 use Rattle.mailmap_entries.specs.Folding.{Text}
-use Rattle.mailmap_sifting.specs.Sifting.{entries}
 use Rattle.mailmap_sifting.specs.declared.placed.Place.{Place}
-use Rattle.mailmap_findings.specs.Findings.{AreFindings, AreInOrder, Finding, IsUpTo, Told, findings}
-use Rattle.mailmap_findings.specs.Places.{Line, whole_lines, placed_from, lines_from, lines, placed}
+use Rattle.mailmap_findings.specs.Findings.{AreFindings, AreInOrder, Finding, IsUpTo, Told}
+use Rattle.mailmap_findings.specs.Places.{Line, whole_lines, placed_from, lines_from, lines}
 use Rattle.mailmap_findings.proofs.Placing.{place_at, all_placed, all_lines, all_append}
 
 -- the lines stand in their order

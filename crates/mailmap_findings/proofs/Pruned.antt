@@ -1,5 +1,5 @@
 -- What is left of a pruned buffer: the entries that stay, and nothing to prune.
-use Rattle.std.proofs.Common.{◌≡◌, ◌≢◌, Bool, true, false, if◌then◌else◌, Option, Some, None, is_none, List, [], ◌∷◌, ◌++◌, map, filter, append-nil, append_assoc, refl, sym, ap, subst, ◌∙◌}
+use Rattle.std.proofs.Common.{◌≡◌, ◌≢◌, true, false, if◌then◌else◌, Some, None, is_none, List, [], ◌∷◌, ◌++◌, filter, append-nil, append_assoc, refl, sym, ap, subst, ◌∙◌}
 use Rattle.std.specs.Prelude.{◌||◌, ◌↔◌}
 use Rattle.std.specs.List.{AllByRecursion, cons_option, flat_map}
 use Rattle.std.specs.Option.{option_map}
@@ -13,12 +13,12 @@ use Rattle.mailmap_sifting.specs.Sifting.{PlacedMapping, IsPass, done, stays, Is
 use Rattle.mailmap_sifting.proofs.Kept.{none_can_go, sifted_normal, sifted_sublist}
 use Rattle.mailmap_sifting.proofs.Sublists.{sublist_all}
 use Rattle.mailmap_findings.specs.Findings.{IsPruned, is_left}
-use Rattle.mailmap_findings.specs.Places.{Line, entry, placed, placed_entry, same_place, stands_at, whole_lines, placed_from, lines_from, lines}
-use Rattle.mailmap_findings.specs.Steps.{AreApart, IsWalk, stands_first, left_behind}
+use Rattle.mailmap_findings.specs.Places.{Line, entry, placed, same_place, stands_at, whole_lines, placed_from, lines_from, lines}
+use Rattle.mailmap_findings.specs.Steps.{AreApart, stands_first, left_behind}
 use Rattle.mailmap_findings.proofs.Placing.{apart_lines}
 use Rattle.mailmap_findings.proofs.Read.{good-lines}
 use Rattle.mailmap_findings.proofs.Renumbered.{entries-renumbered, texts-placed}
-use Rattle.mailmap_findings.proofs.Walking.{InStep, First, passes, meets, first_met, Step, step_by, starts, none_passed, none_stands, placed_elsewhere, same_itself}
+use Rattle.mailmap_findings.proofs.Walking.{InStep, First, passes, meets, first_met, step_by, starts, none_stands, placed_elsewhere, same_itself}
 use Rattle.mailmap_findings.proofs.Wholes.{joined, joined-whole_lines, are_whole, whole_lines-joined, texts, some_whole, AreWhole}
 
 -- ---- of the lines that are left the entries are those that stay

@@ -1,20 +1,18 @@
 -- What lines say with their line feeds is what the pieces between line feeds say, and their entries are those of the buffers.
-use Rattle.std.proofs.Common.{take-append-drop, ◌<◌, ◌-◌, suc, length, take, drop, get_or, arith, ◌≡◌, ◌⊎◌, ◌+◌, ◌==◌, ℕ, true, false, cond, Option, Some, None, option_to_list, Ok, Err, List, [], ◌∷◌, ◌++◌, map, inl, inr, ⊎_elim, append_assoc, append-nil, refl, sym, ap, ◌∙◌}
+use Rattle.std.proofs.Common.{take-append-drop, ◌<◌, ◌-◌, suc, length, take, drop, get_or, arith, ◌≡◌, ◌+◌, ◌==◌, ℕ, true, false, cond, Option, Some, None, option_to_list, Ok, Err, List, [], ◌∷◌, ◌++◌, inl, inr, ⊎_elim, append-nil, refl, sym, ap, ◌∙◌}
 use Rattle.std.specs.List.{cons_option, flat_map}
 use Rattle.std.specs.Option.{option_and_then, option_map}
 use Rattle.std.specs.Result.{result_ok}
 use Rattle.std.specs.Char.{encode_utf8}
-use Rattle.std.proofs.lemmas.Bool.{cond_both, eqb-true}
+use Rattle.std.proofs.lemmas.Bool.{eqb-true}
 use Rattle.std.proofs.lemmas.List.{drop_all, map-append}
 use Rattle.std.proofs.Math.Seq.{drop-cons}
-use Rattle.std.proofs.lemmas.List.Concat.{flat_map-append}
 use Rattle.std.proofs.lemmas.List.Elements.{filter_map-append}
-use Rattle.mailmap_entries.specs.Entries.{Mapping}
 use Rattle.mailmap_entries.specs.Folding.{Text}
 use Rattle.mailmap_grammar.specs.Trimming.{trim}
 use Rattle.mailmap_sifting.specs.declared.placed.Place.{Place}
 use Rattle.mailmap_findings.specs.Findings.{ignored, ignored_text, told_of_reading}
-use Rattle.mailmap_grammar.specs.Lines.{behind_emails, cut, non_empty, Reading, reading_by, line_reading, strict_line_reading, unless_blank, reading, strict_reading, readings_from, strict_readings, pieces, with_first, good, good_of}
+use Rattle.mailmap_grammar.specs.Lines.{behind_emails, cut, non_empty, Reading, reading_by, line_reading, strict_line_reading, unless_blank, reading, strict_reading, readings_from, pieces, with_first, good, good_of}
 use Rattle.mailmap_grammar.proofs.Trimmed.{trim-white_end}
 use Rattle.mailmap_sifting.specs.Sifting.{PlacedMapping, entries}
 use Rattle.mailmap_findings.specs.Places.{IsPieceOf, Line, entry, placed, placed_entry, placed_from, whole_lines, lines_from, lines}

@@ -1,5 +1,5 @@
 -- The entry of a line is the same wherever the line stands.
-use Rattle.std.proofs.Common.{◌≡◌, ◌+◌, ℕ, true, false, cond, Option, Some, None, Ok, Err, List, [], ◌∷◌, map, refl, sym, ap, ◌∙◌}
+use Rattle.std.proofs.Common.{◌≡◌, ◌+◌, ℕ, true, false, cond, Some, None, List, [], ◌∷◌, refl, ap, ◌∙◌}
 use Rattle.std.specs.List.{cons_option}
 use Rattle.std.specs.Option.{option_and_then, option_map}
 use Rattle.std.specs.Result.{result_ok}

@@ -1,5 +1,5 @@
 -- A line that the strict reading takes is read alike for lookups.
-use Rattle.std.proofs.Common.{◌≡◌, ◌==◌, ℕ, Bool, true, false, cond, Option, Some, None, Ok, Err, List, [], ◌∷◌}
+use Rattle.std.proofs.Common.{◌≡◌, ℕ, Bool, true, false, cond, Some, None, Ok, [], ◌∷◌}
 use Rattle.mailmap_entries.specs.Entries.{Mapping}
 use Rattle.mailmap_entries.specs.Folding.{Text}
 use Rattle.mailmap_grammar.specs.Lines.{Half, Absent, Unclosed, Closed, Reading, cut, first_half, is_comment, line_reading, reading, strict_halves, strict_line_reading, strict_reading, trimmed_half, two_halves, unless_blank}

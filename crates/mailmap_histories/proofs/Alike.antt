@@ -1,5 +1,5 @@
 -- Histories that are alike: they have one normal list and one scan, and alike parts make alike wholes.
-use Rattle.std.proofs.Common.{false, cond, append-nil, ◌∷◌, ◌≡◌, Bool, ◌||◌, List, [], ◌++◌, map, filter, Option, Some, None, unwrap_or, option_map, refl, sym, ap, ap₂, ◌∙◌}
+use Rattle.std.proofs.Common.{◌≡◌, Bool, ◌||◌, List, [], ◌++◌, map, filter, Option, Some, None, unwrap_or, option_map, refl, sym, ap, ap₂, ◌∙◌}
 use Rattle.std.specs.Option.{option_or, option_flatten}
 use Rattle.std.proofs.lemmas.List.{map-append}
 use Rattle.std.proofs.lemmas.List.Elements.{filter-append, filter_map-append, All-weaker}
@@ -101,7 +101,3 @@ alike_accepted h g same =
     alike_picked h g (λ k. ap (λ l. has_key l k) same)
     (λ email. ap (filter (λ e. eq_by_cmp text_cmp email (folded e.old_email))) same)
     (λ k. ap (filter (λ e. eq_by_cmp key_cmp k (key e))) same)
-
-pub normal_ignored : (h n : List Mapping) (e : Mapping) → is_accepted e ≡ false → IsNormal h n → IsNormal (h ++ e ∷ []) n
-normal_ignored h n e bad =
-    same_normal h (h ++ e ∷ []) n (alike_accepted h (h ++ e ∷ []) (sym (filter-append is_accepted h (e ∷ []) ∙ ap (λ b. accepted h ++ cond b (e ∷ []) []) bad ∙ append-nil (accepted h))))

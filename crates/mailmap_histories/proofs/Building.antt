@@ -1,5 +1,5 @@
 -- What merges build, and what a history may be exchanged for.
-use Rattle.std.proofs.Common.{◌≡◌, ◌≢◌, ◌||◌, Bool, true, false, true≢false, List, [], ◌∷◌, ◌++◌, Option, Some, None, IsSome, if◌then◌else◌, is_some, unwrap_or, option_map, append-nil, refl, sym, ap, subst, ◌∙◌}
+use Rattle.std.proofs.Common.{◌≡◌, ◌≢◌, ◌||◌, Bool, true, false, true≢false, List, [], ◌∷◌, ◌++◌, Option, Some, None, IsSome, if◌then◌else◌, unwrap_or, option_map, append-nil, refl, sym, ap, subst, ◌∙◌}
 use Rattle.std.specs.Cmp.{Equal-is, tied_itself}
 use Rattle.std.specs.Cmp.Lexicographic.{nat_list_cmp_total}
 use Rattle.std.specs.List.{AllByRecursion}
@@ -15,7 +15,7 @@ use Rattle.mailmap_histories.proofs.Alike.{Alike, first_name, same_normal, alike
 use Rattle.mailmap_histories.proofs.Exists.{normal, is_normal}
 use Rattle.mailmap_histories.proofs.Joined.{IsApart, alike_trans, alike_swapped}
 use Rattle.mailmap_histories.proofs.Keys.{keys_total, keys_exact}
-use Rattle.mailmap_histories.proofs.Normal.{alike_normal, normal_nothing, normal_self, normal_then}
+use Rattle.mailmap_histories.proofs.Normal.{alike_normal, normal_nothing, normal_then}
 use Rattle.mailmap_histories.proofs.Parts.{filter_all}
 use Rattle.mailmap_histories.proofs.Reorder.{by_email, of_name}
 use Rattle.mailmap_histories.proofs.Unique.{normal_unique}

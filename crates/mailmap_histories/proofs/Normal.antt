@@ -1,7 +1,6 @@
 -- A normal list is alike its history.
-use Rattle.std.proofs.Common.{◌≡◌, Bool, true, cond, ◌||◌, List, [], ◌∷◌, ◌++◌, map, filter, Option, Some, None, is_some, unwrap_or, option_map, All, subst, true≢false, false, is_eq, refl, sym, ap, ◌∙◌}
-use Rattle.std.specs.Cmp.{Equal-is, tied_itself}
-use Rattle.std.specs.Cmp.Lexicographic.{nat_list_cmp_total}
+use Rattle.std.proofs.Common.{◌≡◌, Bool, true, cond, ◌||◌, List, [], ◌∷◌, ◌++◌, map, filter, Option, Some, None, is_some, unwrap_or, option_map, All, subst, true≢false, refl, sym, ap, ◌∙◌}
+use Rattle.std.specs.Cmp.{Equal-is}
 use Rattle.std.specs.List.{AllByRecursion, list_any}
 use Rattle.std.specs.Option.{option_and_then}
 use Rattle.std.specs.Ordering.{eq_by_cmp}
@@ -10,7 +9,7 @@ use Rattle.std.proofs.lemmas.Map.Lookups.{exact_bytes}
 use Rattle.mailmap_entries.specs.Entries.{Mapping}
 use Rattle.mailmap_entries.specs.Folding.{Text, text_cmp, folded}
 use Rattle.mailmap_histories.specs.Histories.{Key, key, key_cmp, first, last, is_accepted, accepted, of_email, of_key, has_key, new_fields, no_fields, last_given, spelling, value, IsNormal}
-use Rattle.mailmap_histories.proofs.Ascending.{has_itself, one_at, each_key, same_any, finds_key}
+use Rattle.mailmap_histories.proofs.Ascending.{has_itself, one_at, each_key, same_any}
 use Rattle.mailmap_histories.proofs.Alike.{Alike, same_normal, alike_joined, alike_back, alike_itself}
 use Rattle.mailmap_histories.proofs.Keys.{keys_total, keys_exact}
 use Rattle.mailmap_histories.proofs.Parts.{list_any-map, first_found, last_of_one, some_given, any_either, all_last, filter_all, first_alike, some_again, is_some-option_map}
@@ -123,41 +122,7 @@ normal_then h n more m d = same_normal (n ++ more) (h ++ more) m (alike_joined n
 pub all_good : (h n : List Mapping) → IsNormal h n → All (λ e. is_accepted e ≡ true) n
 all_good h n d = subst (All (λ e. is_accepted e ≡ true)) (accepted_self h n d) (filter_passes is_accepted n)
 
--- a normal list may stand for its history behind other entries
-pub normal_behind : (a b m n : List Mapping) → IsNormal b m → IsNormal (a ++ m) n → IsNormal (a ++ b) n
-normal_behind a b m n d = same_normal (a ++ m) (a ++ b) n (alike_joined a m a b (alike_itself a) (alike_back b m (alike_normal b m d)))
-
 -- where nothing is accepted the normal list is empty
 pub normal_nothing : (h n : List Mapping) → accepted h ≡ [] → IsNormal h n → n ≡ []
 normal_nothing h [] e d = refl
 normal_nothing h (x ∷ n) e d = absurd (true≢false (sym (has_itself keys_total keys_exact (key x) (map key n)) ∙ d.keys (key x) ∙ ap (λ l. has_key l (key x)) e))
-
--- what each entry of a normal list tells of it
-pub own_value : (n : List Mapping) → IsNormal n n → AllByRecursion (λ e. (e ≡ value n (key e)) × (spelling n (key e).0 ≡ Some e.old_email)) n
-own_value n d = told n (values n n d) (each_key keys_total keys_exact key (value n) (λ k. (s : Text) × (spelling n k.0 ≡ Some s)) n (λ k has. some_spelling k (sym (d.keys k) ∙ has)))
-  where
-    some_of : (o : Option Text) → is_some o ≡ true → (s : Text) × (o ≡ Some s)
-    some_of None e = cc
-    some_of (Some s) e = (s, refl)
-
-    some_spelling : (k : Key) → has_key (accepted n) k ≡ true → (s : Text) × (spelling n k.0 ≡ Some s)
-    some_spelling k has =
-        let p : Key → Bool = λ j. eq_by_cmp text_cmp k.0 j.0 in
-        some_of (spelling n k.0) (sym (is_some-option_map (λ e. e.old_email) (first (of_email n k.0)))
-        ∙ sym (first_found (λ e. p (key e)) (accepted n)) ∙ sym (list_any-map p key (accepted n))
-        ∙ finds_key keys_total keys_exact p k (map key (accepted n)) (ap is_eq (tied_itself nat_list_cmp_total k.0)) has)
-
-    told : (es : List Mapping) → AllByRecursion (λ e. e ≡ value n (key e)) es → AllByRecursion (λ e. (s : Text) × (spelling n (key e).0 ≡ Some s)) es
-        → AllByRecursion (λ e. (e ≡ value n (key e)) × (spelling n (key e).0 ≡ Some e.old_email)) es
-    told [] a b = tt
-    told (e ∷ es) a b =
-        ((a.0, b.0.1 ∙ ap (λ s. Some s) (sym (ap (λ x. x.old_email) a.0 ∙ old_email_is n n d (key e) ∙ ap (λ o. unwrap_or o []) b.0.1))), told es a.1 b.1)
-
--- a key that no entry has
-pub of_key_none : (n : List Mapping) (k : Key) → AllByRecursion (λ x. eq_by_cmp key_cmp k (key x) ≡ false) n → of_key n k ≡ []
-of_key_none [] k a = refl
-of_key_none (x ∷ n) k a =
-    elim (is_accepted x) as (λ b. filter (λ e. eq_by_cmp key_cmp k (key e)) (cond b (x ∷ accepted n) (accepted n)) ≡ []) [
-      | true ↦ λ i. cond (a.0 i) (x ∷ of_key n k) (of_key_none n k a.1 i)
-      | false ↦ of_key_none n k a.1
-    ]

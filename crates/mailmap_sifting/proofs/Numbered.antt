@@ -1,5 +1,5 @@
 -- A walk over sorted entries that numbers them.
-use Rattle.std.proofs.Common.{◌≡◌, ◌≢◌, ◌<◌, ◌≤◌, ◌+◌, ◌-◌, ◌==◌, ℕ, true, false, List, [], ◌∷◌, map, drop, length, get_or, set, Some, refl, sym, ap, subst, ◌∙◌, arith}
+use Rattle.std.proofs.Common.{◌≡◌, ◌≢◌, ◌<◌, ◌≤◌, ◌+◌, ◌==◌, ℕ, true, false, List, [], ◌∷◌, map, drop, length, get_or, set, Some, refl, sym, ap, subst, ◌∙◌, arith}
 use Rattle.std.specs.Prelude.{All, Contains}
 use Rattle.std.specs.List.{slice_get, AllByRecursion, enumerate_from}
 use Rattle.std.specs.List.Sorted.{IsPermutation, IsStrictlySortedBy}
@@ -189,10 +189,6 @@ none_walked history order keys email rows none placed sorted =
     all : (qs : List Indexed) → AllByRecursion (λ p. IsReached [] (key p.1)) qs
     all [] = tt
     all (q ∷ qs) = (λ l is. absurd (cc), all qs)
-
--- a last key is one of them
-pub some_key : (keys : List Key) (k : Key) → last_key keys ≡ Some k → 0 < length keys
-some_key keys k is = let within : length keys - 1 < length keys = slice_get_within keys (length keys - 1) k is in omega arith
 
 -- at the end all are numbered
 pub all_numbered : (history : List PlacedEntry) (order : List Placed) (i : ℕ) (keys : List Key) (email : ℕ) (rows : List NumberedEntry) → length order ≤ i → IsWalk history order i keys email rows

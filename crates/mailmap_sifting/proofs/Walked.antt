@@ -1,28 +1,24 @@
 -- What a walk over entries has seen, and what it has left.
-use Rattle.std.proofs.Common.{◌≡◌, ◌<◌, ◌+◌, ℕ, Bool, false, cond, List, [], ◌∷◌, ◌++◌, map, filter, take, drop, length, get_or, Some, None, unwrap_or, option_map, append-nil, refl, sym, ap, subst, ◌∙◌}
+use Rattle.std.proofs.Common.{◌≡◌, ◌<◌, ◌+◌, ℕ, Bool, false, cond, List, [], ◌∷◌, ◌++◌, filter, take, drop, length, get_or, Some, None, unwrap_or, option_map, append-nil, refl, sym, ap, subst, ◌∙◌}
 use Rattle.std.specs.Prelude.{Contains, All}
 use Rattle.std.specs.Cmp.{tied_itself}
 use Rattle.std.specs.List.{AllByRecursion}
 use Rattle.std.specs.Ordering.{eq_by_cmp, is_eq}
 use Rattle.std.proofs.lemmas.List.{map-append, map_more, drop_more}
 use Rattle.std.proofs.lemmas.List.Elements.{filter-append, recursion_from_All}
-use Rattle.std.proofs.lemmas.Option.{slice_get_within, slice_get_read, get_or_from_slice_get}
-use Rattle.mailmap_entries.specs.Entries.{Mapping, mapping_of}
+use Rattle.std.proofs.lemmas.Option.{slice_get_within, get_or_from_slice_get}
+use Rattle.mailmap_entries.specs.Entries.{Mapping}
 use Rattle.mailmap_entries.specs.Folding.{Text, folded, text_cmp}
 use Rattle.mailmap_histories.specs.Histories.{Key, key, key_cmp, accepted, first, last, of_key, spelling}
 use Rattle.mailmap_histories.proofs.Keys.{keys_total}
-use Rattle.mailmap_sifting.specs.Sifting.{PlacedMapping, placed_of, entries, last_place}
+use Rattle.mailmap_sifting.specs.Sifting.{PlacedMapping, entries, last_place}
 use Rattle.mailmap_sifting.specs.Numbers.{AreKnown, HasKeys, IsNumber, IsNumbered, email_key, placed_entry_of, told}
 use Rattle.mailmap_sifting.specs.declared.numbers.NumberedEntry.{NumberedEntry}
-use Rattle.mailmap_sifting.specs.declared.placed.PlacedEntry.{PlacedEntry}
 use Rattle.mailmap_sifting.proofs.Keyed.{unequal_keys}
 use Rattle.mailmap_sifting.proofs.Rows.{unequal_emails}
 use Rattle.mailmap_sifting.proofs.Summaries.{picked_without}
 
 -- ---- one more
-
-pub same_at : {X : Type 0} (xs : List X) (i : ℕ) (x d : X) → i < length xs → x ≡ get_or xs i x → get_or xs i d ≡ x
-same_at xs i x d within is = get_or_from_slice_get xs i x d (slice_get_read xs (length xs) i x refl within is)
 
 -- what a walk from the front has seen with one more, and what a walk from the back has seen
 pub told_more : (xs : List NumberedEntry) (i : ℕ) (x : NumberedEntry) → i < length xs → x ≡ get_or xs i x → told (take (i + 1) xs) ≡ told (take i xs) ++ placed_entry_of x ∷ []
@@ -101,13 +97,6 @@ no_spelling ks email none h known = ap (λ l. option_map (λ e. e.old_email) (fi
         ∙ nobody h known.1
 
 -- ---- keys that are there
-
-pub known_placed : (ks : List Key) (xs : List PlacedEntry) → All (λ x. HasKeys ks (mapping_of x.entry)) xs → AreKnown ks (entries (map placed_of xs))
-known_placed ks xs all = by xs (recursion_from_All _ xs all)
-  where
-    by : (xs : List PlacedEntry) → AllByRecursion (λ x. HasKeys ks (mapping_of x.entry)) xs → AreKnown ks (entries (map placed_of xs))
-    by [] all = tt
-    by (x ∷ xs) all = (all.0, by xs all.1)
 
 pub known_numbered : (ks : List Key) (xs : List NumberedEntry) → All (IsNumbered ks) xs → AreKnown ks (entries (told xs))
 known_numbered ks xs all = by xs (recursion_from_All _ xs all)

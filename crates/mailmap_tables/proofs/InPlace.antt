@@ -24,18 +24,6 @@ use Rattle.mailmap_tables.proofs.RunPuts.{run_put_known, run_put_unknown}
 
 -- ---- lists
 
-take_exact : {X : Type 0} (xs ys : List X) (n : ℕ) → n ≡ length xs → take n (xs ++ ys) ≡ xs
-take_exact [] ys zero is = refl
-take_exact [] ys (suc n) is = absurd (omega (arith, is))
-take_exact (x ∷ xs) ys zero is = absurd (omega (arith, is))
-take_exact (x ∷ xs) ys (suc n) is = ap (λ l. x ∷ l) (take_exact xs ys n (omega (arith, is)))
-
-drop_exact : {X : Type 0} (xs ys : List X) (n : ℕ) → n ≡ length xs → drop n (xs ++ ys) ≡ ys
-drop_exact [] ys zero is = refl
-drop_exact [] ys (suc n) is = absurd (omega (arith, is))
-drop_exact (x ∷ xs) ys zero is = absurd (omega (arith, is))
-drop_exact (x ∷ xs) ys (suc n) is = drop_exact xs ys n (omega (arith, is))
-
 -- around a place: the front, the one there, and what is behind it
 module _ {X : Type 0} (xs : List X) (i : ℕ) (x : X) where
   abbrev changed_at : List X
@@ -133,9 +121,6 @@ changed_group place g a b d lt one = ap (λ l. get_or l place d) one.groups ∙ 
 
 pub changed_length : (place : ℕ) (g : EmailGroup) (a b : Contents) → place < length a.groups → EmailChanged place g a b → length b.groups ≡ length a.groups
 changed_length place g a b lt one = ap length one.groups ∙ length-changed a.groups place g lt
-
-pub with_email_length : (place : ℕ) (a b : Contents) (g : EmailGroup) → place < length a.groups → b ≡ with_email_at a place g → length b.groups ≡ length a.groups
-with_email_length place a b g lt is = ap (λ (v : Contents). length v.groups) is ∙ length-changed a.groups place g lt
 
 -- an edit behind a pool that has grown
 pub changed_from : (place : ℕ) (g : EmailGroup) (old mid new : Contents) → Extends old.pool mid.pool → mid.groups ≡ old.groups → mid.loose ≡ old.loose → new ≡ with_email_at mid place g → EmailChanged place g old new

@@ -1,9 +1,9 @@
 -- What is left of a listing, step by step.
-use Rattle.std.proofs.Common.{◌≡◌, ℕ, ◌+◌, ◌<◌, ◌≤◌, true, List, [], ◌∷◌, ◌++◌, map, drop, length, Some, refl, ap, ◌∙◌, append_assoc, arith}
+use Rattle.std.proofs.Common.{◌≡◌, ℕ, ◌+◌, ◌<◌, true, List, [], ◌∷◌, ◌++◌, map, drop, length, Some, refl, ap, ◌∙◌, append_assoc, arith}
 use Rattle.std.specs.List.{slice_get}
 use Rattle.std.specs.Prelude.{nat_eq}
 use Rattle.std.proofs.lemmas.Bool.{eqb-true}
-use Rattle.std.proofs.lemmas.List.{drop_more, drop_all}
+use Rattle.std.proofs.lemmas.List.{drop_more}
 use Rattle.std.proofs.lemmas.Option.{get_or_from_slice_get, slice_get_within}
 use Rattle.mailmap_entries.specs.Folding.{Text}
 use Rattle.mailmap_tables.specs.Groups.{Contents, EmailGroup, name_row, own_rows, listing}
@@ -23,10 +23,6 @@ module _ (t : Contents) (email : Text) (ns : List Texts) (i : ℕ) (none : ns �
       ∙ ap listing (drop_more t.groups i g lt)
       ∙ ap (λ x. listing (x ∷ drop (i + 1) t.groups)) (get_or_from_slice_get t.groups i g g read)
       ∙ append_assoc (own_rows g) (map (name_row g.old_email) g.names) (listing (drop (i + 1) t.groups))
-
-  -- and where no email is left, nothing is
-  pub nothing_left : length t.groups ≤ i → left_to_list t email ns i ≡ []
-  nothing_left past = ap (λ l. left_to_list t email l i) none ∙ ap listing (drop_all i t.groups past)
 
 -- a list of no length
 pub empty : {X : Type 0} (xs : List X) → nat_eq (length xs) 0 ≡ true → xs ≡ []

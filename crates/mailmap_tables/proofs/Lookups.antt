@@ -1,14 +1,12 @@
 -- What a search by a key says of a table whose keys strictly ascend.
-use Rattle.std.proofs.Common.{◌≡◌, ◌≢◌, ℕ, ◌<◌, ◌≤◌, List, [], ◌∷◌, length, map, get_or, All, Some, true, false, Ordering, Less, Equal, Greater, refl, sym, ap, ◌∙◌, arith, ⊎_elim}
-use Rattle.std.specs.List.{slice_get, AllByRecursion, AllWithin, HoldsAt, list_any}
+use Rattle.std.proofs.Common.{◌≡◌, ◌≢◌, ℕ, ◌<◌, ◌≤◌, List, [], ◌∷◌, length, map, get_or, All, Some, Ordering, Less, Equal, Greater, refl, sym, ap, ◌∙◌, arith, ⊎_elim}
+use Rattle.std.specs.List.{slice_get, AllByRecursion, AllWithin, HoldsAt}
 use Rattle.std.specs.List.Sorted.{IsStrictlySortedBy, IsPartitionPoint}
-use Rattle.std.specs.Ordering.{ordering_reverse, eq_by_cmp, is_eq}
+use Rattle.std.specs.Ordering.{ordering_reverse}
 use Rattle.std.specs.Cmp.{IsTotalOrder}
 use Rattle.std.specs.FinMap.{IsAntisymmetric}
 use Rattle.std.proofs.lemmas.Bool.{cases_lt}
-use Rattle.std.proofs.lemmas.Cmp.{tied_back, tied_itself}
 use Rattle.std.proofs.lemmas.List.{get_or-map, length-map}
-use Rattle.std.proofs.lemmas.List.Folds.{list_any_none, list_any_at}
 use Rattle.std.proofs.lemmas.Option.{slice_get_within, get_or_from_slice_get}
 use Rattle.mailmap_entries.specs.Search.{IsPartitioned}
 
@@ -71,26 +69,3 @@ module _ {X K : Type 0} (R : K → K → Ordering) (key : X → K) (q : K) where
       (λ low. let is = missing-below xs i le missing k d (omega arith) low in absurd (cc))
       (λ from. let is = missing-above xs i missing k d from high in absurd (cc))
       (cases_lt k i)
-
-module _ {X K : Type 0} {R : K → K → Ordering} (o : IsTotalOrder R) (key : X → K) (q : K) where
-  -- keys that do not tie are not told equal
-  untied : (k : K) (a : Ordering) → R q k ≡ a → R k q ≢ Equal → eq_by_cmp R q k ≡ false
-  untied k Less is other = ap is_eq is
-  untied k Equal is other = absurd (other (tied_back o q k is))
-  untied k Greater is other = ap is_eq is
-
-  -- a table where q is found has the key q
-  pub found-any : (xs : List X) (i : ℕ) → slice_get (map (λ x. R (key x) q) xs) i ≡ Some Equal → list_any (λ x. eq_by_cmp R q (key x)) xs ≡ true
-  found-any [] i found = absurd (cc)
-  found-any (x ∷ xs) i found =
-      let at = found-at R key q (x ∷ xs) i found in
-      list_any_at (λ x. eq_by_cmp R q (key x)) (x ∷ xs) i x at.0 (ap is_eq (tied_back o (key (get_or (x ∷ xs) i x)) q (at.1 x)))
-
-  -- and one where q is missing has not
-  pub missing-none : (xs : List X) (i : ℕ) → i ≤ length xs → IsPartitionPoint (λ a. a ≡ Less) (λ a. a ≡ Greater) (map (λ x. R (key x) q) xs) i → list_any (λ x. eq_by_cmp R q (key x)) xs ≡ false
-  missing-none xs i le missing = list_any_none (λ x. eq_by_cmp R q (key x)) xs
-      (λ k d high. untied (key (get_or xs k d)) (R q (key (get_or xs k d))) refl (missing-all R key q xs i le missing k d high))
-
-  -- nor is any key of it q itself
-  pub missing-key : (xs : List X) (i : ℕ) → i ≤ length xs → IsPartitionPoint (λ a. a ≡ Less) (λ a. a ≡ Greater) (map (λ x. R (key x) q) xs) i → All (λ x. key x ≢ q) xs
-  missing-key xs i le missing = λ k d high e. missing-all R key q xs i le missing k d high (ap (λ j. R j q) e ∙ tied_itself o q)

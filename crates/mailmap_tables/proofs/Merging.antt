@@ -188,7 +188,3 @@ group_joined g c us js own own_part names_part =
     unnamed_apart : (n : NameGroup) (u : Mapping) → u.old_name ≡ None → u.old_email ≡ g.old_email → IsApart (name_row g.old_email n) u
     unnamed_apart n u plain same =
         (never (text_cmp (folded g.old_email) (folded u.old_email)) (option_cmp text_cmp (Some (name_key n)) (key u).1) (ap (λ o. is_eq (option_cmp text_cmp (Some (name_key n)) (option_map folded o))) plain), λ _. sym same)
-
--- an email that did not stand
-pub group_made : (c : EmailGroup) (us js : List Mapping) → Alike us (own_rows c) → Alike js (name_rows c.old_email c.names) → Alike (us ++ js) (rows c)
-group_made c us js own_part names_part = alike_joined us js (own_rows c) (name_rows c.old_email c.names) own_part names_part

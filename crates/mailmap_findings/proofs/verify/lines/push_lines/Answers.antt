@@ -1,5 +1,5 @@
-use Rattle.std.proofs.Common.{◌+◌, ◌++◌, ◌∙◌, ap, arith, length, map, refl, rules}
-use Rattle.mailmap_findings.specs.Places.{line_of, placed_from, whole_lines}
+use Rattle.std.proofs.Common.{◌+◌, ◌++◌, ◌∙◌, ap, arith, length, map, refl}
+use Rattle.mailmap_findings.specs.Places.{line_of, placed_from}
 use Rattle.mailmap_findings.proofs.Placing.{line_more, line_none}
 use Rattle.mailmap_findings.proofs.WholeLines.{lines-whole}
 use Rattle.mailmap_findings.proofs.verify.lines.push_lines.Goals as goal
