@@ -1,5 +1,5 @@
 -- Each path so far has its bytes.
-use Rattle.std.proofs.Common.{◌≡◌, ◌<◌, ℕ, List, [], get_or, map, string_bytes, vec_len}
+use Rattle.std.proofs.Common.{◌≡◌, ◌<◌, ℕ, [], get_or, map, string_bytes, vec_len}
 use Rattle.mailmap_runs.specs.Files.{IsRead}
 use Rattle.mailmap_runs.proofs.files.read_files.Given as goal
 
