@@ -9,7 +9,7 @@ mailmap_check does without and with --compact. Before it, `make build` builds ma
 `rt run` in crates/mailmap_bench what merges entries one by one; without that those merges are left out.
 
 It makes each family with 10,000, 100,000 and 1,000,000 lines, in a folder in memory that goes away again. All programs
-run in turn, three times and for S seconds a cell (1 if it is not given); what takes more than ten seconds runs once. The
+run in turn, three times and for S seconds a cell (1 if it is not given); what takes more than three seconds runs once. The
 time is that of the processor, for the program and for the system, and the least of all runs counts. The peak is the
 largest resident set. What a program takes over an empty mailmap is taken off both. Past 60 seconds of processor time or
 8 GiB of addresses a program is stopped, and doesn't get more lines of that family.
@@ -38,7 +38,7 @@ SIZES = [10_000, 100_000, 1_000_000]
 NAMES_MERGED = [1_000, 10_000, 32_000]
 SECONDS, ADDRESSES = 60, 8 << 30
 # what runs so many seconds is run once
-ONCE = 10
+ONCE = 3
 CHECK, ORIGINAL, COMPACT, ORIGINAL_COMPACT, VERIFY = PROGRAMS = [
     "mailmap_check",
     "original",
