@@ -56,7 +56,7 @@ if "${CC:-cc}" -fsyntax-only "$work/there.c" 2> /dev/null; then
         same "$work/stored_here" "$work/answered_here" 'other answers'
     fi
 else
-    echo 'beside libgit2: no libgit2 here, so nothing is looked up'
+    echo 'beside libgit2: no libgit2 here, so only the stored table is compared with docs/C.md'
 fi
 sed 1d "$stored" > "$work/rows"
 table_of_page > "$work/shown"
