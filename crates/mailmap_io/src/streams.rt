@@ -1,5 +1,5 @@
 // All that a reader has, and a text to a writer.
-ghost use Rattle.std.specs.Prelude.{◌≡◌, ℕ, IfOk, IsOkUnless, OnErr, OnOk, take};
+ghost use Rattle.std.specs.Prelude.{ℕ, IfOk, IsOkUnless, OnErr, OnOk, take};
 ghost use Rattle.std.specs.Io.KnownBytes.{Appends, Consumes, IsAtEnd};
 
 use crate::failure::Failure;
@@ -30,7 +30,8 @@ pub fn read_all<R: Read>(
 /// At an error what was written is a front of the text. `write_all` of std doesn't say that.
 pub fn write_all<W: Write>(writer: &mut W, text: &[u8]) -> Result<(), Failure>
     ensures ok { OnOk result (Appends (W.contents writer.old) (W.contents writer.new) text.now) }
-    ensures err { OnErr result ((count : ℕ) × Appends (W.contents writer.old) (W.contents writer.new) (take count text.now)) }
+    ensures err { OnErr result ((count : ℕ) × Appends (W.contents writer.old) (W.contents writer.new)
+        (take count text.now)) }
     ensures only { IsOkUnless result Failure.Output }
 {
     let mut written = 0;

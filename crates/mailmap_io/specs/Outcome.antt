@@ -1,8 +1,8 @@
 -- The exit status of a program.
 use Rattle.std.specs.Prelude.{ℕ, Result, Ok, Err}
-use Rattle.mailmap_runs.specs.declared.failure.Failure.{Failure}
-use Rattle.mailmap_runs.specs.declared.outcome.Outcome.{Outcome}
-use Rattle.mailmap_runs.specs.declared.outcome.Outcome.TheVariants.{Clean, Found}
+use Rattle.mailmap_io.specs.declared.failure.Failure.{Failure}
+use Rattle.mailmap_io.specs.declared.outcome.Outcome.{Outcome}
+use Rattle.mailmap_io.specs.declared.outcome.Outcome.TheVariants.{Clean, Found}
 
 -- 0 where nothing was found that is wrong, 1 where something was, 2 at a failure
 abbrev pub status_of : Result Outcome Failure → ℕ

@@ -1,7 +1,7 @@
 -- Each path so far has its bytes.
 use Rattle.std.proofs.Common.{◌≡◌, ◌<◌, ℕ, [], get_or, map, string_bytes, vec_len}
-use Rattle.mailmap_runs.specs.Files.{IsRead}
-use Rattle.mailmap_runs.proofs.files.read_files.Given as goal
+use Rattle.mailmap_io.specs.Files.{IsRead}
+use Rattle.mailmap_io.proofs.files.read_files.Given as goal
 
 abbrev pub invariant-loop-index : goal.invariant-loop-index
 invariant-loop-index g l = (vec_len l.contents ≡ l.index) × ((k : ℕ) → k < l.index →

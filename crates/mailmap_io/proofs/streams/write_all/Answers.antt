@@ -3,8 +3,8 @@ use Rattle.std.proofs.Math.Seq.{take-add}
 use lib.Seq.{take-take}
 use Rattle.std.specs.Io.KnownBytes.{Appends}
 use Rattle.std.proofs.KnownBytes.{Appends-kept, Appends-trans}
-use Rattle.mailmap_runs.proofs.streams.write_all.Goals as goal
-use Rattle.mailmap_runs.proofs.streams.write_all.Goals.{in-Ok, in-Err}
+use Rattle.mailmap_io.proofs.streams.write_all.Goals as goal
+use Rattle.mailmap_io.proofs.streams.write_all.Goals.{in-Ok, in-Err}
 
 -- known bytes that grew by a front of the text, and then by the front of its rest, grew by the longer front
 front_grows : (a b c : Option (List ℕ)) (text : List ℕ) (i n : ℕ) → Appends a b (take i text)

@@ -1,6 +1,6 @@
 // What ends the program early.
 ghost use Rattle.std.specs.Prelude.{◌≡◌, ◌↔◌, IsTrue};
-ghost use Rattle.mailmap_runs.specs.declared.failure.Failure.TheVariants.{Memory};
+ghost use Rattle.mailmap_io.specs.declared.failure.Failure.TheVariants.{Memory};
 
 use std::alloc::{AllocError, AllocFailed};
 use thiserror::Error;

@@ -1,7 +1,7 @@
 //! What a program tells whoever started it.
 ghost use Rattle.std.specs.Prelude.{◌≡◌};
 ghost use Rattle.std.specs.Process.{exit_status};
-ghost use Rattle.mailmap_runs.specs.Outcome.{status_of};
+ghost use Rattle.mailmap_io.specs.Outcome.{status_of};
 
 use crate::failure::Failure;
 use std::process::ExitCode;

@@ -1,8 +1,8 @@
 use Rattle.std.proofs.Common.{rules, ◌≡◌, ◌+◌, ◌<◌, ◌++◌, ◌∷◌, [], ◌∙◌, ℕ, List, ap, arith, below_more, get_or, length, map, string_bytes, subst, sym}
 use Rattle.std.proofs.Math.Seq.{get_or-append_seam}
 use Rattle.std.proofs.lemmas.List.{get_or-map, get_or_append_left, length-map, map-append}
-use Rattle.mailmap_runs.specs.Files.{IsRead}
-use Rattle.mailmap_runs.proofs.files.read_files.Goals as goal
+use Rattle.mailmap_io.specs.Files.{IsRead}
+use Rattle.mailmap_io.proofs.files.read_files.Goals as goal
 
 -- what holds of each element and its place, and of one more at the end
 one_more : (R : ℕ → List ℕ → Type 0) (xs : List (List ℕ)) (x : List ℕ) (n : ℕ) → length xs ≡ n

@@ -1,8 +1,6 @@
 // The mailmaps that the arguments name.
 ghost use Rattle.std.specs.Prelude.{◌≡◌, ◌⊎◌, ◌<◌, ◌≤◌, ℕ, List, Option, None, IfErr, IfOk, IfSome, IsOkUnless, OnOk, Some, length, map, string_bytes};
-ghost use Rattle.mailmap_runs.specs.Run.{bytes_of};
-ghost use Rattle.mailmap_runs.specs.Task.{unless_empty};
-ghost use Rattle.mailmap_runs.specs.Files.{AreRead, IsRead, MayOpenBefore};
+ghost use Rattle.mailmap_io.specs.Files.{AreRead, IsRead, MayOpenBefore};
 
 use crate::failure::Failure;
 use crate::streams::read_all;
@@ -89,18 +87,12 @@ pub fn read_file<F: FileSystem>(
 
 /// The list of the files' bytes.
 pub fn list_of(alloc: Global, contents: &[Vec<u8>]) -> Result<Vec<&[u8]>, AllocError>
-    ensures { IfOk result (λ buffers. map (λ buffer. buffer.now) buffers.items ≡ map (λ file. file.items) contents.now) }
+    ensures { IfOk result (λ buffers. map (λ buffer. buffer.now) buffers.items
+        ≡ map (λ file. file.items) contents.now) }
 {
     let mut buffers = Vec::new(alloc);
     for file in contents {
         buffers.push(file.as_slice())?;
     }
     Ok(buffers)
-}
-
-/// The files that are given: `None` where there are none, and standard input has the mailmap.
-pub fn given<'a>(buffers: &'a [&'a [u8]]) -> Option<&'a [&'a [u8]]>
-    ensures { bytes_of result ≡ unless_empty (map (λ buffer. buffer.now) buffers.now) }
-{
-    (!buffers.is_empty()).then_some(buffers)
 }
