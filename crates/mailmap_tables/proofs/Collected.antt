@@ -1,6 +1,6 @@
 -- What a loop that collects the accepted entries of an iterator has when it has seen one more.
 use Rattle.std.proofs.Common.{◌≡◌, ◌≢◌, ◌+◌, ◌<◌, ◌≤◌, ℕ, suc, length, get_or, arith, true, false, cond, List, [], ◌∷◌, ◌++◌, map, Result, Ok, Err, Ordering, append-nil, refl, sym, ap, ◌∙◌}
-use Rattle.std.specs.Result.{IfOk, OnErr, OnOk}
+use Rattle.std.specs.Result.{IfOk, IsOk, OnErr, OnOk}
 use Rattle.std.specs.List.{AllByRecursion, enumerate_from}
 use Rattle.std.specs.Ordering.{is_lt}
 use Rattle.std.proofs.lemmas.List.Elements.{filter-append}
@@ -56,6 +56,10 @@ numbered n (x ∷ xs) = ap (λ l. x ∷ l) (numbered (n + 1) xs)
 pub on_ok_then : {T E : Type 0} (r : Result T E) (P Q : Type 0) → (P → Q) → OnOk r P → OnOk r Q
 on_ok_then (Ok x) P Q f p = f p
 on_ok_then (Err x) P Q f p = tt
+
+pub on_ok_at : {T E : Type 0} (r : Result T E) (P : Type 0) → OnOk r P → IsOk r → P
+on_ok_at (Ok x) P p is = p
+on_ok_at (Err x) P p is = absurd (cc)
 
 pub if_ok_map : {T E : Type 0} (r : Result T E) (P Q : T → Type 0) → ((x : T) → P x → Q x) → IfOk r P → IfOk r Q
 if_ok_map (Ok x) P Q f p = f x p

@@ -3,12 +3,16 @@
 #![tactic(auto)]
 
 pub mod batch;
-mod insert;
+mod fits;
+mod in_place;
+mod lengths;
 pub mod listing;
 pub mod merge;
+mod pool;
 mod portions;
-mod room;
+mod reserved;
 pub mod search;
 pub mod tables;
 pub mod texts;
 pub mod view;
+mod ways;

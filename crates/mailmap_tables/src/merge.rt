@@ -16,9 +16,8 @@ ghost use Rattle.mailmap_tables.specs.Named.{OwnSpells, named_group, fields_give
 ghost use Rattle.mailmap_tables.specs.Room.{optional_bytes};
 
 use crate::batch::{Placed, sorted};
-use crate::insert::merge_in_place;
 use crate::listing::Iter;
-use crate::portions::accepted_of;
+use crate::lengths::texts_len;
 use crate::search::{place_email, place_name};
 use crate::tables::{NameRow, Tables};
 use crate::texts::{Span, Texts};
@@ -41,18 +40,6 @@ pub(crate) struct Given<'a> {
     pub(crate) new_email: Option<&'a [u8]>,
 }
 
-// Puts a text that may be missing at the end of the pool.
-fn push_optional(out: &mut Tables, text: Option<&[u8]>) -> Result<Option<Span>, AllocError>
-    ensures grown { OnOk result ((more : List ℕ) × (out.new ≡ record out.old { pool = out.old.pool ++ more })) }
-    ensures lies { IfOk result (λ span. ForSome span (LiesIn (length out.new.pool))) }
-    ensures spells { IfOk result (λ span. option_map (spelled out.new.pool) span ≡ option_copied text.entry) }
-{
-    match text {
-        Some(text) => Ok(Some(out.push_text(text, 0)?)),
-        None => Ok(None),
-    }
-}
-
 // Puts a name out, its old name as `old_name` spells it, in the place of fields of so many bytes.
 fn push_named(
     out: &mut Tables,
@@ -69,9 +56,7 @@ fn push_named(
       new_email = named.entry.new_email.now;
     } ∷ []) }
 {
-    let new_name = push_optional(out, named.new_name)?;
-    let new_email = out.push_text(named.new_email, replaced)?;
-    let row = out.together(old_name, new_name, Some(new_email), 0)?;
+    let row = out.name_row(old_name, named, replaced)?;
     out.push_name(row)
 }
 
@@ -99,13 +84,6 @@ fn put_name<'k>(
             push_named(out, old_name, named, 0)?;
             Ok(rest(kept, place))
         }
-    }
-}
-
-pub(crate) fn span_len(span: Option<Span>) -> usize {
-    match span {
-        Some(span) => span.len,
-        None => 0,
     }
 }
 
@@ -250,43 +228,12 @@ pub(crate) fn last_given<'a>(own: &[Placed<'_, 'a>]) -> Given<'a>
     given
 }
 
-// Puts a text out if there is one, and else keeps that which stood.
-fn push_given(
-    out: &mut Tables,
-    given: Option<&[u8]>,
-    stood: Option<Span>,
-) -> Result<Option<Span>, AllocError>
-    requires { ForSome stood (LiesIn (length out.old.pool)) }
-    ensures grown { OnOk result ((more : List ℕ) × (out.new ≡ record out.old { pool = out.old.pool ++ more })) }
-    ensures lies { IfOk result (λ span. ForSome span (LiesIn (length out.new.pool))) }
-    ensures spells { IfOk result (λ span. option_map (spelled out.new.pool) span ≡ option_or (option_copied given.entry) (option_map (spelled out.old.pool) stood)) }
-{
-    match given {
-        Some(text) => Ok(Some(out.push_text(text, span_len(stood))?)),
-        None => Ok(stood),
-    }
-}
-
 // The entries before a place.
 pub(crate) fn before<'s, 'e, 'a>(batch: &'s [Placed<'e, 'a>], place: usize) -> &'s [Placed<'e, 'a>]
     requires { place ≤ length batch.now }
     ensures { result.now ≡ take place batch.now }
 {
     &batch[..place]
-}
-
-// Puts out the fields that are given for an email, and gives the row of its own texts with them. Where its old email is
-// the last text of the pool, they come to stand right behind it.
-fn own_texts(out: &mut Tables, texts: Texts, given: Given<'_>) -> Result<Texts, AllocError>
-    requires { TextsLie (length out.old.pool) texts }
-    ensures grown { OnOk result ((more : List ℕ) × (out.new ≡ record out.old { pool = out.old.pool ++ more })) }
-    ensures lies { IfOk result (TextsLie (length out.new.pool)) }
-    ensures spells { IfOk result (OwnSpells out.old.pool out.new.pool texts (fields_given given.entry)) }
-{
-    let (stood_name, stood_email) = out.view().fields(texts);
-    let new_name = push_given(out, given.new_name, stood_name)?;
-    let new_email = push_given(out, given.new_email, stood_email)?;
-    out.together(texts.old(), new_name, new_email, 0)
 }
 
 // Puts an email out: what stood of it, and the entries of a batch for it. Its own texts come first, for those of a new
@@ -304,7 +251,7 @@ fn join_email(
     ensures { OnOk result (EmailPut (group_of out.old.pool texts names.now) (map mapping_at batch.now) out.old out.new) }
 {
     let len = unnamed_run(batch);
-    let own = own_texts(out, texts, last_given(before(batch, len)))?;
+    let own = out.own_row(texts, last_given(before(batch, len)))?;
     join_names(out, names, behind(batch, len))?;
     out.push_email(own)
 }
@@ -418,46 +365,13 @@ pub(crate) fn joined(
     join_sorted(out, &standing.view(), &batch)
 }
 
-/// Merging.
-impl Tables {
-    /// Puts the accepted entries that an iterator gives behind those that the tables have. A small batch is joined in
-    /// place, once all room is taken. For any other new tables are built aside and put in place at the end. So a refusal
-    /// of memory leaves the tables as they were.
-    pub fn merge<'a, I: Iterator<Item = Entry<'a>> + Drop>(
-        &mut self,
-        entries: I,
-    ) -> Result<(), AllocError>
-        requires can { I.can_next entries }
-        requires finite { IsFinite (I.remaining entries) }
-        requires complete { IsComplete self.old }
-        ensures ok { OnOk result ((xs : List Item) × Drains I.next_gives entries xs
-            × IsComplete self.new × IsNormal (listing self.old.groups ++ map mapping_of xs) (listing self.new.groups)) }
-        ensures err { OnErr result (self.new ≡ self.old) }
-
-        // Memory is asked for only once an entry is accepted.
-        ensures refused { OnErr result ((xs : List Item) × (rest : I) × Yields I.next_gives entries xs rest × (accepted (map mapping_of xs) ≢ [])) }
-    {
-        let alloc = self.allocator();
-        let collected = accepted_of(alloc, self, entries)?;
-        if collected.is_joined() {
-            collected.put_into(self);
-            return Ok(());
-        }
-        if let Some(stood) = collected.small(self) {
-            return merge_in_place(alloc, self, &collected.batch, stood);
-        }
-        *self = collected.tables(self)?;
-        Ok(())
-    }
-}
-
 // Written anew where no more than half of the pool is in use, so that merges which replace don't make it grow without
 // end.
 pub(crate) fn thinned(tables: Tables) -> Result<Tables, AllocError>
     requires { IsComplete tables }
     ensures { IfOk result (λ made. IsComplete made × (listing made.groups ≡ listing tables.groups)) }
 {
-    if tables.is_half_dead() {
+    if tables.pool.is_half_unused() {
         return rewritten(&tables);
     }
     Ok(tables)
@@ -478,24 +392,4 @@ fn listed(alloc: Global, tables: &Tables) -> Result<Vec<Entry<'_>>, AllocError>
     ensures { IfOk result (λ v. map mapping_of v.items ≡ listing tables.now.groups) }
 {
     Iter::new(tables.view()).collect(alloc)
-}
-
-// How many bytes the texts of entries have, as far as they can be counted.
-fn texts_len(entries: &[Entry<'_>]) -> usize {
-    let mut len: usize = 0;
-    for entry in entries {
-        let fields = text_len(entry.new_name()).saturating_add(text_len(entry.new_email()));
-        let keys = text_len(entry.old_name()).saturating_add(entry.old_email().len());
-        len = len.saturating_add(fields).saturating_add(keys);
-    }
-    len
-}
-
-pub(crate) fn text_len(text: Option<&[u8]>) -> usize
-    ensures { result ≡ optional_bytes (option_copied text.entry) }
-{
-    match text {
-        Some(text) => text.len(),
-        None => 0,
-    }
 }

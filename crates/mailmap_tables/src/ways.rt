@@ -1,0 +1,60 @@
+//! Merging entries into tables: in portions, in place or aside.
+ghost use Rattle.std.specs.Prelude.{◌≡◌, ◌≢◌, ◌++◌, [], List, None, OnErr, OnOk, map};
+ghost use Rattle.std.specs.Option.{ForSome};
+ghost use Rattle.std.specs.Iterator.{IsFinite, Drains, Yields};
+ghost use Rattle.mailmap_entries.specs.Entries.{mapping_of};
+ghost use Rattle.mailmap_entries.specs.declared.entry.Entry.{Entry as Item};
+ghost use Rattle.mailmap_histories.specs.Histories.{IsNormal, accepted};
+ghost use Rattle.mailmap_tables.specs.Groups.{AreGroups, IsComplete, listing};
+ghost use Rattle.mailmap_tables.specs.Room.{HasRoom};
+
+use crate::fits::fits_in_place;
+use crate::in_place::merge_in_place;
+use crate::portions::{Collected, accepted_of};
+use crate::tables::Tables;
+use mailmap_entries::Entry;
+use std::alloc::AllocError;
+
+impl Tables {
+    /// Puts the accepted entries that an iterator gives behind those that the tables have. A small batch is joined in
+    /// place, once all room is taken. For any other new tables are built aside and put in place at the end. So a refusal
+    /// of memory leaves the tables as they were.
+    pub fn merge<'a, I: Iterator<Item = Entry<'a>> + Drop>(
+        &mut self,
+        entries: I,
+    ) -> Result<(), AllocError>
+        requires can { I.can_next entries }
+        requires finite { IsFinite (I.remaining entries) }
+        requires complete { IsComplete self.old }
+        ensures ok { OnOk result ((xs : List Item) × Drains I.next_gives entries xs
+            × IsComplete self.new × IsNormal (listing self.old.groups ++ map mapping_of xs) (listing self.new.groups)) }
+        ensures err { OnErr result (self.new ≡ self.old) }
+
+        // Memory is asked for only once an entry is accepted.
+        ensures refused { OnErr result ((xs : List Item) × (rest : I) × Yields I.next_gives entries xs rest × (accepted (map mapping_of xs) ≢ [])) }
+    {
+        let alloc = self.allocator();
+        let collected = accepted_of(alloc, self, entries)?;
+        if collected.is_joined() {
+            collected.put_into(self);
+            return Ok(());
+        }
+        if let Some(bytes) = room_in_place(&collected, self) {
+            return merge_in_place(alloc, self, &collected.batch, bytes);
+        }
+        *self = collected.tables(self)?;
+        Ok(())
+    }
+}
+
+// The room that the batch takes in place, if it is to be put there. After a portion it is not.
+fn room_in_place(collected: &Collected<'_>, tables: &Tables) -> Option<usize>
+    requires { AreGroups tables.now.groups }
+    ensures none { ForSome result (λ bytes. collected.now.made ≡ None) }
+    ensures room { ForSome result (HasRoom tables.now.groups (map mapping_of collected.now.batch.items)) }
+{
+    if collected.made.is_some() {
+        return None;
+    }
+    fits_in_place(tables, &collected.batch)
+}
