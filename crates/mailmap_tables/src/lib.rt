@@ -2,11 +2,15 @@
 //! part of what it gives to users.
 #![tactic(auto)]
 
-mod insert;
+mod fits;
+mod in_place;
+mod join;
+mod lengths;
 pub mod listing;
-pub mod merge;
+mod merge;
+mod pool;
 mod portions;
-mod room;
+mod reserved;
 pub mod search;
 pub mod tables;
 pub mod texts;

@@ -2,16 +2,13 @@
 //! portions, so that they take the memory of their keys and of one portion, however many they are.
 ghost use Rattle.std.specs.Prelude.{◌≡◌, ◌≢◌, ◌<◌, [], ◌++◌, ◌∷◌, List, IfOk, None, OnErr, OnOk, Some, false, true, map, unwrap_or};
 ghost use Rattle.std.specs.Iterator.{IsFinite, Drains, Yields};
-ghost use Rattle.std.specs.Option.{ForSome};
 ghost use Rattle.mailmap_entries.specs.Entries.{Mapping, mapping_of};
 ghost use Rattle.mailmap_entries.specs.declared.entry.Entry.{Entry as Item};
 ghost use Rattle.mailmap_histories.specs.Histories.{accepted, is_accepted};
-ghost use Rattle.mailmap_tables.specs.Groups.{AreGroups, IsComplete};
+ghost use Rattle.mailmap_tables.specs.Groups.{IsComplete};
 ghost use Rattle.mailmap_tables.specs.Collecting.{IsCollected};
-ghost use Rattle.mailmap_tables.specs.Room.{StoodWithin};
 
-use crate::insert::small;
-use crate::merge::{joined, thinned};
+use crate::join::{joined, thinned};
 use crate::tables::Tables;
 use mailmap_entries::Entry;
 use mailmap_entries::fold::front::front_number;
@@ -128,19 +125,6 @@ impl<'a> Collected<'a> {
         if let Some(made) = made {
             *standing = made;
         }
-    }
-
-    /// How many bytes the fields have at most that stand for an email of the batch, if the entries are so few beside the
-    /// standing tables that they are to be joined in place.
-    pub(crate) fn small(&self, standing: &Tables) -> Option<usize>
-        requires { AreGroups standing.now.groups }
-        ensures alone { ForSome result (λ fields. self.now.made ≡ None) }
-        ensures stood { ForSome result (λ fields. StoodWithin fields standing.now.groups (map mapping_of self.now.batch.items)) }
-    {
-        if self.made.is_some() {
-            return None;
-        }
-        small(standing, &self.batch)
     }
 
     /// The standing tables with all entries behind them.

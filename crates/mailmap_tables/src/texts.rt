@@ -83,6 +83,25 @@ impl Texts {
     }
 }
 
+/// The new name and the new email of a row of the pool, if there are any.
+pub(crate) fn fields(pool: &[u8], texts: Texts) -> (Option<Span>, Option<Span>)
+    requires { TextsLie (length pool.now) texts }
+    ensures new_name { result.0 ≡ name_span texts }
+    ensures new_email { result.1 ≡ email_span texts }
+{
+    let len = pool.len();
+    prove!(texts.start <= len);
+    (texts.new_name(), texts.new_email())
+}
+
+/// How many bytes a span has, if there is one.
+pub(crate) fn span_len(span: Option<Span>) -> usize {
+    match span {
+        Some(span) => span.len,
+        None => 0,
+    }
+}
+
 // A text that starts there, if it has a length.
 #[tactic(auto, unfolding(crate::specs::Texts::span_of))]
 fn span_of(start: usize, len: usize) -> Option<Span>
