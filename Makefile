@@ -1,6 +1,9 @@
 # make run: maps the sample contacts by the sample mailmap. make test: the gate. make edits: the wrong bodies that the
-# gate leaves out for its time. make lib: the libraries for C. make install: the programs and their manual pages, the
-# libraries, their header, what pkg-config reads and the module for Python, under PREFIX.
+# gate leaves out for its time. make build: the programs. make lib: the libraries for C. make install: the programs and
+# their manual pages, the libraries, their header, what pkg-config reads and the module for Python, under PREFIX.
+#
+# What is built is built again only after a change of what it is made from. `rt ci` builds each program that it proves,
+# so after it there is nothing left to build but the libraries for C.
 PREFIX ?= /usr/local
 PROGRAM = crates/mailmap_check/out/mailmap_check
 VERIFIER = crates/mailmap_verify/out/mailmap_verify
@@ -9,17 +12,35 @@ DUMP = crates/mailmap_dump/out/mailmap_dump
 LIB = crates/gix_mailmap_c/out
 HEAP = $(dir $(shell rt doc))c/liblibc_c.a
 
-.PHONY: build run test edits install install_lib lib
-build:
-	@echo 'Proves everything first: ten to twenty minutes on four processors the first time.'
-	cd crates/mailmap_check && rt run < stdin > /dev/null
-	cd crates/mailmap_verify && rt run -- --help > /dev/null
+# what a proof reads
+SOURCES = crates.txt $(shell find crates -name out -prune -o -type f \( -name '*.rt' -o -name '*.antt' \) -print)
 
-run: build
+.PHONY: build run test edits install install_lib lib
+build: $(PROGRAM) $(VERIFIER)
+
+$(PROGRAM): $(SOURCES)
+	@echo 'Proving and building mailmap_check, with all that it stands on. The first time this takes some minutes.'
+	cd crates/mailmap_check && rt run < stdin > /dev/null
+	touch $@
+
+$(VERIFIER): $(SOURCES)
+	@echo 'Proving and building mailmap_verify, with all that it stands on. The first time this takes some minutes.'
+	cd crates/mailmap_verify && rt run -- --help > /dev/null
+	touch $@
+
+$(DUMP): $(SOURCES)
+	@echo 'Proving and building mailmap_dump.'
+	cd crates/mailmap_dump && rt run > /dev/null
+	touch $@
+
+run: $(PROGRAM)
 	$(PROGRAM) sample/mailmap < sample/contacts
 
+lib: $(LIB)/c/libgix_mailmap.so
+
 # the static library, whole by itself, and the shared one
-lib:
+$(LIB)/c/libgix_mailmap.so: $(SOURCES) include/gix_mailmap.map
+	@echo 'Proving and building the libraries for C.'
 	cd crates/gix_mailmap_c && rt lib > /dev/null
 	rm -rf $(LIB)/c && mkdir $(LIB)/c
 	cp $(LIB)/libgix_mailmap_c.a $(LIB)/c/libgix_mailmap.a
@@ -30,8 +51,7 @@ lib:
 test:
 	tests/refused_memory.sh
 	rt ci
-	$(MAKE) build
-	cd crates/mailmap_dump && rt run > /dev/null
+	$(MAKE) build $(DUMP)
 	tests/original/compare.py $(PROGRAM) $(DUMP)
 	tests/verify/run.py $(VERIFIER)
 	tests/failures.sh $(PROGRAM) $(VERIFIER)

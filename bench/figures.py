@@ -18,7 +18,7 @@ from pathlib import Path
 import chart
 import compare
 import peers
-from measuring import HERE, MILLION, Failed, output, stored, versions
+from measuring import HERE, MILLION, Failed, output, put_in, stored, versions
 
 DOCS = HERE.parent / "docs"
 FIGURES = DOCS / "benchmarks.json"
@@ -50,18 +50,6 @@ def tables(figures):
         "building memory": compare.memory_table(figures["building"]),
         "growth": compare.growth_table(figures),
     }
-
-
-def put_in(path, texts):
-    """Puts each text between its two marks in a document."""
-    document = path.read_text(encoding="utf-8")
-    for name, text in texts.items():
-        first, last = f"<!-- {name} -->\n", f"<!-- end of {name} -->\n"
-        if document.count(first) != 1 or document.count(last) != 1:
-            raise Failed(f"{path}: it should have one {first.strip()} and one {last.strip()}")
-        before, rest = document.split(first)
-        document = f"{before}{first}\n{text}\n\n{last}{rest.split(last)[1]}"
-    path.write_text(document, encoding="utf-8")
 
 
 def main():

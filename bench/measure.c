@@ -1,4 +1,5 @@
-// Runs a program once, and prints the nanoseconds until it ended, its peak memory in KiB, and its status.
+// Runs a program once, and prints the nanoseconds until it ended, its peak memory in KiB, its status, and the nanoseconds
+// of processor time that it and the system took for it.
 //
 //     cc -O2 -static -o measure measure.c
 //     measure SECONDS IN OUT PROGRAM ARGS..
@@ -13,6 +14,11 @@
 #include <sys/wait.h>
 #include <time.h>
 #include <unistd.h>
+
+static long long nanos_of(struct timeval time)
+{
+	return time.tv_sec * 1000000000LL + time.tv_usec * 1000LL;
+}
 
 static void begin(char **words)
 {
@@ -41,6 +47,7 @@ int main(int count, char **words)
 	clock_gettime(CLOCK_MONOTONIC, &end);
 	long long nanos = (end.tv_sec - start.tv_sec) * 1000000000LL + (end.tv_nsec - start.tv_nsec);
 	int code = WIFEXITED(status) ? WEXITSTATUS(status) : 128 + WTERMSIG(status);
-	printf("%lld %ld %d\n", nanos, used.ru_maxrss, code);
+	long long processor = nanos_of(used.ru_utime) + nanos_of(used.ru_stime);
+	printf("%lld %ld %d %lld\n", nanos, used.ru_maxrss, code, processor);
 	return 0;
 }

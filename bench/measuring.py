@@ -5,8 +5,10 @@ import re
 import subprocess
 import tempfile
 import time
+from collections.abc import Iterator, Mapping, Sequence
 from dataclasses import dataclass
 from pathlib import Path
+from typing import Any
 
 HERE = Path(__file__).resolve().parent
 KINDS = ["mixed", "sorted", "hundred"]
@@ -17,45 +19,55 @@ class Failed(Exception):
     """What is told in one line in place of a trace."""
 
 
-def scratch():
+def scratch() -> "tempfile.TemporaryDirectory[str]":
     """A folder that goes away again, in memory where the system has such: what is written isn't to wait for a disk."""
     return tempfile.TemporaryDirectory(dir="/dev/shm" if Path("/dev/shm").is_dir() else None)
 
 
-def built(name, folder, *flags):
+def built(name: str, folder: str | Path, *flags: str) -> str:
     """Builds a C program of this folder into another, and gives its path."""
     program = Path(folder) / name
     subprocess.run(["cc", "-O2", "-o", program, HERE / f"{name}.c", *flags], check=True)
     return str(program)
 
 
-def output(words, **more):
+def output(words: Sequence[str | Path], **more: Any) -> str:
     """What a program prints."""
     done = subprocess.run(words, stdin=subprocess.DEVNULL, capture_output=True, text=True, **more)
     if done.returncode != 0:
         raise Failed(f"{' '.join(map(str, words))}: {done.stderr.strip()}")
-    return done.stdout
+    return str(done.stdout)
 
 
 @dataclass
 class Run:
-    """A run of a program: its time, its peak memory in bytes, and how it ended."""
+    """A run of a program: its time, its peak memory in bytes, how it ended, its processor time, and its complaints."""
 
     nanos: int
     peak: int
     status: int
+    processor: int
+    complaints: str
 
 
-def run(measure, words, stdin="/dev/null", stdout="/dev/null", seconds=600, **more):
+def run(
+    measure: str,
+    words: Sequence[str],
+    stdin: str = "/dev/null",
+    stdout: str = "/dev/null",
+    seconds: float = 600,
+    **more: Any,
+) -> Run:
     """Runs a program once, from its start to its end, by measure.c."""
-    told = subprocess.run([measure, str(seconds), stdin, stdout, *words], capture_output=True, text=True, **more)
+    line = [measure, str(seconds), stdin, stdout, *words]
+    told = subprocess.run(line, capture_output=True, text=True, errors="replace", **more)
     if told.returncode != 0:
         raise Failed(f"{measure}: status {told.returncode}")
-    nanos, kib, status = map(int, told.stdout.split())
-    return Run(nanos, kib * 1024, status)
+    nanos, kib, status, processor = map(int, told.stdout.split())
+    return Run(nanos, kib * 1024, status, processor, told.stderr)
 
 
-def rounds(seconds, least=2, most=50):
+def rounds(seconds: float, least: int = 2, most: int = 50) -> Iterator[int]:
     """Counts rounds until the time is used up."""
     start = time.monotonic()
     for number in range(most):
@@ -64,17 +76,17 @@ def rounds(seconds, least=2, most=50):
         yield number
 
 
-def duration(nanos):
-    unit, size = next((u for u in [("s", 1e9), ("ms", 1e6), ("µs", 1e3)] if nanos >= u[1]), ("ns", 1))
+def duration(nanos: float) -> str:
+    unit, size = next((u for u in [("s", 1e9), ("ms", 1e6), ("µs", 1e3)] if nanos >= u[1]), ("ns", 1.0))
     count = nanos / size
     return f"{count:.0f} {unit}" if count >= 100 else f"{count:.3g} {unit}"
 
 
-def mebibytes(count):
+def mebibytes(count: int) -> str:
     return f"{count / 2**20:.1f} MiB"
 
 
-def ratio(port, peer, aim=None):
+def ratio(port: float, peer: float, aim: float | None = None) -> list[str]:
     """Port to peer, and the aim with a mark where it is reached, as the two last columns of a row."""
     found = port / peer
     text = f"{found:.3f}" if found < 0.1 else f"{found:.2f}"
@@ -83,18 +95,30 @@ def ratio(port, peer, aim=None):
     return [text, f"{aim:g} {'✓' if found <= aim else '✗'}"]
 
 
-def table(head, rows):
+def table(head: list[str], rows: list[list[str]]) -> str:
     """A table in Markdown; the columns whose head begins with a blank hold numbers."""
     lines = [head, ["--:" if name.startswith(" ") else "---" for name in head], *rows]
     return "\n".join("| " + " | ".join(text.strip() for text in line) + " |" for line in lines)
 
 
-def versions():
+def versions() -> dict[str, str]:
     """The processor and the system that the figures come from."""
     cpu = re.search(r"model name\s*:\s*(.*)", Path("/proc/cpuinfo").read_text())
     system = f"{os.uname().sysname}, {os.cpu_count()} processors"
     return {"processor": cpu.group(1) if cpu else "unknown", "system": system}
 
 
-def stored(path, figures):
+def put_in(path: Path, texts: Mapping[str, str]) -> None:
+    """Puts each text between its two marks in a document."""
+    document = path.read_text(encoding="utf-8")
+    for name, text in texts.items():
+        first, last = f"<!-- {name} -->\n", f"<!-- end of {name} -->\n"
+        if document.count(first) != 1 or document.count(last) != 1:
+            raise Failed(f"{path}: it should have one {first.strip()} and one {last.strip()}")
+        before, rest = document.split(first)
+        document = f"{before}{first}\n{text}\n\n{last}{rest.split(last)[1]}"
+    path.write_text(document, encoding="utf-8")
+
+
+def stored(path: str | Path, figures: object) -> None:
     Path(path).write_text(json.dumps(figures, indent=1, ensure_ascii=False) + "\n", encoding="utf-8")

@@ -2,7 +2,7 @@
 # Tests the libraries in the folder that the first argument names. The shared one has to show what the header declares, and
 # nothing else. The C tests are built against the static one and run: as they are, and under the address and
 # undefined-behaviour sanitizers where the compiler has them. Then comes a program in C++ over the header, where there is a
-# compiler for that.
+# compiler for that. At last the answers are compared with those of libgit2, where it is there.
 set -euo pipefail
 library="$(cd "$1" && pwd)"
 here="$(cd "$(dirname "$0")" && pwd)"
@@ -41,3 +41,5 @@ if [ -n "$(command -v c++)" ]; then
     "$work/uses"
     echo 'calls from C++: passed'
 fi
+
+"$here/beside_libgit2.sh" "$library"

@@ -9,8 +9,8 @@ trap 'rm -rf "$work"' EXIT
 
 mkdir -p "$work/crates/case/src"
 cp "$top/HANDLES" "$work"
-for crate in mailmap_entries mailmap_grammar mailmap_histories mailmap_signatures mailmap_sifting mailmap_findings mailmap_tables \
-    mailmap_snapshot gix_mailmap; do
+for crate in mailmap_entries mailmap_grammar mailmap_histories mailmap_signatures mailmap_batches mailmap_sifting mailmap_findings \
+    mailmap_tables mailmap_snapshot gix_mailmap; do
     mkdir "$work/crates/$crate"
     cp -r "$top/crates/$crate/"{src,specs,proofs} "$work/crates/$crate"
     # what earlier runs proved need not be proved again

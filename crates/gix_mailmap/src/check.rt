@@ -12,7 +12,6 @@ use bstr::ByteSlice;
 pub use compaction::compact;
 use mailmap_grammar::halves::{Half, parse_name_and_email, trim};
 use mailmap_grammar::parse_ignore_errors;
-use mailmap_signatures::actor::SignatureRef;
 use mailmap_snapshot::snapshot::Snapshot;
 pub use parts::split;
 use std::alloc::{AllocError, Global};
@@ -71,12 +70,7 @@ fn resolved<'a>(snapshot: &'a Snapshot, name: &'a [u8], email: &'a [u8]) -> (&'a
     ensures name { result.0.now ≡ unwrap_or (fields_for snapshot.now name.now email.now).name name.now }
     ensures email { result.1.now ≡ unwrap_or (fields_for snapshot.now name.now email.now).email email.now }
 {
-    let contact = SignatureRef {
-        name,
-        email,
-        time: "",
-    };
-    match snapshot.try_resolve_ref(contact) {
+    match snapshot.try_resolve_contact(name, email) {
         Some(found) => (found.name.unwrap_or(name), found.email.unwrap_or(email)),
         None => (name, email),
     }

@@ -1,4 +1,4 @@
-use mailmap_runs::failure::Failure;
+use mailmap_io::failure::Failure;
 use std::test::Fail;
 
 /// A program prints them behind its own name.

@@ -1,8 +1,8 @@
 ghost use Rattle.std.specs.Prelude.{None};
 
 use crate::check::assert_bytes;
-use mailmap_runs::failure::Failure;
-use mailmap_runs::files::{FileSystem, System, read_files};
+use mailmap_io::failure::Failure;
+use mailmap_io::files::{FileSystem, System, read_files};
 use std::alloc::{AllocError, Global};
 use std::io;
 use std::io::{Error, ErrorKind};

@@ -2,8 +2,8 @@ use crate::check::assert_bytes;
 use crate::files::paths_of;
 use gix_mailmap::lines::Error;
 use gix_mailmap::verify::{Contact, Finding, Kind, Place};
+use mailmap_io::outcome::Outcome;
 use mailmap_reports::report::{judge, report_of};
-use mailmap_runs::outcome::Outcome;
 use std::alloc::{AllocError, Global};
 use std::process::Abort;
 

@@ -1,7 +1,7 @@
 ghost use Rattle.std.specs.Prelude.{◌≤◌, IfOk};
 
 use crate::check::assert_bytes;
-use mailmap_runs::failure::Failure;
+use mailmap_io::failure::Failure;
 use mailmap_runs::run::{run, run_compact};
 use std::alloc::Global;
 use std::io::{Error, ErrorKind, Read, Write};

@@ -1,6 +1,6 @@
 use crate::check::assert_bytes;
 use crate::files::{SHELF, paths_of};
-use mailmap_runs::failure::Failure;
+use mailmap_io::failure::Failure;
 use mailmap_runs::task::{Mode, Task, perform, task_of};
 use std::alloc::{AllocError, Global};
 use std::process::Abort;

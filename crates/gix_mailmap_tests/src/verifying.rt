@@ -1,9 +1,9 @@
 use crate::check::assert_bytes;
 use crate::files::{SHELF, paths_of};
 use crate::run::{ALL, BREAKS, Sink, Source, Turn};
+use mailmap_io::failure::Failure;
+use mailmap_io::outcome::Outcome;
 use mailmap_reports::task::{Mode, Task, USAGE, perform, task_of};
-use mailmap_runs::failure::Failure;
-use mailmap_runs::outcome::Outcome;
 use std::alloc::{AllocError, Global};
 use std::io::{Read, Write};
 use std::process::Abort;

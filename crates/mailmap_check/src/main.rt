@@ -8,9 +8,9 @@
 //! A failure prints its one line on standard error and ends the program with status 2.
 #![tactic(auto)]
 
-use mailmap_runs::failure::Failure;
-use mailmap_runs::files::System;
-use mailmap_runs::outcome::{Outcome, exit_code};
+use mailmap_io::failure::Failure;
+use mailmap_io::files::System;
+use mailmap_io::outcome::{Outcome, exit_code};
 use mailmap_runs::task::{perform, task_of};
 use std::env;
 use std::process::ExitCode;

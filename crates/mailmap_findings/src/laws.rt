@@ -8,21 +8,24 @@ ghost use Rattle.mailmap_histories.specs.Histories.{IsNormal};
 ghost use Rattle.mailmap_sifting.specs.Sifting.{entries};
 ghost use Rattle.mailmap_sifting.specs.declared.placed.Place.{Place};
 ghost use Rattle.mailmap_findings.specs.Findings.{AreFindings, AreInOrder, Contact, Finding, IsPruned, is_idle, same_contact};
-ghost use Rattle.mailmap_findings.specs.Places.{Line, lines, placed, same_place, whole_lines};
+ghost use Rattle.mailmap_findings.specs.Places.{lines, placed, same_place, whole_lines};
 
 /// Lines as they stand are their buffer, if they are put together again. They say what the buffer is read to say, and their
 /// entries are what the buffers map.
 pub fn law_whole_lines()
     ensures whole { (s : Text) → flat_map (λ t. t) (whole_lines s) ≡ s }
-    ensures said { (s : Text) → flat_map (λ l. option_to_list (reading l.place.line l.text)) (lines (s ∷ [])) ≡ readings s }
-    ensures said_strictly { (s : Text) → flat_map (λ l. option_to_list (strict_reading l.place.line l.text)) (lines (s ∷ [])) ≡ strict_readings s }
+    ensures said { (s : Text) → flat_map (λ l. option_to_list (reading l.place.line l.text)) (lines (s ∷ []))
+        ≡ readings s }
+    ensures said_strictly { (s : Text)
+        → flat_map (λ l. option_to_list (strict_reading l.place.line l.text)) (lines (s ∷ [])) ≡ strict_readings s }
     ensures entries { (buffers : List Text) → entries (placed (lines buffers)) ≡ flat_map good buffers }
 {}
 
 /// Buffers have one list of findings, and a buffer has one text that is left of it.
 pub fn law_one_answer()
     ensures findings { (buffers : List Text) → (found : List Finding) × AreFindings buffers found }
-    ensures one_findings { (buffers : List Text) (found other : List Finding) → AreFindings buffers found → AreFindings buffers other → found ≡ other }
+    ensures one_findings { (buffers : List Text) (found other : List Finding) → AreFindings buffers found
+        → AreFindings buffers other → found ≡ other }
     ensures pruned { (buffer : Text) → (text : Text) × IsPruned buffer text }
     ensures one_pruned { (buffer text other : Text) → IsPruned buffer text → IsPruned buffer other → text ≡ other }
 {}
@@ -42,7 +45,8 @@ pub fn law_in_order()
 /// all.
 pub fn law_deleted()
     ensures { (buffers : List Text) (found : List Finding) (n : List Mapping) → AreFindings buffers found
-        → IsNormal (flat_map good buffers) n ↔ IsNormal (entries (placed (filter (λ l. not (is_idle found l)) (lines buffers)))) n }
+        → IsNormal (flat_map good buffers) n
+        ↔ IsNormal (entries (placed (filter (λ l. not (is_idle found l)) (lines buffers)))) n }
 {}
 
 /// A pruned text has the lines of its buffer that are not told to have no effect. It has the normal list of the buffer, so it
@@ -50,6 +54,7 @@ pub fn law_deleted()
 pub fn law_pruned()
     ensures told { (buffer text : Text) (found : List Finding) → AreFindings (buffer ∷ []) found → IsPruned buffer text
         → text ≡ flat_map (λ l. l.text) (filter (λ l. not (is_idle found l)) (lines (buffer ∷ []))) }
-    ensures listing { (buffer text : Text) (n : List Mapping) → IsPruned buffer text → IsNormal (good buffer) n ↔ IsNormal (good text) n }
+    ensures listing { (buffer text : Text) (n : List Mapping) → IsPruned buffer text
+        → IsNormal (good buffer) n ↔ IsNormal (good text) n }
     ensures settled { (buffer text : Text) → IsPruned buffer text → IsPruned text text }
 {}

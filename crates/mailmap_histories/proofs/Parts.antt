@@ -130,3 +130,13 @@ all_map f P (x ∷ xs) a = (a.0, all_map f P xs a.1)
 pub first_alone : {X : Type 0} (P : X → Type 0) (xs : List X) → HoldsAt P xs 0 → AllByRecursion P (take 1 xs)
 first_alone P [] h = tt
 first_alone P (x ∷ xs) h = (h x, tt)
+
+-- what follows of each of a list
+pub all_weaker : {X : Type 0} {P Q : X → Type 0} (xs : List X) → ((x : X) → P x → Q x) → AllByRecursion P xs → AllByRecursion Q xs
+all_weaker [] f a = tt
+all_weaker (x ∷ xs) f a = (f x a.0, all_weaker xs f a.1)
+
+-- what holds of each image
+pub all_mapped : {X Y : Type 0} (f : X → Y) (P : Y → Type 0) (xs : List X) → AllByRecursion (λ x. P (f x)) xs → AllByRecursion P (map f xs)
+all_mapped f P [] a = tt
+all_mapped f P (x ∷ xs) a = (a.0, all_mapped f P xs a.1)

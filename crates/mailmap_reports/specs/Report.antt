@@ -5,8 +5,8 @@ use Rattle.gix_mailmap.specs.Folding.{Text}
 use Rattle.gix_mailmap.specs.Lines.{Kind, no_email, missing_closing_bracket, empty_email, nothing_to_map, unclosed_second}
 use Rattle.gix_mailmap.specs.Contacts.{contact}
 use Rattle.gix_mailmap.specs.Findings.{Contact, Finding, Told, fault, ignored_text, no_effect, itself_mapped}
-use Rattle.mailmap_runs.specs.declared.outcome.Outcome.{Outcome}
-use Rattle.mailmap_runs.specs.declared.outcome.Outcome.TheVariants.{Clean, Found}
+use Rattle.mailmap_io.specs.declared.outcome.Outcome.{Outcome}
+use Rattle.mailmap_io.specs.declared.outcome.Outcome.TheVariants.{Clean, Found}
 
 -- how the file of a buffer is shown: by its path, or where no path is given as standard input
 abbrev pub file_name : List Text → ℕ → Text

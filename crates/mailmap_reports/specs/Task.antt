@@ -2,9 +2,9 @@
 use Rattle.std.specs.Prelude.{◌≡◌, List, [], ◌∷◌, Option, Some, IfSome, codes, slice_get}
 use Rattle.gix_mailmap.specs.Folding.{Text}
 use Rattle.gix_mailmap.specs.Findings.{AreFindings, IsPruned, Finding}
-use Rattle.mailmap_runs.specs.Files.{AreRead}
-use Rattle.mailmap_runs.specs.declared.outcome.Outcome.{Outcome}
-use Rattle.mailmap_runs.specs.declared.outcome.Outcome.TheVariants.{Clean}
+use Rattle.mailmap_io.specs.Files.{AreRead}
+use Rattle.mailmap_io.specs.declared.outcome.Outcome.{Outcome}
+use Rattle.mailmap_io.specs.declared.outcome.Outcome.TheVariants.{Clean}
 use Rattle.mailmap_reports.specs.Report.{outcome_of, report}
 use Rattle.mailmap_reports.specs.declared.task.Mode.{Mode}
 use Rattle.mailmap_reports.specs.declared.task.Mode.TheVariants.{Help, Verify, Prune}

@@ -1,16 +1,16 @@
 //! What is printed, made whole before any of it is.
 ghost use Rattle.std.specs.Prelude.{◌≡◌, ◌≢◌, ◌↔◌, ◌<◌, ◌≤◌, ◌⊎◌, ◌∷◌, [], ℕ, IfErr, IfOk, IsErrOf, length, map, string_bytes};
-ghost use Rattle.mailmap_runs.specs.Files.{MayOpenBefore};
+ghost use Rattle.mailmap_io.specs.Files.{MayOpenBefore};
 ghost use Rattle.gix_mailmap.specs.Findings.{IsPruned};
 ghost use Rattle.mailmap_reports.specs.Task.{AreMailmaps, IsAnswer, IsReport};
 
 use crate::report::{judge, report_of};
 use crate::task::{Mode, Task, USAGE};
 use gix_mailmap::verify::{prune, verify};
-use mailmap_runs::failure::Failure;
-use mailmap_runs::files::{FileSystem, list_of, read_file, read_files};
-use mailmap_runs::outcome::Outcome;
-use mailmap_runs::streams::read_all;
+use mailmap_io::failure::Failure;
+use mailmap_io::files::{FileSystem, list_of, read_file, read_files};
+use mailmap_io::outcome::Outcome;
+use mailmap_io::streams::read_all;
 use std::alloc::{AllocError, Global};
 use std::io::Read;
 
@@ -36,8 +36,10 @@ pub fn answer_to<F: FileSystem, R: Read>(
         task.entry.mode (map string_bytes task.entry.paths.now) answer.outcome answer.text.items) }
     ensures unread { task.entry.paths.now ≢ [] → input.new ≡ input.old }
     ensures unread_for_help { task.entry.mode ≡ Mode.Help → input.new ≡ input.old }
-    ensures too_many { IsErrOf result Failure.TooManyFiles ↔ ((task.entry.mode ≡ Mode.Prune) × (1 < length task.entry.paths.now)) }
-    ensures file { (number : ℕ) → IsErrOf result (Failure.File number) → (0 < number) × (number ≤ length task.entry.paths.now)
+    ensures too_many { IsErrOf result Failure.TooManyFiles
+        ↔ ((task.entry.mode ≡ Mode.Prune) × (1 < length task.entry.paths.now)) }
+    ensures file { (number : ℕ) → IsErrOf result (Failure.File number) → (0 < number)
+        × (number ≤ length task.entry.paths.now)
         × MayOpenBefore (F.may_open system.now) number (map string_bytes task.entry.paths.now) }
     ensures input { IsErrOf result Failure.Input → (task.entry.mode ≢ Mode.Help) × (task.entry.paths.now ≡ []) }
     ensures no_output { ¬ IsErrOf result Failure.Output }
@@ -68,7 +70,8 @@ fn usage(alloc: Global) -> Result<Answer, AllocError>
 
 // What is found in mailmaps.
 fn findings_in(alloc: Global, paths: &[String], mailmaps: &[Vec<u8>]) -> Result<Answer, AllocError>
-    ensures { IfOk result (λ answer. IsReport (map string_bytes paths.now) (map (λ m. m.items) mailmaps.now) answer.outcome answer.text.items) }
+    ensures { IfOk result (λ answer. IsReport (map string_bytes paths.now)
+        (map (λ m. m.items) mailmaps.now) answer.outcome answer.text.items) }
 {
     let buffers = list_of(alloc, mailmaps)?;
     let findings = verify(alloc, buffers.as_slice())?;

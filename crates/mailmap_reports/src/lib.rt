@@ -1,5 +1,5 @@
 //! What the program `mailmap_verify` does: what its arguments ask for, and the doing of it, over any reader, writer and
-//! file system. What it shares with `mailmap_check` is in `mailmap_runs`.
+//! file system. What it shares with `mailmap_check` is in `mailmap_io`.
 #![tactic(auto)]
 
 pub mod answer;

@@ -8,7 +8,7 @@ use gix_mailmap::check::push_contact;
 use gix_mailmap::lines::Error;
 use gix_mailmap::verify::{Contact, Finding, Kind, Place};
 use itoa::Buffer;
-use mailmap_runs::outcome::Outcome;
+use mailmap_io::outcome::Outcome;
 use std::alloc::{AllocError, Global};
 
 /// The lines of the findings, each with its line feed.
@@ -53,7 +53,8 @@ fn push_finding(
     paths: &[String],
     finding: &Finding<'_>,
 ) -> Result<(), AllocError>
-    ensures { OnOk result (text.new.items ≡ text.old.items ++ finding_line (map string_bytes paths.now) (finding_of finding.now)) }
+    ensures { OnOk result (text.new.items
+        ≡ text.old.items ++ finding_line (map string_bytes paths.now) (finding_of finding.now)) }
 {
     push_place(text, paths, finding.place)?;
     text.extend_from_slice(b": ")?;
@@ -64,7 +65,8 @@ fn push_finding(
 
 // Appends the file and the line of a place, with a colon between them.
 fn push_place(text: &mut Vec<u8>, paths: &[String], place: Place) -> Result<(), AllocError>
-    ensures { OnOk result (text.new.items ≡ text.old.items ++ place_text (map string_bytes paths.now) place.buffer place.line) }
+    ensures { OnOk result (text.new.items
+        ≡ text.old.items ++ place_text (map string_bytes paths.now) place.buffer place.line) }
 {
     let mut digits = Buffer::new();
     text.extend_from_slice(name_of(paths, place.buffer).as_bytes())?;
@@ -87,7 +89,8 @@ fn name_of(paths: &[String], buffer: usize) -> &str
 
 // Appends what was found.
 fn push_kind(text: &mut Vec<u8>, paths: &[String], kind: &Kind<'_>) -> Result<(), AllocError>
-    ensures { OnOk result (text.new.items ≡ text.old.items ++ told_text (map string_bytes paths.now) (told_of kind.now)) }
+    ensures { OnOk result (text.new.items
+        ≡ text.old.items ++ told_text (map string_bytes paths.now) (told_of kind.now)) }
 {
     match kind {
         Kind::Fault(fault) => {
@@ -115,7 +118,8 @@ fn push_no_effect(text: &mut Vec<u8>, paths: &[String], beside: Place) -> Result
 // Appends that a contact is itself mapped.
 fn push_mapped(text: &mut Vec<u8>, contact: Contact<'_>, to: Contact<'_>) -> Result<(), AllocError>
     ensures { OnOk result (text.new.items ≡ text.old.items
-        ++ (codes "warning: " ++ contact_text (contact_of contact.entry) ++ codes " is itself mapped, to " ++ contact_text (contact_of to.entry))) }
+        ++ (codes "warning: " ++ contact_text (contact_of contact.entry)
+        ++ codes " is itself mapped, to " ++ contact_text (contact_of to.entry))) }
 {
     text.extend_from_slice(b"warning: ")?;
     push_some_contact(text, contact)?;

@@ -1,15 +1,15 @@
 //! What the arguments of `mailmap_verify` ask for, and the doing of it.
 ghost use Rattle.std.specs.Prelude.{◌≡◌, ◌≢◌, ◌↔◌, ◌<◌, ◌≤◌, [], ℕ, IfOk, IsErr, IsErrOf, drop, length, map, string_bytes};
-ghost use Rattle.mailmap_runs.specs.Files.{MayOpenBefore};
-ghost use Rattle.mailmap_runs.specs.Run.{Prints, PrintsFront};
-ghost use Rattle.mailmap_runs.specs.declared.outcome.Outcome.{Outcome as TheOutcome};
+ghost use Rattle.mailmap_io.specs.Files.{MayOpenBefore};
+ghost use Rattle.mailmap_io.specs.Printing.{Prints, PrintsFront};
+ghost use Rattle.mailmap_io.specs.declared.outcome.Outcome.{Outcome as TheOutcome};
 ghost use Rattle.mailmap_reports.specs.Task.{AsksForHelp, AsksToPrune, IsAnswer};
 
 use crate::answer::answer_to;
-use mailmap_runs::failure::Failure;
-use mailmap_runs::files::FileSystem;
-use mailmap_runs::outcome::Outcome;
-use mailmap_runs::streams::write_all;
+use mailmap_io::failure::Failure;
+use mailmap_io::files::FileSystem;
+use mailmap_io::outcome::Outcome;
+use mailmap_io::streams::write_all;
 use std::alloc::Global;
 use std::io::{Read, Write};
 
@@ -83,7 +83,8 @@ pub fn perform<F: FileSystem, R: Read, W: Write>(
 ) -> Result<Outcome, Failure>
     // The answer is written, once and with nothing beside it.
     ensures prints { IfOk result (λ outcome. Prints
-        (IsAnswer (F.may_open system.now) (F.bytes system.now) (R.remaining input.old) task.entry.mode (map string_bytes task.entry.paths.now) outcome)
+        (IsAnswer (F.may_open system.now) (F.bytes system.now) (R.remaining input.old) task.entry.mode
+        (map string_bytes task.entry.paths.now) outcome)
         (W.contents output.old) (W.contents output.new)) }
 
     // Where files are given, and for help, standard input isn't read.
@@ -92,15 +93,18 @@ pub fn perform<F: FileSystem, R: Read, W: Write>(
     ensures input { IsErrOf result Failure.Input → (task.entry.mode ≢ Mode.Help) × (task.entry.paths.now ≡ []) }
 
     // Only one mailmap can be pruned; that is said before anything is read.
-    ensures too_many { IsErrOf result Failure.TooManyFiles ↔ ((task.entry.mode ≡ Mode.Prune) × (1 < length task.entry.paths.now)) }
+    ensures too_many { IsErrOf result Failure.TooManyFiles
+        ↔ ((task.entry.mode ≡ Mode.Prune) × (1 < length task.entry.paths.now)) }
 
     // The number of a file that can't be read is its place among the paths, from 1 on.
-    ensures file { (number : ℕ) → IsErrOf result (Failure.File number) → (0 < number) × (number ≤ length task.entry.paths.now)
+    ensures file { (number : ℕ) → IsErrOf result (Failure.File number) → (0 < number)
+        × (number ≤ length task.entry.paths.now)
         × MayOpenBefore (F.may_open system.now) number (map string_bytes task.entry.paths.now) }
 
     // Output that breaks off is a front of the answer; at the other failures nothing is written.
     ensures breaks_off { IsErrOf result Failure.Output → (outcome : TheOutcome) × PrintsFront
-        (IsAnswer (F.may_open system.now) (F.bytes system.now) (R.remaining input.old) task.entry.mode (map string_bytes task.entry.paths.now) outcome)
+        (IsAnswer (F.may_open system.now) (F.bytes system.now) (R.remaining input.old) task.entry.mode
+        (map string_bytes task.entry.paths.now) outcome)
         (W.contents output.old) (W.contents output.new) }
     ensures silent { IsErr result → ¬ IsErrOf result Failure.Output → output.new ≡ output.old }
 {

@@ -1,4 +1,5 @@
-pub mod Files
-pub mod Outcome
+pub use Rattle.mailmap_io.specs.Files
+pub use Rattle.mailmap_io.specs.Outcome
+pub use Rattle.mailmap_io.specs.Printing
 pub mod Run
 pub mod Task

@@ -1,7 +1,6 @@
 -- What the two runs of the program write, in terms of the library's two texts.
-use Rattle.std.specs.Prelude.{◌≡◌, ℕ, List, [], ◌∷◌, Option, None, Some, map, option_map, take, ⊤}
+use Rattle.std.specs.Prelude.{◌≡◌, ℕ, List, [], ◌∷◌, Option, None, Some, map, option_map, ⊤}
 use Rattle.std.specs.Borrow.{Bor}
-use Rattle.std.specs.Io.KnownBytes.{Appends}
 use Rattle.gix_mailmap.specs.Contacts.{answers_by}
 use Rattle.gix_mailmap.specs.Parts.{IsSplit}
 use Rattle.gix_mailmap.specs.Writing.{IsCompacted}
@@ -22,11 +21,3 @@ abbrev pub IsMailmap : Option (List (List ℕ)) → Option (List ℕ) → List �
 IsMailmap (Some buffers) input text = IsCompacted buffers text
 IsMailmap None (Some input) text = IsCompacted (input ∷ []) text
 IsMailmap None None text = ⊤
-
--- what a writer holds has grown by such a text
-abbrev pub Prints : (List ℕ → Type 0) → Option (List ℕ) → Option (List ℕ) → Type 0
-Prints IsText old new = (text : List ℕ) × IsText text × Appends old new text
-
--- what a writer holds has grown by a front of such a text
-abbrev pub PrintsFront : (List ℕ → Type 0) → Option (List ℕ) → Option (List ℕ) → Type 0
-PrintsFront IsText old new = (text : List ℕ) × IsText text × ((count : ℕ) × Appends old new (take count text))

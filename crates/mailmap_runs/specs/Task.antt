@@ -1,6 +1,6 @@
 -- What the arguments of a program ask for.
 use Rattle.std.specs.Prelude.{◌≡◌, ℕ, List, [], ◌∷◌, Option, None, Some, codes, slice_get}
-use Rattle.mailmap_runs.specs.Files.{AreRead}
+use Rattle.mailmap_io.specs.Files.{AreRead}
 
 -- `--compact` stands right behind the program's own name.
 abbrev pub AsksToCompact : List (List ℕ) → Type 0

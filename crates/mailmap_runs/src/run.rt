@@ -6,11 +6,12 @@
 //! on bytes speak of readers and writers whose bytes are known, as those over memory.
 ghost use Rattle.std.specs.Prelude.{◌≡◌, ◌⊎◌, IfErr, IfOk, IsErr, IsErrOf, IsNone, None, IsSome, OnOk, Some};
 ghost use Rattle.std.specs.Io.KnownBytes.{IsAtEnd};
-ghost use Rattle.mailmap_runs.specs.Run.{bytes_of, AnswersContacts, IsMailmap, Prints, PrintsFront};
+ghost use Rattle.mailmap_io.specs.Printing.{Prints, PrintsFront};
+ghost use Rattle.mailmap_runs.specs.Run.{bytes_of, AnswersContacts, IsMailmap};
 
-use crate::failure::Failure;
-use crate::streams::{read_all, write_all};
 use gix_mailmap::check::{check, compact, split};
+use mailmap_io::failure::Failure;
+use mailmap_io::streams::{read_all, write_all};
 use std::alloc::{AllocError, Global};
 use std::io::{Read, Write};
 
@@ -26,7 +27,8 @@ pub fn run<R: Read, W: Write>(
 ) -> Result<(), Failure>
     // The answers are written, once and with nothing beside them.
     ensures prints { OnOk result
-        (Prints (AnswersContacts (bytes_of files.entry) (R.remaining input.old)) (W.contents output.old) (W.contents output.new)) }
+        (Prints (AnswersContacts (bytes_of files.entry) (R.remaining input.old)) (W.contents output.old)
+        (W.contents output.new)) }
 
     // All of the input is read before anything is written.
     ensures reads_all { OnOk result (IsAtEnd (R.remaining input.new)) }
@@ -34,7 +36,8 @@ pub fn run<R: Read, W: Write>(
 
     // Output that breaks off holds a front of the answers; at the other failures nothing is written.
     ensures breaks_off { IsErrOf result Failure.Output
-        → PrintsFront (AnswersContacts (bytes_of files.entry) (R.remaining input.old)) (W.contents output.old) (W.contents output.new) }
+        → PrintsFront (AnswersContacts (bytes_of files.entry) (R.remaining input.old)) (W.contents output.old)
+        (W.contents output.new) }
     ensures silent { IsErr result → ¬ IsErrOf result Failure.Output → output.new ≡ output.old }
     ensures only { IfErr result (λ e. (e ≡ Failure.Input) ⊎ (e ≡ Failure.Memory) ⊎ (e ≡ Failure.Output)) }
 {
@@ -66,7 +69,8 @@ pub fn run_compact<R: Read, W: Write>(
 ) -> Result<(), Failure>
     // The mailmap is written, once and with nothing beside it.
     ensures prints { OnOk result
-        (Prints (IsMailmap (bytes_of files.entry) (R.remaining input.old)) (W.contents output.old) (W.contents output.new)) }
+        (Prints (IsMailmap (bytes_of files.entry) (R.remaining input.old)) (W.contents output.old)
+        (W.contents output.new)) }
 
     // Without files all of the input is read, before anything is written; with files none of it.
     ensures reads_all { IsNone files.entry → OnOk result (IsAtEnd (R.remaining input.new)) }
@@ -76,7 +80,8 @@ pub fn run_compact<R: Read, W: Write>(
 
     // Output that breaks off holds a front of the mailmap; at the other failures nothing is written.
     ensures breaks_off { IsErrOf result Failure.Output
-        → PrintsFront (IsMailmap (bytes_of files.entry) (R.remaining input.old)) (W.contents output.old) (W.contents output.new) }
+        → PrintsFront (IsMailmap (bytes_of files.entry) (R.remaining input.old)) (W.contents output.old)
+        (W.contents output.new) }
     ensures silent { IsErr result → ¬ IsErrOf result Failure.Output → output.new ≡ output.old }
     ensures only { IfErr result (λ e. (e ≡ Failure.Input) ⊎ (e ≡ Failure.Memory) ⊎ (e ≡ Failure.Output)) }
 {

@@ -1,12 +1,13 @@
 //! What the arguments of `mailmap_check` ask for, and the doing of it.
 ghost use Rattle.std.specs.Prelude.{◌≡◌, ◌↔◌, ◌<◌, ◌≤◌, ℕ, IsErr, IsErrOf, OnOk, drop, length, map, string_bytes};
-ghost use Rattle.mailmap_runs.specs.Files.{MayOpenBefore};
-ghost use Rattle.mailmap_runs.specs.Run.{AnswersContacts, IsMailmap, Prints, PrintsFront};
-ghost use Rattle.mailmap_runs.specs.Task.{AsksToCompact, OfFiles};
+ghost use Rattle.mailmap_io.specs.Files.{MayOpenBefore};
+ghost use Rattle.mailmap_io.specs.Printing.{Prints, PrintsFront};
+ghost use Rattle.mailmap_runs.specs.Run.{AnswersContacts, IsMailmap, bytes_of};
+ghost use Rattle.mailmap_runs.specs.Task.{AsksToCompact, OfFiles, unless_empty};
 
-use crate::failure::Failure;
-use crate::files::{FileSystem, given, list_of, read_files};
 use crate::run::{run, run_compact};
+use mailmap_io::failure::Failure;
+use mailmap_io::files::{FileSystem, list_of, read_files};
 use std::alloc::Global;
 use std::io::{Read, Write};
 
@@ -71,7 +72,8 @@ pub fn perform<F: FileSystem, R: Read, W: Write>(
         (W.contents output.old) (W.contents output.new)) }
 
     // The number of a file that can't be read is its place among the paths, from 1 on.
-    ensures file { (number : ℕ) → IsErrOf result (Failure.File number) → (0 < number) × (number ≤ length task.entry.paths.now)
+    ensures file { (number : ℕ) → IsErrOf result (Failure.File number) → (0 < number)
+        × (number ≤ length task.entry.paths.now)
         × MayOpenBefore (F.may_open system.now) number (map string_bytes task.entry.paths.now) }
 
     // Any number of files will do.
@@ -95,4 +97,11 @@ pub fn perform<F: FileSystem, R: Read, W: Write>(
         Mode::Answer => run(alloc, files, input, output),
         Mode::Compact => run_compact(alloc, files, input, output),
     }
+}
+
+// The files that are given: `None` where there are none, and standard input has the mailmap.
+fn given<'a>(buffers: &'a [&'a [u8]]) -> Option<&'a [&'a [u8]]>
+    ensures { bytes_of result ≡ unless_empty (map (λ buffer. buffer.now) buffers.now) }
+{
+    (!buffers.is_empty()).then_some(buffers)
 }

@@ -13,8 +13,8 @@ use Rattle.std.proofs.Math.Seq.{map-set_same}
 use Rattle.std.proofs.lemmas.Option.{slice_get-get_or, slice_get_within, get_or_from_slice_get}
 use Rattle.mailmap_entries.specs.Entries.{Mapping, mapping_of}
 use Rattle.mailmap_histories.specs.Histories.{Key, key, key_cmp, is_accepted}
-use Rattle.mailmap_tables.specs.Merging.{IsAscending, IsSorted, placed_at}
-use Rattle.mailmap_tables.specs.declared.batch.Placed.{Placed}
+use Rattle.mailmap_batches.specs.Batches.{IsAscending, IsSorted, placed_at}
+use Rattle.mailmap_batches.specs.declared.indexed.Placed.{Placed}
 use Rattle.mailmap_sifting.specs.Sifting.{placed_of}
 use Rattle.mailmap_sifting.specs.Numbers.{AreAscending, AreNumbers, KeyNumbers, IsNumber, numbers_of, IsNumbered, IsReached, entry_of, last_key, placed_entry_of, told}
 use Rattle.mailmap_sifting.specs.declared.numbers.NumberedEntry.{NumberedEntry}

@@ -18,7 +18,7 @@ use Rattle.mailmap_entries.specs.Search.{IsPartitioned}
 use Rattle.mailmap_entries.proofs.Fronts.{front_settles, then_settled}
 use Rattle.mailmap_histories.specs.Histories.{Key, key_cmp}
 use Rattle.mailmap_histories.proofs.Keys.{keys_total, keys_exact}
-use Rattle.mailmap_tables.proofs.Lookups.{IsPartitioned-from_ascending, found-key, missing-all}
+use Rattle.mailmap_entries.proofs.Lookups.{IsPartitioned-from_ascending, found-key, missing-all}
 use Rattle.mailmap_sifting.specs.Numbers.{AreFronts, IsNumber, email_key}
 use Rattle.mailmap_sifting.proofs.Ascending.{itself_reached, own_email_first}
 use Rattle.mailmap_sifting.proofs.Keyed.{all_at, some_out}

@@ -23,7 +23,8 @@ pub(crate) fn scan<'a>(
 ) -> Option<Fields<'a>>
     requires ascending { IsStrictlySortedBy key_cmp keys.now }
     requires table { (h : List Mapping) × IsTable keys.now h table.now }
-    ensures { (h : List Mapping) → AreKnown keys.now h → IsTable keys.now h table.now → option_map fields_of result ≡ told.scan h name.now email.now }
+    ensures { (h : List Mapping) → AreKnown keys.now h → IsTable keys.now h table.now
+        → option_map fields_of result ≡ told.scan h name.now email.now }
 {
     let number = find(keys, &FrontedKey::of_email(email))?;
     let spelling = table.spellings[number].spelling()?;
@@ -43,7 +44,8 @@ fn fields_for<'a>(
     requires number { IsNumber keys.now (email_key (folded email.now)) number }
     requires table { (h : List Mapping) × IsTable keys.now h table.now }
     ensures { (h : List Mapping) → AreKnown keys.now h → IsTable keys.now h table.now
-        → fields_of result ≡ unwrap_or (last_fields h (folded email.now, Some (folded name.now))) (given_fields h (folded email.now)) }
+        → fields_of result ≡ unwrap_or (last_fields h (folded email.now, Some (folded name.now)))
+        (given_fields h (folded email.now)) }
 {
     let given = table.summaries[number].given();
     match find_named(keys, number, &FrontedKey::new(email, Some(name))) {

@@ -78,7 +78,10 @@ impl<'p, 'a> KeySummary<'p, 'a> {
 
     /// The fields that were last given, each for itself.
     pub(crate) fn given(&self) -> Fields<'a>
-        ensures { fields_of result ≡ record { name = (key_summary_of self.now).name; email = (key_summary_of self.now).email } }
+        ensures { fields_of result ≡ record {
+          name = (key_summary_of self.now).name;
+          email = (key_summary_of self.now).email;
+        } }
     {
         Fields {
             name: self.name(),
@@ -108,7 +111,8 @@ impl<'p, 'a> KeySummary<'p, 'a> {
 
     /// Of this stretch with another behind it.
     pub(crate) fn joined(self, behind: KeySummary<'p, 'a>) -> KeySummary<'p, 'a>
-        ensures summary { key_summary_of result ≡ told.joined_summary (key_summary_of self.entry) (key_summary_of behind.entry) }
+        ensures summary { key_summary_of result
+            ≡ told.joined_summary (key_summary_of self.entry) (key_summary_of behind.entry) }
         ensures place { place_of result ≡ option_or (place_of behind.entry) (place_of self.entry) }
     {
         KeySummary {

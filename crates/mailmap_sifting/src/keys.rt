@@ -1,8 +1,7 @@
 //! The keys of a history in ascending order, each once. A key's number is its place among them.
-ghost use Rattle.std.specs.Prelude.{◌≡◌, ◌≢◌, [], ℕ, Contains, IfOk, OnOk, IfSome, IfNone, None, Some, true, false, if◌then◌else◌};
+ghost use Rattle.std.specs.Prelude.{◌≡◌, ◌≢◌, [], ℕ, IfOk, OnOk, Some, true, false, if◌then◌else◌};
 ghost use Rattle.std.specs.Option.{option_copied, option_map, option_cmp};
 ghost use Rattle.std.specs.Ordering.{eq_by_cmp};
-ghost use Rattle.std.specs.List.Sorted.{IsStrictlySortedBy};
 ghost use Rattle.mailmap_entries.specs.Entries.{mapping_of};
 ghost use Rattle.mailmap_entries.specs.Fronts.{IsFront};
 ghost use Rattle.mailmap_entries.specs.Folding.{folded, text_cmp};
@@ -75,7 +74,8 @@ pub(crate) struct KeptKey<'p, 'a> {
 impl<'p, 'a> Model for KeptKey<'p, 'a> {
     ghost Value = { Key };
 
-    ghost view = { λ k. if k.has_name then key (mapping_of k.entry.now) else email_key (key (mapping_of k.entry.now)).0 };
+    ghost view = { λ k. if k.has_name then key (mapping_of k.entry.now)
+        else email_key (key (mapping_of k.entry.now)).0 };
 }
 
 impl<'p, 'a> KeptKey<'p, 'a> {
@@ -127,7 +127,8 @@ pub(crate) fn compare(a: &FrontedKey, b: &FrontedKey) -> Ordering
 }
 
 fn compare_names(a: Option<&[u8]>, b: Option<&[u8]>) -> Ordering
-    ensures { result ≡ option_cmp text_cmp (option_map folded (option_copied a.entry)) (option_map folded (option_copied b.entry)) }
+    ensures { result ≡ option_cmp text_cmp (option_map folded (option_copied a.entry))
+        (option_map folded (option_copied b.entry)) }
 {
     match (a, b) {
         (None, None) => Ordering::Equal,
@@ -168,7 +169,8 @@ impl<'p, 'a> AscendingKeys<'p, 'a> {
         ensures ascending { OnOk result (AreAscending self.new.keys.items self.new.email) }
         ensures fronts { OnOk result (AreFronts self.new.keys.items self.new.fronts.items) }
         ensures last { OnOk result (last_key self.new.keys.items ≡ Some (key (mapping_of entry.now))) }
-        ensures keeps { OnOk result ((k : Key) (i : ℕ) → IsNumber self.old.keys.items k i → IsNumber self.new.keys.items k i) }
+        ensures keeps { OnOk result ((k : Key) (i : ℕ) → IsNumber self.old.keys.items k i
+            → IsNumber self.new.keys.items k i) }
     {
         let fronted = FrontedKey::of(entry);
         self.push_email(entry, &fronted)?;
@@ -189,7 +191,8 @@ impl<'p, 'a> AscendingKeys<'p, 'a> {
         ensures fronts { OnOk result (AreFronts self.new.keys.items self.new.fronts.items) }
         ensures up { OnOk result (IsReached self.new.keys.items fronted.now) }
         ensures email { OnOk result (last_email self.new.keys.items ≡ Some fronted.now.0) }
-        ensures keeps { OnOk result ((k : Key) (i : ℕ) → IsNumber self.old.keys.items k i → IsNumber self.new.keys.items k i) }
+        ensures keeps { OnOk result ((k : Key) (i : ℕ) → IsNumber self.old.keys.items k i
+            → IsNumber self.new.keys.items k i) }
     {
         if is_last_email(&self.keys, fronted) {
             return Ok(());
@@ -210,7 +213,8 @@ impl<'p, 'a> AscendingKeys<'p, 'a> {
         ensures ascending { OnOk result (AreAscending self.new.keys.items self.new.email) }
         ensures fronts { OnOk result (AreFronts self.new.keys.items self.new.fronts.items) }
         ensures last { OnOk result (last_key self.new.keys.items ≡ Some fronted.now) }
-        ensures keeps { OnOk result ((k : Key) (i : ℕ) → IsNumber self.old.keys.items k i → IsNumber self.new.keys.items k i) }
+        ensures keeps { OnOk result ((k : Key) (i : ℕ) → IsNumber self.old.keys.items k i
+            → IsNumber self.new.keys.items k i) }
     {
         if is_last_name(&self.keys, fronted) {
             return Ok(());

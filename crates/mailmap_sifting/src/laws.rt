@@ -10,12 +10,14 @@ ghost use Rattle.mailmap_sifting.specs.Summaries.{is_idle, summary};
 
 /// Without the entries that go the normal list is the same.
 pub fn law_same_listing()
-    ensures { (xs kept : List PlacedMapping) (n : List Mapping) → IsSifted xs kept → IsNormal (entries xs) n ↔ IsNormal (entries kept) n }
+    ensures { (xs kept : List PlacedMapping) (n : List Mapping) → IsSifted xs kept
+        → IsNormal (entries xs) n ↔ IsNormal (entries kept) n }
 {}
 
 /// Of the entries that stay none can go: without it the normal list would differ.
 pub fn law_none_can_go()
-    ensures idle { (xs a c : List PlacedMapping) (x : PlacedMapping) → IsSifted xs (a ++ x ∷ c) → IsIdle (entries a) x.entry (entries c) → ⊥ }
+    ensures idle { (xs a c : List PlacedMapping) (x : PlacedMapping) → IsSifted xs (a ++ x ∷ c)
+        → IsIdle (entries a) x.entry (entries c) → ⊥ }
     ensures differs { (xs a c : List PlacedMapping) (x : PlacedMapping) (n m : List Mapping) → IsSifted xs (a ++ x ∷ c)
         → IsNormal (entries xs) n → IsNormal (entries (a ++ c)) m → n ≢ m }
 {}
@@ -23,15 +25,19 @@ pub fn law_none_can_go()
 /// What stays is some of the entries, in their order.
 pub fn law_some_stay()
     ensures sublist { (xs kept : List PlacedMapping) → IsSifted xs kept → IsSublist kept xs }
-    ensures among { (xs kept : List PlacedMapping) (x : PlacedMapping) → IsSifted xs kept → Contains kept x → Contains xs x }
+    ensures among { (xs kept : List PlacedMapping) (x : PlacedMapping) → IsSifted xs kept → Contains kept x
+        → Contains xs x }
     ensures ascending { (cmp : Place → Place → Ordering) (xs kept : List PlacedMapping) → IsSifted xs kept
-        → IsStrictlySortedBy cmp (map (λ (x : PlacedMapping). x.place) xs) → IsStrictlySortedBy cmp (map (λ (x : PlacedMapping). x.place) kept) }
+        → IsStrictlySortedBy cmp (map (λ (x : PlacedMapping). x.place) xs)
+        → IsStrictlySortedBy cmp (map (λ (x : PlacedMapping). x.place) kept) }
 {}
 
 /// Each key of the accepted entries has an entry that stays.
 pub fn law_each_key_stays()
-    ensures keys { (xs kept : List PlacedMapping) (k : Key) → IsSifted xs kept → has_key (accepted (entries kept)) k ≡ has_key (accepted (entries xs)) k }
-    ensures last { (xs kept : List PlacedMapping) (x : PlacedMapping) → IsSifted xs kept → Contains xs x → is_accepted x.entry ≡ true
+    ensures keys { (xs kept : List PlacedMapping) (k : Key) → IsSifted xs kept
+        → has_key (accepted (entries kept)) k ≡ has_key (accepted (entries xs)) k }
+    ensures last { (xs kept : List PlacedMapping) (x : PlacedMapping) → IsSifted xs kept → Contains xs x
+        → is_accepted x.entry ≡ true
         → IsSome (last_place kept (key x.entry)) }
 {}
 

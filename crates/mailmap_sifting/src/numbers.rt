@@ -8,7 +8,7 @@ ghost use Rattle.mailmap_sifting.specs.Numbers.{AreAscending, AreFronts, AreNumb
 
 use crate::keys::AscendingKeys;
 use crate::placed::PlacedEntry;
-use mailmap_tables::batch::sorted;
+use mailmap_batches::batch::sorted;
 use std::alloc::{AllocError, Global};
 
 /// An entry, the number of its key, and that of the key of its email, without an old name.
@@ -68,7 +68,8 @@ fn with_last_numbers<'p, 'a>(
     requires ascending { AreAscending keys.now.keys.items keys.now.email }
     requires some { 0 < length keys.now.keys.items }
     ensures placed { placed_entry_of result ≡ placed_of placed.now }
-    ensures numbers { (k : Key) → last_key keys.now.keys.items ≡ Some k → AreNumbers keys.now.keys.items k (numbers_of result) }
+    ensures numbers { (k : Key) → last_key keys.now.keys.items ≡ Some k
+        → AreNumbers keys.now.keys.items k (numbers_of result) }
 {
     NumberedEntry {
         placed,

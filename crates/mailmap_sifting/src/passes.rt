@@ -65,8 +65,10 @@ fn pass<'p, 'a>(
     ensures passed { IfOk result (λ kept. IsPass [] (told (take len entries.old)) (told (take kept entries.new))) }
     ensures numbered { IfOk result (λ kept. All (IsNumbered keys.now) (take kept entries.new)) }
     ensures alone { IfOk result (λ kept. AreAlone keys.now crowded.now (entries_told (told (take kept entries.new)))) }
-    ensures table { IfOk result (λ kept. IsTable keys.now (entries_told (crowded_of keys.now crowded.now (told (take kept entries.new)))) table.new) }
-    ensures places { IfOk result (λ kept. ArePlaces keys.now (crowded_of keys.now crowded.now (told (take kept entries.new))) table.new) }
+    ensures table { IfOk result (λ kept. IsTable keys.now
+        (entries_told (crowded_of keys.now crowded.now (told (take kept entries.new)))) table.new) }
+    ensures places { IfOk result (λ kept. ArePlaces keys.now
+        (crowded_of keys.now crowded.now (told (take kept entries.new))) table.new) }
 {
     let mut behind = behind_each(alloc, keys, crowded, &entries[..len], table)?;
     forget_crowded(keys, crowded, &entries[..len], table);
@@ -101,8 +103,10 @@ fn behind_each<'p, 'a>(
     requires numbered { All (IsNumbered keys.now) entries.now }
     requires rows { length crowded.now ≡ length keys.now }
     requires table { IsTable keys.now [] table.old }
-    ensures behind { IfOk result (λ behind. behind.items ≡ behinds (crowded_of keys.now crowded.now (told entries.now))) }
-    ensures table { IfOk result (λ behind. IsTable keys.now (entries_told (crowded_of keys.now crowded.now (told entries.now))) table.new) }
+    ensures behind { IfOk result (λ behind. behind.items
+        ≡ behinds (crowded_of keys.now crowded.now (told entries.now))) }
+    ensures table { IfOk result (λ behind. IsTable keys.now
+        (entries_told (crowded_of keys.now crowded.now (told entries.now))) table.new) }
 {
     let mut behind = Vec::with_capacity(alloc, entries.len())?;
     let mut left = entries.len();

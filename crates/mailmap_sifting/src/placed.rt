@@ -1,8 +1,8 @@
 //! Entries with the places where they stand.
 ghost use Rattle.mailmap_entries.specs.Entries.{mapping_of};
 
+use mailmap_batches::indexed::HasEntry;
 use mailmap_entries::Entry;
-use mailmap_tables::batch::HasEntry;
 
 /// Where a line stands: its buffer, counted from 0, and its number in that buffer, counted from 1.
 ///

@@ -34,7 +34,33 @@ impl<'p, 'a> Model for Sifted<'p, 'a> {
 
     ghost view = { λ s. record { history = map placed_of s.history.now; kept = map placed_of_reference s.kept.items } };
 
-    ghost invariant = { λ s. IsSiftedState s.keys (map placed_of s.history.now) (map placed_of_reference s.kept.items) s.table };
+    ghost invariant = { λ s. IsSiftedState s.keys (map placed_of s.history.now)
+        (map placed_of_reference s.kept.items) s.table };
+}
+
+impl<'p, 'a> Sifted<'p, 'a> {
+    /// The entries that stay, in their order.
+    pub fn kept(&self) -> &[&'p PlacedEntry<'a>]
+        ensures { map placed_of_reference result.now ≡ self.now.kept }
+    {
+        &self.kept
+    }
+
+    /// Where the last entry that stays of this entry's key stands, `None` where none does.
+    pub fn beside(&self, entry: &Entry<'_>) -> Option<Place>
+        ensures { result ≡ last_place self.now.kept (key (mapping_of entry.now)) }
+    {
+        let number = find(&self.keys, &FrontedKey::of(entry))?;
+        self.table.summaries[number].place()
+    }
+
+    /// What the whole history maps a name and an email to, `None` where it maps neither. What is answered borrows from
+    /// the texts of the entries alone.
+    pub fn scan(&self, name: &[u8], email: &[u8]) -> Option<Fields<'a>>
+        ensures { option_map fields_of result ≡ answers.scan (entries self.now.history) name.now email.now }
+    {
+        scan(&self.keys, &self.table, name, email)
+    }
 }
 
 /// Which of the entries stay: passes from the first entry to the last are made until one lets nothing go, and in each
@@ -89,29 +115,4 @@ fn without_numbers<'p, 'a>(
         entries.push(x.placed)?;
     }
     Ok(entries)
-}
-
-impl<'p, 'a> Sifted<'p, 'a> {
-    /// The entries that stay, in their order.
-    pub fn kept(&self) -> &[&'p PlacedEntry<'a>]
-        ensures { map placed_of_reference result.now ≡ self.now.kept }
-    {
-        &self.kept
-    }
-
-    /// Where the last entry that stays of this entry's key stands, `None` where none does.
-    pub fn beside(&self, entry: &Entry<'_>) -> Option<Place>
-        ensures { result ≡ last_place self.now.kept (key (mapping_of entry.now)) }
-    {
-        let number = find(&self.keys, &FrontedKey::of(entry))?;
-        self.table.summaries[number].place()
-    }
-
-    /// What the whole history maps a name and an email to, `None` where it maps neither. What is answered borrows from
-    /// the texts of the entries alone.
-    pub fn scan(&self, name: &[u8], email: &[u8]) -> Option<Fields<'a>>
-        ensures { option_map fields_of result ≡ answers.scan (entries self.now.history) name.now email.now }
-    {
-        scan(&self.keys, &self.table, name, email)
-    }
 }

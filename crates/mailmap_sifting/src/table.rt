@@ -36,7 +36,8 @@ impl<'p, 'a> Table<'p, 'a> {
     pub(crate) fn forget(&mut self, x: &NumberedEntry)
         requires key { x.now.key < vec_len self.old.summaries }
         requires email { x.now.email < vec_len self.old.spellings }
-        ensures { (keys : List Key) (h : List Mapping) → IsStrictlySortedBy key_cmp keys → IsNumbered keys x.now → IsForgetting keys (entry_of x.now ∷ h) self.old → IsForgetting keys h self.new }
+        ensures { (keys : List Key) (h : List Mapping) → IsStrictlySortedBy key_cmp keys → IsNumbered keys x.now
+            → IsForgetting keys (entry_of x.now ∷ h) self.old → IsForgetting keys h self.new }
     {
         self.summaries[x.key] = KeySummary::none();
         self.spellings[x.email] = EmailSummary::none();
@@ -46,7 +47,8 @@ impl<'p, 'a> Table<'p, 'a> {
     pub(crate) fn summary(&self, x: &NumberedEntry) -> Summary<'p, 'a>
         requires key { x.now.key < vec_len self.now.summaries }
         requires email { x.now.email < vec_len self.now.spellings }
-        ensures { (keys : List Key) (h : List Mapping) → IsNumbered keys x.now → IsTable keys h self.now → summary_of result ≡ summary h (key (entry_of x.now)) }
+        ensures { (keys : List Key) (h : List Mapping) → IsNumbered keys x.now → IsTable keys h self.now
+            → summary_of result ≡ summary h (key (entry_of x.now)) }
     {
         Summary {
             of_key: self.summaries[x.key],
@@ -58,8 +60,11 @@ impl<'p, 'a> Table<'p, 'a> {
     pub(crate) fn append(&mut self, x: &NumberedEntry<'p, 'a>)
         requires key { x.now.key < vec_len self.old.summaries }
         requires email { x.now.email < vec_len self.old.spellings }
-        ensures table { (keys : List Key) (h : List Mapping) → IsStrictlySortedBy key_cmp keys → IsNumbered keys x.now → IsTable keys h self.old → IsTable keys (h ++ entry_of x.now ∷ []) self.new }
-        ensures places { (keys : List Key) (xs : List PlacedMapping) → IsStrictlySortedBy key_cmp keys → IsNumbered keys x.now → ArePlaces keys xs self.old → ArePlaces keys (xs ++ placed_entry_of x.now ∷ []) self.new }
+        ensures table { (keys : List Key) (h : List Mapping) → IsStrictlySortedBy key_cmp keys → IsNumbered keys x.now
+            → IsTable keys h self.old → IsTable keys (h ++ entry_of x.now ∷ []) self.new }
+        ensures places { (keys : List Key) (xs : List PlacedMapping) → IsStrictlySortedBy key_cmp keys
+            → IsNumbered keys x.now → ArePlaces keys xs self.old
+            → ArePlaces keys (xs ++ placed_entry_of x.now ∷ []) self.new }
     {
         self.summaries[x.key] = self.summaries[x.key].joined(KeySummary::of(x.placed));
         self.spellings[x.email] = self.spellings[x.email].joined(EmailSummary::of(x.placed));
@@ -69,7 +74,8 @@ impl<'p, 'a> Table<'p, 'a> {
     pub(crate) fn prepend(&mut self, x: &NumberedEntry<'p, 'a>)
         requires key { x.now.key < vec_len self.old.summaries }
         requires email { x.now.email < vec_len self.old.spellings }
-        ensures { (keys : List Key) (h : List Mapping) → IsStrictlySortedBy key_cmp keys → IsNumbered keys x.now → IsTable keys h self.old → IsTable keys (entry_of x.now ∷ h) self.new }
+        ensures { (keys : List Key) (h : List Mapping) → IsStrictlySortedBy key_cmp keys → IsNumbered keys x.now
+            → IsTable keys h self.old → IsTable keys (entry_of x.now ∷ h) self.new }
     {
         self.summaries[x.key] = KeySummary::of(x.placed).joined(self.summaries[x.key]);
         self.spellings[x.email] = EmailSummary::of(x.placed);

@@ -13,8 +13,8 @@ use Rattle.mailmap_entries.specs.Folding.{Text, folded, text_cmp}
 use Rattle.mailmap_tables.specs.Groups.{EmailGroup, IsGroup, email_key, name_row, own_rows, rows, listing}
 use Rattle.mailmap_histories.specs.Histories.{mapping_with}
 use Rattle.mailmap_snapshot.specs.Signatures.{has_email, email_count, name_count}
-use Rattle.mailmap_tables.proofs.Grouped.{all_weaker, all_rows, rows_spelled, listing_all}
-use Rattle.mailmap_histories.proofs.Parts.{all_map}
+use Rattle.mailmap_histories.proofs.Parts.{all_weaker, all_map}
+use Rattle.mailmap_tables.proofs.Grouped.{all_rows, rows_spelled, listing_all}
 
 -- ---- what all or none of a list pass
 

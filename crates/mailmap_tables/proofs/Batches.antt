@@ -1,15 +1,14 @@
 -- A batch that is sorted by key, its emails as they are spelled first.
-use Rattle.std.proofs.Common.{◌≡◌, ◌≤◌, ◌<◌, ◌+◌, ℕ, zero, suc, Bool, true, false, cond, ◌&&◌, not, List, [], ◌∷◌, ◌++◌, map, filter, length, get_or, All, Contains, Option, Some, None, option_map, is_some, unwrap_or, Ordering, Less, Equal, Greater, is_eq, refl, sym, ap, subst, ◌∙◌, arith}
+use Rattle.std.proofs.Common.{◌≡◌, ◌≤◌, ◌<◌, ◌+◌, ℕ, zero, suc, Bool, true, false, cond, List, [], ◌∷◌, ◌++◌, map, filter, length, get_or, All, Contains, Option, Some, None, option_map, is_some, unwrap_or, is_eq, refl, sym, ap, ◌∙◌, arith}
 use Rattle.std.specs.Cmp.{Equal-is, tied_itself}
 use Rattle.std.specs.Cmp.Lexicographic.{nat_list_cmp_total}
 use Rattle.std.specs.List.{AllByRecursion, enumerate_from, list_any}
-use Rattle.std.specs.List.Sorted.{IsPermutation, IsStableBy, ties}
+use Rattle.std.specs.List.Sorted.{IsPermutation}
 use Rattle.std.specs.Option.{option_or}
-use Rattle.std.specs.Ordering.{eq_by_cmp, is_lt, ordering_reverse}
-use Rattle.std.proofs.Math.Bool.{and_comm}
+use Rattle.std.specs.Ordering.{eq_by_cmp}
 use Rattle.std.proofs.lemmas.Bool.{or_right, false_from_ne_true}
 use Rattle.std.proofs.lemmas.List.{map-append}
-use Rattle.std.proofs.lemmas.List.Elements.{All-contains, All-from_recursion, All-head, filter_agree, filter_passes, recursion_from_All}
+use Rattle.std.proofs.lemmas.List.Elements.{All-contains, All-from_recursion, recursion_from_All}
 use Rattle.std.proofs.lemmas.List.Sorted.{All-permutation, Contains-permutation, IsPermutation-sym}
 use Rattle.std.proofs.lemmas.Map.Lookups.{exact_bytes}
 use Rattle.mailmap_entries.specs.Entries.{Mapping}
@@ -18,19 +17,11 @@ use Rattle.mailmap_histories.specs.Histories.{Key, key, key_cmp, first, is_accep
 use Rattle.mailmap_histories.proofs.Alike.{Alike, picked-append, first_parts, key_parts}
 use Rattle.mailmap_histories.proofs.Ascending.{each_key, same_any}
 use Rattle.mailmap_histories.proofs.Exists.{speller}
-use Rattle.mailmap_tables.proofs.Grouped.{all_mapped, all_weaker}
+use Rattle.mailmap_histories.proofs.Parts.{all_mapped, all_weaker, first_alike, first_found, is_some-option_map, list_any-map, some_again}
 use Rattle.mailmap_histories.proofs.Joined.{alike_by_keys, stripped}
 use Rattle.mailmap_histories.proofs.Keys.{keys_total, keys_exact}
 use Rattle.mailmap_histories.proofs.Normal.{known}
-use Rattle.mailmap_histories.proofs.Parts.{filter-filter, first_alike, first_found, is_some-option_map, list_any-map, some_again}
-
-filter-map : {X Y : Type 0} (p : Y → Bool) (f : X → Y) (xs : List X) → filter p (map f xs) ≡ map f (filter (λ x. p (f x)) xs)
-filter-map p f [] = refl
-filter-map p f (x ∷ xs) =
-    elim (p (f x)) as (λ b. cond b (f x ∷ filter p (map f xs)) (filter p (map f xs)) ≡ map f (cond b (x ∷ filter (λ x. p (f x)) xs) (filter (λ x. p (f x)) xs))) [
-      | true ↦ ap (λ l. f x ∷ l) (filter-map p f xs)
-      | false ↦ filter-map p f xs
-    ]
+use Rattle.mailmap_batches.proofs.Stable.{filter-map}
 
 -- tests that say the same of each
 filter_alike : {X : Type 0} (p q : X → Bool) (xs : List X) → AllByRecursion (λ x. p x ≡ q x) xs → filter p xs ≡ filter q xs
@@ -170,48 +161,3 @@ map-itself (x ∷ xs) = ap (λ l. x ∷ l) (map-itself xs)
 pub least_spells : (xs : List Mapping) (ps : List (ℕ × Mapping)) (p : ℕ × Mapping) → AllByRecursion (λ e. is_accepted e ≡ true) xs → IsPermutation (enumerate_from 0 xs) ps → Contains ps p
     → All (λ q. folded q.1.old_email ≡ folded p.1.old_email → p.0 ≤ q.0) ps → spelling xs (folded p.1.old_email) ≡ Some p.1.old_email
 least_spells xs ps p good moved among least = ap (λ l. spelling l (folded p.1.old_email)) (sym (map-itself xs)) ∙ least_spells_by (λ e. e) xs ps p good moved among least
-
--- ---- a stable sort by key
-
--- what neither stands below nor above
-pub neither : (o : Ordering) → (not (is_lt o) && not (is_lt (ordering_reverse o))) ≡ is_eq o
-neither Less = refl
-neither Equal = refl
-neither Greater = refl
-
--- a stable sort by key keeps the entries of each key
-pub keyed_from_stable : {X : Type 0} (f : X → Mapping) (qs ps : List X) → IsStableBy (λ p q. is_lt (key_cmp (key (f p)) (key (f q)))) qs ps → (k : Key) → of_key (map f qs) k ≡ of_key (map f ps) k
-keyed_from_stable {X} f qs ps stable k = keyed qs ∙ ap (λ l. accepted (map f l)) (by (filter (has k) qs) (filter (has k) ps) refl refl) ∙ sym (keyed ps)
-  where
-    has : Key → X → Bool
-    has j x = eq_by_cmp key_cmp j (key (f x))
-
-    lt : X → X → Bool
-    lt p q = is_lt (key_cmp (key (f p)) (key (f q)))
-
-    keyed : (l : List X) → of_key (map f l) k ≡ accepted (map f (filter (has k) l))
-    keyed l =
-        let t : Mapping → Bool = λ e. eq_by_cmp key_cmp k (key e) in
-        filter-filter t is_accepted (map f l)
-        ∙ filter_agree (λ e. is_accepted e && t e) (λ e. t e && is_accepted e) (λ e. and_comm (is_accepted e) (t e)) (map f l)
-        ∙ sym (filter-filter is_accepted t (map f l))
-        ∙ ap accepted (filter-map t f l)
-
-    tie : (x y : X) → ties lt x y ≡ has (key (f x)) y
-    tie x y = ap (λ o. not (lt x y) && not (is_lt o)) (keys_total.antisymm (key (f y)) (key (f x))) ∙ neither (key_cmp (key (f x)) (key (f y)))
-
-    -- the entries of a key that an entry has
-    from : (x : X) → has k x ≡ true → filter (has k) qs ≡ filter (has k) ps
-    from x is =
-        let same : k ≡ key (f x) = keys_exact k (key (f x)) ((Equal-is (key_cmp k (key (f x)))).0 is) in
-        ap (λ j. filter (has j) qs) same
-        ∙ sym (filter_agree (ties lt x) (has (key (f x))) (tie x) qs) ∙ sym (stable x) ∙ filter_agree (ties lt x) (has (key (f x))) (tie x) ps
-        ∙ ap (λ j. filter (has j) ps) (sym same)
-
-    passes : (l : List X) (x : X) (m : List X) → filter (has k) l ≡ x ∷ m → has k x ≡ true
-    passes l x m e = All-head (λ y. has k y ≡ true) x m (subst (All (λ y. has k y ≡ true)) e (filter_passes (has k) l))
-
-    by : (l m : List X) → filter (has k) qs ≡ l → filter (has k) ps ≡ m → filter (has k) qs ≡ filter (has k) ps
-    by [] [] e d = e ∙ sym d
-    by (x ∷ l) m e d = from x (passes qs x l e)
-    by [] (y ∷ m) e d = from y (passes ps y m d)

@@ -8,16 +8,17 @@ use Rattle.std.proofs.lemmas.List.Sums.{sum_by-append, sum_by-cons, sum_by-take-
 use Rattle.mailmap_entries.specs.Entries.{Mapping}
 use Rattle.mailmap_histories.specs.Histories.{Fields, last}
 use Rattle.mailmap_entries.specs.Folding.{Text, folded}
-use Rattle.mailmap_tables.specs.Groups.{EmailGroup, NameGroup, email_key}
+use Rattle.mailmap_tables.specs.Groups.{EmailGroup, email_key}
+use Rattle.mailmap_batches.specs.Given.{NameGroup, NameRun, give}
 use Rattle.mailmap_tables.specs.Pool.{LiesIn, TextsLie, group_of, spelled}
 use Rattle.mailmap_tables.specs.Texts.{byte_count, email_span, name_span, span_bytes}
 use Rattle.mailmap_tables.specs.declared.texts.TheConstants.{NO_TEXT}
 use Rattle.mailmap_tables.specs.declared.texts.Span.{Span}
 use Rattle.mailmap_tables.specs.declared.texts.Texts.{Texts}
-use Rattle.mailmap_tables.specs.Merging.{NameRun, email_text, first_email, give, mapping_at, placed_at}
+use Rattle.mailmap_batches.specs.Batches.{email_text, first_email, mapping_at, placed_at}
 use Rattle.mailmap_tables.specs.Room.{StoodWithin, email_room, entry_bytes, entry_room, field_bytes, name_bytes, optional_bytes, own_bytes}
-use Rattle.mailmap_tables.specs.declared.batch.Placed.{Placed}
-use Rattle.mailmap_tables.proofs.Collected.{mapped_twice}
+use Rattle.mailmap_batches.specs.declared.indexed.Placed.{Placed}
+use Rattle.mailmap_batches.proofs.Numbered.{mapped_twice}
 use Rattle.mailmap_tables.proofs.Pooled.{all_at}
 use Rattle.mailmap_tables.proofs.RowTexts.{email_counts, email_ends, name_counts, spelled_len}
 

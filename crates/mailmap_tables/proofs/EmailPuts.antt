@@ -7,11 +7,13 @@ use Rattle.std.proofs.lemmas.List.{map-append}
 use Rattle.mailmap_histories.specs.Alike.{Alike}
 use Rattle.mailmap_entries.specs.Entries.{Mapping}
 use Rattle.mailmap_entries.specs.Folding.{Text, folded, text_cmp}
-use Rattle.mailmap_tables.specs.Groups.{NameGroup, EmailGroup, own_rows, rows}
+use Rattle.mailmap_batches.specs.Given.{NameGroup, IsNamed, give}
+use Rattle.mailmap_tables.specs.Groups.{EmailGroup, own_rows, rows}
 use Rattle.mailmap_histories.specs.Histories.{is_accepted}
-use Rattle.mailmap_tables.specs.Merging.{IsAscending, Extends, IsNamed, NamesJoined, EmailJoined, give, mapping_at, name_text, with_email}
+use Rattle.mailmap_batches.specs.Batches.{IsAscending, mapping_at, name_text}
+use Rattle.mailmap_tables.specs.Merging.{Extends, NamesJoined, EmailJoined, with_email}
 use Rattle.mailmap_tables.specs.Pool.{spelled, LiesIn}
-use Rattle.mailmap_tables.specs.declared.batch.Placed.{Placed}
+use Rattle.mailmap_batches.specs.declared.indexed.Placed.{Placed}
 use Rattle.mailmap_tables.specs.declared.texts.Span.{Span}
 use Rattle.mailmap_tables.proofs.Given.{fold-give-with_email}
 use Rattle.mailmap_tables.proofs.Merging.{own_of, IsOwn, own_joined, group_joined}

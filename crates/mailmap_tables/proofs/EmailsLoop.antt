@@ -13,7 +13,9 @@ use Rattle.mailmap_entries.specs.Entries.{Mapping}
 use Rattle.mailmap_entries.specs.Folding.{Text, folded, text_cmp}
 use Rattle.mailmap_tables.specs.Groups.{EmailGroup, IsGroup, AreGroups, Contents, email_key, rows, listing}
 use Rattle.mailmap_histories.specs.Histories.{key, key_cmp, is_accepted, accepted, first, of_email, spelling}
-use Rattle.mailmap_tables.specs.Merging.{IsAscending, AreBelowAll, InOrder, Extends, known, unknown, IsEarliest, RunPut, IsSpelling, AllJoined, StartsOther, bare, email_text, spelled_by, with_email}
+use Rattle.mailmap_batches.specs.Batches.{IsAscending, email_text}
+use Rattle.mailmap_tables.specs.Merging.{AreBelowAll, InOrder, Extends, known, unknown, RunPut, IsSpelling, AllJoined, bare, spelled_by, with_email}
+use Rattle.mailmap_batches.specs.Given.{IsEarliest, StartsOther}
 use Rattle.mailmap_histories.proofs.Alike.{alike_itself, first_parts}
 use Rattle.mailmap_tables.proofs.Merging.{AreBelow, step_copied, step_joined, step_made}
 use Rattle.mailmap_tables.proofs.NamePlaces.{extends_itself, extends_through}

@@ -1,15 +1,12 @@
 -- Fields that are given one after another.
-use Rattle.std.proofs.Common.{◌≡◌, List, [], ◌∷◌, map, Option, Some, None, Bor, refl, sym, ap, ◌∙◌}
-use Rattle.std.specs.Option.{option_or, option_copied}
+use Rattle.std.proofs.Common.{◌≡◌, List, [], ◌∷◌, map, Option, Some, None, refl, sym, ap, ◌∙◌}
+use Rattle.std.specs.Option.{option_or}
 use Rattle.std.specs.List.{fold}
 use Rattle.mailmap_entries.specs.Entries.{Mapping}
 use Rattle.mailmap_entries.specs.Folding.{Text}
 use Rattle.mailmap_histories.specs.Histories.{Fields}
-use Rattle.mailmap_tables.specs.Merging.{give, with_email}
-
-pub copied-or : (a b : Option (Bor Text)) → option_copied (option_or a b) ≡ option_or (option_copied a) (option_copied b)
-copied-or None b = refl
-copied-or (Some x) b = refl
+use Rattle.mailmap_batches.specs.Given.{give}
+use Rattle.mailmap_tables.specs.Merging.{with_email}
 
 or-assoc : {X : Type 0} (a b c : Option X) → option_or (option_or a b) c ≡ option_or a (option_or b c)
 or-assoc None b c = refl

@@ -15,26 +15,17 @@ use Rattle.std.proofs.lemmas.Map.Keys.{sorted_head, sorted_tail}
 use Rattle.std.proofs.lemmas.Map.Lookups.{exact_bytes}
 use Rattle.mailmap_entries.specs.Entries.{Mapping}
 use Rattle.mailmap_entries.specs.Folding.{Text, folded, text_cmp}
-use Rattle.mailmap_tables.specs.Groups.{NameGroup, EmailGroup, IsGroup, AreGroups, email_key, name_key, name_fields, name_row, own_rows, rows, listing}
+use Rattle.mailmap_batches.specs.Given.{NameGroup}
+use Rattle.mailmap_tables.specs.Groups.{EmailGroup, IsGroup, AreGroups, email_key, name_key, name_fields, name_row, own_rows, rows, listing}
 use Rattle.mailmap_histories.specs.Building.{IsListing, IsPaired}
 use Rattle.mailmap_histories.specs.Histories.{Fields, key, key_cmp, first, last, last_given, is_accepted, accepted, of_key, has_key, given_fields, last_fields, new_fields, no_fields, mapping_with, spelling, value, answered, scan, IsNormal}
 use Rattle.mailmap_histories.proofs.Alike.{Alike, alike_back, same_normal, picked-append}
 use Rattle.mailmap_histories.proofs.Ascending.{before, behind}
 use Rattle.mailmap_histories.proofs.Joined.{filter_none, never}
 use Rattle.mailmap_histories.proofs.Keys.{keys_total}
-use Rattle.mailmap_histories.proofs.Parts.{all_append, all_back, all_map, all_apply, filter_all, last_of_one}
+use Rattle.mailmap_histories.proofs.Parts.{all_append, all_back, all_map, all_apply, filter_all, last_of_one, all_weaker, all_mapped}
 
 -- ---- what holds of each row
-
--- what follows of each of a list
-pub all_weaker : {X : Type 0} {P Q : X → Type 0} (xs : List X) → ((x : X) → P x → Q x) → AllByRecursion P xs → AllByRecursion Q xs
-all_weaker [] f a = tt
-all_weaker (x ∷ xs) f a = (f x a.0, all_weaker xs f a.1)
-
--- what holds of each image
-pub all_mapped : {X Y : Type 0} (f : X → Y) (P : Y → Type 0) (xs : List X) → AllByRecursion (λ x. P (f x)) xs → AllByRecursion P (map f xs)
-all_mapped f P [] a = tt
-all_mapped f P (x ∷ xs) a = (a.0, all_mapped f P xs a.1)
 
 -- what holds of the rows of names
 pub all_rows : (P : Mapping → Type 0) (email : Text) (ns : List NameGroup) → ((n : NameGroup) → P (name_row email n)) → AllByRecursion P (map (name_row email) ns)

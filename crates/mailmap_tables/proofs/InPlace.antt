@@ -9,11 +9,13 @@ use Rattle.std.proofs.lemmas.Option.{get_or_from_slice_get}
 use Rattle.mailmap_entries.specs.Entries.{Mapping}
 use Rattle.mailmap_entries.specs.Folding.{Text, folded, text_cmp}
 use Rattle.mailmap_histories.specs.Histories.{Fields, is_accepted}
-use Rattle.mailmap_tables.specs.Groups.{Contents, EmailGroup, NameGroup, email_key, name_key}
-use Rattle.mailmap_tables.specs.Merging.{Extends, EmailJoined, EmailPut, IsAscending, IsEarliest, IsNamed, NamePlaced, NameRun, NamesJoined, NamesPut, RunPut, bare, first_email, give, known, mapping_at, name_text, placed_at, unknown}
+use Rattle.mailmap_tables.specs.Groups.{Contents, EmailGroup, email_key, name_key}
+use Rattle.mailmap_batches.specs.Given.{NameGroup, IsEarliest, IsNamed, NameRun, give}
+use Rattle.mailmap_tables.specs.Merging.{Extends, EmailJoined, EmailPut, NamePlaced, NamesJoined, NamesPut, RunPut, bare, known, unknown}
+use Rattle.mailmap_batches.specs.Batches.{IsAscending, first_email, mapping_at, name_text, placed_at}
 use Rattle.mailmap_tables.specs.Places.{IsFound, IsMissing}
 use Rattle.mailmap_tables.specs.Room.{EmailChanged, EmailExtended, NamePlacedAt, NamesExtended, first_emails, names_alone, with_email_at}
-use Rattle.mailmap_tables.specs.declared.batch.Placed.{Placed}
+use Rattle.mailmap_batches.specs.declared.indexed.Placed.{Placed}
 use Rattle.mailmap_tables.proofs.EmailPuts.{email_joined}
 use Rattle.mailmap_tables.proofs.NamePlaces.{extends_itself, extends_through}
 use Rattle.mailmap_tables.proofs.NamesLoop.{NamesState, names_start, names_step, names_end}

@@ -4,17 +4,13 @@ pub mod Merging
 pub mod RowTexts
 pub mod Pooled
 pub mod Together
-pub mod Lookups
 pub mod Places
 pub mod Runs
 pub mod Collected
 pub mod Joining
-pub mod Arranged
-pub mod Rests
 pub mod Parting
 pub mod NamePlaces
 pub mod NamesLoop
-pub mod FrontRuns
 pub mod RowCount
 pub mod Given
 pub mod Passing

@@ -8,13 +8,14 @@ use Rattle.std.proofs.lemmas.Bool.{or_right}
 use Rattle.std.proofs.lemmas.List.{map-append}
 use Rattle.mailmap_entries.specs.Entries.{Mapping}
 use Rattle.mailmap_entries.specs.Folding.{Text, folded, text_cmp}
-use Rattle.mailmap_tables.specs.Groups.{NameGroup, EmailGroup, email_key, name_key, name_row, own_rows, rows, listing}
+use Rattle.mailmap_batches.specs.Given.{NameGroup}
+use Rattle.mailmap_tables.specs.Groups.{EmailGroup, email_key, name_key, name_row, own_rows, rows, listing}
 use Rattle.mailmap_histories.specs.Histories.{Fields, key, is_accepted, mapping_with}
 use Rattle.mailmap_histories.proofs.Alike.{Alike, alike_itself, alike_joined}
-use Rattle.mailmap_tables.proofs.Grouped.{all_weaker, all_rows, rows_spelled, listing_all, listing-append}
+use Rattle.mailmap_histories.proofs.Parts.{all_weaker, all_apply, or-None}
+use Rattle.mailmap_tables.proofs.Grouped.{all_rows, rows_spelled, listing_all, listing-append}
 use Rattle.mailmap_histories.proofs.Joined.{IsApart, alike_trans, alike_swapped, alike_combined, either_given, never}
-use Rattle.mailmap_histories.proofs.Parts.{all_apply, or-None}
-pub use Rattle.mailmap_tables.specs.Merging.{give}
+pub use Rattle.mailmap_batches.specs.Given.{give}
 
 -- ---- what is put on a batch and what it is joined with
 

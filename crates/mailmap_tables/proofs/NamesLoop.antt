@@ -10,14 +10,17 @@ use Rattle.std.proofs.lemmas.Map.Lookups.{exact_bytes}
 use Rattle.mailmap_histories.specs.Alike.{Alike}
 use Rattle.mailmap_entries.specs.Entries.{Mapping}
 use Rattle.mailmap_entries.specs.Folding.{Text, folded, text_cmp}
-use Rattle.mailmap_tables.specs.Groups.{NameGroup, Contents, name_key}
+use Rattle.mailmap_batches.specs.Given.{NameGroup, IsNamed, NameRun, StartsOther}
+use Rattle.mailmap_tables.specs.Groups.{Contents, name_key}
 use Rattle.mailmap_histories.specs.Histories.{last}
-use Rattle.mailmap_tables.specs.Merging.{IsAscending, AreBelowAll, InOrder, Extends, IsNamed, NamePut, known, unknown, NamesPut, NameRun, StartsOther, name_text, with_email}
+use Rattle.mailmap_batches.specs.Batches.{IsAscending, name_text}
+use Rattle.mailmap_tables.specs.Merging.{AreBelowAll, InOrder, Extends, NamePut, known, unknown, NamesPut, with_email}
 use Rattle.mailmap_histories.proofs.Alike.{alike_itself}
 use Rattle.mailmap_tables.proofs.Merging.{name_rows, AreNamedBelow, renewed, names_copied, names_found, names_replaced, names_pushed}
 use Rattle.mailmap_tables.proofs.NamePlaces.{extends_itself, extends_through}
 use Rattle.mailmap_histories.proofs.Parts.{all_front, all_back}
 use Rattle.mailmap_tables.proofs.Runs.{order_start, order_missing, order_found, order_end, turned}
+use Rattle.mailmap_batches.proofs.FrontRuns.{name_is}
 
 -- ---- what comes behind a run
 
@@ -84,10 +87,6 @@ names_start ks ms c s t =
 mailed : (e : Text) (js : List Mapping) → AllByRecursion (λ y. y.old_email ≡ e) (map (with_email e) js)
 mailed e [] = tt
 mailed e (j ∷ js) = (refl, mailed e js)
-
--- a named entry's name
-pub name_is : (m : Mapping) (x : Text) → m.old_name ≡ Some x → name_text m ≡ folded x
-name_is m x e = ap (λ o. folded (unwrap_or o [])) e
 
 keyed_is : (m : Mapping) (k : Text) → IsNamed m → name_text m ≡ k → option_map folded m.old_name ≡ Some k
 keyed_is m k named e = at m.old_name named.old_name e

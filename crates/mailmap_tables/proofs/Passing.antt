@@ -6,7 +6,8 @@ use Rattle.std.proofs.lemmas.List.{take_more, get_or-drop, length-map}
 use Rattle.std.proofs.lemmas.Option.{slice_get_within, get_or_from_slice_get}
 use Rattle.mailmap_entries.specs.Folding.{Text, folded}
 use Rattle.mailmap_entries.specs.Fronts.{IsFront}
-use Rattle.mailmap_tables.specs.Groups.{EmailGroup, NameGroup}
+use Rattle.mailmap_tables.specs.Groups.{EmailGroup}
+use Rattle.mailmap_batches.specs.Given.{NameGroup}
 use Rattle.mailmap_tables.specs.Merging.{Extends}
 use Rattle.mailmap_tables.specs.Pool.{RowsLie, TextsLie, group_of, name_group, spelled}
 use Rattle.mailmap_tables.specs.Texts.{old_span}

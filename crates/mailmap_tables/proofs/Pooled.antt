@@ -1,8 +1,7 @@
 -- What tables denote when the pool, the names or the emails grow.
 use Rattle.std.proofs.Common.{◌≡◌, ◌+◌, ◌-◌, ◌≤◌, ◌<◌, get_or, ℕ, zero, suc, List, [], ◌∷◌, ◌++◌, map, take, drop, length, Option, Some, None, option_map, unwrap_or, length-append, length-drop, refl, sym, ap, ◌∙◌, arith, subst}
 use Rattle.std.specs.Option.{ForSome, option_map_or}
-use Rattle.std.specs.List.{slice_get}
-use Rattle.std.specs.List.{AllByRecursion}
+use Rattle.std.specs.List.{slice_get, AllByRecursion}
 use Rattle.std.proofs.lemmas.List.{take-append-le, drop-append-le, map-append, take-map, drop-map, drop-drop, length-map, map_push}
 use Rattle.mailmap_entries.specs.Folding.{Text, folded}
 use Rattle.mailmap_entries.specs.Fronts.{front_number}

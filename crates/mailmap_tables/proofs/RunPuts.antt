@@ -5,10 +5,12 @@ use Rattle.std.specs.List.Sorted.{IsStrictlySortedBy}
 use Rattle.std.proofs.lemmas.Option.{slice_get_within, get_or_from_slice_get}
 use Rattle.mailmap_entries.specs.Folding.{Text, text_cmp}
 use Rattle.mailmap_tables.specs.Groups.{EmailGroup, AreGroups, Contents, IsGroup, email_key, name_key}
-use Rattle.mailmap_tables.specs.Merging.{Extends, EmailPut, EmailJoined, EmailPlaced, known, unknown, IsEarliest, RunPut, bare, email_text, first_email, mapping_at, placed_at}
+use Rattle.mailmap_tables.specs.Merging.{Extends, EmailPut, EmailJoined, EmailPlaced, known, unknown, RunPut, bare}
+use Rattle.mailmap_batches.specs.Given.{IsEarliest}
+use Rattle.mailmap_batches.specs.Batches.{email_text, first_email, mapping_at, placed_at}
 use Rattle.mailmap_tables.specs.Places.{IsFound, IsMissing}
-use Rattle.mailmap_tables.specs.declared.batch.Placed.{Placed}
-use Rattle.mailmap_tables.proofs.Collected.{mapped_twice}
+use Rattle.mailmap_batches.specs.declared.indexed.Placed.{Placed}
+use Rattle.mailmap_batches.proofs.Numbered.{mapped_twice}
 use Rattle.mailmap_tables.proofs.NamePlaces.{extends_itself, extends_through}
 use Rattle.mailmap_tables.proofs.Parting.{part_behind, split_behind, found_key, missing_below, missing_above}
 use Rattle.mailmap_tables.proofs.Pooled.{all_at}

@@ -5,7 +5,8 @@ use Rattle.std.specs.List.{AllByRecursion}
 use Rattle.std.specs.List.Sorted.{IsStrictlySortedBy}
 use Rattle.std.proofs.lemmas.Map.Keys.{sorted_head, sorted_tail}
 use Rattle.mailmap_entries.specs.Folding.{Text, text_cmp}
-use Rattle.mailmap_tables.specs.Merging.{IsAscending, AreBelowAll, InOrder}
+use Rattle.mailmap_batches.specs.Batches.{IsAscending}
+use Rattle.mailmap_tables.specs.Merging.{AreBelowAll, InOrder}
 use Rattle.mailmap_histories.proofs.Parts.{all_append, all_front, all_back}
 
 abbrev Below : Text → List Text → Type 0

@@ -6,12 +6,14 @@ use Rattle.mailmap_entries.specs.Entries.{Mapping}
 use Rattle.mailmap_entries.specs.Folding.{Text, text_cmp}
 use Rattle.mailmap_tables.specs.Groups.{EmailGroup, AreGroups, Contents}
 use Rattle.mailmap_histories.specs.Histories.{is_accepted, key, key_cmp}
-use Rattle.mailmap_tables.specs.Merging.{IsAscending, EmailRun, RunPut, StartsOther, email_text, first_email, mapping_at, placed_at}
-use Rattle.mailmap_tables.specs.declared.batch.Placed.{Placed}
-use Rattle.mailmap_tables.proofs.Collected.{mapped_twice}
+use Rattle.mailmap_batches.specs.Batches.{IsAscending, email_text, first_email, mapping_at, placed_at}
+use Rattle.mailmap_tables.specs.Merging.{EmailRun, RunPut}
+use Rattle.mailmap_batches.specs.Given.{StartsOther}
+use Rattle.mailmap_batches.specs.declared.indexed.Placed.{Placed}
+use Rattle.mailmap_batches.proofs.Numbered.{mapped_twice}
 use Rattle.mailmap_tables.proofs.EmailsLoop.{Item, by, EmailsState, emails_step, emails_ascend, run_ascends, ascending_front}
-use Rattle.mailmap_tables.proofs.FrontRuns.{starts_other, all_mapped}
-use Rattle.mailmap_histories.proofs.Parts.{all_front, all_back}
+use Rattle.mailmap_batches.proofs.FrontRuns.{starts_other}
+use Rattle.mailmap_histories.proofs.Parts.{all_mapped, all_front, all_back}
 
 -- a batch that is in order, its entries accepted
 pub record IsBatch (xs : List Placed) : Type 0 where

@@ -4,7 +4,7 @@ use Rattle.std.specs.Cmp.{Equal-is}
 use Rattle.std.specs.List.{AllByRecursion, enumerate_from}
 use Rattle.std.specs.Option.{option_or}
 use Rattle.std.specs.Ordering.{eq_by_cmp}
-use Rattle.std.proofs.lemmas.Bool.{false_from_ne_true}
+use Rattle.std.proofs.lemmas.Bool.{false_from_ne_true, or_right}
 use Rattle.std.proofs.lemmas.List.Elements.{All-from_recursion, recursion_from_All}
 use Rattle.std.proofs.lemmas.List.Sorted.{All-permutation}
 use Rattle.std.proofs.lemmas.Map.Lookups.{exact_bytes}
@@ -13,18 +13,18 @@ use Rattle.mailmap_entries.specs.Entries.{Mapping}
 use Rattle.mailmap_entries.specs.Folding.{Text, folded, text_cmp}
 use Rattle.mailmap_tables.specs.Groups.{EmailGroup, AreGroups, email_key, listing}
 use Rattle.mailmap_histories.specs.Histories.{Key, key, first, is_accepted, accepted, has_key, spelling, value, IsNormal}
-use Rattle.mailmap_tables.specs.Merging.{IsSorted, IsSpelling, AllJoined, email_text, spelled_by, mapping_at, placed_at}
-use Rattle.mailmap_tables.specs.declared.batch.Placed.{Placed}
+use Rattle.mailmap_batches.specs.Batches.{IsSorted, email_text, mapping_at, placed_at}
+use Rattle.mailmap_tables.specs.Merging.{IsSpelling, AllJoined, spelled_by}
+use Rattle.mailmap_batches.specs.declared.indexed.Placed.{Placed}
 use Rattle.mailmap_histories.proofs.Alike.{first_parts, key_parts}
 use Rattle.mailmap_histories.proofs.Ascending.{each_key}
 use Rattle.mailmap_tables.proofs.Batches.{respelled, alike_respelled, least_spells}
 use Rattle.mailmap_histories.proofs.Exists.{speller}
-use Rattle.mailmap_tables.proofs.Grouped.{spelled_at, picked_none, not_mailed, all_weaker, normal_of_groups}
+use Rattle.mailmap_tables.proofs.Grouped.{spelled_at, picked_none, not_mailed, normal_of_groups}
+use Rattle.mailmap_histories.proofs.Parts.{all_weaker, filter_all}
 use Rattle.mailmap_histories.proofs.Joined.{alike_trans}
 use Rattle.mailmap_histories.proofs.Keys.{keys_total, keys_exact}
 use Rattle.mailmap_histories.proofs.Normal.{known}
-use Rattle.mailmap_histories.proofs.Parts.{filter_all}
-use Rattle.std.proofs.lemmas.Bool.{or_right}
 
 abbrev Item : Type 0
 Item = ℕ × Mapping

@@ -1,16 +1,11 @@
 -- A normal list by emails: what the tables of a snapshot denote.
-use Rattle.std.specs.Prelude.{◌≡◌, ◌≢◌, ◌||◌, ◌++◌, if◌then◌else◌, is_some, Option, Some, None, List, [], ◌∷◌, map}
+use Rattle.std.specs.Prelude.{◌≡◌, ◌≢◌, ◌||◌, ◌++◌, if◌then◌else◌, is_some, Some, None, List, [], ◌∷◌, map}
 use Rattle.std.specs.List.{AllByRecursion, flat_map}
 use Rattle.std.specs.List.Sorted.{IsStrictlySortedBy}
 use Rattle.mailmap_entries.specs.Entries.{Mapping}
 use Rattle.mailmap_entries.specs.Folding.{Text, folded, text_cmp}
 use Rattle.mailmap_histories.specs.Histories.{Fields, mapping_with}
-
--- an old name as it is kept, and the fields that stand for it
-pub record NameGroup : Type 0 where
-  pub old_name : Text
-  pub new_name : Option Text
-  pub new_email : Text
+use Rattle.mailmap_batches.specs.Given.{NameGroup}
 
 -- an old email as it is kept, the fields that were given without an old name, and the old names of the email
 pub record EmailGroup : Type 0 where

@@ -1,22 +1,16 @@
 -- How a sorted batch is joined with standing groups.
-use Rattle.std.specs.Prelude.{◌≡◌, ◌≤◌, ◌++◌, ℕ, true, false, IsSome, Some, List, [], ◌∷◌, All, Contains, map, unwrap_or}
-use Rattle.std.specs.List.{AllByRecursion, enumerate_from}
-use Rattle.std.specs.List.Sorted.{IsPermutation, IsStrictlySortedBy}
-use Rattle.std.specs.Option.{option_cmp, option_map, option_or}
-use Rattle.std.specs.Ordering.{is_lt}
-use Rattle.std.specs.declared.cmp.Ordering.{Ordering}
+use Rattle.std.specs.Prelude.{◌≡◌, ◌≤◌, ◌++◌, ℕ, true, List, [], ◌∷◌, All, Contains, map}
+use Rattle.std.specs.List.{AllByRecursion}
+use Rattle.std.specs.List.Sorted.{IsStrictlySortedBy}
+use Rattle.std.specs.Option.{option_cmp, option_map}
 use Rattle.std.specs.declared.cmp.Ordering.TheVariants.{Less}
 use Rattle.mailmap_histories.specs.Alike.{Alike}
-use Rattle.mailmap_entries.specs.Entries.{Mapping, mapping_of}
+use Rattle.mailmap_entries.specs.Entries.{Mapping}
 use Rattle.mailmap_entries.specs.Folding.{Text, folded, text_cmp}
-use Rattle.mailmap_tables.specs.Groups.{NameGroup, EmailGroup, AreGroups, Contents, email_key, name_key, name_row, rows, listing}
-use Rattle.mailmap_histories.specs.Histories.{Key, Fields, key, key_cmp, is_accepted, of_key, no_fields, last}
-use Rattle.mailmap_tables.specs.declared.batch.Placed.{Placed}
-
--- no key is below one that stands before it
-abbrev pub IsAscending : {K : Type 0} → (K → K → Ordering) → List K → Type 0
-IsAscending cmp [] = Unit {0}
-IsAscending cmp (x ∷ xs) = AllByRecursion (λ y. is_lt (cmp y x) ≡ false) xs × IsAscending cmp xs
+use Rattle.mailmap_batches.specs.Given.{NameGroup, IsEarliest}
+use Rattle.mailmap_tables.specs.Groups.{EmailGroup, AreGroups, Contents, email_key, name_key, name_row, rows, listing}
+use Rattle.mailmap_histories.specs.Histories.{is_accepted, no_fields}
+use Rattle.mailmap_batches.specs.Batches.{IsAscending, email_text}
 
 -- each of these texts is below each of those
 abbrev pub AreBelowAll : List Text → List Text → Type 0
@@ -33,42 +27,11 @@ pub record InOrder (out standing batch taken : List Text) : Type 0 where
   pub taken_standing : AreBelowAll taken standing
   pub taken_batch : AreBelowAll taken batch
 
--- ---- a batch
-
--- what an entry of a batch says
-abbrev pub mapping_at : Placed → Mapping
-mapping_at p = mapping_of p.entry.now
-
-abbrev pub placed_at : Placed → ℕ × Mapping
-placed_at p = (p.index, mapping_at p)
-
-abbrev pub email_text : Mapping → Text
-email_text m = folded m.old_email
-
--- the old email of the first entry, without its case
-abbrev pub first_email : List Mapping → Text
-first_email [] = []
-first_email (m ∷ ms) = email_text m
-
-abbrev pub name_text : Mapping → Text
-name_text m = folded (unwrap_or m.old_name [])
-
--- the entries of a batch in ascending order of their keys, those of one key as they came
-pub record IsSorted (xs : List Mapping) (ps : List (ℕ × Mapping)) : Type 0 where
-  pub moved : IsPermutation (enumerate_from 0 xs) ps
-  pub keyed : (k : Key) → of_key xs k ≡ of_key (map (λ p. p.1) ps) k
-  pub ascending : IsAscending key_cmp (map (λ p. key p.1) ps)
-
 -- ---- names
 
 -- the entry with its old email spelled so
 abbrev pub with_email : Text → Mapping → Mapping
 with_email e m = record m { old_email = e }
-
--- an entry with an old name, and so with a new email
-pub record IsNamed (m : Mapping) : Type 0 where
-  pub old_name : IsSome m.old_name
-  pub new_email : IsSome m.new_email
 
 -- the pool has grown at its end
 abbrev pub Extends : Text → Text → Type 0
@@ -117,10 +80,6 @@ pub record EmailPut (g : EmailGroup) (ms : List Mapping) (old new : Contents) : 
   pub no_loose : new.loose ≡ []
   pub joined : EmailJoined g ms group
 
--- each field as the entry gives it, and else as it was
-abbrev pub give : Fields → Mapping → Fields
-give f m = record { name = option_or m.new_name f.name; email = option_or m.new_email f.email }
-
 -- the accepted entries of one email, those without an old name in front, the others ascending by it
 pub record EmailRun (ms : List Mapping) : Type 0 where
   pub accepted : AllByRecursion (λ m. is_accepted m ≡ true) ms
@@ -129,11 +88,6 @@ pub record EmailRun (ms : List Mapping) : Type 0 where
 -- an email of which nothing is known but its spelling
 abbrev pub bare : Text → EmailGroup
 bare email = record { old_email = email; own = no_fields; names = [] }
-
--- the earliest entry of a run
-pub record IsEarliest (ps : List (ℕ × Mapping)) (p : ℕ × Mapping) : Type 0 where
-  pub among : Contains ps p
-  pub least : All (λ q. p.0 ≤ q.0) ps
 
 -- how an email comes out: as it stands, or as its earliest entry spells it
 pub data EmailPlaced (gs : List EmailGroup) (passed : List EmailGroup) (ps : List (ℕ × Mapping)) (email : Text) (g : EmailGroup) (left : List EmailGroup) : Type 0 where
@@ -167,22 +121,3 @@ spelled_by s m = with_email (s (email_text m)) m
 pub record AllJoined (gs : List EmailGroup) (ps : List (ℕ × Mapping)) (cs : List EmailGroup) : Type 0 where
   pub groups : AreGroups cs
   pub alike : (s : Text → Text) → IsSpelling gs ps s → Alike (listing gs ++ map (λ p. spelled_by s p.1) ps) (listing cs)
-
--- ---- runs of a batch
-
--- the list is empty, or its first one fails
-abbrev pub StartsOther : {X : Type 0} → (X → Type 0) → List X → Type 0
-StartsOther P [] = Unit {0}
-StartsOther P (x ∷ xs) = ¬ P x
-
--- the entries at the front of a batch that have one old name, and the name that stands for them:
--- spelled as the first has it, with the fields of the last
-pub record NameRun (ms : List Mapping) (n : NameGroup) (later : List Mapping) : Type 0 where
-  pub front : Mapping
-  pub more : List Mapping
-  pub whole : ms ≡ front ∷ more ++ later
-  pub named : front.old_name ≡ Some n.old_name
-  pub same : AllByRecursion (λ m. name_text m ≡ folded n.old_name) more
-  pub new_name : (unwrap_or (last more) front).new_name ≡ n.new_name
-  pub new_email : (unwrap_or (last more) front).new_email ≡ Some n.new_email
-  pub other : StartsOther (λ m. name_text m ≡ folded n.old_name) later

@@ -1,21 +1,11 @@
 -- What the entries of a batch give, on its way out.
 use Rattle.std.specs.Prelude.{◌≡◌}
-use Rattle.std.specs.Option.{option_copied, option_or}
+use Rattle.std.specs.Option.{option_or}
 use Rattle.mailmap_entries.specs.Folding.{Text}
-use Rattle.mailmap_tables.specs.Groups.{NameGroup}
 use Rattle.mailmap_tables.specs.Pool.{fields_of, spelled}
 use Rattle.mailmap_tables.specs.Texts.{old_span}
 use Rattle.mailmap_histories.specs.Histories.{Fields}
-use Rattle.mailmap_tables.specs.declared.merge.Given.{Given}
-use Rattle.mailmap_tables.specs.declared.merge.Named.{Named}
 use Rattle.mailmap_tables.specs.declared.texts.Texts.{Texts}
-
--- what the name says
-abbrev pub named_group : Named → NameGroup
-named_group n = record { old_name = n.old_name.now; new_name = option_copied n.new_name; new_email = n.new_email.now }
-
-abbrev pub fields_given : Given → Fields
-fields_given g = record { name = option_copied g.new_name; email = option_copied g.new_email }
 
 -- each field as it is given, and else as it stood
 abbrev pub given_or : Fields → Fields → Fields

@@ -5,7 +5,8 @@ use Rattle.std.specs.List.{AllByRecursion}
 use Rattle.mailmap_entries.specs.Folding.{Text, folded}
 use Rattle.mailmap_entries.specs.Fronts.{front_number}
 use Rattle.mailmap_histories.specs.Histories.{Fields}
-use Rattle.mailmap_tables.specs.Groups.{NameGroup, EmailGroup, Contents}
+use Rattle.mailmap_batches.specs.Given.{NameGroup}
+use Rattle.mailmap_tables.specs.Groups.{EmailGroup, Contents}
 use Rattle.mailmap_tables.specs.Texts.{old_span, name_span, email_span}
 use Rattle.mailmap_tables.specs.declared.texts.Span.{Span}
 use Rattle.mailmap_tables.specs.declared.texts.Texts.{Texts}

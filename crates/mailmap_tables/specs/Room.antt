@@ -4,8 +4,10 @@ use Rattle.std.specs.List.{AllByRecursion}
 use Rattle.mailmap_entries.specs.Entries.{Mapping}
 use Rattle.mailmap_entries.specs.Folding.{Text}
 use Rattle.mailmap_histories.specs.Histories.{Fields}
-use Rattle.mailmap_tables.specs.Groups.{NameGroup, EmailGroup, Contents, email_key}
-use Rattle.mailmap_tables.specs.Merging.{Extends, NamePut, NamesJoined, EmailJoined, email_text}
+use Rattle.mailmap_batches.specs.Given.{NameGroup}
+use Rattle.mailmap_tables.specs.Groups.{EmailGroup, Contents, email_key}
+use Rattle.mailmap_tables.specs.Merging.{Extends, NamePut, NamesJoined, EmailJoined}
+use Rattle.mailmap_batches.specs.Batches.{email_text}
 use Rattle.mailmap_tables.specs.declared.tables.EmailRow.{EmailRow}
 
 -- what tables hold, and how many bytes, emails and names more there is room for

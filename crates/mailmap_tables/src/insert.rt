@@ -7,22 +7,25 @@ ghost use Rattle.mailmap_entries.specs.Entries.{mapping_of};
 ghost use Rattle.mailmap_entries.specs.Folding.{folded, text_cmp};
 ghost use Rattle.mailmap_histories.specs.Histories.{IsNormal, is_accepted, key, key_cmp};
 ghost use Rattle.mailmap_tables.specs.Groups.{AreGroups, EmailGroup, IsComplete, email_key, listing, name_key};
-ghost use Rattle.mailmap_tables.specs.Merging.{AllJoined, EmailRun, IsAscending, IsNamed, RunPut, email_text, first_email, mapping_at, name_text, placed_at};
-ghost use Rattle.mailmap_tables.specs.Named.{fields_given, given_or, named_group};
+ghost use Rattle.mailmap_tables.specs.Merging.{AllJoined, EmailRun, RunPut};
+ghost use Rattle.mailmap_batches.specs.Batches.{IsAscending, email_text, first_email, mapping_at, name_text, placed_at};
+ghost use Rattle.mailmap_batches.specs.Given.{IsNamed, fields_given, named_group};
+ghost use Rattle.mailmap_tables.specs.Named.{given_or};
 ghost use Rattle.mailmap_tables.specs.Pool.{LiesIn, NameLies, name_group, spelled};
 ghost use Rattle.mailmap_tables.specs.Places.{IsFound, IsMissing};
 ghost use Rattle.mailmap_tables.specs.Room.{EmailChanged, EmailExtended, HasRoom, NamePlacedAt, NamesExtended, StoodWithin, TookRoom, entry_bytes, entry_room, field_bytes, first_emails, email_room, name_bytes, optional_bytes, own_bytes, own_room};
 
-use crate::batch::{Placed, sorted};
-use crate::merge::{
-    Given, Named, before, behind, earliest, email_run, front_name, last_given, rest, span_len,
-    text_len, unnamed_run,
-};
+use crate::merge::{rest, span_len, text_len};
 use crate::room::Roomy;
 use crate::search::{place_email, place_name};
 use crate::tables::{NameRow, Tables};
 use crate::texts::{Span, Texts};
 use crate::view::View;
+use mailmap_batches::batch::sorted;
+use mailmap_batches::groups::{
+    Given, Named, before, behind, earliest, email_run, front_name, last_given, unnamed_run,
+};
+use mailmap_batches::indexed::Placed;
 use mailmap_entries::Entry;
 use std::alloc::{AllocError, Global};
 use std::mem;

@@ -2,7 +2,6 @@
 //! part of what it gives to users.
 #![tactic(auto)]
 
-pub mod batch;
 mod insert;
 pub mod listing;
 pub mod merge;

@@ -1,21 +1,22 @@
 //! Joining a sorted batch with the standing tables: email by email, and within an email name by name. The standing rows
 //! between two emails of the batch are passed on without a look at their texts.
-ghost use Rattle.std.specs.Prelude.{◌≡◌, ◌≢◌, ◌+◌, ◌-◌, ◌<◌, ◌≤◌, [], ◌++◌, ◌∷◌, List, None, true, OnOk, OnErr, IfOk, IfSome, Some, IsSome, IsTrue, ◌↔◌, take, drop, map, length, ℕ};
+ghost use Rattle.std.specs.Prelude.{◌≡◌, ◌≢◌, ◌+◌, ◌-◌, ◌<◌, ◌≤◌, [], ◌++◌, ◌∷◌, List, true, OnOk, OnErr, IfOk, take, drop, map, length, ℕ};
 ghost use Rattle.std.specs.Option.{option_copied, option_map, option_or, ForSome};
-ghost use Rattle.std.specs.List.{AllByRecursion, HoldsAt, fold};
+ghost use Rattle.std.specs.List.{AllByRecursion};
 ghost use Rattle.std.specs.List.Sorted.{IsStrictlySortedBy};
 ghost use Rattle.mailmap_entries.specs.Entries.{mapping_of};
-ghost use Rattle.mailmap_entries.specs.Folding.{folded, text_cmp};
-ghost use Rattle.mailmap_tables.specs.Groups.{Contents, AreGroups, IsComplete, name_key, email_key, listing};
+ghost use Rattle.mailmap_entries.specs.Folding.{text_cmp};
+ghost use Rattle.mailmap_tables.specs.Groups.{AreGroups, IsComplete, name_key, listing};
 ghost use Rattle.std.specs.Iterator.{IsFinite, Drains, Yields};
-ghost use Rattle.mailmap_histories.specs.Histories.{IsNormal, accepted, is_accepted, key, key_cmp, no_fields};
+ghost use Rattle.mailmap_histories.specs.Histories.{IsNormal, accepted, is_accepted, key, key_cmp};
 ghost use Rattle.mailmap_entries.specs.declared.entry.Entry.{Entry as Item};
-ghost use Rattle.mailmap_tables.specs.Merging.{IsAscending, first_email, IsNamed, mapping_at, placed_at, email_text, name_text, Extends, NamePut, NameRun, NamesPut, EmailRun, IsEarliest, give, EmailPut, RunPut, AllJoined};
-ghost use Rattle.mailmap_tables.specs.Pool.{spelled, LiesIn, NameLies, EmailLies, RowsLie, TextsLie, name_group, group_of};
-ghost use Rattle.mailmap_tables.specs.Named.{OwnSpells, named_group, fields_given};
+ghost use Rattle.mailmap_batches.specs.Batches.{IsAscending, first_email, mapping_at, placed_at, name_text};
+ghost use Rattle.mailmap_batches.specs.Given.{IsNamed, named_group, fields_given};
+ghost use Rattle.mailmap_tables.specs.Merging.{Extends, NamePut, NamesPut, EmailRun, EmailPut, RunPut, AllJoined};
+ghost use Rattle.mailmap_tables.specs.Pool.{spelled, LiesIn, NameLies, RowsLie, TextsLie, name_group, group_of};
+ghost use Rattle.mailmap_tables.specs.Named.{OwnSpells};
 ghost use Rattle.mailmap_tables.specs.Room.{optional_bytes};
 
-use crate::batch::{Placed, sorted};
 use crate::insert::merge_in_place;
 use crate::listing::Iter;
 use crate::portions::accepted_of;
@@ -23,23 +24,13 @@ use crate::search::{place_email, place_name};
 use crate::tables::{NameRow, Tables};
 use crate::texts::{Span, Texts};
 use crate::view::View;
+use mailmap_batches::batch::sorted;
+use mailmap_batches::groups::{
+    Given, Named, before, behind, earliest, email_run, front_name, last_given, unnamed_run,
+};
+use mailmap_batches::indexed::Placed;
 use mailmap_entries::Entry;
 use std::alloc::{AllocError, Global};
-
-// The texts that stand for an old name.
-#[derive(Clone, Copy)]
-pub(crate) struct Named<'a> {
-    pub(crate) old_name: &'a [u8],
-    pub(crate) new_name: Option<&'a [u8]>,
-    pub(crate) new_email: &'a [u8],
-}
-
-// The fields that entries without an old name give.
-#[derive(Clone, Copy)]
-pub(crate) struct Given<'a> {
-    pub(crate) new_name: Option<&'a [u8]>,
-    pub(crate) new_email: Option<&'a [u8]>,
-}
 
 // Puts a text that may be missing at the end of the pool.
 fn push_optional(out: &mut Tables, text: Option<&[u8]>) -> Result<Option<Span>, AllocError>
@@ -125,84 +116,6 @@ pub(crate) fn rest(rows: &[NameRow], place: usize) -> &[NameRow]
     &rows[place..]
 }
 
-// Whether two texts are the same but for the case of their letters. Most are the same.
-fn is_same(a: &[u8], b: &[u8]) -> bool
-    ensures { IsTrue result ↔ (folded a.now ≡ folded b.now) }
-{
-    a == b || a.eq_ignore_ascii_case(b)
-}
-
-// How many entries at the front have this old name, which the first one has.
-fn name_run(batch: &[Placed<'_, '_>], name: &[u8]) -> usize
-    requires { HoldsAt (λ p. name_text (mapping_at p) ≡ folded name.now) batch.now 0 }
-    ensures within { result ≤ length batch.now }
-    ensures same { AllByRecursion (λ p. name_text (mapping_at p) ≡ folded name.now) (take result batch.now) }
-    ensures other { result < length batch.now → HoldsAt (λ p. name_text (mapping_at p) ≢ folded name.now) batch.now result }
-{
-    for i in 1..batch.len() {
-        let other = batch[i].entry.old_name().unwrap_or(&[]);
-        if !is_same(other, name) {
-            return i;
-        }
-    }
-    batch.len()
-}
-
-// How many entries at the front have this old email, which the first one has.
-pub(crate) fn email_run(batch: &[Placed<'_, '_>], email: &[u8]) -> usize
-    requires { HoldsAt (λ p. email_text (mapping_at p) ≡ folded email.now) batch.now 0 }
-    ensures within { result ≤ length batch.now }
-    ensures same { AllByRecursion (λ p. email_text (mapping_at p) ≡ folded email.now) (take result batch.now) }
-    ensures other { result < length batch.now → HoldsAt (λ p. email_text (mapping_at p) ≢ folded email.now) batch.now result }
-{
-    for i in 1..batch.len() {
-        if !is_same(batch[i].entry.old_email(), email) {
-            return i;
-        }
-    }
-    batch.len()
-}
-
-// How many entries at the front have no old name.
-pub(crate) fn unnamed_run(batch: &[Placed<'_, '_>]) -> usize
-    ensures within { result ≤ length batch.now }
-    ensures none { AllByRecursion (λ p. (mapping_at p).old_name ≡ None) (take result batch.now) }
-    ensures other { result < length batch.now → HoldsAt (λ p. (mapping_at p).old_name ≢ None) batch.now result }
-{
-    for (i, placed) in batch.iter().enumerate() {
-        if placed.entry.old_name().is_some() {
-            return i;
-        }
-    }
-    batch.len()
-}
-
-// The name at the front of a batch of named entries, and how many entries it stands for.
-pub(crate) fn front_name<'a>(batch: &[Placed<'_, 'a>]) -> (Named<'a>, usize)
-    requires some { 0 < length batch.now }
-    requires named { AllByRecursion (λ p. IsNamed (mapping_at p)) batch.now }
-    ensures within { result.1 ≤ length batch.now }
-    ensures run { NameRun (map mapping_at batch.now) (named_group result.0) (map mapping_at (drop result.1 batch.now)) }
-{
-    let Some(old_name) = batch[0].entry.old_name() else {
-        unreachable!()
-    };
-    let len = name_run(batch, old_name);
-    let last = batch[len - 1].entry;
-    let Some(new_email) = last.new_email() else {
-        unreachable!()
-    };
-    let new_name = last.new_name();
-    (
-        Named {
-            old_name,
-            new_name,
-            new_email,
-        },
-        len,
-    )
-}
-
 // Puts out the kept names of an email and the named entries of a batch for it.
 fn join_names(
     out: &mut Tables,
@@ -225,31 +138,6 @@ fn join_names(
     out.push_names(standing)
 }
 
-// The entries from a place on.
-pub(crate) fn behind<'s, 'e, 'a>(batch: &'s [Placed<'e, 'a>], place: usize) -> &'s [Placed<'e, 'a>]
-    requires { place ≤ length batch.now }
-    ensures { result.now ≡ drop place batch.now }
-{
-    &batch[place..]
-}
-
-// The fields that entries without an old name give last, each for itself.
-pub(crate) fn last_given<'a>(own: &[Placed<'_, 'a>]) -> Given<'a>
-    ensures { fields_given result ≡ fold give no_fields (map mapping_at own.now) }
-{
-    let mut given = Given {
-        new_name: None,
-        new_email: None,
-    };
-    for placed in own {
-        given = Given {
-            new_name: placed.entry.new_name().or(given.new_name),
-            new_email: placed.entry.new_email().or(given.new_email),
-        };
-    }
-    given
-}
-
 // Puts a text out if there is one, and else keeps that which stood.
 fn push_given(
     out: &mut Tables,
@@ -265,14 +153,6 @@ fn push_given(
         Some(text) => Ok(Some(out.push_text(text, span_len(stood))?)),
         None => Ok(stood),
     }
-}
-
-// The entries before a place.
-pub(crate) fn before<'s, 'e, 'a>(batch: &'s [Placed<'e, 'a>], place: usize) -> &'s [Placed<'e, 'a>]
-    requires { place ≤ length batch.now }
-    ensures { result.now ≡ take place batch.now }
-{
-    &batch[..place]
 }
 
 // Puts out the fields that are given for an email, and gives the row of its own texts with them. Where its old email is
@@ -307,20 +187,6 @@ fn join_email(
     let own = own_texts(out, texts, last_given(before(batch, len)))?;
     join_names(out, names, behind(batch, len))?;
     out.push_email(own)
-}
-
-// The entry that came first.
-pub(crate) fn earliest<'e, 'a>(batch: &[Placed<'e, 'a>]) -> Placed<'e, 'a>
-    requires { 0 < length batch.now }
-    ensures { IsEarliest (map placed_at batch.now) (placed_at result) }
-{
-    let mut first = batch[0];
-    for placed in batch {
-        if placed.index < first.index {
-            first = *placed;
-        }
-    }
-    first
 }
 
 // Passes standing emails on, from one place up to another.

@@ -41,7 +41,8 @@ impl Model for Roomy {
 }
 
 impl Roomy {
-    ghost use Rattle.mailmap_tables.specs.Groups.{EmailGroup, NameGroup};
+    ghost use Rattle.mailmap_tables.specs.Groups.{EmailGroup};
+    ghost use Rattle.mailmap_batches.specs.Given.{NameGroup};
     ghost use Rattle.mailmap_tables.specs.Merging.{bare};
     ghost use Rattle.mailmap_tables.specs.Pool.{spelled, LiesIn, NameLies, RowSpells, TextsLie, fields_of, name_group};
     ghost use Rattle.mailmap_tables.specs.Texts.{old_span, span_bytes};

@@ -50,7 +50,8 @@ impl Model for Tables {
 }
 
 impl Tables {
-    ghost use Rattle.mailmap_tables.specs.Groups.{Contents, EmailGroup, NameGroup};
+    ghost use Rattle.mailmap_tables.specs.Groups.{Contents, EmailGroup};
+    ghost use Rattle.mailmap_batches.specs.Given.{NameGroup};
     ghost use Rattle.mailmap_tables.specs.Pool.{spelled, LiesIn, NameLies, RowSpells, TextsLie, name_group, group_of};
     ghost use Rattle.mailmap_tables.specs.Texts.{old_span};
 

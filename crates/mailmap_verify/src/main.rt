@@ -9,9 +9,9 @@
 #![tactic(auto)]
 
 use mailmap_reports::task::{perform, task_of};
-use mailmap_runs::failure::Failure;
-use mailmap_runs::files::System;
-use mailmap_runs::outcome::{Outcome, exit_code};
+use mailmap_io::failure::Failure;
+use mailmap_io::files::System;
+use mailmap_io::outcome::{Outcome, exit_code};
 use std::env;
 use std::process::ExitCode;
 

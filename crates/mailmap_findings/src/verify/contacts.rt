@@ -16,7 +16,8 @@ pub(crate) fn told_of_entry<'a>(
     entry: &Entry<'a>,
     stays: bool,
 ) -> Option<Kind<'a>>
-    ensures { option_map told_of result ≡ spec_told (entries sifted.now.history) sifted.now.kept stays (mapping_of entry.now) }
+    ensures { option_map told_of result
+        ≡ spec_told (entries sifted.now.history) sifted.now.kept stays (mapping_of entry.now) }
 {
     if stays {
         return told_of_contact(sifted, proper_contact(entry));
@@ -27,7 +28,8 @@ pub(crate) fn told_of_entry<'a>(
 
 // That the contact is mapped to another one.
 fn told_of_contact<'a>(sifted: &Sifted<'_, 'a>, contact: Contact<'a>) -> Option<Kind<'a>>
-    ensures { option_map told_of result ≡ spec_told_of_contact (contact_of contact.entry) (spec_mapped (entries sifted.now.history) (contact_of contact.entry)) }
+    ensures { option_map told_of result ≡ spec_told_of_contact (contact_of contact.entry)
+        (spec_mapped (entries sifted.now.history) (contact_of contact.entry)) }
 {
     let to = mapped(sifted, contact);
     if contact == to {

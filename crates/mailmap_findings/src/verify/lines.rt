@@ -38,7 +38,8 @@ fn push_lines<'a>(
     number: usize,
     buffer: &'a [u8],
 ) -> Result<(), AllocError>
-    ensures { OnOk result (map line_of found.new.items ≡ map line_of found.old.items ++ buffer_lines number buffer.now) }
+    ensures { OnOk result (map line_of found.new.items
+        ≡ map line_of found.old.items ++ buffer_lines number buffer.now) }
 {
     let mut line = 0;
     for text in buffer.lines_with_terminator() {
@@ -73,7 +74,9 @@ pub(crate) fn push_entry<'a>(
     place: Place,
     given: Option<Entry<'a>>,
 ) -> Result<(), AllocError>
-    ensures { OnOk result (map placed_of found.new.items ≡ map placed_of found.old.items ++ option_to_list (option_map (λ e. record { place = place; entry = e }) (option_map mapping_of given.entry))) }
+    ensures { OnOk result (map placed_of found.new.items
+        ≡ map placed_of found.old.items
+        ++ option_to_list (option_map (λ e. record { place = place; entry = e }) (option_map mapping_of given.entry))) }
 {
     if let Some(entry) = given {
         found.push(PlacedEntry { place, entry })?;

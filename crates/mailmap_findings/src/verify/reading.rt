@@ -48,7 +48,8 @@ pub(crate) fn readings<'a>(alloc: Global, lines: &[Line<'a>]) -> Result<LinesRea
 // The fault of a line that is read strictly, or else the text that is ignored; and the entry that the line gives.
 #[inline]
 fn read_strictly<'a>(line: &Line<'a>) -> (Option<Kind<'a>>, Option<Entry<'a>>)
-    ensures told { option_map told_of result.0 ≡ spec_told line.now.text.now (strict_reading line.now.place.line line.now.text.now) }
+    ensures told { option_map told_of result.0
+        ≡ spec_told line.now.text.now (strict_reading line.now.place.line line.now.text.now) }
     ensures entry { option_map mapping_of result.1 ≡ spec_entry (line_of line.now) }
 {
     let piece = Line {
@@ -74,7 +75,8 @@ fn without_feed(line: &[u8]) -> &[u8]
 // lookups.
 #[inline]
 fn read_piece<'a>(line: &Line<'a>) -> (Option<Kind<'a>>, Option<Entry<'a>>)
-    ensures told { option_map told_of result.0 ≡ spec_told line.now.text.now (strict_reading line.now.place.line line.now.text.now) }
+    ensures told { option_map told_of result.0
+        ≡ spec_told line.now.text.now (strict_reading line.now.place.line line.now.text.now) }
     ensures entry { option_map mapping_of result.1 ≡ spec_entry (line_of line.now) }
 {
     match rests::read_strictly(line.text, line.place.line) {

@@ -25,7 +25,8 @@ pub(crate) fn findings<'a>(
     requires walk { IsWalk sifted.now.kept (map line_of lines.now) }
     requires told { map finding_of told.items ≡ filter_map told_alone (map line_of lines.now) }
     requires entries { map placed_of placed.now ≡ spec_placed (map line_of lines.now) }
-    ensures { IfOk result (λ found. map finding_of found.items ≡ flat_map (spec_findings (entries sifted.now.history) sifted.now.kept) (map line_of lines.now)) }
+    ensures { IfOk result (λ found. map finding_of found.items
+        ≡ flat_map (spec_findings (entries sifted.now.history) sifted.now.kept) (map line_of lines.now)) }
 {
     let mut found = Vec::new(alloc);
     let mut told = told;
@@ -51,7 +52,8 @@ pub(crate) fn text_left(
 ) -> Result<Vec<u8>, AllocError>
     requires walk { IsWalk (map placed_of_reference kept.now) (map line_of lines.now) }
     requires entries { map placed_of placed.now ≡ spec_placed (map line_of lines.now) }
-    ensures { IfOk result (λ text. text.items ≡ flat_map (λ l. l.text) (filter (spec_is_left (map placed_of_reference kept.now)) (map line_of lines.now))) }
+    ensures { IfOk result (λ text. text.items
+        ≡ flat_map (λ l. l.text) (filter (spec_is_left (map placed_of_reference kept.now)) (map line_of lines.now))) }
 {
     let mut text = Vec::new(alloc);
     let mut placed = placed;
@@ -81,8 +83,11 @@ fn push_first<'a>(
     told: &mut VecDeque<Finding<'a>>,
     place: Place,
 ) -> Result<(), AllocError>
-    ensures found { OnOk result (map finding_of found.new.items ≡ map finding_of found.old.items ++ option_to_list (spec_first (λ f. f.place) (map finding_of told.old.items) place)) }
-    ensures left { OnOk result (map finding_of told.new.items ≡ spec_behind (λ f. f.place) (map finding_of told.old.items) place) }
+    ensures found { OnOk result (map finding_of found.new.items
+        ≡ map finding_of found.old.items
+        ++ option_to_list (spec_first (λ f. f.place) (map finding_of told.old.items) place)) }
+    ensures left { OnOk result (map finding_of told.new.items
+        ≡ spec_behind (λ f. f.place) (map finding_of told.old.items) place) }
 {
     if let Some(finding) = take_first(told, place) {
         found.push(finding)?;
@@ -110,7 +115,9 @@ fn push_told<'a>(
     met: Option<&PlacedEntry<'a>>,
     stays: bool,
 ) -> Result<(), AllocError>
-    ensures { OnOk result (map finding_of found.new.items ≡ map finding_of found.old.items ++ told_of_met (entries sifted.now.history) sifted.now.kept stays (option_map placed_of_reference met.entry)) }
+    ensures { OnOk result (map finding_of found.new.items
+        ≡ map finding_of found.old.items
+        ++ told_of_met (entries sifted.now.history) sifted.now.kept stays (option_map placed_of_reference met.entry)) }
 {
     let Some(placed) = met else {
         return Ok(());
@@ -126,7 +133,9 @@ pub(crate) fn push_kind<'a>(
     place: Place,
     kind: Option<Kind<'a>>,
 ) -> Result<(), AllocError>
-    ensures { OnOk result (map finding_of found.new.items ≡ map finding_of found.old.items ++ map (λ t. record { place = place; told = t }) (option_to_list (option_map told_of kind.entry))) }
+    ensures { OnOk result (map finding_of found.new.items
+        ≡ map finding_of found.old.items
+        ++ map (λ t. record { place = place; told = t }) (option_to_list (option_map told_of kind.entry))) }
 {
     if let Some(kind) = kind {
         found.push(Finding { place, kind })?;

@@ -92,7 +92,20 @@ impl Snapshot {
             option_map shown result ≡ scan h signature.entry.name.now signature.entry.email.now }
         ensures says { IfSome result (λ r. IsTrue (is_some r.name || is_some r.email)) }
     {
-        self.try_resolve_ref_counted(signature, &mut Steps::new())
+        self.try_resolve_contact(signature.name, signature.email)
+    }
+
+    /// As [`try_resolve_ref`](Snapshot::try_resolve_ref()), for a name and an email that are no signature's.
+    #[inline(always)]
+    pub fn try_resolve_contact(&self, name: &[u8], email: &[u8]) -> Option<ResolvedSignature<'_>>
+        ensures view { option_map shown result ≡ scan self.now name.now email.now }
+
+        // the answer of each history whose normal list the snapshot is
+        ensures history { (h : List Mapping) → IsNormal h self.now →
+            option_map shown result ≡ scan h name.now email.now }
+        ensures says { IfSome result (λ r. IsTrue (is_some r.name || is_some r.email)) }
+    {
+        look_up(&self.tables.view(), name, email, &mut Steps::new())
     }
 
     /// As [`try_resolve_ref`](Snapshot::try_resolve_ref()), and counts the comparisons of emails and of names in `steps`.

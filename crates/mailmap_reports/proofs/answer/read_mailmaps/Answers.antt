@@ -1,6 +1,6 @@
 use Rattle.std.proofs.Common.{◌≡◌, ◌==◌, ◌∙◌, ℕ, List, [], ◌∷◌, Option, false, length, map, string_bytes, sym}
 use Rattle.std.proofs.lemmas.Result.{IfOk-weaker}
-use Rattle.mailmap_runs.specs.Files.{AreRead}
+use Rattle.mailmap_io.specs.Files.{AreRead}
 use Rattle.mailmap_reports.specs.Task.{AreMailmaps}
 use Rattle.mailmap_reports.proofs.answer.read_mailmaps.Goals as goal
 

@@ -2,7 +2,7 @@ use Rattle.std.proofs.Common.{◌≡◌, ◌<◌, length, map, Some, sym, ap, su
 use Rattle.std.proofs.lemmas.List.{length-map}
 use Rattle.mailmap_entries.specs.Entries.{mapping_of}
 use Rattle.mailmap_histories.specs.Histories.{key}
-use Rattle.mailmap_tables.specs.Merging.{IsSorted, placed_at}
+use Rattle.mailmap_batches.specs.Batches.{IsSorted, placed_at}
 use Rattle.mailmap_sifting.specs.Sifting.{placed_of}
 use Rattle.mailmap_sifting.specs.Numbers.{AreFronts, IsReached, last_key, placed_entry_of}
 use Rattle.mailmap_sifting.proofs.Numbered.{all_numbered, found_at, none_walked, reached_next, said, walked}

@@ -5,15 +5,16 @@ use Rattle.std.specs.Option.{option_cmp}
 use Rattle.std.proofs.lemmas.List.{drop-map, map-append}
 use Rattle.mailmap_entries.specs.Folding.{text_cmp}
 use Rattle.mailmap_histories.specs.Histories.{Fields, is_accepted, no_fields}
-use Rattle.mailmap_histories.proofs.Parts.{all_front}
+use Rattle.mailmap_histories.proofs.Parts.{all_front, all_mapped}
 use Rattle.mailmap_tables.specs.Groups.{Contents, EmailGroup, name_key}
-use Rattle.mailmap_tables.specs.Merging.{IsAscending, IsNamed, bare, give, mapping_at, name_text}
-use Rattle.mailmap_tables.specs.Named.{fields_given, given_or}
+use Rattle.mailmap_batches.specs.Batches.{IsAscending, mapping_at, name_text}
+use Rattle.mailmap_batches.specs.Given.{IsNamed, give, fields_given}
+use Rattle.mailmap_tables.specs.Merging.{bare}
+use Rattle.mailmap_tables.specs.Named.{given_or}
 use Rattle.mailmap_tables.specs.Room.{EmailExtended, NamesExtended, field_bytes, optional_bytes}
-use Rattle.mailmap_tables.specs.declared.batch.Placed.{Placed}
+use Rattle.mailmap_batches.specs.declared.indexed.Placed.{Placed}
 use Rattle.mailmap_tables.proofs.Bytes.{given_bytes, parted_bytes}
 use Rattle.mailmap_tables.proofs.EmailPuts.{ascending_rest, name_of, named_behind, names_ascend}
-use Rattle.mailmap_tables.proofs.FrontRuns.{all_mapped}
 use Rattle.mailmap_tables.proofs.Given.{fold-give}
 use Rattle.mailmap_tables.proofs.InPlace.{changed_group, changed_length, email_extended}
 use Rattle.mailmap_tables.proofs.insert.extend_email.Goals as goal

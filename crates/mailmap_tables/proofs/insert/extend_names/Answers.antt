@@ -1,12 +1,14 @@
 use Rattle.std.proofs.Common.{◌≡◌, ◌≤◌, ◌<◌, ◌+◌, ◌∙◌, List, [], map, drop, get_or, length, sum_by, refl, sym, ap, subst, arith}
 use Rattle.std.specs.List.{AllByRecursion, HoldsAt}
 use Rattle.mailmap_tables.specs.Groups.{EmailGroup}
-use Rattle.mailmap_tables.specs.Merging.{IsNamed, bare, mapping_at}
-use Rattle.mailmap_tables.specs.Named.{named_group}
+use Rattle.mailmap_batches.specs.Given.{IsNamed, named_group}
+use Rattle.mailmap_tables.specs.Merging.{bare}
+use Rattle.mailmap_batches.specs.Batches.{mapping_at}
 use Rattle.mailmap_tables.specs.Room.{field_bytes}
-use Rattle.mailmap_tables.specs.declared.batch.Placed.{Placed}
+use Rattle.mailmap_batches.specs.declared.indexed.Placed.{Placed}
 use Rattle.mailmap_tables.proofs.Bytes.{name_run_bytes}
-use Rattle.mailmap_tables.proofs.FrontRuns.{all_mapped, run_shortens}
+use Rattle.mailmap_histories.proofs.Parts.{all_mapped}
+use Rattle.mailmap_batches.proofs.FrontRuns.{run_shortens}
 use Rattle.mailmap_tables.proofs.InPlace.{NamesInPlace, changed_length, names_begin, names_done, names_from_within, names_left_ascend, names_next}
 use Rattle.mailmap_tables.proofs.NamePlaces.{all_rest}
 use Rattle.mailmap_tables.proofs.SortedRuns.{none_left, some_left}

@@ -1,7 +1,8 @@
 use Rattle.std.proofs.Common.{◌≡◌, ◌≤◌, ◌+◌, map, length, sum_by}
 use Rattle.std.specs.List.{AllByRecursion, HoldsAt}
 use Rattle.mailmap_tables.specs.Groups.{EmailGroup}
-use Rattle.mailmap_tables.specs.Merging.{IsNamed, mapping_at}
+use Rattle.mailmap_batches.specs.Given.{IsNamed}
+use Rattle.mailmap_batches.specs.Batches.{mapping_at}
 use Rattle.mailmap_tables.specs.Room.{field_bytes}
 use Rattle.mailmap_tables.proofs.InPlace.{NamesInPlace}
 use Rattle.mailmap_tables.proofs.insert.extend_names.Given as goal

@@ -6,7 +6,8 @@ use Rattle.mailmap_entries.specs.Folding.{Text}
 use Rattle.mailmap_histories.specs.Histories.{Fields}
 use Rattle.mailmap_tables.specs.Groups.{Contents, EmailGroup}
 use Rattle.mailmap_tables.specs.Merging.{Extends, bare}
-use Rattle.mailmap_tables.specs.Named.{fields_given, given_or}
+use Rattle.mailmap_batches.specs.Given.{fields_given}
+use Rattle.mailmap_tables.specs.Named.{given_or}
 use Rattle.mailmap_tables.specs.Pool.{LiesIn, TextsLie, fields_of, group_of, spelled}
 use Rattle.mailmap_tables.specs.Texts.{email_span, name_span, old_span, span_bytes}
 use Rattle.mailmap_tables.specs.declared.texts.Span.{Span}

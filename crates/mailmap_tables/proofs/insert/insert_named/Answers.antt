@@ -1,8 +1,8 @@
 use Rattle.std.proofs.Common.{◌≡◌, get_or, set, refl, sym, ap, subst, ◌∙◌}
 use Rattle.std.specs.List.{insert}
-use Rattle.mailmap_tables.specs.Groups.{Contents, NameGroup}
+use Rattle.mailmap_tables.specs.Groups.{Contents}
+use Rattle.mailmap_batches.specs.Given.{NameGroup, named_group}
 use Rattle.mailmap_tables.specs.Merging.{Extends}
-use Rattle.mailmap_tables.specs.Named.{named_group}
 use Rattle.mailmap_tables.specs.Pool.{name_group, spelled}
 use Rattle.mailmap_tables.specs.Room.{EmailChanged, NamePlacedAt, with_email_at}
 use Rattle.mailmap_tables.specs.Texts.{old_span}

@@ -5,7 +5,8 @@ use Rattle.std.proofs.lemmas.List.Edits.{length-insert}
 use Rattle.std.proofs.lemmas.Option.{slice_get-get_or}
 use Rattle.mailmap_entries.specs.Folding.{Text, folded, text_cmp}
 use Rattle.mailmap_tables.specs.Groups.{Contents, EmailGroup, IsGroup, email_key, name_key}
-use Rattle.mailmap_tables.specs.Merging.{RunPut, bare, first_email, mapping_at, placed_at}
+use Rattle.mailmap_tables.specs.Merging.{RunPut, bare}
+use Rattle.mailmap_batches.specs.Batches.{first_email, mapping_at, placed_at}
 use Rattle.mailmap_tables.specs.Places.{IsFound, IsMissing}
 use Rattle.mailmap_tables.specs.Pool.{spelled}
 use Rattle.mailmap_tables.specs.Room.{EmailExtended, TookRoom, email_room, first_emails}

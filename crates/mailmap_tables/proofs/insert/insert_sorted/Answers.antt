@@ -2,9 +2,10 @@ use Rattle.std.proofs.Common.{◌≡◌, ◌≤◌, ◌<◌, ◌+◌, ◌∙◌,
 use Rattle.mailmap_entries.specs.Folding.{Text, folded}
 use Rattle.mailmap_entries.specs.Entries.{Mapping}
 use Rattle.mailmap_tables.specs.Groups.{AreGroups, EmailGroup}
-use Rattle.mailmap_tables.specs.Merging.{EmailPlaced, EmailRun, RunPut, known, unknown, first_email, mapping_at, placed_at}
+use Rattle.mailmap_tables.specs.Merging.{EmailPlaced, EmailRun, RunPut, known, unknown}
+use Rattle.mailmap_batches.specs.Batches.{first_email, mapping_at, placed_at}
 use Rattle.mailmap_tables.specs.Room.{HasRoom, StoodWithin, entry_room, first_emails}
-use Rattle.mailmap_tables.specs.declared.batch.Placed.{Placed}
+use Rattle.mailmap_batches.specs.declared.indexed.Placed.{Placed}
 use Rattle.mailmap_tables.proofs.Bytes.{parted_bytes, stood_behind, stood_part}
 use Rattle.mailmap_tables.proofs.EmailsLoop.{EmailsState, emails_are, emails_end, emails_start}
 use Rattle.mailmap_tables.proofs.SortedRuns.{IsBatch, batch_behind, batch_emails, batch_run, good_items, none_left, run_some, some_left, step_at}

@@ -1,5 +1,5 @@
 use Rattle.std.proofs.Common.{◌≤◌, map, drop, length}
-use Rattle.mailmap_tables.specs.Merging.{mapping_at, placed_at}
+use Rattle.mailmap_batches.specs.Batches.{mapping_at, placed_at}
 use Rattle.mailmap_tables.specs.Room.{HasRoom, first_emails}
 use Rattle.mailmap_tables.proofs.EmailsLoop.{EmailsState}
 use Rattle.mailmap_tables.proofs.SortedRuns.{IsBatch}

@@ -3,10 +3,11 @@ use Rattle.std.specs.List.{AllByRecursion}
 use Rattle.mailmap_entries.specs.Entries.{Mapping, mapping_of}
 use Rattle.mailmap_histories.specs.Histories.{IsNormal, is_accepted, key, key_cmp}
 use Rattle.mailmap_tables.specs.Groups.{Contents, EmailGroup, IsComplete, email_key, listing}
-use Rattle.mailmap_tables.specs.Merging.{AllJoined, IsAscending, email_text, mapping_at, placed_at}
+use Rattle.mailmap_tables.specs.Merging.{AllJoined}
+use Rattle.mailmap_batches.specs.Batches.{IsAscending, email_text, mapping_at, placed_at}
 use Rattle.mailmap_tables.specs.Room.{StoodWithin, entry_room, own_bytes}
-use Rattle.mailmap_tables.specs.declared.batch.Placed.{Placed}
-use Rattle.mailmap_tables.proofs.Collected.{mapped_twice}
+use Rattle.mailmap_batches.specs.declared.indexed.Placed.{Placed}
+use Rattle.mailmap_batches.proofs.Numbered.{mapped_twice}
 use Rattle.mailmap_tables.proofs.WholeMerge.{joined_normal, of_placed, sorted_all}
 use Rattle.mailmap_tables.proofs.insert.merge_in_place.Goals as goal
 

@@ -3,7 +3,8 @@ use Rattle.std.specs.List.{AllByRecursion, HoldsAt, slice_get}
 use Rattle.std.specs.List.Sorted.{IsStrictlySortedBy}
 use Rattle.std.proofs.lemmas.List.{drop-map, get_or-drop, get_or-map, length-map, length-drop}
 use Rattle.mailmap_entries.specs.Folding.{folded, text_cmp}
-use Rattle.mailmap_tables.specs.Groups.{Contents, EmailGroup, NameGroup, name_key}
+use Rattle.mailmap_tables.specs.Groups.{Contents, EmailGroup, name_key}
+use Rattle.mailmap_batches.specs.Given.{NameGroup}
 use Rattle.mailmap_tables.specs.Places.{IsFound, IsMissing}
 use Rattle.mailmap_tables.specs.Pool.{NameLies, group_of, name_group, spelled}
 use Rattle.mailmap_tables.specs.declared.texts.Texts.{Texts}

@@ -3,7 +3,7 @@ use Rattle.std.specs.Option.{option_or}
 use Rattle.mailmap_entries.specs.Folding.{Text}
 use Rattle.mailmap_tables.specs.Groups.{Contents}
 use Rattle.mailmap_tables.specs.Merging.{Extends}
-use Rattle.mailmap_tables.specs.Named.{named_group}
+use Rattle.mailmap_batches.specs.Given.{named_group}
 use Rattle.mailmap_tables.specs.Room.{optional_bytes}
 use Rattle.mailmap_tables.specs.Texts.{span_bytes}
 use Rattle.mailmap_tables.proofs.Bytes.{spans_bytes}

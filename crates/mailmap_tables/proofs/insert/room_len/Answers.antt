@@ -1,7 +1,7 @@
 use Rattle.std.proofs.Common.{◌≡◌, ◌<◌, ◌+◌, get_or, length, map, sum_by, take, take_all, ap, sym, ◌∙◌, arith}
 use Rattle.std.proofs.lemmas.List.{get_or-map, length-map, take-map}
 use Rattle.std.proofs.lemmas.List.Sums.{sum_by_more}
-use Rattle.mailmap_tables.specs.Merging.{mapping_at}
+use Rattle.mailmap_batches.specs.Batches.{mapping_at}
 use Rattle.mailmap_tables.specs.Room.{entry_room}
 use Rattle.mailmap_tables.proofs.insert.room_len.Goals as goal
 

@@ -1,5 +1,5 @@
 use Rattle.std.proofs.Common.{◌≡◌, ◌-◌, ◌^◌, map, min, sum_by, take}
-use Rattle.mailmap_tables.specs.Merging.{mapping_at}
+use Rattle.mailmap_batches.specs.Batches.{mapping_at}
 use Rattle.mailmap_tables.specs.Room.{entry_room}
 use Rattle.mailmap_tables.proofs.insert.room_len.Given as goal
 

@@ -4,7 +4,7 @@ use Rattle.std.proofs.lemmas.List.{map-append, take_more}
 use Rattle.mailmap_entries.specs.Entries.{Mapping, mapping_of}
 use Rattle.mailmap_histories.proofs.Parts.{all_append}
 use Rattle.mailmap_tables.specs.Groups.{EmailGroup, email_key}
-use Rattle.mailmap_tables.specs.Merging.{email_text}
+use Rattle.mailmap_batches.specs.Batches.{email_text}
 use Rattle.mailmap_tables.specs.Room.{StoodWithin, own_bytes}
 use Rattle.mailmap_tables.proofs.insert.stood.Goals as goal
 

@@ -4,20 +4,21 @@ use Rattle.std.specs.List.Sorted.{IsStrictlySortedBy}
 use Rattle.std.specs.Option.{option_cmp}
 use Rattle.std.proofs.lemmas.List.{drop-map, map-append}
 use Rattle.mailmap_entries.specs.Folding.{text_cmp}
-use Rattle.mailmap_tables.specs.Groups.{Contents, NameGroup, name_key}
+use Rattle.mailmap_tables.specs.Groups.{Contents, name_key}
+use Rattle.mailmap_batches.specs.Given.{NameGroup, IsNamed, give, fields_given}
 use Rattle.mailmap_histories.specs.Histories.{Fields, is_accepted, no_fields}
-use Rattle.mailmap_tables.specs.Merging.{IsAscending, IsNamed, Extends, EmailJoined, NamesJoined, give, mapping_at, name_text}
-use Rattle.mailmap_tables.specs.Named.{fields_given, given_or}
+use Rattle.mailmap_batches.specs.Batches.{IsAscending, mapping_at, name_text}
+use Rattle.mailmap_tables.specs.Merging.{Extends, EmailJoined, NamesJoined}
+use Rattle.mailmap_tables.specs.Named.{given_or}
 use Rattle.mailmap_tables.specs.Pool.{fields_of, name_group, group_of}
-use Rattle.mailmap_tables.specs.declared.batch.Placed.{Placed}
-use Rattle.mailmap_tables.proofs.Collected.{on_ok_then}
+use Rattle.mailmap_batches.specs.declared.indexed.Placed.{Placed}
+use Rattle.mailmap_entries.proofs.Results.{on_ok_then}
 use Rattle.mailmap_tables.proofs.EmailPuts.{name_of, named_behind, names_ascend, ascending_rest, joined_group, email_joined}
-use Rattle.mailmap_tables.proofs.FrontRuns.{all_mapped}
+use Rattle.mailmap_histories.proofs.Parts.{all_mapped, all_front}
 use Rattle.mailmap_tables.proofs.Given.{fold-give}
 use Rattle.mailmap_tables.proofs.NamePlaces.{extends_through, name_groups_on, names_lie_on}
 use Rattle.mailmap_tables.proofs.OwnTexts.{own_spells_on}
 use Rattle.mailmap_tables.proofs.Passing.{texts_lie_on}
-use Rattle.mailmap_histories.proofs.Parts.{all_front}
 use Rattle.mailmap_tables.proofs.merge.join_email.Goals as goal
 
 pub join_names-requires-clause-named : goal.join_names-requires-clause-named

@@ -1,11 +1,13 @@
 use Rattle.std.proofs.Common.{eqb-true, ◌≡◌, [], List, map, drop, length, sym, ap, subst, arith}
 use Rattle.std.specs.List.{AllByRecursion}
 use Rattle.std.proofs.lemmas.List.{nil_from_length}
-use Rattle.mailmap_tables.specs.Merging.{IsNamed, mapping_at}
+use Rattle.mailmap_batches.specs.Given.{IsNamed}
+use Rattle.mailmap_batches.specs.Batches.{mapping_at}
 use Rattle.mailmap_tables.specs.Pool.{NameLies, name_group}
-use Rattle.mailmap_tables.specs.declared.batch.Placed.{Placed}
-use Rattle.mailmap_tables.proofs.Collected.{on_ok_then}
-use Rattle.mailmap_tables.proofs.FrontRuns.{all_mapped, run_shortens}
+use Rattle.mailmap_batches.specs.declared.indexed.Placed.{Placed}
+use Rattle.mailmap_entries.proofs.Results.{on_ok_then}
+use Rattle.mailmap_histories.proofs.Parts.{all_mapped}
+use Rattle.mailmap_batches.proofs.FrontRuns.{run_shortens}
 use Rattle.mailmap_tables.proofs.NamePlaces.{all_rest}
 use Rattle.mailmap_tables.proofs.NamesLoop.{NamesState, names_start, names_step, names_end}
 use Rattle.mailmap_tables.proofs.merge.join_names.Goals as goal

@@ -1,6 +1,7 @@
 use Rattle.std.proofs.Common.{map, length}
 use Rattle.std.specs.List.{AllByRecursion}
-use Rattle.mailmap_tables.specs.Merging.{IsNamed, mapping_at}
+use Rattle.mailmap_batches.specs.Given.{IsNamed}
+use Rattle.mailmap_batches.specs.Batches.{mapping_at}
 use Rattle.mailmap_tables.specs.Pool.{NameLies, name_group}
 use Rattle.mailmap_tables.proofs.NamesLoop.{NamesState}
 use Rattle.mailmap_tables.proofs.merge.join_names.Given as goal

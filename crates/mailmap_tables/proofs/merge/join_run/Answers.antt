@@ -1,8 +1,10 @@
 use Rattle.std.proofs.Common.{◌≡◌, ◌∙◌, ◌++◌, [], List, map, refl, sym, ap, subst}
 use Rattle.std.specs.List.Sorted.{IsStrictlySortedBy}
 use Rattle.mailmap_entries.specs.Folding.{Text, folded, text_cmp}
-use Rattle.mailmap_tables.specs.Groups.{Contents, EmailGroup, NameGroup, email_key, name_key}
-use Rattle.mailmap_tables.specs.Merging.{Extends, EmailPut, bare, first_email, mapping_at}
+use Rattle.mailmap_tables.specs.Groups.{Contents, EmailGroup, email_key, name_key}
+use Rattle.mailmap_batches.specs.Given.{NameGroup}
+use Rattle.mailmap_tables.specs.Merging.{Extends, EmailPut, bare}
+use Rattle.mailmap_batches.specs.Batches.{first_email, mapping_at}
 use Rattle.mailmap_tables.specs.Places.{IsFound, IsMissing}
 use Rattle.mailmap_tables.specs.Pool.{group_of}
 use Rattle.mailmap_tables.proofs.Edited.{bare_group}

@@ -1,7 +1,8 @@
 use Rattle.std.proofs.Common.{◌≡◌, ◌∙◌, ◌-◌, ◌<◌, ◌≤◌, ◌++◌, List, map, take, drop, length, take_all, length-drop, sym, ap, subst, arith}
 use Rattle.mailmap_entries.specs.Folding.{folded}
-use Rattle.mailmap_tables.specs.Merging.{EmailRun, RunPut, first_email, mapping_at, placed_at}
-use Rattle.mailmap_tables.specs.declared.batch.Placed.{Placed}
+use Rattle.mailmap_tables.specs.Merging.{EmailRun, RunPut}
+use Rattle.mailmap_batches.specs.Batches.{first_email, mapping_at, placed_at}
+use Rattle.mailmap_batches.specs.declared.indexed.Placed.{Placed}
 use Rattle.mailmap_tables.proofs.EmailsLoop.{EmailsState, emails_start, emails_end}
 use Rattle.mailmap_tables.proofs.SortedRuns.{IsBatch, batch_behind, batch_run, batch_emails, run_some, step_at, good_items, some_left, none_left}
 use Rattle.mailmap_tables.proofs.merge.join_sorted.Goals as goal

@@ -1,5 +1,5 @@
 use Rattle.std.proofs.Common.{◌≤◌, map, drop, length}
-use Rattle.mailmap_tables.specs.Merging.{placed_at}
+use Rattle.mailmap_batches.specs.Batches.{placed_at}
 use Rattle.mailmap_tables.proofs.EmailsLoop.{EmailsState}
 use Rattle.mailmap_tables.proofs.SortedRuns.{IsBatch}
 use Rattle.mailmap_tables.proofs.merge.join_sorted.Given as goal

@@ -3,9 +3,11 @@ use Rattle.std.specs.List.{AllByRecursion}
 use Rattle.mailmap_entries.specs.Entries.{mapping_of}
 use Rattle.mailmap_tables.specs.Groups.{AreGroups, Contents, listing}
 use Rattle.mailmap_histories.specs.Histories.{IsNormal, is_accepted, key, key_cmp}
-use Rattle.mailmap_tables.specs.Merging.{IsAscending, AllJoined, mapping_at, placed_at}
-use Rattle.mailmap_tables.specs.declared.batch.Placed.{Placed}
-use Rattle.mailmap_tables.proofs.Collected.{mapped_twice, if_ok_then}
+use Rattle.mailmap_batches.specs.Batches.{IsAscending, mapping_at, placed_at}
+use Rattle.mailmap_tables.specs.Merging.{AllJoined}
+use Rattle.mailmap_batches.specs.declared.indexed.Placed.{Placed}
+use Rattle.mailmap_batches.proofs.Numbered.{mapped_twice}
+use Rattle.mailmap_entries.proofs.Results.{if_ok_then}
 use Rattle.mailmap_tables.proofs.WholeMerge.{sorted_all, joined_normal, of_placed}
 use Rattle.mailmap_tables.proofs.merge.joined.Goals as goal
 

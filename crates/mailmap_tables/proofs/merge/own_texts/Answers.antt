@@ -2,9 +2,9 @@ use Rattle.std.proofs.Common.{length, ap, sym, subst}
 use Rattle.std.specs.Option.{ForSome}
 use Rattle.mailmap_tables.specs.Groups.{Contents}
 use Rattle.mailmap_tables.specs.Merging.{Extends}
-use Rattle.mailmap_tables.specs.Named.{fields_given}
+use Rattle.mailmap_batches.specs.Given.{fields_given}
 use Rattle.mailmap_tables.specs.Pool.{LiesIn, TextsLie}
-use Rattle.mailmap_tables.proofs.Collected.{if_ok_map}
+use Rattle.mailmap_entries.proofs.Results.{if_ok_map}
 use Rattle.mailmap_tables.proofs.EmailPuts.{lies_on, options_lie_on}
 use Rattle.mailmap_tables.proofs.NamePlaces.{extends_through}
 use Rattle.mailmap_tables.proofs.OwnTexts.{own_spells}

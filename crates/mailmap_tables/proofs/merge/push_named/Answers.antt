@@ -1,9 +1,9 @@
 use Rattle.std.proofs.Common.{◌≡◌, ◌∙◌, ◌++◌, ◌∷◌, [], ap}
 use Rattle.mailmap_tables.specs.Groups.{Contents}
 use Rattle.mailmap_tables.specs.Merging.{Extends}
-use Rattle.mailmap_tables.specs.Named.{named_group}
+use Rattle.mailmap_batches.specs.Given.{named_group}
 use Rattle.mailmap_tables.specs.Pool.{name_group, spelled}
-use Rattle.mailmap_tables.proofs.Collected.{on_ok_then}
+use Rattle.mailmap_entries.proofs.Results.{on_ok_then}
 use Rattle.mailmap_tables.proofs.EmailPuts.{options_on, spelled_on}
 use Rattle.mailmap_tables.proofs.NamePlaces.{extends_through}
 use Rattle.mailmap_tables.proofs.RowTexts.{row_group}

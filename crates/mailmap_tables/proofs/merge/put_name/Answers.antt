@@ -4,7 +4,7 @@ use Rattle.mailmap_entries.specs.Folding.{folded}
 use Rattle.mailmap_tables.specs.Groups.{Contents, name_key}
 use Rattle.mailmap_tables.specs.Places.{IsFound, IsMissing}
 use Rattle.mailmap_tables.specs.Merging.{Extends, NamePlaced, NamePut}
-use Rattle.mailmap_tables.specs.Named.{named_group}
+use Rattle.mailmap_batches.specs.Given.{named_group}
 use Rattle.mailmap_tables.specs.Pool.{spelled, NameLies, name_group}
 use Rattle.mailmap_tables.specs.Texts.{old_span}
 use Rattle.mailmap_tables.specs.declared.texts.Texts.{Texts}

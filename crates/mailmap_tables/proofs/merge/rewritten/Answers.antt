@@ -4,7 +4,7 @@ use Rattle.mailmap_entries.specs.Entries.{mapping_of}
 use Rattle.mailmap_tables.specs.Groups.{AreGroups, Contents, listing}
 use Rattle.mailmap_histories.specs.Histories.{IsNormal, is_accepted}
 use Rattle.mailmap_histories.proofs.Unique.{normal_unique}
-use Rattle.mailmap_tables.proofs.Collected.{if_ok_map}
+use Rattle.mailmap_entries.proofs.Results.{if_ok_map}
 use Rattle.mailmap_tables.proofs.Complete.{no_groups}
 use Rattle.mailmap_tables.proofs.Grouped.{groups_accepted, groups_normal}
 use Rattle.mailmap_tables.proofs.merge.rewritten.Goals as goal

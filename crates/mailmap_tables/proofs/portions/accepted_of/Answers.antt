@@ -6,7 +6,8 @@ use Rattle.mailmap_entries.specs.Entries.{mapping_of}
 use Rattle.mailmap_entries.specs.declared.entry.Entry.{Entry as Item}
 use Rattle.mailmap_histories.specs.Histories.{accepted}
 use Rattle.mailmap_tables.specs.Collecting.{IsCollected}
-use Rattle.mailmap_tables.proofs.Collected.{accepted-ignored, some_taken, on_err}
+use Rattle.mailmap_tables.proofs.Collected.{accepted-ignored, some_taken}
+use Rattle.mailmap_entries.proofs.Results.{on_err}
 use Rattle.mailmap_tables.proofs.Joining.{collected_same}
 use Rattle.mailmap_tables.proofs.portions.accepted_of.Goals as goal
 

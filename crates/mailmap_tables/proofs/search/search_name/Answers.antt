@@ -4,10 +4,11 @@ use Rattle.std.specs.List.Sorted.{IsPartitionPoint}
 use Rattle.std.specs.Cmp.Lexicographic.{nat_list_cmp_total}
 use Rattle.std.proofs.lemmas.List.{length-map}
 use Rattle.mailmap_entries.specs.Folding.{folded, text_cmp}
-use Rattle.mailmap_tables.specs.Groups.{name_key, NameGroup}
+use Rattle.mailmap_tables.specs.Groups.{name_key}
+use Rattle.mailmap_batches.specs.Given.{NameGroup}
 use Rattle.mailmap_tables.specs.Places.{IsFound, IsMissing}
 use Rattle.mailmap_tables.specs.Pool.{name_group}
-use Rattle.mailmap_tables.proofs.Lookups.{IsPartitioned-from_ascending}
+use Rattle.mailmap_entries.proofs.Lookups.{IsPartitioned-from_ascending}
 use Rattle.mailmap_tables.proofs.Places.{found_from, missing_from, if_ok, if_missing}
 use Rattle.mailmap_tables.proofs.search.search_name.Goals as goal
 

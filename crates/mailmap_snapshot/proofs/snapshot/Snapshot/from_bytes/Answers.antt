@@ -2,7 +2,7 @@ use Rattle.std.proofs.Common.{◌≡◌, ◌≢◌, ◌∙◌, [], ◌++◌, map
 use Rattle.mailmap_entries.specs.Entries.{mapping_of}
 use Rattle.mailmap_histories.specs.Histories.{IsNormal, accepted}
 use Rattle.mailmap_grammar.specs.Lines.{good}
-use Rattle.mailmap_tables.proofs.Collected.{if_ok_map}
+use Rattle.mailmap_entries.proofs.Results.{if_ok_map}
 use Rattle.mailmap_snapshot.proofs.Built.{yields_front, accepted_front, on_err_map}
 use Rattle.mailmap_snapshot.proofs.snapshot.Snapshot.from_bytes.Goals as goal
 

@@ -2,7 +2,7 @@ use Rattle.std.proofs.Common.{◌≡◌, ◌++◌, ◌∷◌, [], map, sym, ap, 
 use Rattle.std.proofs.lemmas.List.{map_push}
 use Rattle.mailmap_entries.specs.Entries.{mapping_of}
 use Rattle.mailmap_tables.specs.Collecting.{IsCollected}
-use Rattle.mailmap_tables.proofs.Collected.{on_ok_then}
+use Rattle.mailmap_entries.proofs.Results.{on_ok_then}
 use Rattle.mailmap_tables.proofs.Joining.{collected_push}
 use Rattle.mailmap_tables.proofs.portions.Collected.push.Goals as goal
 

@@ -4,7 +4,7 @@ use Rattle.mailmap_entries.specs.Entries.{mapping_of}
 use Rattle.mailmap_entries.specs.declared.entry.Entry.{Entry as Item}
 use Rattle.mailmap_histories.specs.Histories.{IsNormal, is_accepted}
 use Rattle.mailmap_tables.specs.Groups.{AreGroups, Contents, listing}
-use Rattle.mailmap_tables.proofs.Collected.{if_ok_map}
+use Rattle.mailmap_entries.proofs.Results.{if_ok_map}
 use Rattle.mailmap_tables.proofs.Joining.{collected_good, collected_joined}
 use Rattle.mailmap_tables.proofs.portions.Collected.tables.Goals as goal
 

@@ -1,7 +1,8 @@
 use Rattle.std.proofs.Common.{◌<◌, length, map, sym, ap, ◌∙◌, Some, arith}
 use Rattle.std.proofs.lemmas.List.{length-map}
 use Rattle.mailmap_entries.specs.Folding.{folded, text_cmp}
-use Rattle.mailmap_tables.specs.Groups.{NameGroup, name_key}
+use Rattle.mailmap_batches.specs.Given.{NameGroup}
+use Rattle.mailmap_tables.specs.Groups.{name_key}
 use Rattle.mailmap_tables.specs.Pool.{name_group, spelled}
 use Rattle.mailmap_tables.proofs.Places.{name_at}
 use Rattle.mailmap_tables.proofs.search.NameProbeProbe.ask.Goals as goal

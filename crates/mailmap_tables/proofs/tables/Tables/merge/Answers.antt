@@ -6,7 +6,7 @@ use Rattle.mailmap_entries.specs.declared.entry.Entry.{Entry as Item}
 use Rattle.mailmap_histories.specs.Histories.{IsNormal, accepted, is_accepted}
 use Rattle.mailmap_tables.specs.Collecting.{IsCollected}
 use Rattle.mailmap_tables.specs.Groups.{Contents, IsComplete, listing}
-use Rattle.mailmap_tables.proofs.Collected.{on_err, on_ok_then}
+use Rattle.mailmap_entries.proofs.Results.{on_err, on_ok_then}
 use Rattle.mailmap_tables.proofs.Joining.{collected_all, collected_good, collected_joined, collected_some}
 use Rattle.mailmap_tables.proofs.tables.Tables.merge.Goals as goal
 

@@ -1,0 +1,5 @@
+pub mod Numbered
+pub mod Stable
+pub mod Arranged
+mod Rests
+pub mod FrontRuns

@@ -1,0 +1,7 @@
+pub use Rattle.mailmap_entries.specs.Folding
+pub use Rattle.mailmap_entries.specs.Entries
+pub use Rattle.mailmap_entries.specs.Fronts
+pub use Rattle.mailmap_histories.specs.Histories
+pub mod Batches
+pub mod Given
+pub mod Sorting

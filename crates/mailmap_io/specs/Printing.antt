@@ -1,0 +1,11 @@
+-- What a run writes.
+use Rattle.std.specs.Prelude.{ℕ, List, Option, take}
+use Rattle.std.specs.Io.KnownBytes.{Appends}
+
+-- what a writer holds has grown by such a text
+abbrev pub Prints : (List ℕ → Type 0) → Option (List ℕ) → Option (List ℕ) → Type 0
+Prints IsText old new = (text : List ℕ) × IsText text × Appends old new text
+
+-- what a writer holds has grown by a front of such a text
+abbrev pub PrintsFront : (List ℕ → Type 0) → Option (List ℕ) → Option (List ℕ) → Type 0
+PrintsFront IsText old new = (text : List ℕ) × IsText text × ((count : ℕ) × Appends old new (take count text))

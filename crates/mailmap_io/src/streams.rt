@@ -1,0 +1,50 @@
+// All that a reader has, and a text to a writer.
+ghost use Rattle.std.specs.Prelude.{ℕ, IfOk, IsOkUnless, OnErr, OnOk, take};
+ghost use Rattle.std.specs.Io.KnownBytes.{Appends, Consumes, IsAtEnd};
+
+use crate::failure::Failure;
+use std::alloc::Global;
+use std::io::{ErrorKind, Read, Write};
+
+/// All that a reader has left.
+///
+/// `failure` is the only error: whatever kept the reader from being read to its end, no memory for what was read too.
+pub fn read_all<R: Read>(
+    alloc: Global,
+    reader: &mut R,
+    failure: Failure,
+) -> Result<Vec<u8>, Failure>
+    ensures all { IfOk result (λ bytes. Consumes (R.remaining reader.old) (R.remaining reader.new) bytes.items) }
+    ensures end { OnOk result (IsAtEnd (R.remaining reader.new)) }
+    ensures only { IsOkUnless result failure }
+{
+    let mut bytes = Vec::new(alloc);
+    match reader.read_to_end(&mut bytes) {
+        Ok(_) => Ok(bytes),
+        Err(_) => Err(failure),
+    }
+}
+
+/// Writes a text to its end, and flushes.
+///
+/// At an error what was written is a front of the text. `write_all` of std doesn't say that.
+pub fn write_all<W: Write>(writer: &mut W, text: &[u8]) -> Result<(), Failure>
+    ensures ok { OnOk result (Appends (W.contents writer.old) (W.contents writer.new) text.now) }
+    ensures err { OnErr result ((count : ℕ) × Appends (W.contents writer.old) (W.contents writer.new)
+        (take count text.now)) }
+    ensures only { IsOkUnless result Failure.Output }
+{
+    let mut written = 0;
+    for _ in 0..u64::MAX {
+        if written == text.len() {
+            return writer.flush().map_err(|_| Failure::Output);
+        }
+        match writer.write(&text[written..]) {
+            Ok(0) => return Err(Failure::Output),
+            Ok(count) => written += count,
+            Err(e) if e.kind() == ErrorKind::Interrupted => {}
+            Err(_) => return Err(Failure::Output),
+        }
+    }
+    Err(Failure::Output)
+}
