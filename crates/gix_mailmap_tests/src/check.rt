@@ -26,7 +26,7 @@ fn assert_checked(
     Ok(())
 }
 
-/// Each contact is looked up; later buffers stand behind earlier ones.
+/// Each contact is looked up; later buffers come after earlier ones.
 #[test]
 fn contacts_are_answered_by_the_buffers(rt: HostRuntime) -> Result<(), AllocError> {
     static ROWS: [(&[&[u8]], &[u8], &[u8]); 4] = [

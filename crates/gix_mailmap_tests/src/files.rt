@@ -97,7 +97,7 @@ fn assert_failing<F: FileSystem>(
     Ok(())
 }
 
-/// The first file that isn't there is named by its place among the paths.
+/// The first file that isn't there is named by its number among the paths.
 #[test]
 fn a_file_that_is_not_there_is_named_by_its_place(rt: HostRuntime) -> Result<(), AllocError> {
     static ROWS: [(&[&str], usize); 3] = [

@@ -5,7 +5,7 @@ use mailmap_runs::task::{Mode, Task, perform, task_of};
 use std::alloc::{AllocError, Global};
 use std::process::Abort;
 
-/// Wants this mode, and as paths the arguments from a place on.
+/// Wants this mode, and as paths the arguments from an index on.
 fn assert_task(
     rt: &impl Abort,
     alloc: Global,
@@ -21,7 +21,7 @@ fn assert_task(
     Ok(())
 }
 
-/// The first argument is the program's own name. `--compact` counts right behind it alone.
+/// The first argument is the program's own name. `--compact` counts only right after it.
 #[test]
 fn arguments_ask_for_answers_or_for_one_mailmap(rt: HostRuntime) -> Result<(), AllocError> {
     static ROWS: [(&[&str], Mode, usize); 7] = [

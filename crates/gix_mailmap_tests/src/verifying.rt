@@ -8,7 +8,7 @@ use std::alloc::{AllocError, Global};
 use std::io::{Read, Write};
 use std::process::Abort;
 
-/// Wants this mode, and as paths the arguments from a place on.
+/// Wants this mode, and as paths the arguments from an index on.
 fn assert_task(
     rt: &impl Abort,
     alloc: Global,
@@ -24,7 +24,7 @@ fn assert_task(
     Ok(())
 }
 
-/// The first argument is the program's own name. `--prune` and `--help` count right behind it alone.
+/// The first argument is the program's own name. `--prune` and `--help` count only right after it.
 #[test]
 fn arguments_ask_for_findings_a_pruned_mailmap_or_help(rt: HostRuntime) -> Result<(), AllocError> {
     static ROWS: [(&[&str], Mode, usize); 9] = [
@@ -120,7 +120,7 @@ fn a_task_is_done_with_its_files_or_with_the_input(rt: HostRuntime) {
     }
 }
 
-/// Whatever stands behind `--help`, the usage is printed.
+/// Whatever comes after `--help`, the usage is printed.
 #[test]
 fn help_is_the_usage(rt: HostRuntime) {
     let mut input: &[u8] = b"plain\n";
@@ -130,7 +130,7 @@ fn help_is_the_usage(rt: HostRuntime) {
     assert_bytes(&rt, &output, USAGE.as_bytes());
 }
 
-/// A reader that fails is `Input`, and nothing is written. It is read only where no file is given, and not for help.
+/// A reader that fails is `Input`, and nothing is written. It is read only if no file is given, and not for help.
 #[test]
 fn a_reader_that_fails_is_input_and_nothing_is_written(rt: HostRuntime) {
     static ROWS: [(Mode, &[&str], Result<Outcome, Failure>); 5] = [
@@ -152,7 +152,7 @@ fn a_reader_that_fails_is_input_and_nothing_is_written(rt: HostRuntime) {
     }
 }
 
-/// A writer that fails is `Output`, and what it took is a front of what is printed.
+/// A writer that fails is `Output`, and what it took is the beginning of what is printed.
 #[test]
 fn a_writer_that_fails_is_output_and_holds_a_front(rt: HostRuntime) {
     static ROWS: [(Mode, &[Turn], Turn, Result<Outcome, Failure>, &[u8]); 5] = [

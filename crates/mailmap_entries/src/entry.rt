@@ -1,6 +1,6 @@
 //! What one line of a mailmap maps.
 //!
-//! A commit names its author and its committer by a name and an email. An [`Entry`] says what stands in the place of
+//! A commit names its author and its committer by a name and an email. An [`Entry`] says what replaces
 //! these: its old fields say which commits it is for, its new fields what they are to show. Which of the fields can be
 //! there together is git's mailmap format, and each combination has its constructor.
 //!
@@ -16,8 +16,8 @@ ghost use Rattle.std.specs.Prelude.{◌≡◌, IsSome};
 mod derived;
 /// A mapping of names and emails, which borrows its texts: from the buffer that was parsed, or from whoever made it.
 ///
-/// The old email, and the old name where there is one, are looked for without regard to the case of ASCII letters; the
-/// new name and the new email, each where there is one, stand in the place of what the commit has. An entry with an old
+/// The old email, and the old name if there is one, are looked for without regard to the case of ASCII letters; the
+/// new name and the new email, each if there is one, replace what the commit has. An entry with an old
 /// name always has a new email. Texts are bytes and need not be UTF-8.
 ///
 /// Entries come from the lines of a mailmap and from a snapshot's listing, or are made by the constructors below. The
@@ -130,26 +130,26 @@ impl<'a> Entry<'a> {
     }
 }
 
-/// Access. What is lent lives as long as the texts do, also where the entry, or the iterator that gave it, is gone.
+/// Access. What is lent lives as long as the texts do, even if the entry, or the iterator that gave it, is gone.
 impl<'a> Entry<'a> {
     ghost use Rattle.std.specs.Option.{option_copied};
     ghost use Rattle.mailmap_entries.specs.Entries.{mapping_of};
 
-    /// The name to map to, `None` where the commit keeps its name.
+    /// The name to map to, `None` if the commit keeps its name.
     pub fn new_name(&self) -> Option<&'a [u8]>
         ensures { option_copied result ≡ (mapping_of self.now).new_name }
     {
         self.new_name
     }
 
-    /// The email to map to, `None` where the commit keeps its email.
+    /// The email to map to, `None` if the commit keeps its email.
     pub fn new_email(&self) -> Option<&'a [u8]>
         ensures { option_copied result ≡ (mapping_of self.now).new_email }
     {
         self.new_email
     }
 
-    /// The name to look for and replace, `None` where the entry is for all names of its old email.
+    /// The name to look for and replace, `None` if the entry is for all names of its old email.
     pub fn old_name(&self) -> Option<&'a [u8]>
         ensures { option_copied result ≡ (mapping_of self.now).old_name }
     {

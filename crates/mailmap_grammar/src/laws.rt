@@ -9,20 +9,20 @@ pub fn law_trim()
     ensures { (s t : Text) → IsTrimmed s t ↔ (t ≡ trim s) }
 {}
 
-/// A text is cut at the first `<` and the first `>` behind it.
+/// A text is cut at the first `<` and the first `>` after it.
 pub fn law_cut()
     ensures closed { (s a b c : Text) → (cut s ≡ Closed a b c) ↔ IsCut s a b c }
     ensures unclosed { (s : Text) → (cut s ≡ Unclosed) ↔ IsUnclosed s }
     ensures absent { (s : Text) → (cut s ≡ Absent) ↔ HoldsNo 60 s }
 {}
 
-/// What a line says is told by cases of which each line meets one: a comment, a blank line, no `<`, a `<` without its
-/// `>`, a blank email, a second half, a name alone, or nothing to map.
+/// What a line says is said by cases of which each line meets one: a comment, a blank line, no `<`, a `<` without its
+/// `>`, a blank email, a second contact, a name alone, or nothing to map.
 pub fn law_reading()
     ensures { (n : ℕ) (line : Text) (o : Option Reading) → (reading n line ≡ o) ↔ IsRead n line o }
 {}
 
-/// Strict reading has one case more: a second half whose `<` has no `>`.
+/// Strict reading has one case more: a second contact whose `<` has no `>`.
 pub fn law_strict_reading()
     ensures { (n : ℕ) (line : Text) (o : Option Reading) → (strict_reading n line ≡ o) ↔ IsReadStrictly n line o }
 {}

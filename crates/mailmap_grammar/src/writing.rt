@@ -1,4 +1,4 @@
-//! How an entry is written: as a line, which [reads](crate::parse()) as the same entry again where a line can hold it.
+//! How an entry is written: as a line, which [reads](crate::parse()) as the same entry again if a line can hold it.
 ghost use Rattle.std.specs.Prelude.{◌≡◌, ◌≢◌, ◌++◌, ◌∷◌, ◌+◌, ◌≤◌, ◌^◌, ◌↔◌, [], length, IsTrue, OnOk, IfSome, IfNone, MatchOption, option_map, unwrap_or};
 ghost use Rattle.std.specs.Option.{option_copied};
 ghost use Rattle.mailmap_grammar.specs.CanonicalText.{IsWritable, IsWritableName, IsWritableEmail, name_part, bracketed_email, email_part, line};
@@ -6,7 +6,7 @@ ghost use Rattle.mailmap_entries.specs.Entries.{mapping_of};
 ghost use Rattle.mailmap_grammar.specs.Lines.{HoldsNo};
 ghost use Rattle.mailmap_grammar.specs.Trimming.{trim as spec_trim};
 
-use crate::halves::trim;
+use crate::contacts::trim;
 use bstr::ByteSlice;
 use mailmap_entries::Entry;
 use std::alloc::AllocError;
@@ -76,7 +76,7 @@ pub fn len_with_line(len: usize, entry: &Entry<'_>) -> Option<usize>
     len_with_part(len, Some(entry.old_email()), 4)
 }
 
-// A length and that of a text and of what stands beside it together, if there is a text.
+// A length and that of a text and of what is beside it together, if there is a text.
 fn len_with_part(len: usize, text: Option<&[u8]>, beside: usize) -> Option<usize>
     ensures { let all = len + unwrap_or (option_map (λ t. length t + beside) (option_copied text.entry)) 0 in MatchOption result (2 ^ 64 ≤ all) (λ n. n ≡ all) }
 {
@@ -86,7 +86,7 @@ fn len_with_part(len: usize, text: Option<&[u8]>, beside: usize) -> Option<usize
     }
 }
 
-/// Puts the line of an entry behind what is written.
+/// Puts the line of an entry after what is written.
 pub fn push_line(out: &mut Vec<u8>, entry: &Entry<'_>) -> Result<(), AllocError>
     ensures { OnOk result (out.new.items ≡ out.old.items ++ line (mapping_of entry.now)) }
 {
@@ -94,7 +94,7 @@ pub fn push_line(out: &mut Vec<u8>, entry: &Entry<'_>) -> Result<(), AllocError>
     push_old_fields(out, entry)
 }
 
-// Puts a blank and the new fields of an entry behind what is written.
+// Puts a blank and the new fields of an entry after what is written.
 fn push_new_fields(out: &mut Vec<u8>, entry: &Entry<'_>) -> Result<(), AllocError>
     ensures { let e = mapping_of entry.now in OnOk result (out.new.items ≡ out.old.items ++ 32 ∷ (name_part e.new_name ++ email_part e.new_email)) }
 {
@@ -107,7 +107,7 @@ fn push_new_fields(out: &mut Vec<u8>, entry: &Entry<'_>) -> Result<(), AllocErro
     Ok(())
 }
 
-// Puts the old fields of an entry and a line feed behind what is written.
+// Puts the old fields of an entry and a line feed after what is written.
 fn push_old_fields(out: &mut Vec<u8>, entry: &Entry<'_>) -> Result<(), AllocError>
     ensures { let e = mapping_of entry.now in OnOk result (out.new.items ≡ out.old.items ++ (name_part e.old_name ++ bracketed_email e.old_email ++ 10 ∷ [])) }
 {
@@ -117,7 +117,7 @@ fn push_old_fields(out: &mut Vec<u8>, entry: &Entry<'_>) -> Result<(), AllocErro
     Ok(())
 }
 
-// Puts a name and a blank behind what is written, if there is a name.
+// Puts a name and a blank after what is written, if there is a name.
 fn push_name(out: &mut Vec<u8>, name: Option<&[u8]>) -> Result<(), AllocError>
     ensures { OnOk result (out.new.items ≡ out.old.items ++ name_part (option_copied name.entry)) }
 {
@@ -128,7 +128,7 @@ fn push_name(out: &mut Vec<u8>, name: Option<&[u8]>) -> Result<(), AllocError>
     Ok(())
 }
 
-// Puts an email in brackets behind what is written.
+// Puts an email in brackets after what is written.
 fn push_email(out: &mut Vec<u8>, email: &[u8]) -> Result<(), AllocError>
     ensures { OnOk result (out.new.items ≡ out.old.items ++ bracketed_email email.now) }
 {

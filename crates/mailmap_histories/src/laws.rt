@@ -64,13 +64,13 @@ pub fn law_neighbours()
         → IsNormal (a ++ x ∷ y ∷ b) n ↔ IsNormal (a ++ y ∷ x ∷ b) n }
 {}
 
-/// An answer depends on the accepted entries of its email alone.
+/// An answer depends only on the accepted entries of its email.
 pub fn law_of_email()
     ensures { (h g : List Mapping) (name email : Text) → of_email h (folded email) ≡ of_email g (folded email)
         → scan h name email ≡ scan g name email }
 {}
 
-/// Signatures whose names and emails differ in the case of letters alone resolve to one email, byte for byte, where the
+/// Signatures whose names and emails differ only in the case of letters resolve to one email, byte for byte, where the
 /// history has an entry for that email.
 pub fn law_one_email()
     ensures { (h : List Mapping) (name other_name email other_email : Text)

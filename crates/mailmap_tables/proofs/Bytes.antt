@@ -9,20 +9,20 @@ use Rattle.mailmap_entries.specs.Entries.{Mapping}
 use Rattle.mailmap_histories.specs.Histories.{Fields, last}
 use Rattle.mailmap_entries.specs.Folding.{Text, folded}
 use Rattle.mailmap_tables.specs.Groups.{EmailGroup, email_key}
-use Rattle.mailmap_batches.specs.Given.{NameGroup, NameRun, give}
+use Rattle.mailmap_batches.specs.Given.{NameGroup, NameEntries, give}
 use Rattle.mailmap_tables.specs.Pool.{LiesIn, TextsLie, group_of, spelled}
 use Rattle.mailmap_tables.specs.Texts.{byte_count, email_span, name_span, span_bytes}
 use Rattle.mailmap_tables.specs.declared.texts.TheConstants.{NO_TEXT}
 use Rattle.mailmap_tables.specs.declared.texts.Span.{Span}
 use Rattle.mailmap_tables.specs.declared.texts.Texts.{Texts}
-use Rattle.mailmap_batches.specs.Batches.{email_text, first_email, mapping_at, placed_at}
-use Rattle.mailmap_tables.specs.Room.{StoodWithin, email_room, entry_bytes, entry_room, field_bytes, name_bytes, optional_bytes, own_bytes}
-use Rattle.mailmap_batches.specs.declared.indexed.Placed.{Placed}
+use Rattle.mailmap_batches.specs.Batches.{email_text, first_email, mapping_at, indexed_mapping}
+use Rattle.mailmap_tables.specs.Reserved.{ExistingWithin, email_reserved, entry_bytes, entry_reserved, field_bytes, name_bytes, optional_bytes, own_bytes}
+use Rattle.mailmap_batches.specs.declared.indexed.IndexedEntry.{IndexedEntry}
 use Rattle.mailmap_batches.proofs.Numbered.{mapped_twice}
 use Rattle.mailmap_tables.proofs.Pooled.{all_at}
 use Rattle.mailmap_tables.proofs.RowTexts.{email_counts, email_ends, name_counts, spelled_len}
 
-pub parted_bytes : (f : Mapping → ℕ) (xs : List Placed) (n : ℕ) → sum_by f (map mapping_at (take n xs)) + sum_by f (map mapping_at (drop n xs)) ≡ sum_by f (map mapping_at xs)
+pub parted_bytes : (f : Mapping → ℕ) (xs : List IndexedEntry) (n : ℕ) → sum_by f (map mapping_at (take n xs)) + sum_by f (map mapping_at (drop n xs)) ≡ sum_by f (map mapping_at xs)
 parted_bytes f xs n = (λ i. sum_by f (sym (take-map mapping_at n xs) i) + sum_by f (sym (drop-map mapping_at n xs) i)) ∙ sum_by-take-drop f (map mapping_at xs) n
 
 -- ---- a name
@@ -31,17 +31,17 @@ last_bytes : (m : Mapping) (more : List Mapping) → optional_bytes (unwrap_or (
 last_bytes m [] = omega arith
 last_bytes m (x ∷ xs) = omega (arith, last_bytes x xs, sum_by-cons field_bytes x xs)
 
-pub name_run_bytes : (ms : List Mapping) (n : NameGroup) (later : List Mapping) → NameRun ms n later → name_bytes n + sum_by field_bytes later ≤ sum_by field_bytes ms
-name_run_bytes ms n later run =
+pub name_group_bytes : (ms : List Mapping) (n : NameGroup) (later : List Mapping) → NameEntries ms n later → name_bytes n + sum_by field_bytes later ≤ sum_by field_bytes ms
+name_group_bytes ms n later group =
     omega (
       arith,
-      last_bytes run.front run.more,
-      ap optional_bytes run.named,
-      ap optional_bytes run.new_name,
-      ap optional_bytes run.new_email,
-      ap (sum_by field_bytes) run.whole,
-      sum_by-append field_bytes (run.front ∷ run.more) later,
-      sum_by-cons field_bytes run.front run.more,
+      last_bytes group.head group.more,
+      ap optional_bytes group.named,
+      ap optional_bytes group.new_name,
+      ap optional_bytes group.new_email,
+      ap (sum_by field_bytes) group.whole,
+      sum_by-append field_bytes (group.head ∷ group.more) later,
+      sum_by-cons field_bytes group.head group.more,
     )
 
 -- ---- the fields that are given for an email
@@ -72,12 +72,12 @@ email_bytes (p ∷ ps) =
     later [] all = tt
     later (q ∷ qs) all = (omega (arith, all.0, sum_by-cons field_bytes p.1 (map (λ (r : ℕ × Mapping). r.1) ps), sum_by-cons entry_bytes p.1 (map (λ (r : ℕ × Mapping). r.1) ps)), later qs all.1)
 
-pub earliest_bytes : (xs : List Placed) (p : Placed) → Contains (map placed_at xs) (placed_at p) → length (mapping_at p).old_email + sum_by field_bytes (map mapping_at xs) ≤ sum_by entry_bytes (map mapping_at xs)
+pub earliest_bytes : (xs : List IndexedEntry) (p : IndexedEntry) → Contains (map indexed_mapping xs) (indexed_mapping p) → length (mapping_at p).old_email + sum_by field_bytes (map mapping_at xs) ≤ sum_by entry_bytes (map mapping_at xs)
 earliest_bytes xs p among =
-    let ps = map placed_at xs in
+    let ps = map indexed_mapping xs in
     let ms = map (λ (q : ℕ × Mapping). q.1) ps in
-    subst (λ (l : List Mapping). length (mapping_at p).old_email + sum_by field_bytes l ≤ sum_by entry_bytes l) (mapped_twice placed_at (λ (q : ℕ × Mapping). q.1) xs)
-    (All-contains (λ (q : ℕ × Mapping). length q.1.old_email + sum_by field_bytes ms ≤ sum_by entry_bytes ms) ps (placed_at p) (All-from_recursion _ ps (email_bytes ps)) among)
+    subst (λ (l : List Mapping). length (mapping_at p).old_email + sum_by field_bytes l ≤ sum_by entry_bytes l) (mapped_twice indexed_mapping (λ (q : ℕ × Mapping). q.1) xs)
+    (All-contains (λ (q : ℕ × Mapping). length q.1.old_email + sum_by field_bytes ms ≤ sum_by entry_bytes ms) ps (indexed_mapping p) (All-from_recursion _ ps (email_bytes ps)) among)
 
 -- ---- texts that are alike but for their case
 
@@ -107,47 +107,47 @@ fields_bytes pool t lies few =
 
 -- ---- copies of what stands
 
-pub entries_room : (s : ℕ) (ms : List Mapping) → sum_by entry_bytes ms + sum_by entry_bytes ms ≤ sum_by (entry_room s) ms
-entries_room s [] = omega arith
-entries_room s (m ∷ ms) = omega (arith, entries_room s ms, sum_by-cons entry_bytes m ms, sum_by-cons (entry_room s) m ms)
+pub entries_reserved : (s : ℕ) (ms : List Mapping) → sum_by entry_bytes ms + sum_by entry_bytes ms ≤ sum_by (entry_reserved s) ms
+entries_reserved s [] = omega arith
+entries_reserved s (m ∷ ms) = omega (arith, entries_reserved s ms, sum_by-cons entry_bytes m ms, sum_by-cons (entry_reserved s) m ms)
 
-first_room : (s : ℕ) (g : EmailGroup) (m : Mapping) (ms : List Mapping) → email_key g ≡ email_text m → own_bytes g ≤ s → email_room g (m ∷ ms) ≤ sum_by (entry_room s) (m ∷ ms)
-first_room s g m ms key le =
+first_reserved : (s : ℕ) (g : EmailGroup) (m : Mapping) (ms : List Mapping) → email_key g ≡ email_text m → own_bytes g ≤ s → email_reserved g (m ∷ ms) ≤ sum_by (entry_reserved s) (m ∷ ms)
+first_reserved s g m ms key le =
     let same = alike_length g.old_email m.old_email key in
     omega (
       arith,
       le,
       same,
-      entries_room s ms,
+      entries_reserved s ms,
       fields_within ms,
       sum_by-cons field_bytes m ms,
-      sum_by-cons (entry_room s) m ms,
+      sum_by-cons (entry_reserved s) m ms,
     )
 
--- the email that a run finds
-pub found_room : (s : ℕ) (gs : List EmailGroup) (from place : ℕ) (d : EmailGroup) (xs : List Placed) → 0 < length xs → from ≤ place → place < length gs → email_key (get_or gs place d) ≡ first_email (map mapping_at xs)
-    → StoodWithin s (drop from gs) (map mapping_at xs) → email_room (get_or gs place d) (map mapping_at xs) ≤ sum_by (entry_room s) (map mapping_at xs)
-found_room s gs from place d [] some up lt key within = absurd (omega arith)
-found_room s gs from place d (x ∷ xs) some up lt key within =
+-- the email that a group finds
+pub found_reserved : (s : ℕ) (gs : List EmailGroup) (from index : ℕ) (d : EmailGroup) (xs : List IndexedEntry) → 0 < length xs → from ≤ index → index < length gs → email_key (get_or gs index d) ≡ first_email (map mapping_at xs)
+    → ExistingWithin s (drop from gs) (map mapping_at xs) → email_reserved (get_or gs index d) (map mapping_at xs) ≤ sum_by (entry_reserved s) (map mapping_at xs)
+found_reserved s gs from index d [] some up lt key within = absurd (omega arith)
+found_reserved s gs from index d (x ∷ xs) some up lt key within =
     let P : EmailGroup → Type 0 = λ g. email_key g ≡ email_text (mapping_at x) → own_bytes g ≤ s in
-    let at : from + (place - from) ≡ place = omega (arith, up) in
-    let there : get_or (drop from gs) (place - from) d ≡ get_or gs place d = get_or-drop from gs (place - from) d ∙ ap (λ k. get_or gs k d) at in
-    let holds : P (get_or gs place d) = subst P there (all_at P (drop from gs) (place - from) d within.0 (omega (arith, lt, up, length-drop from gs))) in
-    first_room s (get_or gs place d) (mapping_at x) (map mapping_at xs) key (holds key)
+    let at : from + (index - from) ≡ index = omega (arith, up) in
+    let there : get_or (drop from gs) (index - from) d ≡ get_or gs index d = get_or-drop from gs (index - from) d ∙ ap (λ k. get_or gs k d) at in
+    let holds : P (get_or gs index d) = subst P there (all_at P (drop from gs) (index - from) d within.0 (omega (arith, lt, up, length-drop from gs))) in
+    first_reserved s (get_or gs index d) (mapping_at x) (map mapping_at xs) key (holds key)
 
 -- ---- what stands for the entries of a batch
 
-pub stood_part : (s : ℕ) (gs : List EmailGroup) (xs : List Placed) (n : ℕ) → StoodWithin s gs (map mapping_at xs) → StoodWithin s gs (map mapping_at (take n xs)) × StoodWithin s gs (map mapping_at (drop n xs))
-stood_part s gs xs zero all = (tt, all)
-stood_part s gs [] (suc n) all = (tt, tt)
-stood_part s gs (x ∷ xs) (suc n) all = let rest = stood_part s gs xs n all.1 in ((all.0, rest.0), rest.1)
+pub existing_part : (s : ℕ) (gs : List EmailGroup) (xs : List IndexedEntry) (n : ℕ) → ExistingWithin s gs (map mapping_at xs) → ExistingWithin s gs (map mapping_at (take n xs)) × ExistingWithin s gs (map mapping_at (drop n xs))
+existing_part s gs xs zero all = (tt, all)
+existing_part s gs [] (suc n) all = (tt, tt)
+existing_part s gs (x ∷ xs) (suc n) all = let rest = existing_part s gs xs n all.1 in ((all.0, rest.0), rest.1)
 
-pub stood_behind : (s : ℕ) (gs front left : List EmailGroup) (ms : List Mapping) → gs ≡ front ++ left → StoodWithin s gs ms → StoodWithin s left ms
-stood_behind s gs front left [] is all = tt
-stood_behind s gs front left (m ∷ ms) is all =
+pub existing_after : (s : ℕ) (gs head left : List EmailGroup) (ms : List Mapping) → gs ≡ head ++ left → ExistingWithin s gs ms → ExistingWithin s left ms
+existing_after s gs head left [] is all = tt
+existing_after s gs head left (m ∷ ms) is all =
     let P : EmailGroup → Type 0 = λ g. email_key g ≡ email_text m → own_bytes g ≤ s in
-    (all_back P front left (subst (AllByRecursion P) is all.0), stood_behind s gs front left ms is all.1)
+    (all_tail P head left (subst (AllByRecursion P) is all.0), existing_after s gs head left ms is all.1)
   where
-    all_back : (P : EmailGroup → Type 0) (front left : List EmailGroup) → AllByRecursion P (front ++ left) → AllByRecursion P left
-    all_back P [] left all = all
-    all_back P (g ∷ front) left all = all_back P front left all.1
+    all_tail : (P : EmailGroup → Type 0) (head left : List EmailGroup) → AllByRecursion P (head ++ left) → AllByRecursion P left
+    all_tail P [] left all = all
+    all_tail P (g ∷ head) left all = all_tail P head left all.1

@@ -10,23 +10,23 @@ use Rattle.mailmap_entries.specs.Entries.{Mapping}
 use Rattle.mailmap_entries.specs.Folding.{Text, folded, text_cmp}
 use Rattle.mailmap_histories.specs.Histories.{Fields, is_accepted}
 use Rattle.mailmap_tables.specs.Groups.{Contents, EmailGroup, email_key, name_key}
-use Rattle.mailmap_batches.specs.Given.{NameGroup, IsEarliest, IsNamed, NameRun, give}
-use Rattle.mailmap_tables.specs.Merging.{Extends, EmailJoined, EmailPut, NamePlaced, NamesJoined, NamesPut, RunPut, bare, known, unknown}
-use Rattle.mailmap_batches.specs.Batches.{IsAscending, first_email, mapping_at, name_text, placed_at}
-use Rattle.mailmap_tables.specs.Places.{IsFound, IsMissing}
-use Rattle.mailmap_tables.specs.Room.{EmailChanged, EmailExtended, NamePlacedAt, NamesExtended, first_emails, names_alone, with_email_at}
-use Rattle.mailmap_batches.specs.declared.indexed.Placed.{Placed}
+use Rattle.mailmap_batches.specs.Given.{NameGroup, IsEarliest, IsNamed, NameEntries, give}
+use Rattle.mailmap_tables.specs.Merging.{Extends, EmailJoined, EmailPut, NameLookup, NamesJoined, NamesPut, GroupPut, bare, known, unknown}
+use Rattle.mailmap_batches.specs.Batches.{IsAscending, first_email, mapping_at, name_text, indexed_mapping}
+use Rattle.mailmap_tables.specs.KeySearch.{IsFound, IsMissing}
+use Rattle.mailmap_tables.specs.Reserved.{EmailChanged, EmailExtended, NamePutAt, NamesExtended, first_emails, names_alone, with_email_at}
+use Rattle.mailmap_batches.specs.declared.indexed.IndexedEntry.{IndexedEntry}
 use Rattle.mailmap_tables.proofs.EmailPuts.{email_joined}
-use Rattle.mailmap_tables.proofs.NamePlaces.{extends_itself, extends_through}
+use Rattle.mailmap_tables.proofs.NameLookups.{extends_itself, extends_through}
 use Rattle.mailmap_tables.proofs.NamesLoop.{NamesState, names_start, names_step, names_end}
-use Rattle.mailmap_tables.proofs.Parting.{found_key, missing_above, missing_below, part_behind, split_behind, split_front}
-use Rattle.mailmap_tables.proofs.Places.{slice_get-drop}
+use Rattle.mailmap_tables.proofs.Parting.{found_key, missing_above, missing_below, part_after, split_after, split_head}
+use Rattle.mailmap_tables.proofs.KeySearch.{slice_get-drop}
 use Rattle.mailmap_tables.proofs.RowEdits.{get_or_any}
-use Rattle.mailmap_tables.proofs.RunPuts.{run_put_known, run_put_unknown}
+use Rattle.mailmap_tables.proofs.GroupPuts.{group_put_known, group_put_unknown}
 
 -- ---- lists
 
--- around a place: the front, the one there, and what is behind it
+-- around an index: the head, the one there, and what is after it
 module _ {X : Type 0} (xs : List X) (i : ℕ) (x : X) where
   abbrev changed_at : List X
   changed_at = take i xs ++ x ∷ drop (i + 1) xs
@@ -71,7 +71,7 @@ module _ {X : Type 0} (xs : List X) (i : ℕ) (x : X) where
       go (y ∷ ys) zero lt = refl
       go (y ∷ ys) (suc k) lt = ap (λ n. suc n) (go ys k (omega (arith, lt)))
 
--- around a place where one more was put
+-- around an index where one more was put
 module _ {X : Type 0} (x : X) where
   take_next-insert : (xs : List X) (i : ℕ) → i ≤ length xs → take (i + 1) (insert xs i x) ≡ take i xs ++ x ∷ []
   take_next-insert xs i le = let next : i + 1 ≡ suc i = omega arith in ap (λ k. take k (insert xs i x)) next ∙ go xs i le
@@ -99,48 +99,48 @@ module _ {X : Type 0} (x : X) where
   get_or-insert [] (suc k) d le = absurd (omega (arith, le))
   get_or-insert (y ∷ ys) (suc k) d le = get_or-insert ys k d (omega (arith, le))
 
--- a part and what is behind it
+-- a part and what is after it
 take_through : {X : Type 0} (xs : List X) (a i : ℕ) → a ≤ i → take i xs ≡ take a xs ++ take (i - a) (drop a xs)
 take_through xs a i le = let sum : i ≡ a + (i - a) = omega (arith, le) in ap (λ k. take k xs) sum ∙ take-add a (i - a) xs
 
 -- ---- one email changed
 
-pub unchanged : (place : ℕ) (old : Contents) (d : EmailGroup) → place < length old.groups → EmailChanged place (get_or old.groups place d) old old
-unchanged place old d lt =
-    record { pool = extends_itself old.pool old.pool refl; groups = split_front old.groups place (get_or old.groups place d) lt (get_or_any old.groups place d (get_or old.groups place d) lt); loose = refl }
+pub unchanged : (index : ℕ) (old : Contents) (d : EmailGroup) → index < length old.groups → EmailChanged index (get_or old.groups index d) old old
+unchanged index old d lt =
+    record { pool = extends_itself old.pool old.pool refl; groups = split_head old.groups index (get_or old.groups index d) lt (get_or_any old.groups index d (get_or old.groups index d) lt); pending = refl }
 
-pub changed_twice : (place : ℕ) (g h : EmailGroup) (a b c : Contents) → place < length a.groups → EmailChanged place g a b → EmailChanged place h b c → EmailChanged place h a c
-changed_twice place g h a b c lt one two =
+pub changed_twice : (index : ℕ) (g h : EmailGroup) (a b c : Contents) → index < length a.groups → EmailChanged index g a b → EmailChanged index h b c → EmailChanged index h a c
+changed_twice index g h a b c lt one two =
     record {
       pool = extends_through a.pool b.pool c.pool one.pool two.pool;
-      groups = two.groups ∙ (λ i. (ap (take place) one.groups ∙ take-changed a.groups place g (omega (arith, lt))) i ++ h ∷ (ap (drop (place + 1)) one.groups ∙ drop_next-changed a.groups place g (omega (arith, lt))) i);
-      loose = two.loose ∙ one.loose;
+      groups = two.groups ∙ (λ i. (ap (take index) one.groups ∙ take-changed a.groups index g (omega (arith, lt))) i ++ h ∷ (ap (drop (index + 1)) one.groups ∙ drop_next-changed a.groups index g (omega (arith, lt))) i);
+      pending = two.pending ∙ one.pending;
     }
 
 -- the group that stands there then
-pub changed_group : (place : ℕ) (g : EmailGroup) (a b : Contents) (d : EmailGroup) → place < length a.groups → EmailChanged place g a b → get_or b.groups place d ≡ g
-changed_group place g a b d lt one = ap (λ l. get_or l place d) one.groups ∙ get_or-changed a.groups place g (omega (arith, lt)) d
+pub changed_group : (index : ℕ) (g : EmailGroup) (a b : Contents) (d : EmailGroup) → index < length a.groups → EmailChanged index g a b → get_or b.groups index d ≡ g
+changed_group index g a b d lt one = ap (λ l. get_or l index d) one.groups ∙ get_or-changed a.groups index g (omega (arith, lt)) d
 
-pub changed_length : (place : ℕ) (g : EmailGroup) (a b : Contents) → place < length a.groups → EmailChanged place g a b → length b.groups ≡ length a.groups
-changed_length place g a b lt one = ap length one.groups ∙ length-changed a.groups place g lt
+pub changed_length : (index : ℕ) (g : EmailGroup) (a b : Contents) → index < length a.groups → EmailChanged index g a b → length b.groups ≡ length a.groups
+changed_length index g a b lt one = ap length one.groups ∙ length-changed a.groups index g lt
 
--- an edit behind a pool that has grown
-pub changed_from : (place : ℕ) (g : EmailGroup) (old mid new : Contents) → Extends old.pool mid.pool → mid.groups ≡ old.groups → mid.loose ≡ old.loose → new ≡ with_email_at mid place g → EmailChanged place g old new
-changed_from place g old mid new grown groups loose is =
+-- an edit after a pool that has grown
+pub changed_from : (index : ℕ) (g : EmailGroup) (old mid new : Contents) → Extends old.pool mid.pool → mid.groups ≡ old.groups → mid.pending ≡ old.pending → new ≡ with_email_at mid index g → EmailChanged index g old new
+changed_from index g old mid new grown groups pending is =
     record {
       pool = subst (Extends old.pool) (sym (ap (λ (v : Contents). v.pool) is)) grown;
-      groups = ap (λ (v : Contents). v.groups) is ∙ ap (λ l. take place l ++ g ∷ drop (place + 1) l) groups;
-      loose = ap (λ (v : Contents). v.loose) is ∙ loose;
+      groups = ap (λ (v : Contents). v.groups) is ∙ ap (λ l. take index l ++ g ∷ drop (index + 1) l) groups;
+      pending = ap (λ (v : Contents). v.pending) is ∙ pending;
     }
 
 -- ---- a name put among those of an email
 
--- a search among the names from a place on
-pub found_behind : (k : Text) (from i : ℕ) (ns : List NameGroup) → IsFound name_key k 0 (drop from ns) i → IsFound name_key k from ns (from + i)
-found_behind k from i ns h =
+-- a search among the names from an index on
+pub found_after : (k : Text) (from i : ℕ) (ns : List NameGroup) → IsFound name_key k 0 (drop from ns) i → IsFound name_key k from ns (from + i)
+found_after k from i ns h =
     let rest = length-drop from ns in
     record {
-      behind_start = omega arith;
+      after_start = omega arith;
       within = omega (arith, h.within, rest);
       below = λ m d low high.
           let at : from + (m - from) ≡ m = omega (arith, low) in
@@ -148,11 +148,11 @@ found_behind k from i ns h =
       key = sym (slice_get-drop from (map name_key ns) i (from + i) refl) ∙ ap (λ l. slice_get l i) (drop-map name_key from ns) ∙ h.key;
     }
 
-pub missing_behind : (k : Text) (from i : ℕ) (ns : List NameGroup) → from ≤ length ns → IsMissing name_key k 0 (drop from ns) i → IsMissing name_key k from ns (from + i)
-missing_behind k from i ns le h =
+pub missing_after : (k : Text) (from i : ℕ) (ns : List NameGroup) → from ≤ length ns → IsMissing name_key k 0 (drop from ns) i → IsMissing name_key k from ns (from + i)
+missing_after k from i ns le h =
     let rest = length-drop from ns in
     record {
-      behind_start = omega arith;
+      after_start = omega arith;
       within = omega (arith, h.within, rest, le);
       below = λ m d low high.
           let at : from + (m - from) ≡ m = omega (arith, low) in
@@ -162,49 +162,49 @@ missing_behind k from i ns le h =
           subst (λ (n : NameGroup). text_cmp (name_key n) k ≡ Greater) (get_or-drop from ns (m - from) d ∙ ap (λ j. get_or ns j d) at) (h.above (m - from) d (omega (arith, low)) (omega (arith, low, high, rest)));
     }
 
-module _ (email from place : ℕ) (g : EmailGroup) (n : NameGroup) (old new : Contents) where
-  -- what has come out up to the place
-  out_is : (one : NameGroup) → from ≤ place → take place g.names ++ one ∷ [] ≡ take from g.names ++ (take (place - from) (drop from g.names) ++ one ∷ [])
-  out_is one le = ap (λ l. l ++ one ∷ []) (take_through g.names from place le) ∙ append_assoc (take from g.names) (take (place - from) (drop from g.names)) (one ∷ [])
+module _ (email from index : ℕ) (g : EmailGroup) (n : NameGroup) (old new : Contents) where
+  -- what has come out up to the index
+  out_is : (one : NameGroup) → from ≤ index → take index g.names ++ one ∷ [] ≡ take from g.names ++ (take (index - from) (drop from g.names) ++ one ∷ [])
+  out_is one le = ap (λ l. l ++ one ∷ []) (take_through g.names from index le) ∙ append_assoc (take from g.names) (take (index - from) (drop from g.names)) (one ∷ [])
 
-  pub name_known : (kept : Text) (k : NameGroup) → EmailChanged email (record g { names = set g.names place (record n { old_name = kept }) }) old new → IsFound name_key (folded n.old_name) from g.names place
-      → slice_get g.names place ≡ Some k → kept ≡ k.old_name → NamePlacedAt email from (place + 1) g n old new
-  name_known kept k changed found stood same =
+  pub name_known : (kept : Text) (k : NameGroup) → EmailChanged email (record g { names = set g.names index (record n { old_name = kept }) }) old new → IsFound name_key (folded n.old_name) from g.names index
+      → slice_get g.names index ≡ Some k → kept ≡ k.old_name → NamePutAt email from (index + 1) g n old new
+  name_known kept k changed found existing same =
       let one : NameGroup = record n { old_name = kept } in
-      let more = set g.names place one in
-      let next : place + 1 ≡ suc place = omega arith in
-      let read : k ≡ get_or g.names place k = sym (get_or_from_slice_get g.names place k k stood) in
-      let left : drop (place + 1) more ≡ drop (place + 1) g.names = drop-set-lt (place + 1) g.names place one (omega arith) in
+      let more = set g.names index one in
+      let next : index + 1 ≡ suc index = omega arith in
+      let read : k ≡ get_or g.names index k = sym (get_or_from_slice_get g.names index k k existing) in
+      let left : drop (index + 1) more ≡ drop (index + 1) g.names = drop-set-lt (index + 1) g.names index one (omega arith) in
       record {
         names = more;
         changed = changed;
-        within = omega (arith, found.within, length-set g.names place one);
+        within = omega (arith, found.within, length-set g.names index one);
         put = record {
-          passed = take (place - from) (drop from g.names);
+          passed = take (index - from) (drop from g.names);
           kept = kept;
           pool = changed.pool;
           groups = refl;
-          loose = take_more_set g.names place one found.within ∙ out_is one found.behind_start;
-          placed = subst (NamePlaced (drop from g.names) (take (place - from) (drop from g.names)) n.old_name kept) (sym left)
-              (known k (split_behind g.names from place k found.behind_start found.within read) (found_key name_key (folded n.old_name) from g.names place k found read) same);
+          pending = take_more_set g.names index one found.within ∙ out_is one found.after_start;
+          lookup = subst (NameLookup (drop from g.names) (take (index - from) (drop from g.names)) n.old_name kept) (sym left)
+              (known k (split_after g.names from index k found.after_start found.within read) (found_key name_key (folded n.old_name) from g.names index k found read) same);
         };
       }
 
-  pub name_unknown : EmailChanged email (record g { names = insert g.names place n }) old new → IsMissing name_key (folded n.old_name) from g.names place → NamePlacedAt email from (place + 1) g n old new
+  pub name_unknown : EmailChanged email (record g { names = insert g.names index n }) old new → IsMissing name_key (folded n.old_name) from g.names index → NamePutAt email from (index + 1) g n old new
   name_unknown changed missing =
-      let more = insert g.names place n in
+      let more = insert g.names index n in
       record {
         names = more;
         changed = changed;
-        within = omega (arith, missing.within, length-insert g.names place n missing.within);
+        within = omega (arith, missing.within, length-insert g.names index n missing.within);
         put = record {
-          passed = take (place - from) (drop from g.names);
+          passed = take (index - from) (drop from g.names);
           kept = n.old_name;
           pool = changed.pool;
           groups = refl;
-          loose = take_next-insert n g.names place missing.within ∙ out_is n missing.behind_start;
-          placed = subst (NamePlaced (drop from g.names) (take (place - from) (drop from g.names)) n.old_name n.old_name) (sym (drop_next-insert n g.names place missing.within))
-              (unknown (part_behind g.names from place missing.behind_start) (missing_below name_key (folded n.old_name) from g.names place missing) (missing_above name_key (folded n.old_name) from g.names place missing) refl);
+          pending = take_next-insert n g.names index missing.within ∙ out_is n missing.after_start;
+          lookup = subst (NameLookup (drop from g.names) (take (index - from) (drop from g.names)) n.old_name n.old_name) (sym (drop_next-insert n g.names index missing.within))
+              (unknown (part_after g.names from index missing.after_start) (missing_below name_key (folded n.old_name) from g.names index missing) (missing_above name_key (folded n.old_name) from g.names index missing) refl);
         };
       }
 
@@ -223,18 +223,18 @@ names_begin email old ms d lt up named_up =
     record { names = g.names; changed = unchanged email old d lt; within = omega arith; state = names_start g.names ms (names_alone old.pool []) up named_up }
 
 pub names_next : (email from next : ℕ) (g : EmailGroup) (ms0 left later : List Mapping) (n : NameGroup) (a b c : Contents) → email < length a.groups → AllByRecursion IsNamed ms0
-    → NamesInPlace email from g ms0 left a b → HoldsAt (λ (h : EmailGroup). NamePlacedAt email from next h n b c) b.groups email → NameRun left n later → NamesInPlace email next g ms0 later a c
-names_next email from next g ms0 left later n a b c lt named0 st holds run =
+    → NamesInPlace email from g ms0 left a b → HoldsAt (λ (h : EmailGroup). NamePutAt email from next h n b c) b.groups email → NameEntries left n later → NamesInPlace email next g ms0 later a c
+names_next email from next g ms0 left later n a b c lt named0 st holds group =
     let h : EmailGroup = record g { names = st.names } in
-    let put : NamePlacedAt email from next h n b c = subst (λ (x : EmailGroup). NamePlacedAt email from next x n b c) (changed_group email h a b g lt st.changed) (holds g) in
+    let put : NamePutAt email from next h n b c = subst (λ (x : EmailGroup). NamePutAt email from next x n b c) (changed_group email h a b g lt st.changed) (holds g) in
     record {
       names = put.names;
       changed = changed_twice email h (record h { names = put.names }) a b c lt st.changed put.changed;
       within = put.within;
-      state = names_step g.names ms0 (names_alone a.pool []) named0 (drop from st.names) (drop next put.names) left later n (names_alone b.pool (take from st.names)) (names_alone c.pool (take next put.names)) st.state put.put run;
+      state = names_step g.names ms0 (names_alone a.pool []) named0 (drop from st.names) (drop next put.names) left later n (names_alone b.pool (take from st.names)) (names_alone c.pool (take next put.names)) st.state put.put group;
     }
 
--- the names from the place on ascend
+-- the names from the index on ascend
 pub names_left_ascend : (email from : ℕ) (g : EmailGroup) (ms0 left : List Mapping) (a b : Contents) → email < length a.groups → NamesInPlace email from g ms0 left a b → HoldsAt (λ (h : EmailGroup). IsStrictlySortedBy text_cmp (map name_key (drop from h.names))) b.groups email
 names_left_ascend email from g ms0 left a b lt st = λ d.
     subst (λ (h : EmailGroup). IsStrictlySortedBy text_cmp (map name_key (drop from h.names))) (sym (changed_group email (record g { names = st.names }) a b d lt st.changed)) st.state.order.standing_ascends
@@ -247,59 +247,59 @@ pub names_done : (email from : ℕ) (g : EmailGroup) (ms0 : List Mapping) (a b :
 names_done email from g ms0 a b named0 st =
     let done : NamesPut g.names ms0 (names_alone a.pool []) (names_alone b.pool (take from st.names ++ drop from st.names)) =
     names_end g.names ms0 (names_alone a.pool []) named0 (drop from st.names) (names_alone b.pool (take from st.names)) (names_alone b.pool (take from st.names ++ drop from st.names)) st.state refl in
-    let all : done.names ≡ st.names = sym done.loose ∙ take-append-drop from st.names in
+    let all : done.names ≡ st.names = sym done.pending ∙ take-append-drop from st.names in
     record { names = st.names; changed = st.changed; joined = subst (NamesJoined g.names ms0) all done.joined }
 
 -- ---- an email, whose fields come before its names
 
-pub email_extended : (place : ℕ) (g : EmailGroup) (us js : List Mapping) (a b c : Contents) (own : Fields) → place < length a.groups → AllByRecursion (λ m. m.old_name ≡ None) us → AllByRecursion (λ m. is_accepted m ≡ true) us
-    → EmailChanged place (record g { own = own }) a b → NamesExtended place (record g { own = own }) js b c → own ≡ fold give g.own us → EmailExtended place g (us ++ js) a c
-email_extended place g us js a b c own lt none good changed ext given =
+pub email_extended : (index : ℕ) (g : EmailGroup) (us js : List Mapping) (a b c : Contents) (own : Fields) → index < length a.groups → AllByRecursion (λ m. m.old_name ≡ None) us → AllByRecursion (λ m. is_accepted m ≡ true) us
+    → EmailChanged index (record g { own = own }) a b → NamesExtended index (record g { own = own }) js b c → own ≡ fold give g.own us → EmailExtended index g (us ++ js) a c
+email_extended index g us js a b c own lt none good changed ext given =
     let h : EmailGroup = record g { own = own } in
     record {
       group = record h { names = ext.names };
-      changed = changed_twice place h (record h { names = ext.names }) a b c lt changed ext.changed;
+      changed = changed_twice index h (record h { names = ext.names }) a b c lt changed ext.changed;
       joined = subst (λ (o : Fields). EmailJoined g (us ++ js) (record g { own = o; names = ext.names })) (sym given) (email_joined g us js ext.names none good ext.joined);
     }
 
--- ---- an email for a run
+-- ---- an email for a group
 
-module _ (gs : List EmailGroup) (from place : ℕ) (xs : List Placed) (old mid new : Contents) (standing : old.groups ≡ gs) (le : from ≤ place) (within : place ≤ length gs) where
-  passed_on : first_emails place old ≡ record (first_emails from old) { groups = (first_emails from old).groups ++ take (place - from) (drop from gs) }
+module _ (gs : List EmailGroup) (from index : ℕ) (xs : List IndexedEntry) (old mid new : Contents) (standing : old.groups ≡ gs) (le : from ≤ index) (within : index ≤ length gs) where
+  passed_on : first_emails index old ≡ record (first_emails from old) { groups = (first_emails from old).groups ++ take (index - from) (drop from gs) }
   passed_on = λ i. record {
     pool = old.pool;
-    groups = (take_through old.groups from place le ∙ ap (λ l. take from old.groups ++ take (place - from) (drop from l)) standing) i;
-    loose = old.loose;
+    groups = (take_through old.groups from index le ∙ ap (λ l. take from old.groups ++ take (index - from) (drop from l)) standing) i;
+    pending = old.pending;
   }
 
-  put_of : (g : EmailGroup) (more : Text) → take place mid.groups ≡ take place gs → place < length mid.groups → mid.pool ≡ more → mid.loose ≡ [] → EmailExtended place g (map mapping_at xs) mid new
-      → EmailPut g (map mapping_at xs) (record (first_emails place old) { pool = more }) (first_emails (place + 1) new)
-  put_of g more front lt pool no_loose ext =
+  put_of : (g : EmailGroup) (more : Text) → take index mid.groups ≡ take index gs → index < length mid.groups → mid.pool ≡ more → mid.pending ≡ [] → EmailExtended index g (map mapping_at xs) mid new
+      → EmailPut g (map mapping_at xs) (record (first_emails index old) { pool = more }) (first_emails (index + 1) new)
+  put_of g more head lt pool none_pending ext =
       record {
         group = ext.group;
         pool = subst (λ p. Extends p new.pool) pool ext.changed.pool;
-        groups = ap (take (place + 1)) ext.changed.groups ∙ take_next-changed mid.groups place ext.group (omega (arith, lt)) ∙ ap (λ l. l ++ ext.group ∷ []) (front ∙ ap (take place) (sym standing));
-        no_loose = ext.changed.loose ∙ no_loose;
+        groups = ap (take (index + 1)) ext.changed.groups ∙ take_next-changed mid.groups index ext.group (omega (arith, lt)) ∙ ap (λ l. l ++ ext.group ∷ []) (head ∙ ap (take index) (sym standing));
+        none_pending = ext.changed.pending ∙ none_pending;
         joined = ext.joined;
       }
 
-  pub run_known : (g : EmailGroup) → mid ≡ old → place < length gs → old.loose ≡ [] → IsFound email_key (first_email (map mapping_at xs)) from gs place → slice_get gs place ≡ Some g → EmailExtended place g (map mapping_at xs) mid new
-      → RunPut (drop from gs) (drop (place + 1) new.groups) (map placed_at xs) (first_email (map mapping_at xs)) (first_emails from old) (first_emails (place + 1) new)
-  run_known g same lt no_loose found read ext =
+  pub group_known : (g : EmailGroup) → mid ≡ old → index < length gs → old.pending ≡ [] → IsFound email_key (first_email (map mapping_at xs)) from gs index → slice_get gs index ≡ Some g → EmailExtended index g (map mapping_at xs) mid new
+      → GroupPut (drop from gs) (drop (index + 1) new.groups) (map indexed_mapping xs) (first_email (map mapping_at xs)) (first_emails from old) (first_emails (index + 1) new)
+  group_known g same lt none_pending found read ext =
       let groups : mid.groups ≡ gs = ap (λ (v : Contents). v.groups) same ∙ standing in
-      let lt_mid : place < length mid.groups = omega (arith, lt, ap length groups) in
-      let left : drop (place + 1) new.groups ≡ drop (place + 1) gs = ap (drop (place + 1)) ext.changed.groups ∙ drop_next-changed mid.groups place ext.group (omega (arith, lt_mid)) ∙ ap (drop (place + 1)) groups in
-      let put = put_of g old.pool (ap (take place) groups) lt_mid (ap (λ (v : Contents). v.pool) same) (ap (λ (v : Contents). v.loose) same ∙ no_loose) ext in
-      subst (λ l. RunPut (drop from gs) l (map placed_at xs) (first_email (map mapping_at xs)) (first_emails from old) (first_emails (place + 1) new)) (sym left)
-      (run_put_known gs from place xs (first_emails from old) (first_emails place old) (first_emails (place + 1) new) passed_on g found read put)
+      let lt_mid : index < length mid.groups = omega (arith, lt, ap length groups) in
+      let left : drop (index + 1) new.groups ≡ drop (index + 1) gs = ap (drop (index + 1)) ext.changed.groups ∙ drop_next-changed mid.groups index ext.group (omega (arith, lt_mid)) ∙ ap (drop (index + 1)) groups in
+      let put = put_of g old.pool (ap (take index) groups) lt_mid (ap (λ (v : Contents). v.pool) same) (ap (λ (v : Contents). v.pending) same ∙ none_pending) ext in
+      subst (λ l. GroupPut (drop from gs) l (map indexed_mapping xs) (first_email (map mapping_at xs)) (first_emails from old) (first_emails (index + 1) new)) (sym left)
+      (group_put_known gs from index xs (first_emails from old) (first_emails index old) (first_emails (index + 1) new) passed_on g found read put)
 
-  pub run_unknown : (p : Placed) (text : Text) → mid ≡ record old { pool = old.pool ++ text; groups = insert gs place (bare text) } → old.loose ≡ [] → IsMissing email_key (first_email (map mapping_at xs)) from gs place
-      → IsEarliest (map placed_at xs) (placed_at p) → text ≡ (mapping_at p).old_email → EmailExtended place (bare text) (map mapping_at xs) mid new
-      → RunPut (drop from gs) (drop (place + 1) new.groups) (map placed_at xs) (first_email (map mapping_at xs)) (first_emails from old) (first_emails (place + 1) new)
-  run_unknown p text made no_loose missing first is ext =
-      let groups : mid.groups ≡ insert gs place (bare text) = ap (λ (v : Contents). v.groups) made in
-      let lt_mid : place < length mid.groups = omega (arith, within, ap length groups, length-insert gs place (bare text) within) in
-      let left : drop (place + 1) new.groups ≡ drop place gs = ap (drop (place + 1)) ext.changed.groups ∙ drop_next-changed mid.groups place ext.group (omega (arith, lt_mid)) ∙ ap (drop (place + 1)) groups ∙ drop_next-insert (bare text) gs place within in
-      let put = put_of (bare text) (old.pool ++ text) (ap (take place) groups ∙ take-insert (bare text) gs place within) lt_mid (ap (λ (v : Contents). v.pool) made) (ap (λ (v : Contents). v.loose) made ∙ no_loose) ext in
-      subst (λ l. RunPut (drop from gs) l (map placed_at xs) (first_email (map mapping_at xs)) (first_emails from old) (first_emails (place + 1) new)) (sym left)
-      (run_put_unknown gs from place xs (first_emails from old) (first_emails place old) (first_emails (place + 1) new) passed_on p text (old.pool ++ text) missing first is refl put)
+  pub group_unknown : (p : IndexedEntry) (text : Text) → mid ≡ record old { pool = old.pool ++ text; groups = insert gs index (bare text) } → old.pending ≡ [] → IsMissing email_key (first_email (map mapping_at xs)) from gs index
+      → IsEarliest (map indexed_mapping xs) (indexed_mapping p) → text ≡ (mapping_at p).old_email → EmailExtended index (bare text) (map mapping_at xs) mid new
+      → GroupPut (drop from gs) (drop (index + 1) new.groups) (map indexed_mapping xs) (first_email (map mapping_at xs)) (first_emails from old) (first_emails (index + 1) new)
+  group_unknown p text made none_pending missing first is ext =
+      let groups : mid.groups ≡ insert gs index (bare text) = ap (λ (v : Contents). v.groups) made in
+      let lt_mid : index < length mid.groups = omega (arith, within, ap length groups, length-insert gs index (bare text) within) in
+      let left : drop (index + 1) new.groups ≡ drop index gs = ap (drop (index + 1)) ext.changed.groups ∙ drop_next-changed mid.groups index ext.group (omega (arith, lt_mid)) ∙ ap (drop (index + 1)) groups ∙ drop_next-insert (bare text) gs index within in
+      let put = put_of (bare text) (old.pool ++ text) (ap (take index) groups ∙ take-insert (bare text) gs index within) lt_mid (ap (λ (v : Contents). v.pool) made) (ap (λ (v : Contents). v.pending) made ∙ none_pending) ext in
+      subst (λ l. GroupPut (drop from gs) l (map indexed_mapping xs) (first_email (map mapping_at xs)) (first_emails from old) (first_emails (index + 1) new)) (sym left)
+      (group_put_unknown gs from index xs (first_emails from old) (first_emails index old) (first_emails (index + 1) new) passed_on p text (old.pool ++ text) missing first is refl put)

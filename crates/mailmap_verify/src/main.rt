@@ -1,10 +1,10 @@
 //! Prints what is wrong with mailmaps, line by line, or a mailmap without the lines that have no effect.
 //!
-//! `mailmap_verify FILE..` reads each FILE as a mailmap, one behind the other, and prints a line for each finding.
+//! `mailmap_verify FILE..` reads each FILE as a mailmap, one after the other, and prints a line for each finding.
 //! Without a FILE standard input is the one mailmap. With `--prune` as the first argument it prints the one mailmap
 //! without the lines that have no effect, and with `--help` a usage.
 //!
-//! The status is 0 where nothing is wrong, and 1 where something was found. A failure prints its one line on standard
+//! The status is 0 if nothing is wrong, and 1 if something was found. A failure prints its one line on standard
 //! error and ends the program with status 2.
 #![tactic(auto)]
 
@@ -18,7 +18,7 @@ use std::process::ExitCode;
 fn main(rt: HostRuntime) -> ExitCode {
     let ended = start(&rt);
     if let Err(failure) = ended {
-        // Where standard error fails as well, the status alone tells.
+        // If standard error fails as well, only the status reports it.
         let _ = eprintln!(rt; "mailmap_verify: {failure}");
     }
     exit_code(ended)

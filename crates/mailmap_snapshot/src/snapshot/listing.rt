@@ -1,4 +1,4 @@
-//! The listing of a snapshot, and what is told by it: equality, the hash, the debug text and a copy.
+//! The listing of a snapshot, and what follows from it: equality, the hash, the debug text and a copy.
 ghost use Rattle.std.specs.Prelude.{◌≡◌, ◌↔◌, List, [], length, map, option_map, IsTrue, IfOk};
 ghost use Rattle.std.specs.Iterator.{YieldsFirstBy, item_count};
 ghost use Rattle.std.specs.List.{AllByRecursion};
@@ -46,7 +46,7 @@ impl Snapshot {
         count
     }
 
-    /// The entries of [`iter`](Snapshot::iter()) in a vector. `Err` where memory is refused.
+    /// The entries of [`iter`](Snapshot::iter()) in a vector. `Err` if memory runs out.
     pub fn entries(&self, alloc: Global) -> Result<Vec<Entry<'_>>, AllocError>
         ensures listing { IfOk result (λ v. map mapping_of v.items ≡ self.now) }
 
@@ -56,7 +56,7 @@ impl Snapshot {
         self.iter().collect(alloc)
     }
 
-    /// An equal snapshot that shares nothing with this one. `Err` where memory is refused.
+    /// An equal snapshot that shares nothing with this one. `Err` if memory runs out.
     pub fn try_clone(&self, alloc: Global) -> Result<Snapshot, AllocError>
         ensures { IfOk result (λ s. s ≡ self.now) }
     {

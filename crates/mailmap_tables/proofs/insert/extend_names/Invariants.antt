@@ -3,7 +3,7 @@ use Rattle.std.specs.List.{AllByRecursion, HoldsAt}
 use Rattle.mailmap_tables.specs.Groups.{EmailGroup}
 use Rattle.mailmap_batches.specs.Given.{IsNamed}
 use Rattle.mailmap_batches.specs.Batches.{mapping_at}
-use Rattle.mailmap_tables.specs.Room.{field_bytes}
+use Rattle.mailmap_tables.specs.Reserved.{field_bytes}
 use Rattle.mailmap_tables.proofs.InPlace.{NamesInPlace}
 use Rattle.mailmap_tables.proofs.insert.extend_names.Given as goal
 

@@ -4,11 +4,11 @@ use Rattle.mailmap_entries.specs.Folding.{Text}
 use Rattle.mailmap_tables.specs.Groups.{Contents}
 use Rattle.mailmap_tables.specs.Merging.{Extends}
 use Rattle.mailmap_batches.specs.Given.{named_group}
-use Rattle.mailmap_tables.specs.Room.{optional_bytes}
+use Rattle.mailmap_tables.specs.Reserved.{optional_bytes}
 use Rattle.mailmap_tables.specs.Texts.{span_bytes}
 use Rattle.mailmap_tables.proofs.Bytes.{spans_bytes}
 use Rattle.mailmap_tables.proofs.EmailPuts.{options_on, spelled_on}
-use Rattle.mailmap_tables.proofs.NamePlaces.{extends_through}
+use Rattle.mailmap_tables.proofs.NameLookups.{extends_through}
 use Rattle.mailmap_tables.proofs.RowTexts.{row_group, spelled_len}
 use Rattle.mailmap_tables.proofs.insert.push_named.Goals as goal
 
@@ -16,13 +16,13 @@ or_none : (o : Option Text) → option_or o None ≡ o
 or_none None = refl
 or_none (Some t) = refl
 
-pub together-requires-clause-room : goal.together-requires-clause-room
-together-requires-clause-room c =
+pub together-requires-clause-reserved : goal.together-requires-clause-reserved
+together-requires-clause-reserved c =
     let name = c.push_given-new_name in
     let email = c.push_text-new_email in
     let name_len : span_bytes name.result ≡ optional_bytes (named_group c.args.named).new_name = sym (spans_bytes _ name.result name.ensures.lies) ∙ ap optional_bytes (name.ensures.spells ∙ or_none (named_group c.args.named).new_name) in
     let email_len : email.result.len ≡ length (named_group c.args.named).new_email = sym (spelled_len _ email.result email.ensures.lies) ∙ ap length email.ensures.spells in
-    omega (arith, name_len, email_len, c.requires.bytes, name.ensures.room.bytes, email.ensures.room.bytes)
+    omega (arith, name_len, email_len, c.requires.bytes, name.ensures.reserved.bytes, email.ensures.reserved.bytes)
 
 pub returns-clause-spells : goal.returns-clause-spells
 returns-clause-spells c =
@@ -34,15 +34,15 @@ returns-clause-spells c =
     let name = options_on _ _ to_two c.push_given-new_name.result c.push_given-new_name.ensures.lies ∙ c.push_given-new_name.ensures.spells ∙ or_none (named_group c.args.named).new_name in
     row_group _ _ _ _ _ _ c.together.ensures.spells ∙ (λ i. record { old_name = old i; new_name = name i; new_email = c.push_text-new_email.ensures.spells i })
 
-pub returns-clause-room : goal.returns-clause-room
-returns-clause-room c =
+pub returns-clause-reserved : goal.returns-clause-reserved
+returns-clause-reserved c =
     let name = c.push_given-new_name in
     let email = c.push_text-new_email in
     let name_len : span_bytes name.result ≡ optional_bytes (named_group c.args.named).new_name = sym (spans_bytes _ name.result name.ensures.lies) ∙ ap optional_bytes (name.ensures.spells ∙ or_none (named_group c.args.named).new_name) in
     let email_len : email.result.len ≡ length (named_group c.args.named).new_email = sym (spelled_len _ email.result email.ensures.lies) ∙ ap length email.ensures.spells in
-    let last = c.together.ensures.room in
+    let last = c.together.ensures.reserved in
     record {
-      bytes = omega (arith, name_len, email_len, name.ensures.room.bytes, email.ensures.room.bytes, last.bytes);
-      emails = omega (arith, name.ensures.room.emails, email.ensures.room.emails, last.emails);
-      names = omega (arith, name.ensures.room.names, email.ensures.room.names, last.names);
+      bytes = omega (arith, name_len, email_len, name.ensures.reserved.bytes, email.ensures.reserved.bytes, last.bytes);
+      emails = omega (arith, name.ensures.reserved.emails, email.ensures.reserved.emails, last.emails);
+      names = omega (arith, name.ensures.reserved.names, email.ensures.reserved.names, last.names);
     }
