@@ -136,7 +136,10 @@ pub fn earliest<'e, 'a>(batch: &[IndexedEntry<'e, 'a>]) -> IndexedEntry<'e, 'a>
 }
 
 /// The entries before an index.
-pub fn before<'s, 'e, 'a>(batch: &'s [IndexedEntry<'e, 'a>], index: usize) -> &'s [IndexedEntry<'e, 'a>]
+pub fn before<'s, 'e, 'a>(
+    batch: &'s [IndexedEntry<'e, 'a>],
+    index: usize,
+) -> &'s [IndexedEntry<'e, 'a>]
     requires { index ≤ length batch.now }
     ensures { result.now ≡ take index batch.now }
 {
@@ -144,7 +147,10 @@ pub fn before<'s, 'e, 'a>(batch: &'s [IndexedEntry<'e, 'a>], index: usize) -> &'
 }
 
 /// The entries from an index on.
-pub fn after<'s, 'e, 'a>(batch: &'s [IndexedEntry<'e, 'a>], index: usize) -> &'s [IndexedEntry<'e, 'a>]
+pub fn after<'s, 'e, 'a>(
+    batch: &'s [IndexedEntry<'e, 'a>],
+    index: usize,
+) -> &'s [IndexedEntry<'e, 'a>]
     requires { index ≤ length batch.now }
     ensures { result.now ≡ drop index batch.now }
 {

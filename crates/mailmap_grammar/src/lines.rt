@@ -336,7 +336,11 @@ pub(crate) fn read_with_trailing(
 
 /// What the trimmed line `input` says. A fault shows it as its input, under the number `line`.
 #[inline(always)]
-fn parse_line(input: &[u8], line: usize, strictness: Strictness) -> Result<WithTrailing<'_>, Error<'_>>
+fn parse_line(
+    input: &[u8],
+    line: usize,
+    strictness: Strictness,
+) -> Result<WithTrailing<'_>, Error<'_>>
     ensures reading { reading_with_trailing result ≡ line_reader strictness line input.now }
     ensures trailing { IfOk result (λ w. w.trailing.now ≡ trailing_text (cut input.now)) }
 {
@@ -365,7 +369,10 @@ fn parse_line(input: &[u8], line: usize, strictness: Strictness) -> Result<WithT
             None => return Err(Error::NothingToMap { line, input }),
         },
     };
-    Ok(WithTrailing { entry, trailing: rest })
+    Ok(WithTrailing {
+        entry,
+        trailing: rest,
+    })
 }
 
 /// The entry of a line with two contacts, where either name may be empty and then is none.

@@ -5,7 +5,7 @@ ghost use Rattle.std.proofs.Props.{props};
 ghost use Rattle.mailmap_entries.specs.Entries.{mapping_of};
 
 use crate::fields::Fields;
-use crate::located::{Position, LocatedEntry};
+use crate::located::{LocatedEntry, Position};
 
 /// Of the entries of a key: the first that gives an old name, the last that give a new name and a new email, and the last.
 #[derive(Clone, Copy)]

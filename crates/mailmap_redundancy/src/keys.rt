@@ -204,7 +204,11 @@ impl<'p, 'a> AscendingKeys<'p, 'a> {
     }
 
     // Adds the key of an entry, if the last one is another. Its email is that of the last one.
-    fn push_key(&mut self, entry: &'p Entry<'a>, prefixed: &PrefixedKey<'_>) -> Result<(), AllocError>
+    fn push_key(
+        &mut self,
+        entry: &'p Entry<'a>,
+        prefixed: &PrefixedKey<'_>,
+    ) -> Result<(), AllocError>
         requires own { prefixed.now ≡ key (mapping_of entry.now) }
         requires ascending { AreAscending self.old.keys.items self.old.email }
         requires up { IsReached self.old.keys.items prefixed.now }

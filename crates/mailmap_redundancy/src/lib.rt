@@ -3,19 +3,19 @@
 #![tactic(auto)]
 
 mod answers;
-mod repeated;
 mod fields;
 mod key_summary;
 mod keys;
 pub mod laws;
+mod located;
 mod numbers;
 mod passes;
-mod located;
-mod search;
 mod reduced;
+mod repeated;
+mod search;
 mod summary;
 mod table;
 
 pub use fields::Fields;
-pub use located::{Position, LocatedEntry};
+pub use located::{LocatedEntry, Position};
 pub use reduced::{Reduced, without_redundant};

@@ -6,9 +6,9 @@ ghost use Rattle.mailmap_redundancy.specs.Repeats.{AreUnrepeated, of_repeated};
 ghost use Rattle.mailmap_redundancy.specs.Redundancy.{IsPass, IsReduced, entries as spec_entries};
 ghost use Rattle.mailmap_redundancy.specs.Numbers.{ArePositions, IsNumbered, IsTable, later_of_each, mappings};
 
-use crate::repeated::emails_with_repeats;
 use crate::keys::KeptKey;
 use crate::numbers::NumberedEntry;
+use crate::repeated::emails_with_repeats;
 use crate::summary::{Later, is_redundant};
 use crate::table::Table;
 use std::alloc::{AllocError, Global};

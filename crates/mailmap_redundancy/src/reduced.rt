@@ -10,9 +10,9 @@ ghost use Rattle.mailmap_redundancy.specs.Numbers.{IsReducedState, ReducedHistor
 use crate::answers::scan;
 use crate::fields::Fields;
 use crate::keys::{AscendingKeys, PrefixedKey};
+use crate::located::{LocatedEntry, Position};
 use crate::numbers::{NumberedEntry, number, unnumbered};
 use crate::passes::settle;
-use crate::located::{Position, LocatedEntry};
 use crate::search::{SearchedKeys, find};
 use crate::table::Table;
 use mailmap_entries::Entry;

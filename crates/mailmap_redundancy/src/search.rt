@@ -4,7 +4,7 @@ ghost use Rattle.std.specs.List.Sorted.{IsStrictlySortedBy};
 ghost use Rattle.mailmap_histories.specs.Histories.{Key, key_cmp};
 ghost use Rattle.mailmap_redundancy.specs.Numbers.{ArePrefixes, IsNumber, email_key};
 
-use crate::keys::{PrefixedKey, KeptKey, compare};
+use crate::keys::{KeptKey, PrefixedKey, compare};
 use mailmap_entries::fold::{Probe, search};
 use std::cmp::Ordering;
 use std::marker::Model;

@@ -23,7 +23,7 @@ use crate::texts::{Span, Texts};
 use crate::view::View;
 use mailmap_batches::batch::sorted;
 use mailmap_batches::groups::{
-    Given, Named, before, after, earliest, email_group_len, leading_name, last_given, unnamed_len,
+    Given, Named, after, before, earliest, email_group_len, last_given, leading_name, unnamed_len,
 };
 use mailmap_batches::indexed::IndexedEntry;
 use mailmap_entries::Entry;
@@ -250,7 +250,11 @@ fn extend_own(tables: &mut ReservedTables, index: usize, given: Given<'_>)
 }
 
 // Puts a text out if there is one, and else keeps the existing one.
-fn push_given(tables: &mut ReservedTables, given: Option<&[u8]>, existing: Option<Span>) -> Option<Span>
+fn push_given(
+    tables: &mut ReservedTables,
+    given: Option<&[u8]>,
+    existing: Option<Span>,
+) -> Option<Span>
     requires lies { ForSome existing (LiesIn (length tables.old.held.pool)) }
     requires bytes { optional_bytes (option_copied given) ≤ tables.old.bytes }
     ensures grown { (more : List ℕ) × (tables.new.held ≡ record tables.old.held { pool = tables.old.held.pool ++ more }) }
@@ -333,7 +337,12 @@ fn find_name_from(
 }
 
 // The row of a name whose fields are put out in place of so many bytes, its old name as `old_name` spells it.
-fn push_named(tables: &mut ReservedTables, old_name: Span, named: Named<'_>, replaced: usize) -> NameRow
+fn push_named(
+    tables: &mut ReservedTables,
+    old_name: Span,
+    named: Named<'_>,
+    replaced: usize,
+) -> NameRow
     requires lies { LiesIn (length tables.old.held.pool) old_name }
     requires bytes { let len = optional_bytes (named_group named).new_name + length (named_group named).new_email in old_name.len + (len + len) ≤ tables.old.bytes }
     ensures grown { (more : List ℕ) × (tables.new.held ≡ record tables.old.held { pool = tables.old.held.pool ++ more }) }

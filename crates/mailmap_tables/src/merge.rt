@@ -26,7 +26,7 @@ use crate::texts::{Span, Texts};
 use crate::view::View;
 use mailmap_batches::batch::sorted;
 use mailmap_batches::groups::{
-    Given, Named, before, after, earliest, email_group_len, leading_name, last_given, unnamed_len,
+    Given, Named, after, before, earliest, email_group_len, last_given, leading_name, unnamed_len,
 };
 use mailmap_batches::indexed::IndexedEntry;
 use mailmap_entries::Entry;

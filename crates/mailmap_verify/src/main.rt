@@ -8,10 +8,10 @@
 //! error and ends the program with status 2.
 #![tactic(auto)]
 
-use mailmap_reports::task::{perform, task_of};
 use mailmap_io::failure::Failure;
 use mailmap_io::files::System;
 use mailmap_io::outcome::{Outcome, exit_code};
+use mailmap_reports::task::{perform, task_of};
 use std::env;
 use std::process::ExitCode;
 

@@ -8,7 +8,7 @@ ghost use Rattle.mailmap_findings.specs.Positions.{buffer_lines, entry as spec_e
 use bstr::ByteSlice;
 use mailmap_entries::Entry;
 use mailmap_grammar::lines::{Strictness, read_line};
-use mailmap_redundancy::{Position, LocatedEntry};
+use mailmap_redundancy::{LocatedEntry, Position};
 use std::alloc::{AllocError, Global};
 
 /// A line as it is, with its line feed.

@@ -83,7 +83,10 @@ fn read_piece<'a>(line: &Line<'a>) -> (Option<Kind<'a>>, Option<Entry<'a>>)
     match trailing::read_strictly(line.text, line.position.line) {
         None => (None, None),
         Some(Err(error)) => (Some(Kind::Fault(error)), entry_of(line)),
-        Some(Ok(read)) => (visible(read.trailing).map(Kind::IgnoredText), Some(read.entry)),
+        Some(Ok(read)) => (
+            visible(read.trailing).map(Kind::IgnoredText),
+            Some(read.entry),
+        ),
     }
 }
 

@@ -10,7 +10,7 @@ ghost use Rattle.mailmap_findings.specs.Steps.{IsWalk, after_first as spec_after
 use crate::verify::contacts::reported_of_entry;
 use crate::verify::lines::Line;
 use crate::verify::{Finding, Kind};
-use mailmap_redundancy::{Position, LocatedEntry, Reduced};
+use mailmap_redundancy::{LocatedEntry, Position, Reduced};
 use std::alloc::{AllocError, Global};
 use std::collections::VecDeque;
 
@@ -170,7 +170,10 @@ fn left_after<'k, 'p, 'a>(
 }
 
 // The first of the entries, if it is at this position.
-fn first_at<'p, 'a>(located: &'p [LocatedEntry<'a>], position: Position) -> Option<&'p LocatedEntry<'a>>
+fn first_at<'p, 'a>(
+    located: &'p [LocatedEntry<'a>],
+    position: Position,
+) -> Option<&'p LocatedEntry<'a>>
     ensures { option_map located_of_reference result
         ≡ spec_first (λ x. x.position) (map located_of located.now) position }
 {
@@ -183,7 +186,10 @@ fn first_at<'p, 'a>(located: &'p [LocatedEntry<'a>], position: Position) -> Opti
 }
 
 // The entries without the first, if that is at this position.
-fn after_first<'p, 'a>(located: &'p [LocatedEntry<'a>], position: Position) -> &'p [LocatedEntry<'a>]
+fn after_first<'p, 'a>(
+    located: &'p [LocatedEntry<'a>],
+    position: Position,
+) -> &'p [LocatedEntry<'a>]
     ensures { map located_of result.now ≡ spec_after (λ x. x.position) (map located_of located.now) position }
 {
     if first_at(located, position).is_none() {
