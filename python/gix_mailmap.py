@@ -7,8 +7,8 @@ Answer(name=b'Jane Doe', email=b'jane@x', is_name_given=True, is_email_given=Tru
 
 Names, emails and mailmaps are bytes, since nothing says how they are encoded.
 
-The environment variable GIX_MAILMAP_LIBRARY names the shared library. Without it, it is the `libgix_mailmap.so` that the
-system finds. `make lib` builds it, and `make install` installs it.
+The shared library is the one that the variable GIX_MAILMAP_LIBRARY of the environment names, or else the
+`libgix_mailmap.so` that the system finds. `make lib` builds it, and `make install` installs it.
 """
 
 from __future__ import annotations
@@ -32,8 +32,8 @@ class Closed(ValueError):
 
 
 class Answer(NamedTuple):
-    """The proper name and email of what was looked up, and whether the mailmap gives them: one that it doesn't give is the
-    one that was looked up."""
+    """The name and the email that stand for those that were looked up, and whether the mailmap gives them: one that it
+    doesn't give is the one that was looked up."""
 
     name: bytes
     email: bytes
@@ -42,7 +42,7 @@ class Answer(NamedTuple):
 
 
 class Entry(NamedTuple):
-    """An entry of a mailmap: what replaces an old email, or an old name of it. None is a text that isn't there."""
+    """An entry of a mailmap: what stands for an old email, or for an old name of it. None is a text that isn't there."""
 
     new_name: Optional[bytes]
     new_email: Optional[bytes]
@@ -51,8 +51,7 @@ class Entry(NamedTuple):
 
 
 class Kind(IntEnum):
-    """What may be wrong with a line. With one of the first four it gives no entry. With the fifth it is read as if it ended
-    before its second contact."""
+    """What may be wrong with a line. The first four give no entry; a line with the fifth maps by its first half alone."""
 
     NO_EMAIL = 1
     MISSING_CLOSING_BRACKET = 2
@@ -65,8 +64,8 @@ class Kind(IntEnum):
 
 
 class Finding(NamedTuple):
-    """What is wrong with a line: its number, counted from 1, and the kind. For a line of no effect `beside` is the number of
-    the last line for the same old email and old name that has an effect. For all other kinds it is None."""
+    """What is wrong with a line: its number, counted from 1, and of a line of no effect also that of the last line that
+    stays and is for the same old email and old name. `beside` is None with all other kinds."""
 
     line: int
     kind: Kind
@@ -124,7 +123,7 @@ _library = _load()
 
 
 def _in(text: bytes) -> tuple[ctypes.c_char_p, int]:
-    """A text as two arguments. It is only read, and ctypes keeps it during the call."""
+    """A text as two arguments. It is only read, and ctypes keeps it for the call."""
     if not isinstance(text, bytes):
         raise TypeError(f"bytes are wanted, not {type(text).__name__}")
     return ctypes.c_char_p(text), len(text)
@@ -143,12 +142,12 @@ def _wanted(status: int) -> None:
 
 
 def _room(length: int) -> ctypes.Array[c_uint8]:
-    """A buffer of a length. It has an address even if that is 0."""
+    """A buffer of a length, at an address also where that is 0."""
     return (c_uint8 * max(length, 1))()
 
 
 def _written(call: Callable[..., int], *arguments: object) -> bytes:
-    """The text that a call writes into a buffer. The call says how long it is."""
+    """The text that a call writes into a buffer, whose length it tells."""
     length = 4096
     while True:
         room, needed = _room(length), c_size_t()
@@ -160,7 +159,7 @@ def _written(call: Callable[..., int], *arguments: object) -> bytes:
 
 
 def check(mailmap: bytes, contacts: bytes) -> bytes:
-    """Answers each line of `contacts`, such as `Jane <jane@x>`, by what the mailmap maps: a line for each line.
+    """Answers each line of `contacts`, as `Jane <jane@x>`, by what the mailmap maps: a line for each line.
 
     A line that is no contact is its own answer. Raises MemoryError.
     """
@@ -168,12 +167,12 @@ def check(mailmap: bytes, contacts: bytes) -> bytes:
 
 
 def compact(mailmap: bytes) -> bytes:
-    """The mailmap anew, without what later lines replaced; it maps as before. Raises MemoryError."""
+    """The mailmap that maps as `mailmap` does, without what later lines replaced. Raises MemoryError."""
     return _written(_library.gix_mailmap_compact, *_in(mailmap))
 
 
 def prune(mailmap: bytes) -> bytes:
-    """The mailmap without the lines that have no effect. All others stay byte for byte. Raises MemoryError."""
+    """The mailmap without its lines that have no effect. All others stay byte for byte. Raises MemoryError."""
     return _written(_library.gix_mailmap_prune, *_in(mailmap))
 
 
@@ -194,13 +193,14 @@ def verify(mailmap: bytes) -> list[Finding]:
 
 
 class Mailmap:
-    """A mailmap in memory. It is open until `close`, or to the end of its `with` block.
+    """A mailmap that is held: open until `close`, or to the end of its `with` block.
 
-    Use it only on the thread that made it. Once it is closed, each method but `close` raises Closed.
+    It may be used by the thread that made it alone. Each method but `close` raises Closed once it is closed.
     """
 
     def __init__(self, *texts: bytes) -> None:
-        """Opens the mailmaps `texts`, one after the other. Lines that can't be read are left out. Raises MemoryError."""
+        """Opens the mailmaps `texts`, later ones behind earlier ones. Lines that can't be read are left out, as git leaves
+        them. Raises MemoryError."""
         self._handle = _Handle()
         self._close = weakref.finalize(self, _library.gix_mailmap_close, ctypes.pointer(self._handle))
         self._room = 256
@@ -209,7 +209,7 @@ class Mailmap:
             self.add(text)
 
     def add(self, text: bytes) -> None:
-        """Adds the entries of a mailmap after those that are there. At a MemoryError everything is as it was."""
+        """Adds the entries of a mailmap behind those that are held. At a MemoryError all is as it was."""
         _wanted(_library.gix_mailmap_add(byref(self._handle), *_in(text)))
 
     def lookup(self, name: bytes, email: bytes) -> Answer:
@@ -234,7 +234,7 @@ class Mailmap:
         )
 
     def entries(self) -> list[Entry]:
-        """All entries, in ascending order of their old emails, and for each email of their old names."""
+        """All entries, in ascending order of their old emails and, in each, of their old names."""
         count, length = self._lengths()
         listed, room = (_Listed * max(count, 1))(), _room(length)
         _wanted(_library.gix_mailmap_list(byref(self._handle), listed, count, room, length))
@@ -242,8 +242,8 @@ class Mailmap:
         return [_entry(listed[place], texts) for place in range(count)]
 
     def __getitem__(self, place: int) -> Entry:
-        """The entry at an index; a negative one counts from the end. It goes over those before it: use `entries` for all of
-        them. Raises IndexError."""
+        """The entry at a place, counted from the end where it is negative. It goes over those before it: `entries` gives
+        all of them at once. Raises IndexError."""
         if place < 0:
             place += len(self)
         if not 0 <= place <= sys.maxsize:

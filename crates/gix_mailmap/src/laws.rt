@@ -25,7 +25,7 @@ pub fn law_parts()
     ensures { (input p r q s : Text) → IsSplit input p r → IsSplit input q s → (p ≡ q) × (r ≡ s) }
 {}
 
-/// The lines of contacts are the pieces between line feeds, without the one carriage return that may stand before a line
+/// The lines of contacts are the pieces between line feeds, without the one carriage return that may be before a line
 /// feed; the last piece, if no line feed ends it, is a line as it is.
 pub fn law_lines()
     ensures { (s : Text) (ls : List Text) → (lines s ≡ ls) ↔ AreLines s ls }

@@ -78,7 +78,7 @@ fn name_group_len(batch: &[IndexedEntry<'_, '_>], name: &[u8]) -> usize
     batch.len()
 }
 
-/// The name at the start of a batch of named entries, and how many entries it stands for.
+/// The name that a batch of named entries begins with, and how many entries have it.
 pub fn leading_name<'a>(batch: &[IndexedEntry<'_, 'a>]) -> (Named<'a>, usize)
     requires some { 0 < length batch.now }
     requires named { AllByRecursion (λ p. IsNamed (mapping_at p)) batch.now }

@@ -1,6 +1,6 @@
 -- What a result says, by weaker statements.
 use Rattle.std.proofs.Common.{Result, Ok, Err}
-use Rattle.std.specs.Result.{IfOk, OnErr, OnOk}
+use Rattle.std.specs.Result.{IfOk, IsOk, OnErr, OnOk}
 
 pub on_err : {T E : Type 0} (r : Result T E) (P : Type 0) → P → OnErr r P
 on_err (Ok x) P p = tt
@@ -9,6 +9,10 @@ on_err (Err x) P p = p
 pub on_ok_then : {T E : Type 0} (r : Result T E) (P Q : Type 0) → (P → Q) → OnOk r P → OnOk r Q
 on_ok_then (Ok x) P Q f p = f p
 on_ok_then (Err x) P Q f p = tt
+
+pub on_ok_at : {T E : Type 0} (r : Result T E) (P : Type 0) → OnOk r P → IsOk r → P
+on_ok_at (Ok x) P p is = p
+on_ok_at (Err x) P p is = absurd (cc)
 
 pub if_ok_map : {T E : Type 0} (r : Result T E) (P Q : T → Type 0) → ((x : T) → P x → Q x) → IfOk r P → IfOk r Q
 if_ok_map (Ok x) P Q f p = f x p

@@ -195,7 +195,7 @@ pub enum Error<'a> {
     /// The first email is empty or white space, as in `Jane < > <b@x>`.
     #[error("{line}: Email must not be empty")]
     EmptyEmail { line: usize, input: &'a [u8] },
-    /// An email stands alone, as in `<a@x>`: there is nothing that it could be mapped to.
+    /// The line has only an email, as in `<a@x>`: there is nothing that it could be mapped to.
     #[error("{line}: Emails without a name or email to map to are invalid")]
     NothingToMap { line: usize, input: &'a [u8] },
     /// The second `<` has no `>` after it, as in `Jane <a@x> <b`. `input` is what is after the `>` that closes the

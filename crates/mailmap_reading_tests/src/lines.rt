@@ -153,35 +153,35 @@ fn one_byte_alone_is_blank_a_comment_or_a_fault(rt: HostRuntime) {
 }
 
 /// What the beginning of `Jane <a@x> Bob <b@x>` is read as, if it is not empty.
-fn item_of_front(front: &[u8]) -> Item<'_> {
+fn item_of_start(start: &[u8]) -> Item<'_> {
     let both = Entry::change_name_and_email_by_name_and_email;
-    match front.len() {
-        0..=4 => no_email(1, front),
+    match start.len() {
+        0..=4 => no_email(1, start),
         5 => no_email(1, b"Jane"),
-        6..=9 => missing_closing_bracket(1, front),
+        6..=9 => missing_closing_bracket(1, start),
         10..=19 => name(b"Jane", b"a@x"),
         _ => Ok(both(b"Jane", b"a@x", b"Bob", b"b@x")),
     }
 }
 
 /// Wants what the beginning of `Jane <a@x> Bob <b@x>` is read as.
-fn assert_front(rt: &impl Abort, front: &[u8]) {
-    let item = item_of_front(front);
-    match front.len() {
-        0 => assert_parsed_alike(rt, front, &[]),
+fn assert_start(rt: &impl Abort, start: &[u8]) {
+    let item = item_of_start(start);
+    match start.len() {
+        0 => assert_parsed_alike(rt, start, &[]),
         16..=19 => {
-            assert_parsed(rt, front, &[item]);
-            assert_parsed_strictly(rt, front, &[unclosed_second(1, &front[10..])]);
+            assert_parsed(rt, start, &[item]);
+            assert_parsed_strictly(rt, start, &[unclosed_second(1, &start[10..])]);
         }
-        _ => assert_parsed_alike(rt, front, &[item]),
+        _ => assert_parsed_alike(rt, start, &[item]),
     }
 }
 
 #[test]
-fn each_front_of_a_line_with_two_contacts(rt: HostRuntime) {
+fn each_start_of_a_line_with_two_contacts(rt: HostRuntime) {
     let line = b"Jane <a@x> Bob <b@x>".as_slice();
     for end in 0..=20 {
-        assert_front(&rt, &line[..end]);
+        assert_start(&rt, &line[..end]);
     }
 }
 

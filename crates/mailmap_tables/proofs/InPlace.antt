@@ -1,305 +1,252 @@
--- A batch that joins the tables in place.
-use Rattle.std.proofs.Common.{◌≡◌, ◌+◌, ◌-◌, ◌≤◌, ◌<◌, get_or, ℕ, zero, suc, List, [], ◌∷◌, ◌++◌, map, take, drop, length, set, Some, append_assoc, take-append-drop, length-drop, Less, Greater, None, true, refl, sym, ap, subst, ◌∙◌, arith}
-use Rattle.std.specs.List.{AllByRecursion, HoldsAt, fold, insert, slice_get}
+-- One entry that is put in place.
+use Rattle.std.proofs.Common.{◌≡◌, ◌+◌, ◌*◌, ◌≤◌, ◌<◌, get_or, ℕ, zero, suc, true, List, [], ◌∷◌, ◌++◌, map, take, drop, length, min, set, sum_by, Contains, IsSome, rules, Some, None, append-nil, append_assoc, refl, sym, ap, subst, ◌∙◌, arith}
+use Rattle.std.specs.List.{AllByRecursion, insert}
 use Rattle.std.specs.List.Sorted.{IsStrictlySortedBy}
-use Rattle.std.proofs.Math.Seq.{take-add}
-use Rattle.std.proofs.lemmas.List.{drop-map, get_or-drop, drop-set-lt, length-set, take_more_set}
-use Rattle.std.proofs.lemmas.List.Edits.{length-insert}
-use Rattle.std.proofs.lemmas.Option.{get_or_from_slice_get}
+use Rattle.std.proofs.Math.Nat.{suc-mul, zero-mul}
+use Rattle.std.proofs.lemmas.List.Sorted.{IsPermutation-refl}
+use Rattle.std.proofs.lemmas.List.Sums.{sum_by-cons}
 use Rattle.mailmap_entries.specs.Entries.{Mapping}
 use Rattle.mailmap_entries.specs.Folding.{Text, folded, text_cmp}
-use Rattle.mailmap_histories.specs.Histories.{Fields, is_accepted}
-use Rattle.mailmap_tables.specs.Groups.{Contents, EmailGroup, email_key, name_key}
-use Rattle.mailmap_batches.specs.Given.{NameGroup, IsEarliest, IsNamed, NameEntries, give}
-use Rattle.mailmap_tables.specs.Merging.{Extends, EmailJoined, EmailPut, NameLookup, NamesJoined, NamesPut, GroupPut, bare, known, unknown}
-use Rattle.mailmap_batches.specs.Batches.{IsAscending, first_email, mapping_at, name_text, indexed_mapping}
-use Rattle.mailmap_tables.specs.KeySearch.{IsFound, IsMissing}
-use Rattle.mailmap_tables.specs.Reserved.{EmailChanged, EmailExtended, NamePutAt, NamesExtended, first_emails, names_alone, with_email_at}
-use Rattle.mailmap_batches.specs.declared.indexed.IndexedEntry.{IndexedEntry}
+use Rattle.mailmap_histories.specs.Alike.{Alike}
+use Rattle.mailmap_histories.specs.Histories.{IsNormal, is_accepted, new_fields}
+use Rattle.mailmap_histories.proofs.Alike.{alike_itself}
+use Rattle.mailmap_tables.specs.Groups.{AreGroups, Contents, EmailGroup, IsComplete, IsGroup, email_key, listing, name_key, name_row}
+use Rattle.mailmap_batches.specs.Given.{NameGroup}
+use Rattle.mailmap_tables.specs.Merging.{AllJoined, EmailJoined, EmailLookup, NameLookup, NamePut, NamesJoined, GroupPut, bare, known, unknown}
+use Rattle.mailmap_batches.specs.Given.{IsEarliest, IsNamed, NameEntries, give}
+use Rattle.mailmap_batches.specs.Batches.{IsSorted, email_text}
+use Rattle.mailmap_tables.specs.Named.{given_or}
+use Rattle.mailmap_tables.specs.Reserved.{EmailChanged, EmailReady, Fits, OwnWithin, Reserved, Says, entry_bytes, entry_reserved, field_bytes, own_bytes, with_email_at}
+use Rattle.mailmap_tables.proofs.Bytes.{alike_length}
 use Rattle.mailmap_tables.proofs.EmailPuts.{email_joined}
-use Rattle.mailmap_tables.proofs.NameLookups.{extends_itself, extends_through}
-use Rattle.mailmap_tables.proofs.NamesLoop.{NamesState, names_start, names_step, names_end}
-use Rattle.mailmap_tables.proofs.Parting.{found_key, missing_above, missing_below, part_after, split_after, split_head}
-use Rattle.mailmap_tables.proofs.KeySearch.{slice_get-drop}
-use Rattle.mailmap_tables.proofs.RowEdits.{get_or_any}
-use Rattle.mailmap_tables.proofs.GroupPuts.{group_put_known, group_put_unknown}
+use Rattle.mailmap_tables.proofs.EmailsLoop.{emails_end, emails_start, emails_step}
+use Rattle.mailmap_tables.proofs.NamesLoop.{names_end, names_start, names_step}
+use Rattle.mailmap_tables.proofs.PrefixGroups.{none_sorted}
+use Rattle.mailmap_tables.proofs.WholeMerge.{joined_normal}
 
 -- ---- lists
 
--- around an index: the head, the one there, and what is after it
-module _ {X : Type 0} (xs : List X) (i : ℕ) (x : X) where
-  abbrev changed_at : List X
-  changed_at = take i xs ++ x ∷ drop (i + 1) xs
-
-  take-changed : i ≤ length xs → take i changed_at ≡ take i xs
-  take-changed le = go xs i le (drop (i + 1) xs)
+module _ {X : Type 0} where
+  pub set_parts : (xs : List X) (i : ℕ) (x : X) → i < length xs → set xs i x ≡ take i xs ++ x ∷ drop (i + 1) xs
+  set_parts xs i x lt = let next : suc i ≡ i + 1 = omega arith in go xs i lt ∙ ap (λ k. take i xs ++ x ∷ drop k xs) next
     where
-      go : (ys : List X) (k : ℕ) → k ≤ length ys → (zs : List X) → take k (take k ys ++ x ∷ zs) ≡ take k ys
-      go ys zero le zs = refl
-      go [] (suc k) le zs = absurd (omega (arith, le))
-      go (y ∷ ys) (suc k) le zs = ap (λ l. y ∷ l) (go ys k (omega (arith, le)) zs)
-
-  take_next-changed : i ≤ length xs → take (i + 1) changed_at ≡ take i xs ++ x ∷ []
-  take_next-changed le = let next : i + 1 ≡ suc i = omega arith in ap (λ k. take k changed_at) next ∙ go xs i le (drop (i + 1) xs)
-    where
-      go : (ys : List X) (k : ℕ) → k ≤ length ys → (zs : List X) → take (suc k) (take k ys ++ x ∷ zs) ≡ take k ys ++ x ∷ []
-      go ys zero le zs = refl
-      go [] (suc k) le zs = absurd (omega (arith, le))
-      go (y ∷ ys) (suc k) le zs = ap (λ l. y ∷ l) (go ys k (omega (arith, le)) zs)
-
-  drop_next-changed : i ≤ length xs → drop (i + 1) changed_at ≡ drop (i + 1) xs
-  drop_next-changed le = let next : i + 1 ≡ suc i = omega arith in ap (λ k. drop k changed_at) next ∙ go xs i le (drop (i + 1) xs)
-    where
-      go : (ys : List X) (k : ℕ) → k ≤ length ys → (zs : List X) → drop (suc k) (take k ys ++ x ∷ zs) ≡ zs
-      go ys zero le zs = refl
-      go [] (suc k) le zs = absurd (omega (arith, le))
-      go (y ∷ ys) (suc k) le zs = go ys k (omega (arith, le)) zs
-
-  get_or-changed : i ≤ length xs → (d : X) → get_or changed_at i d ≡ x
-  get_or-changed le d = go xs i le (drop (i + 1) xs)
-    where
-      go : (ys : List X) (k : ℕ) → k ≤ length ys → (zs : List X) → get_or (take k ys ++ x ∷ zs) k d ≡ x
-      go ys zero le zs = refl
-      go [] (suc k) le zs = absurd (omega (arith, le))
-      go (y ∷ ys) (suc k) le zs = go ys k (omega (arith, le)) zs
-
-  length-changed : i < length xs → length changed_at ≡ length xs
-  length-changed lt = let next : i + 1 ≡ suc i = omega arith in ap (λ k. length (take i xs ++ x ∷ drop k xs)) next ∙ go xs i lt
-    where
-      go : (ys : List X) (k : ℕ) → k < length ys → length (take k ys ++ x ∷ drop (suc k) ys) ≡ length ys
+      go : (ys : List X) (k : ℕ) → k < length ys → set ys k x ≡ take k ys ++ x ∷ drop (suc k) ys
       go [] k lt = absurd (omega (arith, lt))
       go (y ∷ ys) zero lt = refl
-      go (y ∷ ys) (suc k) lt = ap (λ n. suc n) (go ys k (omega (arith, lt)))
+      go (y ∷ ys) (suc k) lt = ap (λ l. y ∷ l) (go ys k (omega (arith, lt)))
 
--- around an index where one more was put
-module _ {X : Type 0} (x : X) where
-  take_next-insert : (xs : List X) (i : ℕ) → i ≤ length xs → take (i + 1) (insert xs i x) ≡ take i xs ++ x ∷ []
-  take_next-insert xs i le = let next : i + 1 ≡ suc i = omega arith in ap (λ k. take k (insert xs i x)) next ∙ go xs i le
+  pub insert_parts : (xs : List X) (i : ℕ) (x : X) → i ≤ length xs → insert xs i x ≡ take i xs ++ x ∷ drop i xs
+  insert_parts ys zero x le = refl
+  insert_parts [] (suc i) x le = absurd (omega (arith, le))
+  insert_parts (y ∷ ys) (suc i) x le = ap (λ l. y ∷ l) (insert_parts ys i x (omega (arith, le)))
+
+  -- around one of them
+  pub there : (before after : List X) (x d : X) → get_or (before ++ x ∷ after) (length before) d ≡ x
+  there [] after x d = refl
+  there (b ∷ before) after x d = there before after x d
+
+  pub within_parts : (before after : List X) (x : X) → length before < length (before ++ x ∷ after)
+  within_parts [] after x = omega arith
+  within_parts (b ∷ before) after x = omega (arith, within_parts before after x)
+
+  pub other_there : (before after : List X) (x y : X) → take (length before) (before ++ x ∷ after) ++ y ∷ drop (length before + 1) (before ++ x ∷ after) ≡ before ++ y ∷ after
+  other_there before after x y = let next : length before + 1 ≡ suc (length before) = omega arith in ap (λ k. take (length before) (before ++ x ∷ after) ++ y ∷ drop k (before ++ x ∷ after)) next ∙ go before
     where
-      go : (ys : List X) (k : ℕ) → k ≤ length ys → take (suc k) (insert ys k x) ≡ take k ys ++ x ∷ []
-      go ys zero le = refl
-      go [] (suc k) le = absurd (omega (arith, le))
-      go (y ∷ ys) (suc k) le = ap (λ l. y ∷ l) (go ys k (omega (arith, le)))
+      go : (bs : List X) → take (length bs) (bs ++ x ∷ after) ++ y ∷ drop (suc (length bs)) (bs ++ x ∷ after) ≡ bs ++ y ∷ after
+      go [] = refl
+      go (b ∷ bs) = ap (λ l. b ∷ l) (go bs)
 
-  drop_next-insert : (xs : List X) (i : ℕ) → i ≤ length xs → drop (i + 1) (insert xs i x) ≡ drop i xs
-  drop_next-insert xs i le = let next : i + 1 ≡ suc i = omega arith in ap (λ k. drop k (insert xs i x)) next ∙ go xs i le
-    where
-      go : (ys : List X) (k : ℕ) → k ≤ length ys → drop (suc k) (insert ys k x) ≡ drop k ys
-      go ys zero le = refl
-      go [] (suc k) le = absurd (omega (arith, le))
-      go (y ∷ ys) (suc k) le = go ys k (omega (arith, le))
-
-  take-insert : (xs : List X) (i : ℕ) → i ≤ length xs → take i (insert xs i x) ≡ take i xs
-  take-insert ys zero le = refl
-  take-insert [] (suc k) le = absurd (omega (arith, le))
-  take-insert (y ∷ ys) (suc k) le = ap (λ l. y ∷ l) (take-insert ys k (omega (arith, le)))
-
-  pub get_or-insert : (xs : List X) (i : ℕ) (d : X) → i ≤ length xs → get_or (insert xs i x) i d ≡ x
-  get_or-insert ys zero d le = refl
-  get_or-insert [] (suc k) d le = absurd (omega (arith, le))
-  get_or-insert (y ∷ ys) (suc k) d le = get_or-insert ys k d (omega (arith, le))
-
--- a part and what is after it
-take_through : {X : Type 0} (xs : List X) (a i : ℕ) → a ≤ i → take i xs ≡ take a xs ++ take (i - a) (drop a xs)
-take_through xs a i le = let sum : i ≡ a + (i - a) = omega (arith, le) in ap (λ k. take k xs) sum ∙ take-add a (i - a) xs
+  pub length_prefix : (xs : List X) (i : ℕ) → i ≤ length xs → length (take i xs) ≡ i
+  length_prefix xs zero le = refl
+  length_prefix [] (suc i) le = absurd (omega (arith, le))
+  length_prefix (x ∷ xs) (suc i) le = ap (λ n. suc n) (length_prefix xs i (omega (arith, le)))
 
 -- ---- one email changed
 
-pub unchanged : (index : ℕ) (old : Contents) (d : EmailGroup) → index < length old.groups → EmailChanged index (get_or old.groups index d) old old
-unchanged index old d lt =
-    record { pool = extends_itself old.pool old.pool refl; groups = split_head old.groups index (get_or old.groups index d) lt (get_or_any old.groups index d (get_or old.groups index d) lt); pending = refl }
-
-pub changed_twice : (index : ℕ) (g h : EmailGroup) (a b c : Contents) → index < length a.groups → EmailChanged index g a b → EmailChanged index h b c → EmailChanged index h a c
-changed_twice index g h a b c lt one two =
+pub changed_from : (index : ℕ) (g : EmailGroup) (old mid new : Contents) → mid.groups ≡ old.groups → mid.pending ≡ old.pending → new ≡ with_email_at mid index g → EmailChanged index g old new
+changed_from index g old mid new groups pending is =
     record {
-      pool = extends_through a.pool b.pool c.pool one.pool two.pool;
-      groups = two.groups ∙ (λ i. (ap (take index) one.groups ∙ take-changed a.groups index g (omega (arith, lt))) i ++ h ∷ (ap (drop (index + 1)) one.groups ∙ drop_next-changed a.groups index g (omega (arith, lt))) i);
-      pending = two.pending ∙ one.pending;
-    }
-
--- the group that stands there then
-pub changed_group : (index : ℕ) (g : EmailGroup) (a b : Contents) (d : EmailGroup) → index < length a.groups → EmailChanged index g a b → get_or b.groups index d ≡ g
-changed_group index g a b d lt one = ap (λ l. get_or l index d) one.groups ∙ get_or-changed a.groups index g (omega (arith, lt)) d
-
-pub changed_length : (index : ℕ) (g : EmailGroup) (a b : Contents) → index < length a.groups → EmailChanged index g a b → length b.groups ≡ length a.groups
-changed_length index g a b lt one = ap length one.groups ∙ length-changed a.groups index g lt
-
--- an edit after a pool that has grown
-pub changed_from : (index : ℕ) (g : EmailGroup) (old mid new : Contents) → Extends old.pool mid.pool → mid.groups ≡ old.groups → mid.pending ≡ old.pending → new ≡ with_email_at mid index g → EmailChanged index g old new
-changed_from index g old mid new grown groups pending is =
-    record {
-      pool = subst (Extends old.pool) (sym (ap (λ (v : Contents). v.pool) is)) grown;
       groups = ap (λ (v : Contents). v.groups) is ∙ ap (λ l. take index l ++ g ∷ drop (index + 1) l) groups;
       pending = ap (λ (v : Contents). v.pending) is ∙ pending;
     }
 
--- ---- a name put among those of an email
+-- ---- an entry with an old name
 
--- a search among the names from an index on
-pub found_after : (k : Text) (from i : ℕ) (ns : List NameGroup) → IsFound name_key k 0 (drop from ns) i → IsFound name_key k from ns (from + i)
-found_after k from i ns h =
-    let rest = length-drop from ns in
+abbrev nothing : List EmailGroup → List NameGroup → Contents
+nothing gs ns = record { pool = []; groups = gs; pending = ns }
+
+module _ (ks before after : List NameGroup) (kept : Text) (n : NameGroup) (m : Mapping) (says : Says m n) where
+  abbrev one : NameGroup
+  one = record n { old_name = kept }
+
+  named : IsNamed m
+  named = record { old_name = subst IsSome (sym says.old_name) refl; new_email = subst IsSome (sym says.new_email) refl }
+
+  put : NameLookup ks before n.old_name kept after → NamePut ks after n (nothing [] []) (nothing [] (before ++ one ∷ []))
+  put indexed = record { passed = before; kept = kept; pool = ([], refl); groups = refl; pending = refl; indexed = indexed }
+
+  group : NameEntries (m ∷ []) n []
+  group = record { head = m; more = []; whole = refl; named = says.old_name; same = tt; new_name = says.new_name; new_email = says.new_email; other = tt }
+
+  pub name_joined : IsStrictlySortedBy text_cmp (map name_key ks) → NameLookup ks before n.old_name kept after → NamesJoined ks (m ∷ []) (before ++ one ∷ after)
+  name_joined up indexed =
+      let state = names_step ks (m ∷ []) (nothing [] []) (named, tt) ks after (m ∷ []) [] n (nothing [] []) (nothing [] (before ++ one ∷ [])) (names_start ks (m ∷ []) (nothing [] []) up (tt, tt)) (put indexed) group in
+      let done = names_end ks (m ∷ []) (nothing [] []) (named, tt) after (nothing [] (before ++ one ∷ [])) (nothing [] ((before ++ one ∷ []) ++ after)) state refl in
+      subst (NamesJoined ks (m ∷ [])) (sym done.pending ∙ append_assoc before (one ∷ []) after) done.joined
+
+pub group_named : (g : EmailGroup) (m : Mapping) (names : List NameGroup) → NamesJoined g.names (m ∷ []) names → EmailJoined g (m ∷ []) (record g { names = names })
+group_named g m names joined = email_joined g [] (m ∷ []) names tt tt joined
+
+-- ---- an entry without an old name
+
+pub group_given : (g : EmailGroup) (m : Mapping) → m.old_name ≡ None → is_accepted m ≡ true → IsStrictlySortedBy text_cmp (map name_key g.names) → EmailJoined g (m ∷ []) (record g { own = given_or (new_fields m) g.own })
+group_given g m plain good up =
+    let same : NamesJoined g.names [] g.names = record { ascending = up; alike = λ e. subst (λ l. Alike l (map (name_row e) g.names)) (sym (append-nil (map (name_row e) g.names))) (alike_itself (map (name_row e) g.names)) } in
+    email_joined g (m ∷ []) [] g.names (plain, tt) (good, tt) same
+
+-- ---- the whole
+
+module _ (gs before after : List EmailGroup) (existing group : EmailGroup) (m : Mapping) (are : AreGroups gs) (good : is_accepted m ≡ true)
+    (indexed : EmailLookup gs before ((0, m) ∷ []) (email_text m) existing after) (joined : EmailJoined existing (m ∷ []) group) where
+  abbrev items : List (ℕ × Mapping)
+  items = (0, m) ∷ []
+
+  put_group : GroupPut gs after items (email_text m) (nothing [] []) (nothing (before ++ group ∷ []) [])
+  put_group = record { passed = before; existing = existing; group = group; pool = ([], refl); groups = refl; none_pending = refl; indexed = indexed; joined = joined }
+
+  all_joined : AllJoined gs items (before ++ group ∷ after)
+  all_joined =
+      let state = emails_step gs items [] are (good, tt) gs after items (0, m) [] [] (nothing [] []) (nothing (before ++ group ∷ []) []) (emails_start gs items (nothing [] []) [] are (tt, tt) refl) refl tt tt put_group in
+      subst (AllJoined gs items) (append_assoc before (group ∷ []) after)
+      (emails_end gs items [] are after (nothing (before ++ group ∷ []) []) (nothing ((before ++ group ∷ []) ++ after) []) state refl)
+
+  sorted : IsSorted (m ∷ []) items
+  sorted = record { moved = IsPermutation-refl items; keyed = λ k. refl; ascending = (tt, tt) }
+
+  pub put_groups : AreGroups (before ++ group ∷ after)
+  put_groups = all_joined.groups
+
+  pub put_normal : IsNormal (listing gs ++ m ∷ []) (listing (before ++ group ∷ after))
+  put_normal = joined_normal gs are (m ∷ []) (good, tt) items sorted (before ++ group ∷ after) all_joined
+
+-- ---- the room that is left
+
+abbrev Within : ℕ → Text → List EmailGroup → Type 0
+Within n k gs = AllByRecursion (λ g. email_key g ≡ k → own_bytes g ≤ n) gs
+
+raised : (a b : ℕ) (k : Text) (gs : List EmailGroup) → a ≤ b → Within a k gs → Within b k gs
+raised a b k [] le all = tt
+raised a b k (g ∷ gs) le all = ((λ same. omega (arith, le, all.0 same)), raised a b k gs le all.1)
+
+-- with one email that may have more
+replaced : (n more : ℕ) (k : Text) (before after : List EmailGroup) (g h : EmailGroup) → h.old_email ≡ g.old_email → own_bytes h ≤ own_bytes g + more → Within n k (before ++ g ∷ after) → Within (n + more) k (before ++ h ∷ after)
+replaced n more k [] after g h same le all = ((λ key. omega (arith, le, all.0 (ap folded (sym same) ∙ key))), raised n (n + more) k after (omega arith) all.1)
+replaced n more k (b ∷ before) after g h same le all = ((λ key. omega (arith, all.0 key)), replaced n more k before after g h same le all.1)
+
+inserted : (n more : ℕ) (k : Text) (before after : List EmailGroup) (h : EmailGroup) → own_bytes h ≤ more → Within n k (before ++ after) → Within (n + more) k (before ++ h ∷ after)
+inserted n more k [] after h le all = ((λ key. omega (arith, le)), raised n (n + more) k after (omega arith) all)
+inserted n more k (b ∷ before) after h le all = ((λ key. omega (arith, all.0 key)), inserted n more k before after h le all.1)
+
+at_one : (n : ℕ) (k : Text) (before after : List EmailGroup) (g : EmailGroup) → email_key g ≡ k → Within n k (before ++ g ∷ after) → own_bytes g ≤ n
+at_one n k [] after g same all = all.0 same
+at_one n k (b ∷ before) after g same all = at_one n k before after g same all.1
+
+pub earliest_itself : (m : Mapping) → IsEarliest ((0, m) ∷ []) (0, m)
+earliest_itself m = record { among = search rules; least = search rules }
+
+module _ (gs before after : List EmailGroup) (existing : EmailGroup) (m : Mapping) where
+  earliest_is : (p : ℕ × Mapping) → IsEarliest ((0, m) ∷ []) p → p ≡ (0, m)
+  earliest_is p first = only first.among
+    where
+      only : Contains ((0, m) ∷ []) p → p ≡ (0, m)
+      only among = search rules
+
+  -- the email of the entry has no more
+  pub existing_reserved : (n : ℕ) → EmailLookup gs before ((0, m) ∷ []) (email_text m) existing after → Within n (email_text m) gs → (own_bytes existing ≤ n) × (length existing.old_email ≡ length m.old_email)
+  existing_reserved n (known is key) all = (at_one n (email_text m) before after existing key (subst (Within n (email_text m)) is all), alike_length existing.old_email m.old_email key)
+  existing_reserved n (unknown is low high p first g) all =
+      let e : p ≡ (0, m) = earliest_is p first in
+      let made : existing ≡ bare m.old_email = g ∙ ap (λ (q : ℕ × Mapping). bare q.1.old_email) e in
+      (omega (arith, ap own_bytes made), ap (λ (h : EmailGroup). length h.old_email) made)
+
+  after_one : (n more : ℕ) (k : Text) (group : EmailGroup) → EmailLookup gs before ((0, m) ∷ []) (email_text m) existing after → group.old_email ≡ existing.old_email → own_bytes group ≤ own_bytes existing + more → Within n k gs → Within (n + more) k (before ++ group ∷ after)
+  after_one n more k group (known is key) same le all = replaced n more k before after existing group same le (subst (Within n k) is all)
+  after_one n more k group (unknown is low high p first g) same le all = inserted n more k before after group (omega (arith, le, ap own_bytes g)) (subst (Within n k) is all)
+
+  pub own_after : (n more : ℕ) (ms : List Mapping) (group : EmailGroup) → EmailLookup gs before ((0, m) ∷ []) (email_text m) existing after → group.old_email ≡ existing.old_email → own_bytes group ≤ own_bytes existing + more → OwnWithin n gs ms → OwnWithin (n + more) (before ++ group ∷ after) ms
+  own_after n more [] group indexed same le all = tt
+  own_after n more (x ∷ ms) group indexed same le all = (after_one n more (email_text x) group indexed same le all.0, own_after n more ms group indexed same le all.1)
+
+-- with more room for each entry
+more_reserved : (a b : ℕ) (ms : List Mapping) → a ≤ b → sum_by (entry_reserved a) ms ≤ sum_by (entry_reserved b) ms
+more_reserved a b [] le = omega arith
+more_reserved a b (m ∷ ms) le = omega (arith, le, more_reserved a b ms le, sum_by-cons (entry_reserved a) m ms, sum_by-cons (entry_reserved b) m ms)
+
+-- the room that an entry takes at most
+pub first_reserved : (own : ℕ) (m : Mapping) (ms : List Mapping) (bytes : ℕ) → sum_by (entry_reserved (own + sum_by entry_bytes (m ∷ ms))) (m ∷ ms) ≤ bytes → entry_reserved own m ≤ bytes
+first_reserved own m ms bytes le = omega (arith, le, sum_by-cons (entry_reserved (own + sum_by entry_bytes (m ∷ ms))) m ms)
+
+-- and what is left for the others
+pub rest_reserved : (own : ℕ) (m : Mapping) (ms : List Mapping) (bytes left : ℕ) → sum_by (entry_reserved (own + sum_by entry_bytes (m ∷ ms))) (m ∷ ms) ≤ bytes → bytes ≤ left + entry_reserved own m
+    → sum_by (entry_reserved (own + field_bytes m + sum_by entry_bytes ms)) ms ≤ left
+rest_reserved own m ms bytes left le took =
+    let less : own + field_bytes m + sum_by entry_bytes ms ≤ own + sum_by entry_bytes (m ∷ ms) = omega (arith, sum_by-cons entry_bytes m ms) in
+    omega (arith, le, took, sum_by-cons (entry_reserved (own + sum_by entry_bytes (m ∷ ms))) m ms, more_reserved _ _ ms less)
+
+-- ---- the steps of one entry
+
+module _ (m : Mapping) (index : ℕ) (old mid : List EmailGroup) (ready : EmailReady m index old mid) where
+  pub ready_there : (d : EmailGroup) → get_or mid index d ≡ ready.group
+  ready_there d = (λ i. get_or (ready.groups i) (sym ready.index_is i) d) ∙ there ready.before ready.after ready.group d
+
+  pub ready_within : index < length mid
+  ready_within = omega (arith, within_parts ready.before ready.after ready.group, ap length ready.groups, ready.index_is)
+
+  pub ready_changed : (h : EmailGroup) → take index mid ++ h ∷ drop (index + 1) mid ≡ ready.before ++ h ∷ ready.after
+  ready_changed h = (λ i. take (sym ready.index_is i) (ready.groups i) ++ h ∷ drop (sym ready.index_is i + 1) (ready.groups i)) ∙ other_there ready.before ready.after ready.group h
+
+  pub ready_ascends : AreGroups old → IsStrictlySortedBy text_cmp (map name_key ready.group.names)
+  ready_ascends are = at ready.indexed
+    where
+      one_of : (before after : List EmailGroup) (g : EmailGroup) → AllByRecursion IsGroup (before ++ g ∷ after) → IsStrictlySortedBy text_cmp (map name_key g.names)
+      one_of [] after g all = all.0.ascending
+      one_of (b ∷ before) after g all = one_of before after g all.1
+
+      at : EmailLookup old ready.before ((0, m) ∷ []) (email_text m) ready.group ready.after → IsStrictlySortedBy text_cmp (map name_key ready.group.names)
+      at (known is key) = one_of ready.before ready.after ready.group (subst (AllByRecursion IsGroup) is are.each)
+      at (unknown is low high p first g) = subst (λ (h : EmailGroup). IsStrictlySortedBy text_cmp (map name_key h.names)) (sym g) none_sorted
+
+-- the entry has joined the tables
+pub put_done : (m : Mapping) (index : ℕ) (old mid new : Contents) (ready : EmailReady m index old.groups mid.groups) (h : EmailGroup) → IsComplete old → is_accepted m ≡ true → mid.pending ≡ []
+    → EmailChanged index h mid new → EmailJoined ready.group (m ∷ []) h → IsComplete new × IsNormal (listing old.groups ++ m ∷ []) (listing new.groups)
+put_done m index old mid new ready h complete good pending changed joined =
+    let is : new.groups ≡ ready.before ++ h ∷ ready.after = changed.groups ∙ ready_changed m index old.groups mid.groups ready h in (
+      record { groups = subst AreGroups (sym is) (put_groups old.groups ready.before ready.after ready.group h m complete.groups good ready.indexed joined); none_pending = changed.pending ∙ pending },
+      subst (λ gs. IsNormal (listing old.groups ++ m ∷ []) (listing gs)) (sym is) (put_normal old.groups ready.before ready.after ready.group h m complete.groups good ready.indexed joined),
+    )
+
+-- and there is room for those after it
+pub put_fits : (m : Mapping) (ms : List Mapping) (index : ℕ) (old new : Reserved) (mid : Contents) (ready : EmailReady m index old.held.groups mid.groups) (h : EmailGroup) → EmailChanged index h mid new.held
+    → h.old_email ≡ ready.group.old_email → own_bytes h ≤ own_bytes ready.group + field_bytes m → (f : Fits old (m ∷ ms)) → old.bytes ≤ new.bytes + entry_reserved f.bytes.0 m → old.emails ≤ new.emails + 1 → old.names ≤ new.names + 1 → Fits new ms
+put_fits m ms index old new mid ready h changed same le f bytes emails names =
+    let own = f.bytes.0 in
+    let is : new.held.groups ≡ ready.before ++ h ∷ ready.after = changed.groups ∙ ready_changed m index old.held.groups mid.groups ready h in
+    let within : OwnWithin (own + field_bytes m) (ready.before ++ h ∷ ready.after) ms = own_after old.held.groups ready.before ready.after ready.group m own (field_bytes m) ms h ready.indexed same le f.bytes.1.0.1 in
     record {
-      after_start = omega arith;
-      within = omega (arith, h.within, rest);
-      below = λ m d low high.
-          let at : from + (m - from) ≡ m = omega (arith, low) in
-          subst (λ (n : NameGroup). text_cmp (name_key n) k ≡ Less) (get_or-drop from ns (m - from) d ∙ ap (λ j. get_or ns j d) at) (h.below (m - from) d (omega arith) (omega (arith, low, high)));
-      key = sym (slice_get-drop from (map name_key ns) i (from + i) refl) ∙ ap (λ l. slice_get l i) (drop-map name_key from ns) ∙ h.key;
+      bytes = (own + field_bytes m, (subst (λ gs. OwnWithin (own + field_bytes m) gs ms) (sym is) within, rest_reserved own m ms old.bytes new.bytes f.bytes.1.1 bytes));
+      emails = omega (arith, f.emails, emails);
+      names = omega (arith, f.names, names);
     }
 
-pub missing_after : (k : Text) (from i : ℕ) (ns : List NameGroup) → from ≤ length ns → IsMissing name_key k 0 (drop from ns) i → IsMissing name_key k from ns (from + i)
-missing_after k from i ns le h =
-    let rest = length-drop from ns in
-    record {
-      after_start = omega arith;
-      within = omega (arith, h.within, rest, le);
-      below = λ m d low high.
-          let at : from + (m - from) ≡ m = omega (arith, low) in
-          subst (λ (n : NameGroup). text_cmp (name_key n) k ≡ Less) (get_or-drop from ns (m - from) d ∙ ap (λ j. get_or ns j d) at) (h.below (m - from) d (omega arith) (omega (arith, low, high)));
-      above = λ m d low high.
-          let at : from + (m - from) ≡ m = omega (arith, low) in
-          subst (λ (n : NameGroup). text_cmp (name_key n) k ≡ Greater) (get_or-drop from ns (m - from) d ∙ ap (λ j. get_or ns j d) at) (h.above (m - from) d (omega (arith, low)) (omega (arith, low, high, rest)));
-    }
+-- all that entries take
+pub reserved_sum : (own : ℕ) (ms : List Mapping) → sum_by (entry_reserved own) ms ≡ sum_by entry_bytes ms + sum_by entry_bytes ms + length ms * own
+reserved_sum own [] = omega (arith, zero-mul own)
+reserved_sum own (m ∷ ms) = omega (arith, reserved_sum own ms, sum_by-cons (entry_reserved own) m ms, sum_by-cons entry_bytes m ms, suc-mul (length ms) own)
 
-module _ (email from index : ℕ) (g : EmailGroup) (n : NameGroup) (old new : Contents) where
-  -- what has come out up to the index
-  out_is : (one : NameGroup) → from ≤ index → take index g.names ++ one ∷ [] ≡ take from g.names ++ (take (index - from) (drop from g.names) ++ one ∷ [])
-  out_is one le = ap (λ l. l ++ one ∷ []) (take_through g.names from index le) ∙ append_assoc (take from g.names) (take (index - from) (drop from g.names)) (one ∷ [])
-
-  pub name_known : (kept : Text) (k : NameGroup) → EmailChanged email (record g { names = set g.names index (record n { old_name = kept }) }) old new → IsFound name_key (folded n.old_name) from g.names index
-      → slice_get g.names index ≡ Some k → kept ≡ k.old_name → NamePutAt email from (index + 1) g n old new
-  name_known kept k changed found existing same =
-      let one : NameGroup = record n { old_name = kept } in
-      let more = set g.names index one in
-      let next : index + 1 ≡ suc index = omega arith in
-      let read : k ≡ get_or g.names index k = sym (get_or_from_slice_get g.names index k k existing) in
-      let left : drop (index + 1) more ≡ drop (index + 1) g.names = drop-set-lt (index + 1) g.names index one (omega arith) in
-      record {
-        names = more;
-        changed = changed;
-        within = omega (arith, found.within, length-set g.names index one);
-        put = record {
-          passed = take (index - from) (drop from g.names);
-          kept = kept;
-          pool = changed.pool;
-          groups = refl;
-          pending = take_more_set g.names index one found.within ∙ out_is one found.after_start;
-          lookup = subst (NameLookup (drop from g.names) (take (index - from) (drop from g.names)) n.old_name kept) (sym left)
-              (known k (split_after g.names from index k found.after_start found.within read) (found_key name_key (folded n.old_name) from g.names index k found read) same);
-        };
-      }
-
-  pub name_unknown : EmailChanged email (record g { names = insert g.names index n }) old new → IsMissing name_key (folded n.old_name) from g.names index → NamePutAt email from (index + 1) g n old new
-  name_unknown changed missing =
-      let more = insert g.names index n in
-      record {
-        names = more;
-        changed = changed;
-        within = omega (arith, missing.within, length-insert g.names index n missing.within);
-        put = record {
-          passed = take (index - from) (drop from g.names);
-          kept = n.old_name;
-          pool = changed.pool;
-          groups = refl;
-          pending = take_next-insert n g.names index missing.within ∙ out_is n missing.after_start;
-          lookup = subst (NameLookup (drop from g.names) (take (index - from) (drop from g.names)) n.old_name n.old_name) (sym (drop_next-insert n g.names index missing.within))
-              (unknown (part_after g.names from index missing.after_start) (missing_below name_key (folded n.old_name) from g.names index missing) (missing_above name_key (folded n.old_name) from g.names index missing) refl);
-        };
-      }
-
--- ---- the names of an email, one after another
-
-pub record NamesInPlace (email from : ℕ) (g : EmailGroup) (ms0 left : List Mapping) (old new : Contents) : Type 0 where
-  pub names : List NameGroup
-  pub changed : EmailChanged email (record g { names = names }) old new
-  pub within : from ≤ length names
-  pub state : NamesState g.names ms0 (names_alone old.pool []) (drop from names) left (names_alone new.pool (take from names))
-
-pub names_begin : (email : ℕ) (old : Contents) (ms : List Mapping) (d : EmailGroup) → email < length old.groups → IsStrictlySortedBy text_cmp (map name_key (get_or old.groups email d).names) → IsAscending text_cmp (map name_text ms)
-    → NamesInPlace email 0 (get_or old.groups email d) ms ms old old
-names_begin email old ms d lt up named_up =
-    let g = get_or old.groups email d in
-    record { names = g.names; changed = unchanged email old d lt; within = omega arith; state = names_start g.names ms (names_alone old.pool []) up named_up }
-
-pub names_next : (email from next : ℕ) (g : EmailGroup) (ms0 left later : List Mapping) (n : NameGroup) (a b c : Contents) → email < length a.groups → AllByRecursion IsNamed ms0
-    → NamesInPlace email from g ms0 left a b → HoldsAt (λ (h : EmailGroup). NamePutAt email from next h n b c) b.groups email → NameEntries left n later → NamesInPlace email next g ms0 later a c
-names_next email from next g ms0 left later n a b c lt named0 st holds group =
-    let h : EmailGroup = record g { names = st.names } in
-    let put : NamePutAt email from next h n b c = subst (λ (x : EmailGroup). NamePutAt email from next x n b c) (changed_group email h a b g lt st.changed) (holds g) in
-    record {
-      names = put.names;
-      changed = changed_twice email h (record h { names = put.names }) a b c lt st.changed put.changed;
-      within = put.within;
-      state = names_step g.names ms0 (names_alone a.pool []) named0 (drop from st.names) (drop next put.names) left later n (names_alone b.pool (take from st.names)) (names_alone c.pool (take next put.names)) st.state put.put group;
-    }
-
--- the names from the index on ascend
-pub names_left_ascend : (email from : ℕ) (g : EmailGroup) (ms0 left : List Mapping) (a b : Contents) → email < length a.groups → NamesInPlace email from g ms0 left a b → HoldsAt (λ (h : EmailGroup). IsStrictlySortedBy text_cmp (map name_key (drop from h.names))) b.groups email
-names_left_ascend email from g ms0 left a b lt st = λ d.
-    subst (λ (h : EmailGroup). IsStrictlySortedBy text_cmp (map name_key (drop from h.names))) (sym (changed_group email (record g { names = st.names }) a b d lt st.changed)) st.state.order.standing_ascends
-
-pub names_from_within : (email from : ℕ) (g : EmailGroup) (ms0 left : List Mapping) (a b : Contents) → email < length a.groups → NamesInPlace email from g ms0 left a b → HoldsAt (λ (h : EmailGroup). from ≤ length h.names) b.groups email
-names_from_within email from g ms0 left a b lt st = λ d.
-    subst (λ (h : EmailGroup). from ≤ length h.names) (sym (changed_group email (record g { names = st.names }) a b d lt st.changed)) st.within
-
-pub names_done : (email from : ℕ) (g : EmailGroup) (ms0 : List Mapping) (a b : Contents) → AllByRecursion IsNamed ms0 → NamesInPlace email from g ms0 [] a b → NamesExtended email g ms0 a b
-names_done email from g ms0 a b named0 st =
-    let done : NamesPut g.names ms0 (names_alone a.pool []) (names_alone b.pool (take from st.names ++ drop from st.names)) =
-    names_end g.names ms0 (names_alone a.pool []) named0 (drop from st.names) (names_alone b.pool (take from st.names)) (names_alone b.pool (take from st.names ++ drop from st.names)) st.state refl in
-    let all : done.names ≡ st.names = sym done.pending ∙ take-append-drop from st.names in
-    record { names = st.names; changed = st.changed; joined = subst (NamesJoined g.names ms0) all done.joined }
-
--- ---- an email, whose fields come before its names
-
-pub email_extended : (index : ℕ) (g : EmailGroup) (us js : List Mapping) (a b c : Contents) (own : Fields) → index < length a.groups → AllByRecursion (λ m. m.old_name ≡ None) us → AllByRecursion (λ m. is_accepted m ≡ true) us
-    → EmailChanged index (record g { own = own }) a b → NamesExtended index (record g { own = own }) js b c → own ≡ fold give g.own us → EmailExtended index g (us ++ js) a c
-email_extended index g us js a b c own lt none good changed ext given =
-    let h : EmailGroup = record g { own = own } in
-    record {
-      group = record h { names = ext.names };
-      changed = changed_twice index h (record h { names = ext.names }) a b c lt changed ext.changed;
-      joined = subst (λ (o : Fields). EmailJoined g (us ++ js) (record g { own = o; names = ext.names })) (sym given) (email_joined g us js ext.names none good ext.joined);
-    }
-
--- ---- an email for a group
-
-module _ (gs : List EmailGroup) (from index : ℕ) (xs : List IndexedEntry) (old mid new : Contents) (standing : old.groups ≡ gs) (le : from ≤ index) (within : index ≤ length gs) where
-  passed_on : first_emails index old ≡ record (first_emails from old) { groups = (first_emails from old).groups ++ take (index - from) (drop from gs) }
-  passed_on = λ i. record {
-    pool = old.pool;
-    groups = (take_through old.groups from index le ∙ ap (λ l. take from old.groups ++ take (index - from) (drop from l)) standing) i;
-    pending = old.pending;
-  }
-
-  put_of : (g : EmailGroup) (more : Text) → take index mid.groups ≡ take index gs → index < length mid.groups → mid.pool ≡ more → mid.pending ≡ [] → EmailExtended index g (map mapping_at xs) mid new
-      → EmailPut g (map mapping_at xs) (record (first_emails index old) { pool = more }) (first_emails (index + 1) new)
-  put_of g more head lt pool none_pending ext =
-      record {
-        group = ext.group;
-        pool = subst (λ p. Extends p new.pool) pool ext.changed.pool;
-        groups = ap (take (index + 1)) ext.changed.groups ∙ take_next-changed mid.groups index ext.group (omega (arith, lt)) ∙ ap (λ l. l ++ ext.group ∷ []) (head ∙ ap (take index) (sym standing));
-        none_pending = ext.changed.pending ∙ none_pending;
-        joined = ext.joined;
-      }
-
-  pub group_known : (g : EmailGroup) → mid ≡ old → index < length gs → old.pending ≡ [] → IsFound email_key (first_email (map mapping_at xs)) from gs index → slice_get gs index ≡ Some g → EmailExtended index g (map mapping_at xs) mid new
-      → GroupPut (drop from gs) (drop (index + 1) new.groups) (map indexed_mapping xs) (first_email (map mapping_at xs)) (first_emails from old) (first_emails (index + 1) new)
-  group_known g same lt none_pending found read ext =
-      let groups : mid.groups ≡ gs = ap (λ (v : Contents). v.groups) same ∙ standing in
-      let lt_mid : index < length mid.groups = omega (arith, lt, ap length groups) in
-      let left : drop (index + 1) new.groups ≡ drop (index + 1) gs = ap (drop (index + 1)) ext.changed.groups ∙ drop_next-changed mid.groups index ext.group (omega (arith, lt_mid)) ∙ ap (drop (index + 1)) groups in
-      let put = put_of g old.pool (ap (take index) groups) lt_mid (ap (λ (v : Contents). v.pool) same) (ap (λ (v : Contents). v.pending) same ∙ none_pending) ext in
-      subst (λ l. GroupPut (drop from gs) l (map indexed_mapping xs) (first_email (map mapping_at xs)) (first_emails from old) (first_emails (index + 1) new)) (sym left)
-      (group_put_known gs from index xs (first_emails from old) (first_emails index old) (first_emails (index + 1) new) passed_on g found read put)
-
-  pub group_unknown : (p : IndexedEntry) (text : Text) → mid ≡ record old { pool = old.pool ++ text; groups = insert gs index (bare text) } → old.pending ≡ [] → IsMissing email_key (first_email (map mapping_at xs)) from gs index
-      → IsEarliest (map indexed_mapping xs) (indexed_mapping p) → text ≡ (mapping_at p).old_email → EmailExtended index (bare text) (map mapping_at xs) mid new
-      → GroupPut (drop from gs) (drop (index + 1) new.groups) (map indexed_mapping xs) (first_email (map mapping_at xs)) (first_emails from old) (first_emails (index + 1) new)
-  group_unknown p text made none_pending missing first is ext =
-      let groups : mid.groups ≡ insert gs index (bare text) = ap (λ (v : Contents). v.groups) made in
-      let lt_mid : index < length mid.groups = omega (arith, within, ap length groups, length-insert gs index (bare text) within) in
-      let left : drop (index + 1) new.groups ≡ drop index gs = ap (drop (index + 1)) ext.changed.groups ∙ drop_next-changed mid.groups index ext.group (omega (arith, lt_mid)) ∙ ap (drop (index + 1)) groups ∙ drop_next-insert (bare text) gs index within in
-      let put = put_of (bare text) (old.pool ++ text) (ap (take index) groups ∙ take-insert (bare text) gs index within) lt_mid (ap (λ (v : Contents). v.pool) made) (ap (λ (v : Contents). v.pending) made ∙ none_pending) ext in
-      subst (λ l. GroupPut (drop from gs) l (map indexed_mapping xs) (first_email (map mapping_at xs)) (first_emails from old) (first_emails (index + 1) new)) (sym left)
-      (group_put_unknown gs from index xs (first_emails from old) (first_emails index old) (first_emails (index + 1) new) passed_on p text (old.pool ++ text) missing first is refl put)
+-- a product that did not reach the bound M was not cut off
+pub product_whole : (M n own t b copied : ℕ) → b ≡ min (own + t) M → copied ≡ min (n * b) M → copied < M → n * (own + t) ≤ copied
+product_whole M zero own t b copied sum product lt = omega (arith, zero-mul (own + t))
+product_whole M (suc k) own t b copied sum product lt =
+    let small : b < M = omega (arith, product, lt, suc-mul k b) in
+    let is : b ≡ own + t = omega (arith, sum, small) in
+    subst (λ x. suc k * x ≤ copied) is (omega (arith, product, lt))

@@ -180,7 +180,7 @@ module _ (pool : Text) (names : List Texts) (emails : List EmailRow) {prefixes :
         ap (λ k. map (name_group pool) (drop k names)) (end_of-insert 0 emails index fresh le there) in
         λ i. record { pool = pool; groups = groups i; pending = pending i }
 
--- the rows of emails, where one has a name more and those after it stand one index later
+-- the rows of emails, where one has a name more and those after it are one index later
 pub emails_written : (es : List EmailRow) (email n : ℕ) (e : EmailRow) (written rows more : List EmailRow) → email < length es → n ≡ length es → written ≡ set es email e → e ≡ record (get_or es email e) { names_end = (get_or es email e).names_end + 1 }
     → rows ≡ map one_later (take (length written - (email + 1)) (drop (email + 1) written)) → take n (put_mid (email + 1) (length written - (email + 1)) written rows ++ more) ≡ lengthen email es
 emails_written es email n e written rows more lt count is longer after =

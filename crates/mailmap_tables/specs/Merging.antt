@@ -42,7 +42,7 @@ pub data NameLookup (ks : List NameGroup) (passed : List NameGroup) (name : Text
   known : (k : NameGroup) → ks ≡ passed ++ k ∷ left → name_key k ≡ folded name → kept ≡ k.old_name → NameLookup ks passed name kept left
   unknown : ks ≡ passed ++ left → AllByRecursion (λ k. text_cmp (name_key k) (folded name) ≡ Less) passed → AllByRecursion (λ k. text_cmp (folded name) (name_key k) ≡ Less) left → kept ≡ name → NameLookup ks passed name kept left
 
--- one name came out, after those that stand before it
+-- one name came out, after those that come before it
 pub record NamePut (ks left : List NameGroup) (n : NameGroup) (old new : Contents) : Type 0 where
   pub passed : List NameGroup
   pub kept : Text
@@ -95,7 +95,7 @@ pub data EmailLookup (gs : List EmailGroup) (passed : List EmailGroup) (ps : Lis
   unknown : gs ≡ passed ++ left → AllByRecursion (λ k. text_cmp (email_key k) email ≡ Less) passed → AllByRecursion (λ k. text_cmp email (email_key k) ≡ Less) left
       → (p : ℕ × Mapping) → IsEarliest ps p → g ≡ bare p.1.old_email → EmailLookup gs passed ps email g left
 
--- one email came out for a group of the batch, after those that stand before it
+-- one email came out for a group of the batch, after those that come before it
 pub record GroupPut (gs left : List EmailGroup) (ps : List (ℕ × Mapping)) (email : Text) (old new : Contents) : Type 0 where
   pub passed : List EmailGroup
   pub existing : EmailGroup

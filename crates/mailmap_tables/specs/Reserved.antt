@@ -1,12 +1,12 @@
--- Tables with reserved memory, and what an edit of one email changes.
+-- Tables with reserved room, and what putting one entry changes.
 use Rattle.std.specs.Prelude.{◌≡◌, ◌≤◌, ◌+◌, ◌++◌, ℕ, List, [], ◌∷◌, Option, Some, None, length, take, drop, sum_by}
 use Rattle.std.specs.List.{AllByRecursion}
 use Rattle.mailmap_entries.specs.Entries.{Mapping}
 use Rattle.mailmap_entries.specs.Folding.{Text}
 use Rattle.mailmap_histories.specs.Histories.{Fields}
-use Rattle.mailmap_batches.specs.Given.{NameGroup}
 use Rattle.mailmap_tables.specs.Groups.{EmailGroup, Contents, email_key}
-use Rattle.mailmap_tables.specs.Merging.{Extends, NamePut, NamesJoined, EmailJoined}
+use Rattle.mailmap_batches.specs.Given.{NameGroup}
+use Rattle.mailmap_tables.specs.Merging.{EmailLookup, NameLookup}
 use Rattle.mailmap_batches.specs.Batches.{email_text}
 use Rattle.mailmap_tables.specs.declared.tables.EmailRow.{EmailRow}
 
@@ -17,7 +17,7 @@ pub record Reserved : Type 0 where
   pub emails : ℕ
   pub names : ℕ
 
--- the row of an email after which one name more stands
+-- the row of an email after a name was inserted before its own
 abbrev pub one_later : EmailRow → EmailRow
 one_later r = record r { names_start = r.names_start + 1; names_end = r.names_end + 1 }
 
@@ -25,53 +25,56 @@ one_later r = record r { names_start = r.names_start + 1; names_end = r.names_en
 abbrev pub with_email_at : Contents → ℕ → EmailGroup → Contents
 with_email_at c index g = record c { groups = take index c.groups ++ g ∷ drop (index + 1) c.groups }
 
--- how many bytes a text that may be missing has
+-- ---- how many bytes there are
+
 abbrev pub optional_bytes : Option Text → ℕ
 optional_bytes None = 0
 optional_bytes (Some t) = length t
 
--- how many bytes an entry has beside its old email
+-- an entry has beside its old email
 abbrev pub field_bytes : Mapping → ℕ
 field_bytes m = optional_bytes m.old_name + (optional_bytes m.new_name + optional_bytes m.new_email)
 
--- how many bytes an entry has
 abbrev pub entry_bytes : Mapping → ℕ
 entry_bytes m = length m.old_email + field_bytes m
 
--- how many bytes an entry may take where fields of so many bytes stand for its email: its texts, and copies of them and of
--- those fields
-abbrev pub entry_reserved : ℕ → Mapping → ℕ
-entry_reserved existing m = entry_bytes m + (entry_bytes m + existing)
-
--- how many bytes the fields of an email have
+-- the fields of an email have
 abbrev pub own_bytes : EmailGroup → ℕ
 own_bytes g = optional_bytes g.own.name + optional_bytes g.own.email
 
--- how many bytes an email may take where entries join it: their texts, and copies of all that says something then
-abbrev pub email_reserved : EmailGroup → List Mapping → ℕ
-email_reserved g ms = length g.old_email + own_bytes g + (sum_by field_bytes ms + sum_by field_bytes ms)
+-- ---- how many bytes the pool grows by at most: by texts, and by copies of them
 
--- and where fields are given for it
+-- where an entry is put, if the fields of its email have so many
+abbrev pub entry_reserved : ℕ → Mapping → ℕ
+entry_reserved own m = entry_bytes m + (entry_bytes m + own)
+
+-- where fields are given for an email
 abbrev pub own_reserved : EmailGroup → Fields → ℕ
 own_reserved g f = let given = optional_bytes f.name + optional_bytes f.email in length g.old_email + own_bytes g + (given + given)
 
--- the fields that stand for an email of these entries have at most so many bytes
-abbrev pub ExistingWithin : ℕ → List EmailGroup → List Mapping → Type 0
-ExistingWithin n gs ms = AllByRecursion (λ m. AllByRecursion (λ g. email_key g ≡ email_text m → own_bytes g ≤ n) gs) ms
+-- where fields are given for a name
+abbrev pub fields_reserved : NameGroup → ℕ
+fields_reserved n = let fields = optional_bytes n.new_name + length n.new_email in fields + fields
 
--- memory is reserved for entries after those that stand
+-- where a name is put
+abbrev pub name_reserved : NameGroup → ℕ
+name_reserved n = length n.old_name + (length n.old_name + fields_reserved n)
+
+-- ---- whether memory is reserved for entries
+
+-- the fields of an email of these entries have at most so many bytes
+abbrev pub OwnWithin : ℕ → List EmailGroup → List Mapping → Type 0
+OwnWithin n gs ms = AllByRecursion (λ m. AllByRecursion (λ g. email_key g ≡ email_text m → own_bytes g ≤ n) gs) ms
+
+-- so many bytes are enough for these entries: the fields of their emails grow by what the entries give
 abbrev pub HasReserved : List EmailGroup → List Mapping → ℕ → Type 0
-HasReserved gs ms bytes = (existing : ℕ) × (ExistingWithin existing gs ms × (sum_by (entry_reserved existing) ms ≤ bytes))
+HasReserved gs ms bytes = (own : ℕ) × (OwnWithin own gs ms × (sum_by (entry_reserved (own + sum_by entry_bytes ms)) ms ≤ bytes))
 
--- how many bytes a name takes
-abbrev pub name_bytes : NameGroup → ℕ
-name_bytes n = length n.old_name + (optional_bytes n.new_name + length n.new_email)
-
--- one email of tables has changed, and the pool has grown
-pub record EmailChanged (index : ℕ) (g : EmailGroup) (old new : Contents) : Type 0 where
-  pub pool : Extends old.pool new.pool
-  pub groups : new.groups ≡ take index old.groups ++ g ∷ drop (index + 1) old.groups
-  pub pending : new.pending ≡ old.pending
+-- there is room for these entries
+pub record Fits (r : Reserved) (ms : List Mapping) : Type 0 where
+  pub bytes : HasReserved r.held.groups ms r.bytes
+  pub emails : length ms ≤ r.emails
+  pub names : length ms ≤ r.names
 
 -- the reserved memory that is left after so much was used
 pub record TookReserved (b e n : ℕ) (old new : Reserved) : Type 0 where
@@ -79,29 +82,32 @@ pub record TookReserved (b e n : ℕ) (old new : Reserved) : Type 0 where
   pub emails : old.emails ≤ new.emails + e
   pub names : old.names ≤ new.names + n
 
--- only the first emails of tables
-abbrev pub first_emails : ℕ → Contents → Contents
-first_emails n c = record c { groups = take n c.groups }
+-- ---- putting one entry
 
--- names that no email has, over a pool
-abbrev pub names_alone : Text → List NameGroup → Contents
-names_alone pool ns = record { pool = pool; groups = []; pending = ns }
-
--- a name was put among those of an email from an index on: up to the next index they have come out
-pub record NamePutAt (email from next : ℕ) (g : EmailGroup) (n : NameGroup) (old new : Contents) : Type 0 where
-  pub names : List NameGroup
-  pub changed : EmailChanged email (record g { names = names }) old new
-  pub within : next ≤ length names
-  pub put : NamePut (drop from g.names) (drop next names) n (names_alone old.pool (take from g.names)) (names_alone new.pool (take next names))
-
--- named entries have joined the names of an email
-pub record NamesExtended (email : ℕ) (g : EmailGroup) (ms : List Mapping) (old new : Contents) : Type 0 where
-  pub names : List NameGroup
-  pub changed : EmailChanged email (record g { names = names }) old new
-  pub joined : NamesJoined g.names ms names
-
--- entries have joined an email
-pub record EmailExtended (email : ℕ) (g : EmailGroup) (ms : List Mapping) (old new : Contents) : Type 0 where
+-- the email of an entry has this index: as it was, or as the entry spells it
+pub record EmailReady (m : Mapping) (index : ℕ) (old new : List EmailGroup) : Type 0 where
+  pub before : List EmailGroup
   pub group : EmailGroup
-  pub changed : EmailChanged email group old new
-  pub joined : EmailJoined g ms group
+  pub after : List EmailGroup
+  pub lookup : EmailLookup old before ((0, m) ∷ []) (email_text m) group after
+  pub groups : new ≡ before ++ group ∷ after
+  pub index_is : length before ≡ index
+
+-- one email of tables has changed
+pub record EmailChanged (index : ℕ) (g : EmailGroup) (old new : Contents) : Type 0 where
+  pub groups : new.groups ≡ take index old.groups ++ g ∷ drop (index + 1) old.groups
+  pub pending : new.pending ≡ old.pending
+
+-- the entry says this of its old name
+pub record Says (m : Mapping) (n : NameGroup) : Type 0 where
+  pub old_name : m.old_name ≡ Some n.old_name
+  pub new_name : m.new_name ≡ n.new_name
+  pub new_email : m.new_email ≡ Some n.new_email
+
+-- a name was put among those of an email
+pub record NameAdded (index : ℕ) (g : EmailGroup) (n : NameGroup) (old new : Contents) : Type 0 where
+  pub before : List NameGroup
+  pub kept : Text
+  pub after : List NameGroup
+  pub changed : EmailChanged index (record g { names = before ++ record n { old_name = kept } ∷ after }) old new
+  pub lookup : NameLookup g.names before n.old_name kept after

@@ -2,9 +2,13 @@
 //! no part of what it gives to users.
 #![tactic(auto)]
 
-mod insert;
+mod fits;
+mod in_place;
+mod join;
+mod lengths;
 pub mod listing;
-pub mod merge;
+mod merge;
+mod pool;
 mod portions;
 mod reserved;
 pub mod search;

@@ -2,16 +2,13 @@
 //! portions, so that they take the memory of their keys and of one portion, however many they are.
 ghost use Rattle.std.specs.Prelude.{◌≡◌, ◌≢◌, ◌<◌, [], ◌++◌, ◌∷◌, List, IfOk, None, OnErr, OnOk, Some, false, true, map, unwrap_or};
 ghost use Rattle.std.specs.Iterator.{IsFinite, Drains, Yields};
-ghost use Rattle.std.specs.Option.{ForSome};
 ghost use Rattle.mailmap_entries.specs.Entries.{Mapping, mapping_of};
 ghost use Rattle.mailmap_entries.specs.declared.entry.Entry.{Entry as Item};
 ghost use Rattle.mailmap_histories.specs.Histories.{accepted, is_accepted};
-ghost use Rattle.mailmap_tables.specs.Groups.{AreGroups, IsComplete};
+ghost use Rattle.mailmap_tables.specs.Groups.{IsComplete};
 ghost use Rattle.mailmap_tables.specs.Collecting.{IsCollected};
-ghost use Rattle.mailmap_tables.specs.Reserved.{ExistingWithin};
 
-use crate::insert::fits_in_place;
-use crate::merge::{joined, without_unused_texts};
+use crate::join::{joined, without_unused_texts};
 use crate::tables::Tables;
 use mailmap_entries::Entry;
 use mailmap_entries::fold::prefix::key_prefix;
@@ -26,7 +23,7 @@ const SAMPLE: usize = 4_096;
 // A prime number, so that keys with like beginnings or endings go to different slots.
 const SLOTS: usize = 8_191;
 
-/// Entries after tables that stand.
+/// Entries after existing tables.
 #[derive(Drop)]
 pub(crate) struct Collected<'a> {
     // the standing tables with all portions after them, once there is one
@@ -120,7 +117,7 @@ impl<'a> Collected<'a> {
         self.batch.is_empty()
     }
 
-    /// Puts the tables that were made in place of those that stand.
+    /// Puts the tables that were made in place of the existing ones.
     pub(crate) fn put_into(self, standing: &mut Tables)
         ensures { standing.new ≡ unwrap_or self.entry.made standing.old }
     {
@@ -128,19 +125,6 @@ impl<'a> Collected<'a> {
         if let Some(made) = made {
             *standing = made;
         }
-    }
-
-    /// How many bytes the fields have at most that stand for an email of the batch, if the entries are so few beside the
-    /// standing tables that they are to be joined in place.
-    pub(crate) fn fits_in_place(&self, standing: &Tables) -> Option<usize>
-        requires { AreGroups standing.now.groups }
-        ensures alone { ForSome result (λ fields. self.now.made ≡ None) }
-        ensures existing { ForSome result (λ fields. ExistingWithin fields standing.now.groups (map mapping_of self.now.batch.items)) }
-    {
-        if self.made.is_some() {
-            return None;
-        }
-        fits_in_place(standing, &self.batch)
     }
 
     /// The standing tables with all entries after them.

@@ -5,9 +5,11 @@ ghost use Rattle.std.specs.List.{AllByRecursion, HoldsAt, insert};
 ghost use Rattle.mailmap_entries.specs.Folding.{folded};
 ghost use Rattle.mailmap_tables.specs.Reserved.{one_later};
 
+use crate::pool::Pool;
 use crate::tables::{EmailRow, NameRow, Tables};
-use crate::texts::{Span, Texts, together};
+use crate::texts::{Span, Texts};
 use crate::view::{View, last_end};
+use mailmap_batches::groups::{Given, Named};
 use mailmap_entries::fold::prefix::key_prefix;
 use std::alloc::AllocError;
 use std::marker::Model;
@@ -15,11 +17,10 @@ use std::marker::Model;
 /// Tables with memory reserved for more. Contracts see how much.
 #[derive(Drop)]
 pub(crate) struct ReservedTables {
-    pool: Vec<u8>,
+    pool: Pool,
     emails: Vec<EmailRow>,
     names: Vec<NameRow>,
     prefixes: Vec<u128>,
-    unused: usize,
 }
 
 impl Model for ReservedTables {
@@ -31,22 +32,24 @@ impl Model for ReservedTables {
     ghost use Rattle.mailmap_tables.specs.Pool.{AreTables, contents};
 
     ghost view = { λ t. record {
-      held = contents t.pool.items t.names.items t.emails.items;
-      bytes = vec_capacity t.pool - vec_len t.pool;
+      held = contents t.pool.bytes.items t.names.items t.emails.items;
+      bytes = vec_capacity t.pool.bytes - vec_len t.pool.bytes;
       emails = min (vec_capacity t.emails - vec_len t.emails) (vec_capacity t.prefixes - vec_len t.prefixes);
       names = vec_capacity t.names - vec_len t.names;
     } };
 
-    ghost invariant = { λ t. AreTables t.pool.items t.names.items t.emails.items t.prefixes.items };
+    ghost invariant = { λ t. AreTables t.pool.bytes.items t.names.items t.emails.items t.prefixes.items };
 }
 
 impl ReservedTables {
     ghost use Rattle.mailmap_tables.specs.Groups.{EmailGroup};
     ghost use Rattle.mailmap_batches.specs.Given.{NameGroup};
     ghost use Rattle.mailmap_tables.specs.Merging.{bare};
-    ghost use Rattle.mailmap_tables.specs.Pool.{spelled, LiesIn, NameLies, RowSpells, TextsLie, fields_of, name_group};
-    ghost use Rattle.mailmap_tables.specs.Texts.{old_span, span_bytes};
-    ghost use Rattle.mailmap_tables.specs.Reserved.{Reserved, TookReserved, with_email_at};
+    ghost use Rattle.mailmap_tables.specs.Named.{OwnSpells};
+    ghost use Rattle.mailmap_batches.specs.Given.{fields_given, named_group};
+    ghost use Rattle.mailmap_tables.specs.Pool.{spelled, LiesIn, NameLies, TextsLie, fields_of, group_of, name_group};
+    ghost use Rattle.mailmap_tables.specs.Texts.{old_span};
+    ghost use Rattle.mailmap_tables.specs.Reserved.{Reserved, TookReserved, fields_reserved, own_reserved, with_email_at};
 
     /// Reserves memory for so many more rows of each table, and for so many bytes. If memory runs out, the tables come
     /// back as they were.
@@ -62,14 +65,12 @@ impl ReservedTables {
             emails,
             names,
             prefixes,
-            unused,
         } = tables;
         let mut reserved = ReservedTables {
             pool,
             emails,
             names,
             prefixes,
-            unused,
         };
         match reserved.reserve(rows, bytes) {
             Ok(()) => Ok(reserved),
@@ -84,7 +85,7 @@ impl ReservedTables {
         ensures emails { OnOk result (rows ≤ self.new.emails) }
         ensures names { OnOk result (rows ≤ self.new.names) }
     {
-        self.pool.reserve(bytes)?;
+        self.pool.bytes.reserve(bytes)?;
         self.emails.reserve(rows)?;
         self.prefixes.reserve(rows)?;
         self.names.reserve(rows)
@@ -99,14 +100,12 @@ impl ReservedTables {
             emails,
             names,
             prefixes,
-            unused,
         } = self;
         Tables {
             pool,
             emails,
             names,
             prefixes,
-            unused,
         }
     }
 
@@ -115,7 +114,7 @@ impl ReservedTables {
         ensures { result ≡ self.now.held }
     {
         View {
-            pool: &self.pool,
+            pool: &self.pool.bytes,
             emails: &self.emails,
             prefixes: &self.prefixes,
             names: &self.names,
@@ -130,39 +129,32 @@ impl ReservedTables {
         ensures lies { LiesIn (length self.new.held.pool) result }
         ensures spells { spelled self.new.held.pool result ≡ text.now }
     {
-        let start = self.pool.len();
-        self.pool.extend_from_slice(text).unwrap();
-        self.unused = self.unused.saturating_add(replaced);
-        Span {
-            start,
-            len: text.len(),
-        }
+        self.pool.push_text(text, replaced).unwrap()
     }
 
-    /// The row of texts that are in the pool, in place of so many bytes. Those that don't are one after another
-    /// are copied to the end of the pool, and are out of use where they were.
-    #[inline(always)]
-    pub(crate) fn together(
-        &mut self,
-        old: Span,
-        new_name: Option<Span>,
-        new_email: Option<Span>,
-        replaced: usize,
-    ) -> Texts
-        requires old { LiesIn (length self.old.held.pool) old }
-        requires new_name { ForSome new_name (LiesIn (length self.old.held.pool)) }
-        requires new_email { ForSome new_email (LiesIn (length self.old.held.pool)) }
-        requires reserved { old.len + (span_bytes new_name + span_bytes new_email) ≤ self.old.bytes }
+    /// The row of a name with the fields that are given for it, in place of fields of so many bytes.
+    pub(crate) fn name_row(&mut self, old_name: Span, named: Named<'_>, replaced: usize) -> NameRow
+        requires lies { LiesIn (length self.old.held.pool) old_name }
+        requires reserved { old_name.len + fields_reserved (named_group named) ≤ self.old.bytes }
+        ensures grown { (more : List ℕ) × (self.new.held ≡ record self.old.held { pool = self.old.held.pool ++ more }) }
+        ensures lies { NameLies (length self.new.held.pool) result }
+        ensures spells { name_group self.new.held.pool result
+            ≡ record (named_group named.entry) { old_name = spelled self.old.held.pool old_name } }
+        ensures reserved { TookReserved (old_name.len + fields_reserved (named_group named.entry)) 0 0 self.old self.new }
+    {
+        self.pool.name_row(old_name, named, replaced).unwrap()
+    }
+
+    /// The row of an email with the fields that are given for it, and else its own.
+    pub(crate) fn own_row(&mut self, texts: Texts, given: Given<'_>) -> Texts
+        requires lies { TextsLie (length self.old.held.pool) texts }
+        requires reserved { own_reserved (group_of self.old.held.pool texts []) (fields_given given) ≤ self.old.bytes }
         ensures grown { (more : List ℕ) × (self.new.held ≡ record self.old.held { pool = self.old.held.pool ++ more }) }
         ensures lies { TextsLie (length self.new.held.pool) result }
-        ensures spells { RowSpells self.old.held.pool self.new.held.pool old new_name new_email result }
-        ensures reserved { TookReserved (old.len + (span_bytes new_name + span_bytes new_email)) 0 0 self.old self.new }
+        ensures spells { OwnSpells self.old.held.pool self.new.held.pool texts (fields_given given.entry) result }
+        ensures reserved { TookReserved (own_reserved (group_of self.old.held.pool texts []) (fields_given given.entry)) 0 0 self.old self.new }
     {
-        let end = self.pool.len();
-        let texts = together(&mut self.pool, old, new_name, new_email).unwrap();
-        let copied = if texts.start == end { texts.len() } else { 0 };
-        self.unused = self.unused.saturating_add(replaced.saturating_add(copied));
-        texts
+        self.pool.own_row(texts, given).unwrap()
     }
 
     /// Puts an email of which nothing is known yet before the one at an index.
@@ -184,14 +176,12 @@ impl ReservedTables {
         self.prefixes.insert(index, prefix).unwrap();
     }
 
-    /// Puts a name before the one at an index among those of an email, and gives the index after it. The names of the
-    /// emails after that email stand one index later then.
-    pub(crate) fn insert_name(&mut self, email: usize, index: usize, row: NameRow) -> usize
+    /// Inserts a name among those of an email. The names of later emails are moved by one.
+    pub(crate) fn insert_name(&mut self, email: usize, index: usize, row: NameRow)
         requires email { email < length self.old.held.groups }
         requires index { HoldsAt (λ (g : EmailGroup). index ≤ length g.names) self.old.held.groups email }
         requires lies { NameLies (length self.old.held.pool) row }
         requires reserved { 0 < self.old.names }
-        ensures next { result ≡ index + 1 }
         ensures held { HoldsAt (λ (g : EmailGroup). self.new.held ≡ with_email_at self.old.held email (record g { names = insert g.names index (name_group self.old.held.pool row) })) self.old.held.groups email }
         ensures reserved { TookReserved 0 0 1 self.old self.new }
     {
@@ -200,22 +190,19 @@ impl ReservedTables {
         self.names.insert(start + index, row).unwrap();
         self.emails[email].names_end += 1;
         stand_later(&mut self.emails[email + 1..]);
-        index + 1
     }
 
-    /// Puts a name in place of one of an email's, and gives the index after it.
-    pub(crate) fn replace_name(&mut self, email: usize, index: usize, row: NameRow) -> usize
+    /// Replaces a name of an email.
+    pub(crate) fn replace_name(&mut self, email: usize, index: usize, row: NameRow)
         requires email { email < length self.old.held.groups }
         requires index { HoldsAt (λ (g : EmailGroup). index < length g.names) self.old.held.groups email }
         requires lies { NameLies (length self.old.held.pool) row }
-        ensures next { result ≡ index + 1 }
         ensures held { HoldsAt (λ (g : EmailGroup). self.new.held ≡ with_email_at self.old.held email (record g { names = slice_set g.names index (name_group self.old.held.pool row) })) self.old.held.groups email }
         ensures reserved { TookReserved 0 0 0 self.old self.new }
     {
         let start = self.emails[email].names_start;
         prove!(index < self.names.len());
         self.names[start + index] = row;
-        index + 1
     }
 
     /// Gives an email these texts in place of its own. Its old email is spelled as before.

@@ -7,8 +7,10 @@ ghost use Rattle.mailmap_entries.specs.Folding.{folded};
 ghost use Rattle.mailmap_entries.specs.Prefixes.{IsKeyPrefix};
 ghost use Rattle.mailmap_tables.specs.Pool.{end_of};
 
-use crate::texts::{Span, Texts, together};
+use crate::pool::Pool;
+use crate::texts::{Span, Texts};
 use crate::view::{View, last_end};
+use mailmap_batches::groups::{Given, Named};
 use mailmap_entries::fold::prefix::key_prefix;
 use std::alloc::{AllocError, Global};
 use std::marker::Model;
@@ -28,13 +30,11 @@ pub struct EmailRow {
 /// The pool and the two tables. While tables are built, names come before the email that takes them.
 #[derive(Drop)]
 pub struct Tables {
-    pub(crate) pool: Vec<u8>,
+    pub(crate) pool: Pool,
     pub(crate) emails: Vec<EmailRow>,
     pub(crate) names: Vec<NameRow>,
     // the first bytes of each email as a number, side by side: a search seldom reads more
     pub(crate) prefixes: Vec<u128>,
-    // how many bytes of the pool no row names any more
-    pub(crate) unused: usize,
 }
 
 impl Model for Tables {
@@ -44,15 +44,17 @@ impl Model for Tables {
 
     ghost use Rattle.mailmap_tables.specs.Pool.{AreTables, contents};
 
-    ghost view = { λ t. contents t.pool.items t.names.items t.emails.items };
+    ghost view = { λ t. contents t.pool.bytes.items t.names.items t.emails.items };
 
-    ghost invariant = { λ t. AreTables t.pool.items t.names.items t.emails.items t.prefixes.items };
+    ghost invariant = { λ t. AreTables t.pool.bytes.items t.names.items t.emails.items t.prefixes.items };
 }
 
 impl Tables {
     ghost use Rattle.mailmap_tables.specs.Groups.{Contents, EmailGroup};
     ghost use Rattle.mailmap_batches.specs.Given.{NameGroup};
-    ghost use Rattle.mailmap_tables.specs.Pool.{spelled, LiesIn, NameLies, RowSpells, TextsLie, name_group, group_of};
+    ghost use Rattle.mailmap_tables.specs.Named.{OwnSpells};
+    ghost use Rattle.mailmap_batches.specs.Given.{fields_given, named_group};
+    ghost use Rattle.mailmap_tables.specs.Pool.{spelled, LiesIn, NameLies, TextsLie, name_group, group_of};
     ghost use Rattle.mailmap_tables.specs.Texts.{old_span};
 
     /// No email and no name, and no memory taken.
@@ -60,11 +62,10 @@ impl Tables {
         ensures { result ≡ record { pool = []; groups = []; pending = [] } }
     {
         Tables {
-            pool: Vec::new(alloc),
+            pool: Pool::new(alloc),
             emails: Vec::new(alloc),
             names: Vec::new(alloc),
             prefixes: Vec::new(alloc),
-            unused: 0,
         }
     }
 
@@ -78,15 +79,11 @@ impl Tables {
     ) -> Result<Tables, AllocError>
         ensures { IfOk result (λ made. made ≡ record { pool = standing.now.pool; groups = []; pending = [] }) }
     {
-        let len = standing.pool.len();
-        let mut pool = Vec::with_capacity(alloc, len.saturating_add(bytes))?;
-        pool.extend_from_slice(&standing.pool)?;
         Ok(Tables {
-            pool,
+            pool: standing.pool.try_clone(alloc, bytes)?,
             emails: Vec::with_capacity(alloc, with_more(standing.emails.len(), rows))?,
             names: Vec::with_capacity(alloc, with_more(standing.names.len(), rows))?,
             prefixes: Vec::with_capacity(alloc, with_more(standing.emails.len(), rows))?,
-            unused: standing.unused,
         })
     }
 
@@ -96,13 +93,33 @@ impl Tables {
         ensures lies { IfOk result (LiesIn (length self.new.pool)) }
         ensures spells { IfOk result (λ span. spelled self.new.pool span ≡ text.now) }
     {
-        let start = self.pool.len();
-        self.pool.extend_from_slice(text)?;
-        self.unused = self.unused.saturating_add(replaced);
-        Ok(Span {
-            start,
-            len: text.len(),
-        })
+        self.pool.push_text(text, replaced)
+    }
+
+    /// The row of a name with the fields that are given for it, in place of fields of so many bytes.
+    pub(crate) fn name_row(
+        &mut self,
+        old_name: Span,
+        named: Named<'_>,
+        replaced: usize,
+    ) -> Result<NameRow, AllocError>
+        requires { LiesIn (length self.old.pool) old_name }
+        ensures grown { (more : List ℕ) × (self.new ≡ record self.old { pool = self.old.pool ++ more }) }
+        ensures lies { IfOk result (NameLies (length self.new.pool)) }
+        ensures spells { IfOk result (λ row. name_group self.new.pool row
+            ≡ record (named_group named.entry) { old_name = spelled self.old.pool old_name }) }
+    {
+        self.pool.name_row(old_name, named, replaced)
+    }
+
+    /// The row of an email with the fields that are given for it, and else its own.
+    pub(crate) fn own_row(&mut self, texts: Texts, given: Given<'_>) -> Result<Texts, AllocError>
+        requires { TextsLie (length self.old.pool) texts }
+        ensures grown { (more : List ℕ) × (self.new ≡ record self.old { pool = self.old.pool ++ more }) }
+        ensures lies { IfOk result (TextsLie (length self.new.pool)) }
+        ensures spells { IfOk result (OwnSpells self.old.pool self.new.pool texts (fields_given given.entry)) }
+    {
+        self.pool.own_row(texts, given)
     }
 
     /// Puts a name after those that no email has taken.
@@ -121,30 +138,6 @@ impl Tables {
     {
         self.names.extend_from_slice(rows)?;
         Ok(())
-    }
-
-    /// The row of texts that are in the pool, in place of so many bytes. Those that don't are one after another
-    /// are copied to the end of the pool, and are out of use where they were.
-    #[inline(always)]
-    pub(crate) fn together(
-        &mut self,
-        old: Span,
-        new_name: Option<Span>,
-        new_email: Option<Span>,
-        replaced: usize,
-    ) -> Result<Texts, AllocError>
-        requires old { LiesIn (length self.old.pool) old }
-        requires new_name { ForSome new_name (LiesIn (length self.old.pool)) }
-        requires new_email { ForSome new_email (LiesIn (length self.old.pool)) }
-        ensures grown { OnOk result ((more : List ℕ) × (self.new ≡ record self.old { pool = self.old.pool ++ more })) }
-        ensures lies { IfOk result (TextsLie (length self.new.pool)) }
-        ensures spells { IfOk result (RowSpells self.old.pool self.new.pool old new_name new_email) }
-    {
-        let end = self.pool.len();
-        let texts = together(&mut self.pool, old, new_name, new_email)?;
-        let copied = if texts.start == end { texts.len() } else { 0 };
-        self.unused = self.unused.saturating_add(replaced.saturating_add(copied));
-        Ok(texts)
     }
 
     /// Puts an email after the others, which takes the names that no email has taken yet.
@@ -219,7 +212,7 @@ impl Tables {
         ensures { result ≡ self.now }
     {
         View {
-            pool: &self.pool,
+            pool: &self.pool.bytes,
             emails: &self.emails,
             prefixes: &self.prefixes,
             names: &self.names,
@@ -231,30 +224,17 @@ impl Tables {
         ensures { IfOk result (λ copy. copy ≡ self.now) }
     {
         Ok(Tables {
-            pool: Vec::from_slice(alloc, &self.pool)?,
+            pool: self.pool.try_clone(alloc, 0)?,
             emails: Vec::from_slice(alloc, &self.emails)?,
             names: Vec::from_slice(alloc, &self.names)?,
             prefixes: Vec::from_slice(alloc, &self.prefixes)?,
-            unused: self.unused,
         })
     }
 }
 
-// What a merge asks of the tables that stand.
 impl Tables {
-    // The allocator that the tables keep.
+    /// The allocator that the tables keep.
     pub(crate) fn allocator(&self) -> Global {
-        *self.pool.allocator()
-    }
-
-    // Whether less than half of the pool would be out of use if so many bytes more were.
-    pub(crate) fn stays_half_used(&self, more: usize) -> bool {
-        let unused = self.unused.saturating_add(more);
-        unused < self.pool.len().saturating_sub(unused)
-    }
-
-    // Whether texts that no row names any more take half of the pool or more.
-    pub(crate) fn is_half_unused(&self) -> bool {
-        self.unused > 0 && self.unused >= self.pool.len().saturating_sub(self.unused)
+        *self.pool.bytes.allocator()
     }
 }

@@ -28,7 +28,7 @@ pub struct Texts {
 }
 
 impl Texts {
-    /// An old text for which nothing stands yet.
+    /// An old text without a new name or a new email.
     #[tactic(auto, unfolding(crate::specs::Texts::span_of, crate::specs::Texts::name_span, crate::specs::Texts::email_span, crate::specs::Texts::byte_count))]
     pub(crate) fn bare(old: Span) -> Texts
         ensures { IsBare result old }
@@ -80,6 +80,25 @@ impl Texts {
         ensures { result ≡ min (byte_count self.new_name_len + byte_count self.new_email_len) usize.MAX }
     {
         byte_count(self.new_name_len).saturating_add(byte_count(self.new_email_len))
+    }
+}
+
+/// The new name and the new email of a row of the pool, if there are any.
+pub(crate) fn fields(pool: &[u8], texts: Texts) -> (Option<Span>, Option<Span>)
+    requires { TextsLie (length pool.now) texts }
+    ensures new_name { result.0 ≡ name_span texts }
+    ensures new_email { result.1 ≡ email_span texts }
+{
+    let len = pool.len();
+    prove!(texts.start <= len);
+    (texts.new_name(), texts.new_email())
+}
+
+/// How many bytes a span has, if there is one.
+pub(crate) fn span_len(span: Option<Span>) -> usize {
+    match span {
+        Some(span) => span.len,
+        None => 0,
     }
 }
 
@@ -170,7 +189,7 @@ fn are_together(old: Span, new_name: Option<Span>, new_email: Option<Span>) -> b
     end_after(new_email, end).is_some()
 }
 
-// Where a text that is there ends, if it does stand there; there itself for no text.
+// Where a text that is there ends, if it is there; there itself for no text.
 #[inline(always)]
 fn end_after(span: Option<Span>, start: usize) -> Option<usize>
     requires { ForSome span (LiesIn (usize.MAX - 1)) }

@@ -5,7 +5,7 @@ ghost use Rattle.std.specs.List.{AllByRecursion, flat_map};
 ghost use Rattle.mailmap_tables.specs.Pool.{end_of};
 
 use crate::tables::{EmailRow, NameRow};
-use crate::texts::{Span, Texts};
+use crate::texts::{Span, Texts, fields};
 use mailmap_entries::fold::prefix::Prefixed;
 use std::marker::Model;
 
@@ -87,9 +87,7 @@ impl<'a> View<'a> {
         ensures new_name { result.0 ≡ name_span texts }
         ensures new_email { result.1 ≡ email_span texts }
     {
-        let len = self.pool.len();
-        prove!(texts.start <= len);
-        (texts.new_name(), texts.new_email())
+        fields(self.pool, texts)
     }
 
     /// How many bytes the new name and the new email of a row have.

@@ -65,7 +65,7 @@ fn merge(run: &mut Run, alloc: Global, team: &Snapshot) -> Result<(), Wrong> {
     run.judge_merge(Call::Merge, team, &mut copy, &later(), &all())
 }
 
-// A small merge, which is made in place: a new name and a new email, ahead of emails that stand.
+// A small merge, which is made in place: a new name and a new email, ahead of existing emails.
 fn merge_in_place(run: &mut Run, alloc: Global) -> Result<(), Wrong> {
     let stood = run.judge(
         Call::New,

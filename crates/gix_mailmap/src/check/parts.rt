@@ -7,7 +7,7 @@ use bstr::ByteSlice;
 /// The bytes before the first line of `input` that is just `--`, and the bytes after that line.
 ///
 /// Lines end as everywhere in a mailmap: at a line feed, with one carriage return directly before it.
-/// Neither stands in a part but for the line feed that ends the first. Blanks beside the dashes make
+/// Neither is in a part but for the line feed that ends the first. Blanks beside the dashes make
 /// another line. Without such a line the first part is empty and the second is the whole input.
 ///
 /// `a\n--\nb` gives `a\n` and `b`.

@@ -14,7 +14,7 @@ use Rattle.mailmap_tables.proofs.reserved.ReservedTables.insert_email.Goals as g
 pub invariant_of-self : goal.invariant_of-self
 invariant_of-self c =
     let old = c.self.inside in
-    let pool = old.pool.items in
+    let pool = old.pool.bytes.items in
     let names = old.names.items in
     let es = old.emails.items in
     let index = c.args.index in
@@ -36,7 +36,7 @@ invariant_of-self c =
 pub returns-clause-held : goal.returns-clause-held
 returns-clause-held c =
     let old = c.self.inside in
-    let pool = old.pool.items in
+    let pool = old.pool.bytes.items in
     let names = old.names.items in
     let es = old.emails.items in
     let index = c.args.index in

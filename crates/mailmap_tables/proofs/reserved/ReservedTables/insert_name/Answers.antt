@@ -15,7 +15,7 @@ prove-unreachable-requires c = omega (arith, c.requires.reserved, ap (λ (r : Re
 pub overflow_add-start : goal.overflow_add-start
 overflow_add-start c =
     let old = c.self.inside in
-    let pool = old.pool.items in
+    let pool = old.pool.bytes.items in
     let names = old.names.items in
     let es = old.emails.items in
     let e = c.index.result.now in
@@ -30,7 +30,7 @@ overflow_add-start c =
 pub insert-requires : goal.insert-requires
 insert-requires c =
     let old = c.self.inside in
-    let pool = old.pool.items in
+    let pool = old.pool.bytes.items in
     let names = old.names.items in
     let es = old.emails.items in
     let e = c.index.result.now in
@@ -45,7 +45,7 @@ insert-requires c =
 pub overflow_add-index_mut : goal.overflow_add-index_mut
 overflow_add-index_mut c =
     let old = c.self.inside in
-    let pool = old.pool.items in
+    let pool = old.pool.bytes.items in
     let names = old.names.items in
     let es = old.emails.items in
     let held : contents pool names es ≡ c.args.self.now.held = ap (λ (r : Reserved). r.held) c.self.view_is in
@@ -60,24 +60,10 @@ stand_later-requires c =
     let few : length old.names.items < 2 ^ 64 - 1 = omega (arith, c.if-prove.false, c.len.ensures, c.capacity.type_inv, old.names.ok.0) in
     ranges_after (2 ^ 64 - 1) 0 (length old.names.items) es c.args.email (length c.deref_mut.result.now - (c.args.email + 1)) _ c.deref_mut.result.now few c.self.invariant.ranges c.deref_mut.ensures.value
 
-pub overflow_add-result : goal.overflow_add-result
-overflow_add-result c =
-    let old = c.self.inside in
-    let pool = old.pool.items in
-    let names = old.names.items in
-    let es = old.emails.items in
-    let e = c.index.result.now in
-    let held : contents pool names es ≡ c.args.self.now.held = ap (λ (r : Reserved). r.held) c.self.view_is in
-    let lt : c.args.email < length es = omega (arith, c.requires.email, ap (λ (v : Contents). length v.groups) held, length-map es (email_group pool names)) in
-    let le = from_group pool names es c.args.self.now.held c.args.email e (λ (g : EmailGroup). c.args.index ≤ length g.names) held lt c.index.ensures c.requires.index in
-    let count = names_count pool names es c.self.invariant c.args.email e lt c.index.ensures in
-    let within = names_within pool names es c.self.invariant c.args.email e lt c.index.ensures in
-    omega (arith, le, count, within, c.if-prove.false, c.len.ensures, c.capacity.type_inv, old.names.ok.0)
-
 pub invariant_of-self : goal.invariant_of-self
 invariant_of-self c =
     let old = c.self.inside in
-    let pool = old.pool.items in
+    let pool = old.pool.bytes.items in
     let names = old.names.items in
     let es = old.emails.items in
     let email = c.args.email in
@@ -101,7 +87,7 @@ invariant_of-self c =
 pub returns-clause-held : goal.returns-clause-held
 returns-clause-held c =
     let old = c.self.inside in
-    let pool = old.pool.items in
+    let pool = old.pool.bytes.items in
     let names = old.names.items in
     let es = old.emails.items in
     let email = c.args.email in

@@ -9,7 +9,7 @@ use Rattle.mailmap_tables.proofs.reserved.ReservedTables.replace_name.Goals as g
 pub prove-unreachable-requires : goal.prove-unreachable-requires
 prove-unreachable-requires c =
     let old = c.self.inside in
-    let pool = old.pool.items in
+    let pool = old.pool.bytes.items in
     let names = old.names.items in
     let es = old.emails.items in
     let e = c.index.result.now in
@@ -23,7 +23,7 @@ prove-unreachable-requires c =
 pub overflow_add-start : goal.overflow_add-start
 overflow_add-start c =
     let old = c.self.inside in
-    let pool = old.pool.items in
+    let pool = old.pool.bytes.items in
     let names = old.names.items in
     let es = old.emails.items in
     let e = c.index.result.now in
@@ -38,7 +38,7 @@ overflow_add-start c =
 pub index_mut-requires : goal.index_mut-requires
 index_mut-requires c =
     let old = c.self.inside in
-    let pool = old.pool.items in
+    let pool = old.pool.bytes.items in
     let names = old.names.items in
     let es = old.emails.items in
     let e = c.index.result.now in
@@ -53,7 +53,7 @@ index_mut-requires c =
 pub returns-clause-held : goal.returns-clause-held
 returns-clause-held c =
     let old = c.self.inside in
-    let pool = old.pool.items in
+    let pool = old.pool.bytes.items in
     let names = old.names.items in
     let es = old.emails.items in
     let email = c.args.email in

@@ -10,7 +10,7 @@ use Rattle.mailmap_tables.proofs.reserved.ReservedTables.replace_texts.Goals as 
 pub invariant_of-self : goal.invariant_of-self
 invariant_of-self c =
     let old = c.self.inside in
-    let pool = old.pool.items in
+    let pool = old.pool.bytes.items in
     let names = old.names.items in
     let es = old.emails.items in
     let t = c.args.texts in
@@ -24,7 +24,7 @@ invariant_of-self c =
 pub returns-clause-held : goal.returns-clause-held
 returns-clause-held c =
     let old = c.self.inside in
-    let pool = old.pool.items in
+    let pool = old.pool.bytes.items in
     let names = old.names.items in
     let es = old.emails.items in
     let t = c.args.texts in

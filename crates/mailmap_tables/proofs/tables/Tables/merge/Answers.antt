@@ -37,7 +37,7 @@ returns-in-Some-clause-ok g c =
     let existing = c.args.self.now in
     let h = map mapping_of w.0 in
     let new = c.merge_in_place.new.tables in
-    let alone = subst (λ (o : Option Contents). IsCollected existing h o (map mapping_of c.in_ok-collected.collected.batch.items)) (c.in-Some.ensures.alone c.in-Some.existing refl) w.2 in
+    let alone = subst (λ (o : Option Contents). IsCollected existing h o (map mapping_of c.in_ok-collected.collected.batch.items)) (c.in-Some.ensures.none c.in-Some.bytes refl) w.2 in
     on_ok_then c.merge_in_place.result _ _ (λ (d : IsComplete new × IsNormal (listing existing.groups ++ map mapping_of c.deref.result.now) (listing new.groups)).
     let all = collected_joined existing h None _ alone new d.0 (subst (λ (l : List Item). IsNormal (listing existing.groups ++ map mapping_of l) (listing new.groups)) c.deref.ensures.value d.1) in
     (w.0, w.1, d.0, collected_all existing h (Some new) all)) c.merge_in_place.ensures.ok

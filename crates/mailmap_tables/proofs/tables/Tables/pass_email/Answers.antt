@@ -13,7 +13,7 @@ invariant_of-self-2 c =
     let names = c.self.inside.names.items in
     let emails = c.self.inside.emails.items in
     let row = c.args.texts in
-    let lies : TextsLie (length c.self.inside.pool.items) row = subst (λ (v : Contents). TextsLie (length v.pool) row) (sym c.self.view_is) c.requires.lies in
+    let lies : TextsLie (length c.self.inside.pool.bytes.items) row = subst (λ (v : Contents). TextsLie (length v.pool) row) (sym c.self.view_is) c.requires.lies in
     let from : c.last_end-names_start.result ≡ end_of 0 emails = c.last_end-names_start.ensures ∙ ap (end_of 0) c.deref.ensures.value in
     let to : c.last_end-names_start.result + c.args.count ≤ length names = omega (
       arith,
@@ -21,16 +21,16 @@ invariant_of-self-2 c =
       c.requires.pending,
       ap (λ (v : Contents). length v.pending) c.self.view_is,
       end_within 0 (length names) emails c.self.invariant.ranges,
-      length-map (drop (end_of 0 emails) names) (name_group c.self.inside.pool.items),
+      length-map (drop (end_of 0 emails) names) (name_group c.self.inside.pool.bytes.items),
       length-drop (end_of 0 emails) names,
     ) in
     let prefix = c.requires.prefix.is ∙ ap (λ (v : Contents). key_prefix 16 (folded (spelled v.pool (old_span row)))) (sym c.self.view_is) in
-    subst₂ (λ es fs. AreTables c.self.inside.pool.items names es fs) (sym c.in_ok-push_row.ensures.emails) (sym c.in_ok-push_row.ensures.prefixes)
+    subst₂ (λ es fs. AreTables c.self.inside.pool.bytes.items names es fs) (sym c.in_ok-push_row.ensures.emails) (sym c.in_ok-push_row.ensures.prefixes)
     (tables-email _ _ _ c.self.invariant _ from (omega arith) to lies _ prefix)
 
 pub returns : goal.returns
 returns c =
-    let pool = c.self.inside.pool.items in
+    let pool = c.self.inside.pool.bytes.items in
     let names = c.self.inside.names.items in
     let emails = c.self.inside.emails.items in
     let row = c.args.texts in

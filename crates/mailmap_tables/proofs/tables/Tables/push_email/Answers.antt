@@ -18,12 +18,12 @@ invariant_of-self-2 c =
     let from : c.last_end.result ≡ end_of 0 emails = c.last_end.ensures ∙ ap (end_of 0) c.deref.ensures.value in
     let within : end_of 0 emails ≤ length names = end_within 0 (length names) emails c.self.invariant.ranges in
     let prefix = c.key_prefix-prefix.ensures.is ∙ ap (λ t. key_prefix 16 (folded t)) (c.text.ensures ∙ ap (λ s. spelled c.view.result.pool s) c.old.ensures) ∙ ap (λ (v : Contents). key_prefix 16 (folded (spelled v.pool (old_span c.args.texts)))) (c.view.ensures ∙ back) in
-    subst₂ (λ es fs. AreTables c.self.inside.pool.items names es fs) (sym c.in_ok-push_row.ensures.emails) (sym c.in_ok-push_row.ensures.prefixes)
+    subst₂ (λ es fs. AreTables c.self.inside.pool.bytes.items names es fs) (sym c.in_ok-push_row.ensures.emails) (sym c.in_ok-push_row.ensures.prefixes)
     (tables-email _ _ _ c.self.invariant _ from (omega (arith, from, to, within)) (omega (arith, to)) (subst (λ (v : Contents). TextsLie (length v.pool) c.args.texts) back c.requires) _ prefix)
 
 pub returns : goal.returns
 returns c =
-    let pool = c.self.inside.pool.items in
+    let pool = c.self.inside.pool.bytes.items in
     let names = c.self.inside.names.items in
     let emails = c.self.inside.emails.items in
     let to : c.len.result ≡ length names = omega (arith, c.len.ensures, c.self.inside.names.ok.0) in

@@ -12,6 +12,6 @@ invariant_of-self-2 c =
 
 pub returns : goal.returns
 returns c =
-    ap (λ ns. contents c.self.inside.pool.items ns c.self.inside.emails.items) c.in_ok-extend_from_slice.ensures.items
+    ap (λ ns. contents c.self.inside.pool.bytes.items ns c.self.inside.emails.items) c.in_ok-extend_from_slice.ensures.items
     ∙ contents-names _ _ _ c.self.invariant c.args.rows.now
     ∙ ap (λ (v : Contents). record v { pending = v.pending ++ map (name_group v.pool) c.args.rows.now }) c.self.view_is

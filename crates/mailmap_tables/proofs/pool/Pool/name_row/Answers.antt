@@ -1,0 +1,40 @@
+use Rattle.std.proofs.Common.{◌≡◌, ◌≤◌, ◌+◌, ◌∙◌, length, vec_len, vec_capacity, Option, Some, None, refl, sym, ap, arith}
+use Rattle.std.specs.Option.{option_or}
+use Rattle.mailmap_entries.specs.Folding.{Text}
+use Rattle.mailmap_tables.specs.Merging.{Extends}
+use Rattle.mailmap_batches.specs.Given.{named_group}
+use Rattle.mailmap_tables.specs.Pool.{name_group, spelled}
+use Rattle.mailmap_tables.specs.Reserved.{optional_bytes}
+use Rattle.mailmap_tables.specs.Texts.{span_bytes}
+use Rattle.mailmap_tables.proofs.Bytes.{spans_bytes}
+use Rattle.mailmap_entries.proofs.Results.{if_ok_map}
+use Rattle.mailmap_tables.proofs.EmailPuts.{options_on, spelled_on}
+use Rattle.mailmap_tables.proofs.NameLookups.{extends_through}
+use Rattle.mailmap_tables.proofs.RowTexts.{row_group}
+use Rattle.mailmap_tables.proofs.pool.Pool.name_row.Goals as goal
+
+or_none : (o : Option Text) → option_or o None ≡ o
+or_none None = refl
+or_none (Some t) = refl
+
+pub returns-clause-spells : goal.returns-clause-spells
+returns-clause-spells c =
+    let name = c.in_ok-new_name.ensures in
+    let email = c.in_ok-new_email.ensures in
+    let old = spelled_on _ _ (extends_through _ _ _ name.grown email.grown) c.args.old_name c.requires in
+    let new_name = options_on _ _ email.grown c.in_ok-new_name.new_name name.lies ∙ name.spells ∙ or_none (named_group c.args.named).new_name in
+    if_ok_map c.together.result _ _ (λ row made. row_group _ _ _ _ _ _ made ∙ (λ i. record { old_name = old i; new_name = new_name i; new_email = email.spells i })) c.together.ensures.spells
+
+pub returns-clause-bytes : goal.returns-clause-bytes
+returns-clause-bytes c =
+    let name = c.in_ok-new_name.ensures in
+    let email = c.in_ok-new_email.ensures in
+    let name_len : span_bytes c.in_ok-new_name.new_name ≡ optional_bytes (named_group c.args.named).new_name = sym (spans_bytes _ c.in_ok-new_name.new_name name.lies) ∙ ap optional_bytes (name.spells ∙ or_none (named_group c.args.named).new_name) in
+    omega (arith, name_len, email.len, name.bytes, email.bytes, c.together.ensures.bytes)
+
+pub returns-clause-succeeds : goal.returns-clause-succeeds
+returns-clause-succeeds c =
+    let name = c.in_ok-new_name.ensures in
+    let email = c.in_ok-new_email.ensures in
+    let name_len : span_bytes c.in_ok-new_name.new_name ≡ optional_bytes (named_group c.args.named).new_name = sym (spans_bytes _ c.in_ok-new_name.new_name name.lies) ∙ ap optional_bytes (name.spells ∙ or_none (named_group c.args.named).new_name) in
+    λ reserved. c.together.ensures.succeeds (omega (arith, reserved, name_len, email.len, name.bytes, email.bytes, name.capacity, email.capacity, c.args.self.now.bytes.ok.0, c.push_text.new.self.bytes.ok.0))

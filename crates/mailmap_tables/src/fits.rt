@@ -1,0 +1,108 @@
+//! Whether a batch is so small beside the tables that it is to be put in place, and the room that this takes.
+ghost use Rattle.std.specs.Prelude.{◌≡◌, ◌≤◌, ◌<◌, ◌+◌, length, map};
+ghost use Rattle.std.specs.Option.{ForSome};
+ghost use Rattle.std.specs.List.{AllByRecursion};
+ghost use Rattle.std.specs.List.Sorted.{IsStrictlySortedBy};
+ghost use Rattle.mailmap_entries.specs.Entries.{mapping_of};
+ghost use Rattle.mailmap_entries.specs.Folding.{text_cmp};
+ghost use Rattle.mailmap_tables.specs.Groups.{AreGroups, EmailGroup, email_key, name_key};
+ghost use Rattle.mailmap_batches.specs.Batches.{email_text};
+ghost use Rattle.mailmap_tables.specs.Pool.{NameLies, name_group};
+ghost use Rattle.mailmap_tables.specs.Reserved.{HasReserved, OwnWithin, own_bytes};
+
+use crate::lengths::texts_len;
+use crate::search::{find_email, find_name};
+use crate::tables::{NameRow, Tables};
+use crate::texts::Texts;
+use crate::view::View;
+use mailmap_entries::Entry;
+
+// More entries are joined aside: one by one they would move the rows of large tables more often than a copy does.
+const MOST_IN_PLACE: usize = 16;
+
+// What tables have for the keys of entries.
+#[derive(Clone, Copy)]
+struct Existing {
+    // how many bytes the entries replace, or more
+    replaced: usize,
+    // how many bytes the fields of one of their emails have at most
+    own_len: usize,
+}
+
+/// How many bytes of the pool entries take at most that are put one by one, if they are so few beside the rows of the
+/// tables that this moves less than a copy. After it, less than half of the pool may be unused.
+pub(crate) fn fits_in_place(tables: &Tables, entries: &[Entry<'_>]) -> Option<usize>
+    requires { AreGroups tables.now.groups }
+    ensures { ForSome result (HasReserved tables.now.groups (map mapping_of entries.now)) }
+{
+    if MOST_IN_PLACE < entries.len() || tables.view().row_count() <= entries.len() {
+        return None;
+    }
+    let existing = existing_of(&tables.view(), entries);
+    let len = texts_len(entries);
+    // each entry may copy the fields that its email has by then: its own ones and those that the entries give
+    let copied = entries
+        .len()
+        .saturating_mul(existing.own_len.saturating_add(len));
+    let bytes = len.saturating_add(len).saturating_add(copied);
+    let unused = existing.replaced.saturating_add(bytes);
+    if !tables.pool.stays_in_use(unused) {
+        return None;
+    }
+    Some(bytes)
+}
+
+// What tables have for the keys of entries.
+fn existing_of(tables: &View<'_>, entries: &[Entry<'_>]) -> Existing
+    requires { AreGroups tables.now.groups }
+    ensures { OwnWithin result.own_len tables.now.groups (map mapping_of entries.now) }
+{
+    let mut replaced: usize = 0;
+    let mut own_len: usize = 0;
+    for entry in entries {
+        let one = existing_for(tables, entry);
+        replaced = replaced.saturating_add(one.replaced);
+        own_len = own_len.max(one.own_len);
+    }
+    Existing { replaced, own_len }
+}
+
+// What tables have for the key of an entry.
+fn existing_for(tables: &View<'_>, entry: &Entry<'_>) -> Existing
+    requires { AreGroups tables.now.groups }
+    ensures { AllByRecursion (λ (g : EmailGroup). email_key g ≡ email_text (mapping_of entry.now)
+        → own_bytes g ≤ result.own_len) tables.now.groups }
+{
+    match find_email(tables, 0, entry.old_email()) {
+        Ok(index) => {
+            let (texts, names) = tables.email(index);
+            Existing {
+                replaced: replaced_len(tables, texts, names, entry.old_name()),
+                own_len: tables.fields_len(texts),
+            }
+        }
+        Err(_) => Existing {
+            replaced: 0,
+            own_len: 0,
+        },
+    }
+}
+
+// How many bytes the texts of an email have, or those of one of its names.
+fn replaced_len(
+    tables: &View<'_>,
+    texts: Texts,
+    names: &[NameRow],
+    old_name: Option<&[u8]>,
+) -> usize
+    requires lie { AllByRecursion (NameLies (length tables.now.pool)) names.now }
+    requires ascending { IsStrictlySortedBy text_cmp (map name_key (map (name_group tables.now.pool) names.now)) }
+{
+    match old_name {
+        None => texts.len(),
+        Some(name) => match find_name(tables, names, name) {
+            Ok(index) => names[index].len(),
+            Err(_) => 0,
+        },
+    }
+}
