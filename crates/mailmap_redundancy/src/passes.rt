@@ -1,4 +1,4 @@
-//! Passes over a history, each of which lets entries go that change nothing.
+//! Passes over a history, each of which drops redundant entries.
 ghost use Rattle.std.specs.Prelude.{◌≡◌, ◌≤◌, All, [], IfOk, OnOk, length, take};
 ghost use Rattle.std.specs.List.Sorted.{IsStrictlySortedBy};
 ghost use Rattle.mailmap_histories.specs.Histories.{key_cmp};
@@ -13,9 +13,9 @@ use crate::summary::{Later, is_redundant};
 use crate::table::Table;
 use std::alloc::{AllocError, Global};
 
-/// Makes passes over the entries until one lets nothing go. Those that stay come first, and their number is the
-/// answer. The table is first of no entry, and then of those that stay. Emails are marked anew before each pass, since
-/// fewer of them have a key that comes twice.
+/// Makes passes over the entries until one drops none. The entries that stay are moved to the start, and their number
+/// is returned. The table begins empty, and ends with the entries that stay. Emails are marked anew before each pass,
+/// since fewer and fewer of them have a key that comes twice.
 pub(crate) fn settle<'p, 'a>(
     alloc: Global,
     keys: &[KeptKey<'_, '_>],
@@ -44,8 +44,8 @@ pub(crate) fn settle<'p, 'a>(
     Ok(kept)
 }
 
-// A pass over the first `len` entries. Those that stay come first, and their number is the answer. The table is
-// first of no entry, and then of those that stay of the emails with repeats.
+// One pass over the first `len` entries. Those that stay are moved to the start, and their number is returned. The
+// table begins empty, and ends with those that stay whose emails have repeats.
 fn pass<'p, 'a>(
     alloc: Global,
     keys: &[KeptKey<'_, '_>],
@@ -90,8 +90,8 @@ fn pass<'p, 'a>(
     Ok(kept)
 }
 
-// What is after each entry of an email with repeats, that of the last entry first. The table, which is of no entry, is
-// then of all of these.
+// For each entry whose email has repeats, what it has to know of the later ones; that of the last entry comes first.
+// The table begins empty, and ends with all of these entries.
 fn each_later<'p, 'a>(
     alloc: Global,
     keys: &[KeptKey<'_, '_>],
@@ -121,7 +121,7 @@ fn each_later<'p, 'a>(
     Ok(later_ones)
 }
 
-// Makes a table of the entries of the emails with repeats one of no entry. Only their rows are touched.
+// Empties a table of the entries whose emails have repeats. Only the rows of these entries are touched.
 fn forget_repeated<'p, 'a>(
     keys: &[KeptKey<'_, '_>],
     repeated: &[bool],
@@ -142,7 +142,7 @@ fn forget_repeated<'p, 'a>(
     }
 }
 
-// Adds the entries of the other emails to a table of those of emails with repeats.
+// Adds the entries whose emails have no repeats to a table of the others.
 fn append_others<'p, 'a>(
     keys: &[KeptKey<'_, '_>],
     repeated: &[bool],

@@ -1,5 +1,5 @@
-//! Emails of which some key comes twice. An entry goes only if its key comes again, and depends on no other email, so
-//! passes need not look at the entries of the others.
+//! Emails with repeats: those of which some key comes twice. An entry can be redundant only if its key comes again, and
+//! no other email matters for that. So passes need not look at the entries of the other emails.
 ghost use Rattle.std.specs.Prelude.{◌≡◌, All, IfOk, length};
 ghost use Rattle.std.specs.List.Sorted.{IsStrictlySortedBy};
 ghost use Rattle.mailmap_histories.specs.Histories.{key_cmp};
@@ -11,7 +11,7 @@ use crate::keys::KeptKey;
 use crate::numbers::NumberedEntry;
 use std::alloc::{AllocError, Global};
 
-/// Marks the emails of which some key comes twice, by their numbers.
+/// Marks the emails with repeats, by their numbers.
 pub(crate) fn emails_with_repeats(
     alloc: Global,
     keys: &[KeptKey<'_, '_>],
