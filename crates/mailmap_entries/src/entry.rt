@@ -1,8 +1,8 @@
 //! What one line of a mailmap maps.
 //!
-//! A commit names its author and its committer by a name and an email. An [`Entry`] says what replaces
-//! these: its old fields say which commits it is for, its new fields what they are to show. Which of the fields can be
-//! there together is git's mailmap format, and each combination has its constructor.
+//! A commit names its author and its committer by a name and an email. An [`Entry`] says what replaces these: its old
+//! fields say which commits it is for, and its new fields what these commits are to show. The format of git's mailmaps
+//! says which fields can be there together, and each combination has its constructor.
 //!
 //! | line | new name | new email | old name | old email |
 //! |---|---|---|---|---|
@@ -16,9 +16,9 @@ ghost use Rattle.std.specs.Prelude.{◌≡◌, IsSome};
 mod derived;
 /// A mapping of names and emails, which borrows its texts: from the buffer that was parsed, or from whoever made it.
 ///
-/// The old email, and the old name if there is one, are looked for without regard to the case of ASCII letters; the
-/// new name and the new email, each if there is one, replace what the commit has. An entry with an old
-/// name always has a new email. Texts are bytes and need not be UTF-8.
+/// The old email, and the old name if there is one, are compared without regard to the case of ASCII letters. The new
+/// name and the new email replace what the commit has; either may be missing. An entry with an old name always has a
+/// new email. Texts are bytes and need not be UTF-8.
 ///
 /// Entries come from the lines of a mailmap and from a snapshot's listing, or are made by the constructors below. The
 /// constructors take texts as they are: an empty one, or one with white space or brackets that no line could hold, too.
@@ -130,7 +130,7 @@ impl<'a> Entry<'a> {
     }
 }
 
-/// Access. What is lent lives as long as the texts do, even if the entry, or the iterator that gave it, is gone.
+/// Getters. What they return lives as long as the texts do, even if the entry, or the iterator that gave it, is gone.
 impl<'a> Entry<'a> {
     ghost use Rattle.std.specs.Option.{option_copied};
     ghost use Rattle.mailmap_entries.specs.Entries.{mapping_of};

@@ -13,17 +13,17 @@ use mailmap_signatures::actor::SignatureRef;
 use std::alloc::{AllocError, Global};
 use std::borrow::CowSlice;
 
-/// Resolving signatures: the name and the email that the mailmap gives replace those that were recorded, each
-/// if there is one, and the others stay. A time that can't be read becomes the default one.
+/// Resolving signatures: a name or an email that the mailmap gives replaces the recorded one, and the other stays. A
+/// time that can't be read becomes the default one.
 ///
 /// Each answer is stated twice by the contracts: from the entries of the snapshot, and from any history that the
 /// snapshot stands for, as the entries that were merged one after another.
 impl Snapshot {
     /// The signature as the mailmap maps it, or `None` if it maps neither its name nor its email.
     ///
-    /// Nothing is mapped if no entry is for the email, and if the entry that is for it would change nothing. An
-    /// email that differs from the mailmap's spelling only in the case of its letters is mapped to that spelling, so it
-    /// is answered. `None` takes no memory, and so can't run out of memory.
+    /// Nothing is mapped if no entry is for the email, or if the entry for it would change nothing. An email that
+    /// differs from the mailmap's spelling only in the case of its letters is mapped to that spelling. The answer
+    /// `None` takes no memory, and so this can't run out of memory then.
     ///
     /// ```rust
     /// let mailmap = Snapshot::from_bytes(alloc, b"Jane Doe <jane@x> <jd@y>")?;
@@ -57,7 +57,7 @@ impl Snapshot {
         }
     }
 
-    /// The signature as the mailmap maps it, a copy of `signature` where it maps nothing.
+    /// The signature as the mailmap maps it, a copy of `signature` if it maps nothing.
     ///
     /// ```rust
     /// let mailmap = Snapshot::from_bytes(alloc, b"Jane Doe <jane@x> <jd@y>")?;
@@ -83,7 +83,7 @@ impl Snapshot {
 
     /// The signature as the mailmap maps it, with mapped texts owned and the others borrowed from `signature`.
     ///
-    /// If nothing is mapped both are borrowed and no memory is taken, so that this can't run out of memory. It suits
+    /// If nothing is mapped, both are borrowed and no memory is taken, so this can't run out of memory then. It suits
     /// views that show many signatures, of which a mailmap changes few:
     ///
     /// ```rust
