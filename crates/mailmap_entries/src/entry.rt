@@ -53,11 +53,11 @@ impl<'a> Default for Entry<'a> {
 
 /// Constructors, one for each combination of fields that a line of a mailmap can have.
 impl<'a> Entry<'a> {
-    ghost use Rattle.mailmap_entries.specs.Entries.{mapping_of};
+    ghost use Rattle.mailmap_entries.specs.Entries.{mapping, mapping_of};
 
     /// An entry that changes the name by an email, as the line `Proper <commit@x>` does.
     pub fn change_name_by_email(proper_name: &'a [u8], commit_email: &'a [u8]) -> Self
-        ensures { mapping_of result ≡ record { new_name = Some proper_name.now; new_email = None; old_name = None; old_email = commit_email.now } }
+        ensures { mapping_of result ≡ mapping (Some proper_name.now) None None commit_email.now }
     {
         Entry {
             new_name: Some(proper_name),
@@ -69,7 +69,7 @@ impl<'a> Entry<'a> {
 
     /// An entry that changes the email by an email, as the line `<proper@x> <commit@x>` does.
     pub fn change_email_by_email(proper_email: &'a [u8], commit_email: &'a [u8]) -> Self
-        ensures { mapping_of result ≡ record { new_name = None; new_email = Some proper_email.now; old_name = None; old_email = commit_email.now } }
+        ensures { mapping_of result ≡ mapping None (Some proper_email.now) None commit_email.now }
     {
         Entry {
             new_email: Some(proper_email),
@@ -85,7 +85,7 @@ impl<'a> Entry<'a> {
         commit_name: &'a [u8],
         commit_email: &'a [u8],
     ) -> Self
-        ensures { mapping_of result ≡ record { new_name = None; new_email = Some proper_email.now; old_name = Some commit_name.now; old_email = commit_email.now } }
+        ensures { mapping_of result ≡ mapping None (Some proper_email.now) (Some commit_name.now) commit_email.now }
     {
         Entry {
             new_email: Some(proper_email),
@@ -101,7 +101,7 @@ impl<'a> Entry<'a> {
         proper_email: &'a [u8],
         commit_email: &'a [u8],
     ) -> Self
-        ensures { mapping_of result ≡ record { new_name = Some proper_name.now; new_email = Some proper_email.now; old_name = None; old_email = commit_email.now } }
+        ensures { mapping_of result ≡ mapping (Some proper_name.now) (Some proper_email.now) None commit_email.now }
     {
         Entry {
             new_name: Some(proper_name),
@@ -119,7 +119,8 @@ impl<'a> Entry<'a> {
         commit_name: &'a [u8],
         commit_email: &'a [u8],
     ) -> Self
-        ensures { mapping_of result ≡ record { new_name = Some proper_name.now; new_email = Some proper_email.now; old_name = Some commit_name.now; old_email = commit_email.now } }
+        ensures { mapping_of result
+            ≡ mapping (Some proper_name.now) (Some proper_email.now) (Some commit_name.now) commit_email.now }
     {
         Entry {
             new_name: Some(proper_name),

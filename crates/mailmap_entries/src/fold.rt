@@ -65,7 +65,8 @@ pub fn search<P: Probe>(len: usize, p: &mut P) -> Result<usize, usize>
     ensures within { IsSearchInRange result len }
     ensures found { IfOk result (λ i. slice_get (P.answers p.old) i ≡ Some Ordering.Equal) }
     // `Less` before the index, and `Greater` from it on
-    ensures missing { IfErr result (λ i. IsPartitionPoint (λ a. a ≡ Ordering.Less) (λ a. a ≡ Ordering.Greater) (P.answers p.old) i) }
+    ensures missing { IfErr result
+        (λ i. IsPartitionPoint (λ a. a ≡ Ordering.Less) (λ a. a ≡ Ordering.Greater) (P.answers p.old) i) }
     ensures same { P.answers p.new ≡ P.answers p.old }
     ensures at_most { P.asked p.new ≤ P.asked p.old + digits len }
     ensures at_least { 0 < len → P.asked p.old < P.asked p.new }

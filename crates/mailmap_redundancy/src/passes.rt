@@ -62,9 +62,11 @@ fn pass<'p, 'a>(
     requires table { IsTable keys.now [] table.old }
     ensures len { IfOk result (λ kept. kept ≤ len) }
     ensures whole { OnOk result (length entries.new ≡ length entries.old) }
-    ensures passed { IfOk result (λ kept. IsPass [] (mappings (take len entries.old)) (mappings (take kept entries.new))) }
+    ensures passed { IfOk result
+        (λ kept. IsPass [] (mappings (take len entries.old)) (mappings (take kept entries.new))) }
     ensures numbered { IfOk result (λ kept. All (IsNumbered keys.now) (take kept entries.new)) }
-    ensures unrepeated { IfOk result (λ kept. AreUnrepeated keys.now repeated.now (spec_entries (mappings (take kept entries.new)))) }
+    ensures unrepeated { IfOk result
+        (λ kept. AreUnrepeated keys.now repeated.now (spec_entries (mappings (take kept entries.new)))) }
     ensures table { IfOk result (λ kept. IsTable keys.now
         (spec_entries (of_repeated keys.now repeated.now (mappings (take kept entries.new)))) table.new) }
     ensures positions { IfOk result (λ kept. ArePositions keys.now
@@ -131,7 +133,8 @@ fn forget_repeated<'p, 'a>(
     requires ascending { IsStrictlySortedBy key_cmp keys.now }
     requires numbered { All (IsNumbered keys.now) entries.now }
     requires rows { length repeated.now ≡ length keys.now }
-    requires table { IsTable keys.now (spec_entries (of_repeated keys.now repeated.now (mappings entries.now))) table.old }
+    requires table { IsTable keys.now (spec_entries (of_repeated keys.now repeated.now (mappings entries.now)))
+        table.old }
     ensures table { IsTable keys.now [] table.new }
     ensures positions { ArePositions keys.now [] table.new }
 {
@@ -152,7 +155,8 @@ fn append_others<'p, 'a>(
     requires ascending { IsStrictlySortedBy key_cmp keys.now }
     requires numbered { All (IsNumbered keys.now) entries.now }
     requires rows { length repeated.now ≡ length keys.now }
-    requires table { IsTable keys.now (spec_entries (of_repeated keys.now repeated.now (mappings entries.now))) table.old }
+    requires table { IsTable keys.now (spec_entries (of_repeated keys.now repeated.now (mappings entries.now)))
+        table.old }
     requires positions { ArePositions keys.now (of_repeated keys.now repeated.now (mappings entries.now)) table.old }
     ensures table { IsTable keys.now (spec_entries (mappings entries.now)) table.new }
     ensures positions { ArePositions keys.now (mappings entries.now) table.new }

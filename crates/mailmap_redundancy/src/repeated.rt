@@ -20,7 +20,8 @@ pub(crate) fn emails_with_repeats(
     requires ascending { IsStrictlySortedBy key_cmp keys.now }
     requires numbered { All (IsNumbered keys.now) entries.now }
     ensures rows { IfOk result (λ repeated. length repeated.items ≡ length keys.now) }
-    ensures unrepeated { IfOk result (λ repeated. AreUnrepeated keys.now repeated.items (spec_entries (mappings entries.now))) }
+    ensures unrepeated { IfOk result
+        (λ repeated. AreUnrepeated keys.now repeated.items (spec_entries (mappings entries.now))) }
 {
     let mut seen = vec![in alloc; false; keys.len()]?;
     let mut repeated = vec![in alloc; false; keys.len()]?;

@@ -40,11 +40,13 @@ impl Snapshot {
     ) -> Result<Option<actor::Signature>, AllocError>
         // nothing exactly when nothing is mapped
         ensures none { (result ≡ Ok None) ↔ (mapped self.now signature.entry ≡ None) }
-        ensures some { IfOk result (λ answer. IfSome answer (λ s. IsResolved self.now signature.entry (owned_fields s))) }
+        ensures some { IfOk result
+            (λ answer. IfSome answer (λ s. IsResolved self.now signature.entry (owned_fields s))) }
         // it runs out of memory only if something is mapped
         ensures out_of_memory { OnErr result (IsSome (mapped self.now signature.entry)) }
         // the same, by a history that the snapshot stands for
-        ensures history_none { (h : List Mapping) → IsNormal h self.now → (result ≡ Ok None) ↔ (mapped h signature.entry ≡ None) }
+        ensures history_none { (h : List Mapping) → IsNormal h self.now → (result ≡ Ok None)
+            ↔ (mapped h signature.entry ≡ None) }
         ensures history_some { (h : List Mapping) → IsNormal h self.now →
             IfOk result (λ answer. IfSome answer (λ s. IsResolved h signature.entry (owned_fields s))) }
     {
@@ -73,7 +75,8 @@ impl Snapshot {
     ) -> Result<actor::Signature, AllocError>
         ensures view { IfOk result (λ s. IsResolved self.now signature.entry (owned_fields s)) }
         // the same, by a history that the snapshot stands for
-        ensures history { (h : List Mapping) → IsNormal h self.now → IfOk result (λ s. IsResolved h signature.entry (owned_fields s)) }
+        ensures history { (h : List Mapping) → IsNormal h self.now
+            → IfOk result (λ s. IsResolved h signature.entry (owned_fields s)) }
     {
         match self.try_resolve(alloc, signature)? {
             Some(resolved) => Ok(resolved),
@@ -103,7 +106,8 @@ impl Snapshot {
         // it runs out of memory only if something is mapped
         ensures out_of_memory { OnErr result (IsSome (mapped self.now signature.entry)) }
         // the same, by a history that the snapshot stands for
-        ensures history { (h : List Mapping) → IsNormal h self.now → IfOk result (λ s. IsResolved h signature.entry (cow_fields s)) }
+        ensures history { (h : List Mapping) → IsNormal h self.now
+            → IfOk result (λ s. IsResolved h signature.entry (cow_fields s)) }
         ensures history_owned { (h : List Mapping) → IsNormal h self.now → IfOk result (OwnsMapped h signature.entry) }
     {
         match self.try_resolve_ref(signature) {

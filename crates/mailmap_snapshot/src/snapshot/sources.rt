@@ -31,7 +31,8 @@ impl Snapshot {
         ensures none_made { All (λ is_made. is_made ≡ false) made.new → self.new ≡ self.old }
 
         // A source without an accepted entry asks for no memory, so it is always made.
-        ensures never_out_of_memory { (i : ℕ) (s : Said) → slice_get sources.now i ≡ Some s → accepted (said_by s) ≡ [] → slice_get made.new i ≡ Some true }
+        ensures never_out_of_memory { (i : ℕ) (s : Said) → slice_get sources.now i ≡ Some s → accepted (said_by s) ≡ []
+            → slice_get made.new i ≡ Some true }
         ensures marks { length made.new ≡ length made.old }
     {
         // What is listed is its own normal list, by the invariant of the tables.
