@@ -35,11 +35,9 @@ pub fn check(alloc: Global, buffers: &[&[u8]], contacts: &[u8]) -> Result<Vec<u8
 pub(crate) fn merged(alloc: Global, buffers: &[&[u8]]) -> Result<Snapshot, AllocError>
     ensures { IfOk result (IsNormal (flat_map good (map (λ b. b.now) buffers.now))) }
 {
-    let mut snapshot = Snapshot::empty(alloc);
-    for buf in buffers {
-        snapshot.merge(parse_ignore_errors(buf))?;
-    }
-    Ok(snapshot)
+    // One merge of all: each merge of more than a few entries copies what is there.
+    let entries = buffers.iter().flat_map(|buf| parse_ignore_errors(buf));
+    Snapshot::new(alloc, entries)
 }
 
 // The answers to all lines, each with its line feed.

@@ -51,8 +51,10 @@ pub extern "C" fn gix_mailmap_len(
     texts_len: &mut usize,
 ) -> u32
     ensures kept { contents m.new ≡ contents m.old }
-    ensures listed { IfSome (contents m.old) (λ n. (result ≡ 0) × (entries_len.new ≡ length n) × (texts_len.new ≡ min usize.MAX (length (all_text n)))) }
-    ensures closed { IfNone (contents m.old) ((result ≡ 3) × (entries_len.new ≡ entries_len.old) × (texts_len.new ≡ texts_len.old)) }
+    ensures listed { IfSome (contents m.old)
+        (λ n. (result ≡ 0) × (entries_len.new ≡ length n) × (texts_len.new ≡ min usize.MAX (length (all_text n)))) }
+    ensures closed { IfNone (contents m.old)
+        ((result ≡ 3) × (entries_len.new ≡ entries_len.old) × (texts_len.new ≡ texts_len.old)) }
 {
     if !is_open(m) {
         return CLOSED;
@@ -91,7 +93,8 @@ pub extern "C" fn gix_mailmap_entry(
     texts: &mut [u8],
 ) -> u32
     ensures kept { contents m.new ≡ contents m.old }
-    ensures entry { IfSome (contents m.old) (λ n. ListsOne (slice_get n index) entry.old entry.new texts.old texts.new result) }
+    ensures entry { IfSome (contents m.old)
+        (λ n. ListsOne (slice_get n index) entry.old entry.new texts.old texts.new result) }
     ensures closed { IfNone (contents m.old) ((result ≡ 3) × (entry.new ≡ entry.old) × (texts.new ≡ texts.old)) }
 {
     if !is_open(m) {

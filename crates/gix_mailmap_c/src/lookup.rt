@@ -35,7 +35,8 @@ pub extern "C" fn gix_mailmap_lookup(
         IsDescribed f.name name.now new_name.new × IsDescribed f.email email.now new_email.new) }
     ensures answer { IfSome (contents m.old) (λ n.
         IsAnswered (fields_for n name.now email.now) name.now email.now name_out.old name_out.new email_out.old email_out.new result) }
-    ensures closed { IfNone (contents m.old) ((result ≡ 3) × (name_out.new ≡ name_out.old) × (new_name.new ≡ new_name.old)
+    ensures closed { IfNone (contents m.old)
+        ((result ≡ 3) × (name_out.new ≡ name_out.old) × (new_name.new ≡ new_name.old)
         × (email_out.new ≡ email_out.old) × (new_email.new ≡ new_email.old)) }
 {
     if !is_open(m) {
@@ -65,7 +66,8 @@ fn answer(
 ) -> u32
     ensures name { IsDescribed (fields_for snapshot.now name.now email.now).name name.now new_name.new }
     ensures email { IsDescribed (fields_for snapshot.now name.now email.now).email email.now new_email.new }
-    ensures answer { IsAnswered (fields_for snapshot.now name.now email.now) name.now email.now name_out.old name_out.new email_out.old email_out.new result }
+    ensures answer { IsAnswered (fields_for snapshot.now name.now email.now) name.now email.now name_out.old
+        name_out.new email_out.old email_out.new result }
 {
     let (proper_name, proper_email) = proper(snapshot, name, email);
     new_name.describe(proper_name, name);

@@ -17,6 +17,12 @@ pub(crate) fn paths_of(alloc: Global, names: &[&str]) -> Result<Vec<String>, All
     Ok(paths)
 }
 
+/// Wants as paths the arguments from an index on.
+pub(crate) fn assert_paths(rt: &impl Abort, paths: &[String], arguments: &[String], from: usize) {
+    assert!(rt; from <= arguments.len());
+    assert!(rt; paths.iter().eq(arguments[from..].iter()));
+}
+
 /// Files that are kept in memory. Of the last one with a name the bytes are read.
 #[derive(Drop)]
 pub(crate) struct Shelf<'a> {

@@ -1,5 +1,5 @@
 use crate::check::assert_bytes;
-use crate::files::{SHELF, paths_of};
+use crate::files::{SHELF, assert_paths, paths_of};
 use crate::run::{ALL, BREAKS, Sink, Source, Turn};
 use mailmap_io::failure::Failure;
 use mailmap_io::outcome::Outcome;
@@ -8,20 +8,10 @@ use std::alloc::{AllocError, Global};
 use std::io::{Read, Write};
 use std::process::Abort;
 
-/// Wants this mode, and as paths the arguments from an index on.
-fn assert_task(
-    rt: &impl Abort,
-    alloc: Global,
-    arguments: &[&str],
-    mode: Mode,
-    from: usize,
-) -> Result<(), AllocError> {
-    let arguments = paths_of(alloc, arguments)?;
-    let task = task_of(arguments.as_slice());
+fn assert_task(rt: &impl Abort, arguments: &[String], mode: Mode, from: usize) {
+    let task = task_of(arguments);
     assert_eq!(rt; task.mode, mode);
-    assert!(rt; from <= arguments.len());
-    assert!(rt; task.paths.iter().eq(arguments[from..].iter()));
-    Ok(())
+    assert_paths(rt, task.paths, arguments, from);
 }
 
 /// The first argument is the program's own name. `--prune` and `--help` count only right after it.
@@ -39,7 +29,8 @@ fn arguments_ask_for_findings_a_pruned_mailmap_or_help(rt: HostRuntime) -> Resul
         (&[], Mode::Verify, 0),
     ];
     for (arguments, mode, from) in &ROWS {
-        assert_task(&rt, rt.alloc(), arguments, *mode, *from)?;
+        let arguments = paths_of(rt.alloc(), arguments)?;
+        assert_task(&rt, arguments.as_slice(), *mode, *from);
     }
     Ok(())
 }

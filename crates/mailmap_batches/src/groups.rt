@@ -83,7 +83,8 @@ pub fn leading_name<'a>(batch: &[IndexedEntry<'_, 'a>]) -> (Named<'a>, usize)
     requires some { 0 < length batch.now }
     requires named { AllByRecursion (λ p. IsNamed (mapping_at p)) batch.now }
     ensures within { result.1 ≤ length batch.now }
-    ensures group { NameEntries (map mapping_at batch.now) (named_group result.0) (map mapping_at (drop result.1 batch.now)) }
+    ensures group { NameEntries (map mapping_at batch.now) (named_group result.0)
+        (map mapping_at (drop result.1 batch.now)) }
 {
     let Some(old_name) = batch[0].entry.old_name() else {
         unreachable!()

@@ -10,8 +10,8 @@ ghost use Rattle.mailmap_redundancy.specs.declared.located.Position.{Position};
 ghost use Rattle.mailmap_findings.specs.Findings.{AreFindings, AreInOrder, Contact, Finding, IsPruned, is_redundant, same_contact};
 ghost use Rattle.mailmap_findings.specs.Positions.{lines, located, same_position, whole_lines};
 
-/// Lines with their line feeds are their buffer, if they are put together again. They say what the buffer is read to
-/// say, and their entries are what the buffers map.
+/// The lines of a buffer, with their line feeds, are the buffer when they are put together again. They say what the
+/// buffer is read to say, and their entries are what the buffers map.
 pub fn law_whole_lines()
     ensures whole { (s : Text) → flat_map (λ t. t) (whole_lines s) ≡ s }
     ensures said { (s : Text) → flat_map (λ l. option_to_list (reading l.position.line l.text)) (lines (s ∷ []))
@@ -21,7 +21,7 @@ pub fn law_whole_lines()
     ensures entries { (buffers : List Text) → entries (located (lines buffers)) ≡ flat_map good buffers }
 {}
 
-/// Buffers have one list of findings, and a buffer has one text that is left of it.
+/// Buffers have exactly one list of findings, and a buffer has exactly one pruned text.
 pub fn law_one_answer()
     ensures findings { (buffers : List Text) → (found : List Finding) × AreFindings buffers found }
     ensures one_findings { (buffers : List Text) (found other : List Finding) → AreFindings buffers found
@@ -30,7 +30,7 @@ pub fn law_one_answer()
     ensures one_pruned { (buffer text other : Text) → IsPruned buffer text → IsPruned buffer other → text ≡ other }
 {}
 
-/// Positions, and contacts, are told apart by plain equality.
+/// Positions are compared by plain equality, and so are contacts.
 pub fn law_equal_contacts()
     ensures positions { (a b : Position) → (same_position a b ≡ true) ↔ (a ≡ b) }
     ensures contacts { (a b : Contact) → (same_contact a b ≡ true) ↔ (a ≡ b) }

@@ -8,8 +8,8 @@
 //! Joe <joe@x> joe
 //! ```
 //!
-//! [`verify`] finds that the third line ends with text that nobody reads. The first line gives `JD@x` its spelling, so it
-//! has an effect, although the second one replaces both of its fields.
+//! [`verify`] finds that the third line ends with text that nobody reads. The first line gives `JD@x` its spelling, so
+//! it has an effect, although the second one replaces both of its fields.
 ghost use Rattle.std.specs.Prelude.{map, IfOk};
 ghost use Rattle.mailmap_findings.specs.Findings.{AreFindings, IsPruned, finding_of};
 
@@ -25,10 +25,10 @@ use mailmap_redundancy::without_redundant;
 use reading::{LinesRead, readings};
 use std::alloc::{AllocError, Global};
 
-/// What is reported of a line.
+/// What is wrong with one line, and which line it is.
 #[derive(Debug, PartialEq, Eq, Drop)]
 pub struct Finding<'a> {
-    /// Where the line is.
+    /// The buffer and the number of the line.
     pub position: Position,
     pub kind: Kind<'a>,
 }
@@ -41,8 +41,8 @@ pub enum Kind<'a> {
     /// Text after the last email of a line that gives an entry. It is trimmed and not empty: `joe` of `Joe <joe@x>
     /// joe`.
     IgnoredText(&'a [u8]),
-    /// The line could go and nothing would change. `beside` is the last line that stays and is for the same old email and
-    /// old name.
+    /// The line could be deleted and nothing would change. `beside` is the last line for the same old email and old
+    /// name that has an effect.
     NoEffect {
         beside: Position,
     },
@@ -63,10 +63,10 @@ pub struct Contact<'a> {
 /// Reports what is wrong with the lines of the buffers, in the order of the lines; later buffers come after earlier
 /// ones.
 ///
-/// Of one line there may be two findings: a fault or ignored text, and then that its entry has no effect or maps to a
-/// contact that is itself mapped. All lines that are reported to have no effect can be deleted at once.
+/// A line may have two findings: a fault or ignored text, and then that its entry has no effect or maps to a contact
+/// that is itself mapped. All lines that are reported to have no effect can be deleted at once.
 ///
-/// Of the buffer `P <a@x>\nP <a@x> p` this reports that line 1 has no effect beside line 2, and that line 2 has the
+/// For the buffer `P <a@x>\nP <a@x> p` this reports that line 1 has no effect beside line 2, and that line 2 has the
 /// ignored text `p`.
 pub fn verify<'a>(alloc: Global, buffers: &[&'a [u8]]) -> Result<Vec<Finding<'a>>, AllocError>
     ensures { IfOk result (λ findings. AreFindings (map (λ b. b.now) buffers.now) (map finding_of findings.items)) }
@@ -77,8 +77,8 @@ pub fn verify<'a>(alloc: Global, buffers: &[&'a [u8]]) -> Result<Vec<Finding<'a>
     walk::findings(alloc, &lines, reported, &located, &reduced)
 }
 
-/// The buffer without its lines whose entries have no effect. All other lines stay byte for byte, also comments and those
-/// with faults.
+/// The buffer without the lines whose entries have no effect. All other lines stay byte for byte, even comments and
+/// lines with faults.
 pub fn prune(alloc: Global, buffer: &[u8]) -> Result<Vec<u8>, AllocError>
     ensures { IfOk result (λ text. IsPruned buffer.now text.items) }
 {

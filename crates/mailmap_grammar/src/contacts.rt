@@ -1,18 +1,18 @@
-//! How a text is cut into a name and an email in brackets.
+//! How a text is cut into a contact: a name, and an email in brackets.
 ghost use Rattle.std.specs.Prelude.{◌≡◌, ◌<◌, ◌↔◌, IsTrue};
 ghost use Rattle.mailmap_grammar.specs.Lines.{cut, parsed_contact_of, trimmed_contact};
 ghost use Rattle.mailmap_grammar.specs.Trimming.{trim as spec_trim, IsVisibleLead};
 
 use bstr::ByteSlice;
 
-/// What is round the first `<` of a text and the first `>` after it.
+/// The contact that a text begins with. Its email is between the first `<` and the first `>` after that.
 #[derive(Clone, Copy)]
 pub enum ParsedContact<'a> {
     /// There is no `<`.
     Absent,
     /// There is a `<`, and no `>` after it.
     Unclosed,
-    /// Name and email are trimmed, and either may be empty. The rest is what is after the `>`, as it is.
+    /// Name and email are trimmed, and either may be empty. The rest is all text after the `>`, not trimmed.
     Closed {
         name: &'a [u8],
         email: &'a [u8],
@@ -20,7 +20,8 @@ pub enum ParsedContact<'a> {
     },
 }
 
-/// Cuts a text at its first `<` and the first `>` after it. This serves either contact of a line, and contact lines.
+/// Cuts a text at its first `<` and the first `>` after it. Both contacts of a mailmap line are read by this, and the
+/// lines that ask for a contact, too.
 #[inline(always)]
 pub fn parse_name_and_email(text: &[u8]) -> ParsedContact<'_>
     ensures { parsed_contact_of result ≡ trimmed_contact (cut text.now) }
@@ -44,7 +45,7 @@ pub fn parse_name_and_email(text: &[u8]) -> ParsedContact<'_>
 pub fn trim(text: &[u8]) -> &[u8]
     ensures { result.now ≡ spec_trim text.now }
 {
-    // Most texts have a blank at each end at most, and after it a byte that shows that there is no more to trim.
+    // Most texts have at most one blank at each end, and then a byte that shows that there is no more to trim.
     let inner = without_last_blank(without_first_blank(text));
     if is_plain(inner) {
         return inner;
@@ -73,7 +74,7 @@ fn without_last_blank(text: &[u8]) -> &[u8]
     &text[..len - 1]
 }
 
-// Whether it shows in the bytes at the ends that there is nothing to trim.
+// Whether the bytes at both ends show that there is nothing to trim.
 #[inline(always)]
 fn is_plain(text: &[u8]) -> bool
     ensures { IsTrue result → spec_trim text.now ≡ text.now }

@@ -4,7 +4,8 @@ ghost use Rattle.mailmap_entries.specs.Folding.{Text};
 ghost use Rattle.mailmap_grammar.specs.Lines.{cut, Closed, Unclosed, Absent, IsCut, IsUnclosed, HoldsNo, Reading, reading, strict_reading, IsRead, IsReadStrictly, pieces, ArePieces};
 ghost use Rattle.mailmap_grammar.specs.Trimming.{IsTrimmed, trim};
 
-/// Trimming takes the longest front and then the longest end of white space away, and that is one text.
+/// Trimming removes the longest stretch of white space at the start and then the longest one at the end, and there is
+/// exactly one such text.
 pub fn law_trim()
     ensures { (s t : Text) → IsTrimmed s t ↔ (t ≡ trim s) }
 {}
@@ -16,8 +17,8 @@ pub fn law_cut()
     ensures absent { (s : Text) → (cut s ≡ Absent) ↔ HoldsNo 60 s }
 {}
 
-/// What a line says is said by cases of which each line meets one: a comment, a blank line, no `<`, a `<` without its
-/// `>`, a blank email, a second contact, a name alone, or nothing to map.
+/// Each line is exactly one of these cases, which says what the line means: a comment, a blank line, no `<`, a `<`
+/// without its `>`, a blank email, a second contact, only a name, or nothing to map.
 pub fn law_reading()
     ensures { (n : ℕ) (line : Text) (o : Option Reading) → (reading n line ≡ o) ↔ IsRead n line o }
 {}

@@ -34,8 +34,8 @@ use thiserror::Error;
 
 /// Parses `buf` line by line: an item for each line that is neither blank nor a comment, in their order.
 ///
-/// A fault concerns only its own line, and the lines after it are read all the same; whether to stop at a fault is
-/// up to the caller. Nothing is allocated, and the entries borrow from `buf`: they outlive the iterator.
+/// A fault concerns only its own line, and the lines after it are read all the same; it is up to the caller to stop at
+/// a fault. Nothing is allocated, and the entries borrow from `buf`: they outlive the iterator.
 ///
 /// The buffer `# team\nJane <j@x>\nplain\n` gives the entry of `Jane` by `j@x`, and a fault on line 3.
 pub fn parse(buf: &[u8]) -> Lines<'_>
@@ -182,8 +182,8 @@ impl<'a> Iterator for GoodLines<'a> {
 /// Why a line maps nothing.
 ///
 /// Each fault has the number of its line, from 1, and as `input` the whole line without the white space at its ends;
-/// [`Error::UnclosedSecond`] has the rest of the line. Its text names the line and the defect, and doesn't show `input`,
-/// which need not be UTF-8.
+/// [`Error::UnclosedSecond`] has the rest of the line. Its text names the line and the defect, and doesn't show
+/// `input`, which need not be UTF-8.
 #[derive(Debug, PartialEq, Eq, Drop, Error)]
 pub enum Error<'a> {
     /// The line has no `<`, as `plain`.
@@ -298,8 +298,8 @@ impl<'a> Iterator for Walk<'a> {
 
 /// What the line `text` says, as it is in its buffer; `None` for a comment and for a blank line.
 ///
-/// `line` is the number that a fault shows. A line feed or a carriage return at the end of `text` says nothing, as other
-/// white space there. Of `Jane <j@x>` this gives the entry of `Jane` by `j@x`.
+/// `line` is the number that a fault shows. A line feed or a carriage return at the end of `text` says nothing, as
+/// other white space there. Of `Jane <j@x>` this gives the entry of `Jane` by `j@x`.
 #[inline(always)]
 pub fn read_line(
     text: &[u8],

@@ -1,4 +1,4 @@
-//! What a line says, and the text after it that says nothing. Users of the crate `gix_mailmap` don't see this.
+//! The entry of a line, and its trailing text, which says nothing. Users of the crate `gix_mailmap` don't see this.
 ghost use Rattle.std.specs.Prelude.{◌≡◌, IfOk, IfSome, option_map};
 ghost use Rattle.mailmap_grammar.specs.Lines.{trailing_text, cut, reading_with_trailing, strict_reading};
 ghost use Rattle.mailmap_grammar.specs.Trimming.{trim};
@@ -6,16 +6,16 @@ ghost use Rattle.mailmap_grammar.specs.Trimming.{trim};
 use crate::lines::{Error, Strictness, read_with_trailing};
 use mailmap_entries::Entry;
 
-/// The entry of a line, and what is after the last email that counts, as it is: after the second contact where
-/// that is closed, else after the first.
+/// The entry of a line and the trailing text: all that follows the second contact, or the first one if the line has no
+/// second contact with a `>`. The text is not trimmed.
 #[derive(Clone, Copy, Debug)]
 pub struct WithTrailing<'a> {
     pub entry: Entry<'a>,
     pub trailing: &'a [u8],
 }
 
-/// What the line `text` says, read strictly, as of [`read_line`](crate::lines::read_line), and the rest of a line with an
-/// entry.
+/// What the line `text` says, read strictly, as of [`read_line`](crate::lines::read_line), and the rest of a line with
+/// an entry.
 ///
 /// Of `Joe <joe@x> joe` this gives the entry of `Joe` by `joe@x`, and ` joe`.
 #[inline(always)]

@@ -78,7 +78,8 @@ pub fn len_with_line(len: usize, entry: &Entry<'_>) -> Option<usize>
 
 // A length and that of a text and of what is beside it together, if there is a text.
 fn len_with_part(len: usize, text: Option<&[u8]>, beside: usize) -> Option<usize>
-    ensures { let all = len + unwrap_or (option_map (λ t. length t + beside) (option_copied text.entry)) 0 in MatchOption result (2 ^ 64 ≤ all) (λ n. n ≡ all) }
+    ensures { let all = len + unwrap_or (option_map (λ t. length t + beside) (option_copied text.entry)) 0
+        in MatchOption result (2 ^ 64 ≤ all) (λ n. n ≡ all) }
 {
     match text {
         Some(text) => len.checked_add(text.len())?.checked_add(beside),
@@ -96,7 +97,8 @@ pub fn push_line(out: &mut Vec<u8>, entry: &Entry<'_>) -> Result<(), AllocError>
 
 // Puts a blank and the new fields of an entry after what is written.
 fn push_new_fields(out: &mut Vec<u8>, entry: &Entry<'_>) -> Result<(), AllocError>
-    ensures { let e = mapping_of entry.now in OnOk result (out.new.items ≡ out.old.items ++ 32 ∷ (name_part e.new_name ++ email_part e.new_email)) }
+    ensures { let e = mapping_of entry.now
+        in OnOk result (out.new.items ≡ out.old.items ++ 32 ∷ (name_part e.new_name ++ email_part e.new_email)) }
 {
     out.push(b' ')?;
     push_name(out, entry.new_name())?;
@@ -109,7 +111,9 @@ fn push_new_fields(out: &mut Vec<u8>, entry: &Entry<'_>) -> Result<(), AllocErro
 
 // Puts the old fields of an entry and a line feed after what is written.
 fn push_old_fields(out: &mut Vec<u8>, entry: &Entry<'_>) -> Result<(), AllocError>
-    ensures { let e = mapping_of entry.now in OnOk result (out.new.items ≡ out.old.items ++ (name_part e.old_name ++ bracketed_email e.old_email ++ 10 ∷ [])) }
+    ensures { let e = mapping_of entry.now
+        in OnOk result (out.new.items
+        ≡ out.old.items ++ (name_part e.old_name ++ bracketed_email e.old_email ++ 10 ∷ [])) }
 {
     push_name(out, entry.old_name())?;
     push_email(out, entry.old_email())?;

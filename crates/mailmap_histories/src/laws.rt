@@ -28,7 +28,8 @@ pub fn law_scan()
 
 /// Histories with the same entries of each email have the same normal list.
 pub fn law_reorder()
-    ensures { (h g n : List Mapping) → ((email : Text) → of_email h email ≡ of_email g email) → IsNormal h n ↔ IsNormal g n }
+    ensures { (h g n : List Mapping) → ((email : Text) → of_email h email ≡ of_email g email) → IsNormal h n
+        ↔ IsNormal g n }
 {}
 
 /// A history has a normal list.

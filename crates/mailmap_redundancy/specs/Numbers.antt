@@ -26,11 +26,11 @@ use Rattle.mailmap_redundancy.specs.declared.table.Table.{Table}
 abbrev pub fields_of : FieldSlices → Fields
 fields_of f = record { name = option_copied f.name; email = option_copied f.email }
 
--- of the last entry its new fields
+-- the new fields of the last entry
 abbrev pub last_fields_of : Option (Bor LocatedEntry) → Option Fields
 last_fields_of o = option_map (λ x. new_fields (mapping_of x.now.entry)) o
 
--- where it is
+-- the position of the last entry
 abbrev pub position_of : KeyEntries → Option Position
 position_of s = option_map (λ x. x.now.position) s.last
 
@@ -62,11 +62,11 @@ located_entry_of x = located_of x.located.now
 
 -- ---- numbers
 
--- the key of the entries without an old name of an entry's email
+-- the key of an email: that of its entries without an old name
 abbrev pub email_key : Text → Key
 email_key email = (email, None)
 
--- the keys that an entry asks for are there
+-- the key of an entry and that of its email are there
 pub record HasKeys (keys : List Key) (e : Mapping) : Type 0 where
   pub own : Contains keys (key e)
   pub email : Contains keys (email_key (key e).0)
@@ -127,11 +127,11 @@ pub record IsTable (keys : List Key) (h : List Mapping) (t : Table) : Type 0 whe
   pub summaries : IsTableOf keys (λ k. k) (key_summary h) key_summary_of t.summaries.items
   pub spellings : IsTableOf keys email_key (spelling h) spelling_of t.spellings.items
 
--- they say where the last of the entries xs of each key is
+-- they give the position of the last of the entries xs of each key
 abbrev pub ArePositions : List Key → List LocatedMapping → Table → Type 0
 ArePositions keys xs t = IsTableOf keys (λ k. k) (last_position xs) position_of t.summaries.items
 
--- the rows of which nothing is asked any more are blank
+-- the rows that are not needed any more are empty
 abbrev pub AreBlank : {X Y Z : Type 0} → List Key → (X → Key) → (X → Type 0) → Y → (Z → Y) → List Z → Type 0
 AreBlank {X} {Y} {Z} keys key_of left blank view rows = (x : X) (i : ℕ) → IsNumber keys (key_of x) i → (i < length rows) × (left x → (d : Z) → view (slice_index_or rows i d) ≡ blank)
 
@@ -145,14 +145,14 @@ pub record IsForgetting (keys : List Key) (h : List Mapping) (t : Table) : Type 
 abbrev pub mappings : List NumberedEntry → List LocatedMapping
 mappings xs = map located_entry_of xs
 
--- what each entry asks of those after it, that of the last entry first
+-- what each entry has to know of the later ones, that of the last entry first
 abbrev pub later_of_each : List LocatedMapping → List Later
 later_of_each [] = []
 later_of_each (x ∷ xs) = later_of_each xs ++ later_of x.entry (summary (entries xs) (key x.entry)) ∷ []
 
--- ---- what was reduced
+-- ---- reduced histories
 
--- a history, and what stays of it
+-- a history, and its entries that are not redundant
 pub record ReducedHistory : Type 0 where
   pub history : List LocatedMapping
   pub kept : List LocatedMapping

@@ -1,4 +1,4 @@
--- Which entries of a history go, since nothing would change without them.
+-- Which entries of a history are redundant: nothing would change without them.
 use Rattle.std.specs.Prelude.{◌↔◌, List, [], ◌∷◌, ◌++◌, map, filter, Option}
 use Rattle.std.specs.Borrow.{Bor}
 use Rattle.std.specs.Option.{option_map}
@@ -8,7 +8,7 @@ use Rattle.mailmap_histories.specs.Histories.{Key, key, key_cmp, last, IsNormal}
 use Rattle.mailmap_redundancy.specs.declared.located.Position.{Position}
 use Rattle.mailmap_redundancy.specs.declared.located.LocatedEntry.{LocatedEntry}
 
--- what an entry says, and where it is
+-- what an entry says, and its position
 pub record LocatedMapping : Type 0 where
   pub position : Position
   pub entry : Mapping
@@ -28,8 +28,8 @@ entries xs = map (λ x. x.entry) xs
 abbrev pub IsRedundant : List Mapping → Mapping → List Mapping → Type 0
 IsRedundant before e after = (n : List Mapping) → IsNormal (before ++ e ∷ after) n ↔ IsNormal (before ++ after) n
 
--- One pass, from the first entry to the last, after those that were kept: each goes that changes nothing between those
--- that were kept before it and all that come after it.
+-- One pass, from the first entry to the last: an entry goes if it changes nothing between the entries that were kept
+-- before it and all that come after it.
 pub data IsPass : List LocatedMapping → List LocatedMapping → List LocatedMapping → Type 0 where
   done : (kept : List LocatedMapping) → IsPass kept [] kept
   goes : (kept : List LocatedMapping) (x : LocatedMapping) (xs out : List LocatedMapping)
@@ -38,12 +38,12 @@ pub data IsPass : List LocatedMapping → List LocatedMapping → List LocatedMa
       → (IsRedundant (entries kept) x.entry (entries xs) → ⊥) → IsPass (kept ++ x ∷ []) xs out
       → IsPass kept (x ∷ xs) out
 
--- passes until one lets nothing go
+-- passes until one drops no entry
 pub data IsReduced : List LocatedMapping → List LocatedMapping → Type 0 where
   settled : (xs : List LocatedMapping) → IsPass [] xs xs → IsReduced xs xs
   again : (xs some kept : List LocatedMapping) → IsPass [] xs some → IsReduced some kept → IsReduced xs kept
 
--- where the last entry of a key is
+-- the position of the last entry of a key
 abbrev pub last_position : List LocatedMapping → Key → Option Position
 last_position xs k = option_map (λ x. x.position) (last (filter (λ x. eq_by_cmp key_cmp k (key x.entry)) xs))
 

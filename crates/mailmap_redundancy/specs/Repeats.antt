@@ -1,4 +1,4 @@
--- Emails of which some key comes twice: entries of others stay.
+-- Emails with repeats: those of which some key comes twice. The entries of all other emails stay.
 use Rattle.std.specs.Prelude.{◌≡◌, ◌≤◌, Bool, false, List, ℕ, filter, length}
 use Rattle.std.specs.List.{position_or_len, slice_index_or}
 use Rattle.std.specs.Ordering.{eq_by_cmp}
@@ -8,7 +8,7 @@ use Rattle.mailmap_histories.specs.Histories.{Key, key_cmp, of_key}
 use Rattle.mailmap_redundancy.specs.Redundancy.{LocatedMapping}
 use Rattle.mailmap_redundancy.specs.Numbers.{email_key}
 
--- the number of a key that is there
+-- the number of a key that is among them
 abbrev pub number_of : List Key → Key → ℕ
 number_of keys k = position_or_len (eq_by_cmp key_cmp k) keys
 
@@ -20,7 +20,7 @@ has_repeats keys repeated email = slice_index_or repeated (number_of keys (email
 abbrev pub AreUnrepeated : List Key → List Bool → List Mapping → Type 0
 AreUnrepeated keys repeated h = (k : Key) → has_repeats keys repeated k.0 ≡ false → length (of_key h k) ≤ 1
 
--- the entries of the emails of a kind
+-- the entries of chosen emails
 abbrev pub those_of : (Text → Bool) → List LocatedMapping → List LocatedMapping
 those_of chosen xs = filter (λ x. chosen (folded x.entry.old_email)) xs
 

@@ -1,5 +1,5 @@
--- What a stretch of a history says of a key and of its email: as much as shows whether an entry beside it changes
--- anything.
+-- A summary of what a stretch of a history says of a key and of its email: enough to decide whether an entry before or
+-- after the stretch is redundant.
 use Rattle.std.specs.Prelude.{Bool, false, ◌&&◌, ◌||◌, if◌then◌else◌, List, Option, Some, None, is_some, is_none}
 use Rattle.std.specs.List.{filter_map}
 use Rattle.std.specs.Option.{option_or}
@@ -9,7 +9,8 @@ use Rattle.mailmap_histories.specs.Histories.{Fields, Key, first, last_given, of
 use Rattle.mailmap_histories.specs.Listings.{same_optional}
 use Rattle.mailmap_redundancy.specs.declared.summary.Later.{Later}
 
--- of the entries of a key: the first old name, the new name and the new email that were last given, both new fields of the last
+-- of the entries of a key: the first old name, the new name and the new email as they were given last, and both new
+-- fields of the last entry
 pub record KeySummary : Type 0 where
   pub old_name : Option Text
   pub name : Option Text
@@ -25,7 +26,7 @@ key_summary h k =
       last = last_fields h k;
     }
 
--- of a key, and of all entries of its email
+-- of the entries of a key, and the spelling of the first entry of its email
 pub record Summary : Type 0 where
   pub of_key : KeySummary
   pub spelling : Option Text
@@ -53,7 +54,7 @@ joined_summary a b =
 
 -- ---- whether an entry between two stretches changes anything
 
--- what the entry asks of the stretch after it
+-- what the entry has to know of the stretch after it
 abbrev pub later_of : Mapping → Summary → Later
 later_of e s =
     record {
@@ -64,8 +65,8 @@ later_of e s =
       same_spelling = same_optional (Some e.old_email) s.spelling;
     }
 
--- which text is given last is the same without the own one: there is one after, or none is given, or the same one
--- before
+-- the text that was given last is the same without the entry: a later entry gives one, the entry gives none, or the same
+-- one was given before
 abbrev pub is_last_kept : Option Text → Option Text → Bool → Bool
 is_last_kept before own after = after || (is_none own || same_optional own before)
 
@@ -73,8 +74,9 @@ abbrev pub same_fields : Fields → Option Fields → Bool
 same_fields own None = false
 same_fields own (Some f) = same_optional own.name f.name && same_optional own.email f.email
 
--- The value of the key is the same without the entry, but for its email. With an old name: there is one before, or the same
--- one comes first after, and there are fields after, or the same ones were the last before.
+-- The value of the key is the same without the entry, apart from the spelling of its email. With an old name: an earlier
+-- entry gives the old name, or the next one spells it alike; and a later entry gives the fields, or the last earlier one
+-- gave the same.
 abbrev pub is_value_kept : KeySummary → Mapping → Later → Bool
 is_value_kept before e after =
     if is_some e.old_name then (is_some before.old_name || after.same_name) && (after.key || same_fields (new_fields e) before.last)

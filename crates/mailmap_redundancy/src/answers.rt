@@ -1,4 +1,4 @@
-//! What the tables of a history answer to a name and an email.
+//! Lookups by a name and an email in the tables of a history.
 ghost use Rattle.std.specs.Prelude.{◌≡◌, List, Some, unwrap_or};
 ghost use Rattle.std.specs.Option.{option_map, option_copied};
 ghost use Rattle.std.specs.Ordering.{eq_by_cmp};
@@ -32,7 +32,7 @@ pub(crate) fn scan<'a>(
     answered(email, fields, spelling)
 }
 
-// The fields for a name and an email, whose number is known.
+// The fields for a name and an email, if the number of the email's key is known.
 fn fields_for<'a>(
     keys: &SearchedKeys<'_, '_>,
     table: &Table<'_, 'a>,
@@ -54,7 +54,7 @@ fn fields_for<'a>(
     }
 }
 
-// What fields that are kept for an email answer to a spelling of it.
+// The answer to a spelling of an email, of which the fields and the kept spelling are known.
 fn answered<'a>(email: &[u8], fields: Fields<'a>, spelling: &'a [u8]) -> Option<Fields<'a>>
     ensures { option_map fields_of result ≡ spec.answered email.now (fields_of fields.entry) (Some spelling.entry.now) }
 {
@@ -68,7 +68,7 @@ fn answered<'a>(email: &[u8], fields: Fields<'a>, spelling: &'a [u8]) -> Option<
     })
 }
 
-// The kept spelling, if it is not the very email.
+// The kept spelling, if it differs from the email in any byte.
 fn respelled<'a>(kept: &'a [u8], email: &[u8]) -> Option<&'a [u8]>
     ensures { option_copied result ≡ spec.respelled kept.entry.now email.now }
 {

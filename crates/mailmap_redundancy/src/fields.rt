@@ -1,4 +1,4 @@
-//! What replaces a name and an email.
+//! The fields that replace a name and an email.
 ghost use Rattle.std.specs.Prelude.{◌≡◌};
 ghost use Rattle.mailmap_entries.specs.Entries.{mapping_of};
 ghost use Rattle.mailmap_histories.specs.Histories.{new_fields};

@@ -1,4 +1,4 @@
-//! What a stretch of a history says of a key.
+//! A summary of the entries that one key has in a stretch of a history. A stretch is some entries in a row.
 ghost use Rattle.std.specs.Prelude.{◌≡◌, IfSome, IsSome, None, Some, unwrap_or};
 ghost use Rattle.std.specs.Option.{option_copied, option_or};
 ghost use Rattle.std.proofs.Props.{props};
@@ -7,7 +7,8 @@ ghost use Rattle.mailmap_entries.specs.Entries.{mapping_of};
 use crate::fields::Fields;
 use crate::located::{LocatedEntry, Position};
 
-/// Of the entries of a key: the first that gives an old name, the last that give a new name and a new email, and the last.
+/// Of the entries of a key: the first one that gives an old name, the last one that gives a new name, the last one that
+/// gives a new email, and the last one of all.
 #[derive(Clone, Copy)]
 pub(crate) struct KeySummary<'p, 'a> {
     pub(crate) old_name: Option<&'p LocatedEntry<'a>>,
@@ -23,7 +24,7 @@ impl<'p, 'a> KeySummary<'p, 'a> {
     ghost use Rattle.mailmap_redundancy.specs.Summaries as spec;
     ghost use Rattle.mailmap_redundancy.specs.Numbers.{fields_of, key_summary_of, position_of};
 
-    /// Of no entry.
+    /// The summary of no entry.
     pub(crate) fn none() -> KeySummary<'p, 'a>
         ensures summary { key_summary_of result ≡ spec.no_summary }
         ensures position { position_of result ≡ None }
@@ -36,7 +37,7 @@ impl<'p, 'a> KeySummary<'p, 'a> {
         }
     }
 
-    /// Of one entry.
+    /// The summary of one entry.
     pub(crate) fn of(located: &'p LocatedEntry<'a>) -> KeySummary<'p, 'a>
         ensures summary { key_summary_of result ≡ spec.own_summary (mapping_of located.now.entry) }
         ensures position { position_of result ≡ Some located.now.position }
@@ -76,7 +77,7 @@ impl<'p, 'a> KeySummary<'p, 'a> {
         }
     }
 
-    /// The fields that were last given, each for itself.
+    /// The new name and the new email, each as it was given last.
     pub(crate) fn given(&self) -> Fields<'a>
         ensures { fields_of result ≡ record {
           name = (key_summary_of self.now).name;
@@ -99,7 +100,7 @@ impl<'p, 'a> KeySummary<'p, 'a> {
         }
     }
 
-    /// Where the last entry is.
+    /// The position of the last entry.
     pub(crate) fn position(&self) -> Option<Position>
         ensures { result ≡ position_of self.now }
     {
@@ -109,7 +110,7 @@ impl<'p, 'a> KeySummary<'p, 'a> {
         }
     }
 
-    /// Of this stretch with another after it.
+    /// The summary of this stretch and the one that comes after it.
     pub(crate) fn joined(self, after: KeySummary<'p, 'a>) -> KeySummary<'p, 'a>
         ensures summary { key_summary_of result
             ≡ spec.joined_summary (key_summary_of self.entry) (key_summary_of after.entry) }

@@ -1,4 +1,4 @@
-//! The keys of a history in ascending order, each once. A key's number is its index among them.
+//! The keys of a history in ascending order, each once. The number of a key is its index in this list.
 ghost use Rattle.std.specs.Prelude.{◌≡◌, ◌≢◌, [], ℕ, IfOk, OnOk, Some, true, false, if◌then◌else◌};
 ghost use Rattle.std.specs.Option.{option_copied, option_map, option_cmp};
 ghost use Rattle.std.specs.Ordering.{eq_by_cmp};
@@ -15,7 +15,7 @@ use std::alloc::{AllocError, Global};
 use std::cmp::Ordering;
 use std::marker::Model;
 
-/// A key, and the first bytes of its email as a number, which settles most comparisons.
+/// A key with the prefix of its email, which settles most comparisons.
 #[derive(Drop)]
 pub(crate) struct PrefixedKey<'a> {
     email: Prefixed<'a>,
@@ -45,7 +45,7 @@ impl<'a> PrefixedKey<'a> {
         PrefixedKey::new(entry.old_email(), entry.old_name())
     }
 
-    /// The key that entries of an email have without an old name.
+    /// The key of an email: the one that its entries without an old name have.
     pub(crate) fn of_email(email: &'a [u8]) -> PrefixedKey<'a>
         ensures { result ≡ email_key (folded email.now) }
     {
@@ -55,7 +55,7 @@ impl<'a> PrefixedKey<'a> {
         }
     }
 
-    /// The first bytes of the email as a number.
+    /// The prefix of the email.
     pub(crate) fn prefix(&self) -> u128
         ensures { IsKeyPrefix result self.now.0 }
     {
@@ -63,11 +63,11 @@ impl<'a> PrefixedKey<'a> {
     }
 }
 
-/// The key of an entry, or the one that its email has without an old name. It refers to the entry, since many are kept.
+/// The key of an entry, or the key of its email. It borrows the entry, since many keys are kept.
 #[derive(Drop)]
 pub(crate) struct KeptKey<'p, 'a> {
     entry: &'p Entry<'a>,
-    // whether the old name of the entry is part of it
+    // whether the old name of the entry is part of the key
     has_name: bool,
 }
 
@@ -89,7 +89,7 @@ impl<'p, 'a> KeptKey<'p, 'a> {
         }
     }
 
-    /// The key that entries of its email have without an old name.
+    /// The key of the email of an entry: the one that its entries without an old name have.
     pub(crate) fn of_email(entry: &'p Entry<'a>) -> KeptKey<'p, 'a>
         ensures { result ≡ email_key (key (mapping_of entry.now)).0 }
     {
@@ -109,7 +109,7 @@ impl<'p, 'a> KeptKey<'p, 'a> {
         }
     }
 
-    /// The same with the first bytes of its email.
+    /// The same key with the prefix of its email.
     pub(crate) fn prefixed(&self) -> PrefixedKey<'a>
         ensures { result ≡ self.now }
     {
@@ -138,8 +138,8 @@ fn compare_names(a: Option<&[u8]>, b: Option<&[u8]>) -> Ordering
     }
 }
 
-/// The keys of entries that come in the order of their keys, and the keys of their emails, each once, with the prefixes
-/// of their emails.
+/// The keys of entries that come in the order of their keys, and the keys of their emails, each once. Beside each key
+/// is the prefix of its email.
 #[derive(Drop)]
 pub(crate) struct AscendingKeys<'p, 'a> {
     pub(crate) keys: Vec<KeptKey<'p, 'a>>,
@@ -161,7 +161,7 @@ impl<'p, 'a> AscendingKeys<'p, 'a> {
         })
     }
 
-    /// Adds the key of an entry, and that of its email, if they are not there.
+    /// Adds the key of an entry and the key of its email, unless they are there already.
     pub(crate) fn push(&mut self, entry: &'p Entry<'a>) -> Result<(), AllocError>
         requires ascending { AreAscending self.old.keys.items self.old.email }
         requires up { IsReached self.old.keys.items (key (mapping_of entry.now)) }
@@ -177,7 +177,7 @@ impl<'p, 'a> AscendingKeys<'p, 'a> {
         self.push_key(entry, &prefixed)
     }
 
-    // Adds the key of an entry's email, if the last one is of another.
+    // Adds the key of an entry's email, unless the last key is of the same email.
     fn push_email(
         &mut self,
         entry: &'p Entry<'a>,
@@ -203,7 +203,7 @@ impl<'p, 'a> AscendingKeys<'p, 'a> {
         Ok(())
     }
 
-    // Adds the key of an entry, if the last one is another. Its email is that of the last one.
+    // Adds the key of an entry, unless it is the last one. The last key is of the same email.
     fn push_key(
         &mut self,
         entry: &'p Entry<'a>,
@@ -229,7 +229,7 @@ impl<'p, 'a> AscendingKeys<'p, 'a> {
     }
 }
 
-// Whether the last of the keys has this email.
+// Whether the last key is of the same email.
 fn is_last_email(keys: &[KeptKey], key: &PrefixedKey) -> bool
     ensures yes { result ≡ true → last_email keys.now ≡ Some key.now.0 }
     ensures no { result ≡ false → last_email keys.now ≢ Some key.now.0 }
@@ -247,7 +247,7 @@ fn have_same_email(a: &KeptKey, b: &PrefixedKey) -> bool
     Steps::new().compare_prefixed(prefix, b.email).is_eq()
 }
 
-// Whether the last of the keys, which has this email, has this name.
+// Whether the last key, which is of the same email, has the same name.
 fn is_last_name(keys: &[KeptKey], key: &PrefixedKey) -> bool
     requires { last_email keys.now ≡ Some key.now.0 }
     ensures yes { result ≡ true → last_key keys.now ≡ Some key.now }

@@ -1,4 +1,4 @@
-//! Laws of what stays of a history. Each function runs nothing: its contract is the law.
+//! Laws of histories without their redundant entries. Each function runs nothing: its contract is the law.
 ghost use Rattle.std.specs.Prelude.{◌≡◌, ◌≢◌, ◌↔◌, ◌++◌, ◌∷◌, List, Contains, IsSome, map, true};
 ghost use Rattle.std.specs.declared.cmp.Ordering.{Ordering};
 ghost use Rattle.std.specs.List.Sorted.{IsStrictlySortedBy};
@@ -8,13 +8,13 @@ ghost use Rattle.mailmap_redundancy.specs.Redundancy.{IsRedundant, IsReduced, Is
 ghost use Rattle.mailmap_redundancy.specs.declared.located.Position.{Position};
 ghost use Rattle.mailmap_redundancy.specs.Summaries.{is_redundant, summary};
 
-/// Without the entries that go the normal list is the same.
+/// The normal list is the same without the redundant entries.
 pub fn law_same_listing()
     ensures { (xs kept : List LocatedMapping) (n : List Mapping) → IsReduced xs kept
         → IsNormal (entries xs) n ↔ IsNormal (entries kept) n }
 {}
 
-/// Of the entries that stay none can go: without it the normal list would differ.
+/// None of the entries that stay is redundant: without it, the normal list would differ.
 pub fn law_none_can_go()
     ensures redundant { (xs a c : List LocatedMapping) (x : LocatedMapping) → IsReduced xs (a ++ x ∷ c)
         → IsRedundant (entries a) x.entry (entries c) → ⊥ }
@@ -23,7 +23,7 @@ pub fn law_none_can_go()
         → IsNormal (entries xs) n → IsNormal (entries (a ++ c)) m → n ≢ m }
 {}
 
-/// What stays is some of the entries, in their order.
+/// The entries that stay are some of all entries, in their order.
 pub fn law_some_stay()
     ensures sublist { (xs kept : List LocatedMapping) → IsReduced xs kept → IsSublist kept xs }
     ensures among { (xs kept : List LocatedMapping) (x : LocatedMapping) → IsReduced xs kept → Contains kept x
@@ -33,7 +33,7 @@ pub fn law_some_stay()
         → IsStrictlySortedBy cmp (map (λ (x : LocatedMapping). x.position) kept) }
 {}
 
-/// Each key of the accepted entries has an entry that stays.
+/// For each key of the accepted entries an entry stays.
 pub fn law_each_key_stays()
     ensures keys { (xs kept : List LocatedMapping) (k : Key) → IsReduced xs kept
         → has_key (accepted (entries kept)) k ≡ has_key (accepted (entries xs)) k }
@@ -42,14 +42,15 @@ pub fn law_each_key_stays()
         → IsSome (last_position kept (key x.entry)) }
 {}
 
-/// What stays of a history is one list, and all of that stays when it is reduced again.
+/// There is exactly one list of entries that stay, and none of them is redundant when the list is reduced again.
 pub fn law_settled()
     ensures exists { (xs : List LocatedMapping) → (kept : List LocatedMapping) × IsReduced xs kept }
     ensures one { (xs kept other : List LocatedMapping) → IsReduced xs kept → IsReduced xs other → kept ≡ other }
     ensures again { (xs kept : List LocatedMapping) → IsReduced xs kept → IsReduced kept kept }
 {}
 
-/// Whether an accepted entry can go is seen from what is said before it and after it of its own key and email.
+/// Whether an accepted entry is redundant follows from the summaries of its key and its email, of the entries before it
+/// and of those after it.
 pub fn law_redundant()
     ensures { (a c : List Mapping) (e : Mapping) → is_accepted e ≡ true
         → (is_redundant (summary a (key e)) e (summary c (key e)) ≡ true) ↔ IsRedundant a e c }

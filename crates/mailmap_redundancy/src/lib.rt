@@ -1,5 +1,5 @@
-//! Which entries of a history go, since nothing would change without them. The crate `gix_mailmap` builds on this; it
-//! is no part of what it gives to users.
+//! Which entries of a history are redundant: without them nothing would change. The crate `gix_mailmap` builds on this,
+//! and doesn't show it to users.
 #![tactic(auto)]
 
 mod answers;

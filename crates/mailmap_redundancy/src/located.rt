@@ -4,7 +4,7 @@ ghost use Rattle.mailmap_entries.specs.Entries.{mapping_of};
 use mailmap_batches::indexed::HasEntry;
 use mailmap_entries::Entry;
 
-/// Where a line is: its buffer, counted from 0, and its number in that buffer, counted from 1.
+/// Where a line is: the buffer, counted from 0, and the number of the line in that buffer, counted from 1.
 ///
 /// The first line of the second of two buffers is `Position { buffer: 1, line: 1 }`.
 #[derive(Clone, Copy, Debug, PartialEq, Eq)]

@@ -1,4 +1,4 @@
-//! Entries with the numbers of their keys, so that tables have a row for each key.
+//! Entries with the numbers of their keys. A table has a row for each of these numbers.
 ghost use Rattle.std.specs.Prelude.{◌≡◌, ◌<◌, length, IfOk, OnOk, All, Some, map, true};
 ghost use Rattle.std.specs.List.Sorted.{IsStrictlySortedBy};
 ghost use Rattle.mailmap_entries.specs.Entries.{mapping_of};
@@ -11,7 +11,7 @@ use crate::located::LocatedEntry;
 use mailmap_batches::batch::sorted;
 use std::alloc::{AllocError, Global};
 
-/// An entry, the number of its key, and that of the key of its email, without an old name.
+/// An entry, the number of its key, and the number of the key of its email.
 #[derive(Clone, Copy)]
 pub(crate) struct NumberedEntry<'p, 'a> {
     pub(crate) located: &'p LocatedEntry<'a>,
@@ -19,7 +19,7 @@ pub(crate) struct NumberedEntry<'p, 'a> {
     pub(crate) email: usize,
 }
 
-/// A row for each entry, before its numbers are known.
+/// A row for each entry, with its numbers still to be filled in.
 pub(crate) fn unnumbered<'p, 'a>(
     alloc: Global,
     entries: &'p [LocatedEntry<'a>],
@@ -37,7 +37,8 @@ pub(crate) fn unnumbered<'p, 'a>(
     Ok(rows)
 }
 
-/// The keys of entries, whose rows get their numbers. The entries are sorted once, so that only neighbours are compared.
+/// Collects the keys of entries and fills their numbers in. The entries are sorted once, so only neighbours have to be
+/// compared.
 pub(crate) fn number<'p, 'a>(
     alloc: Global,
     entries: &'p [LocatedEntry<'a>],
@@ -60,7 +61,7 @@ pub(crate) fn number<'p, 'a>(
     Ok(keys)
 }
 
-// An entry with the numbers of the last key, which is its own.
+// An entry with the number of the last key, which is its own, and the number of the last email.
 fn with_last_numbers<'p, 'a>(
     located: &'p LocatedEntry<'a>,
     keys: &AscendingKeys<'_, '_>,

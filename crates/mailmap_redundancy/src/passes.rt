@@ -1,4 +1,4 @@
-//! Passes over a history, each of which lets entries go that change nothing.
+//! Passes over a history, each of which drops redundant entries.
 ghost use Rattle.std.specs.Prelude.{◌≡◌, ◌≤◌, All, [], IfOk, OnOk, length, take};
 ghost use Rattle.std.specs.List.Sorted.{IsStrictlySortedBy};
 ghost use Rattle.mailmap_histories.specs.Histories.{key_cmp};
@@ -13,9 +13,9 @@ use crate::summary::{Later, is_redundant};
 use crate::table::Table;
 use std::alloc::{AllocError, Global};
 
-/// Makes passes over the entries until one lets nothing go. Those that stay come first, and their number is the
-/// answer. The table is first of no entry, and then of those that stay. Emails are marked anew before each pass, since
-/// fewer of them have a key that comes twice.
+/// Makes passes over the entries until one drops none. The entries that stay are moved to the start, and their number
+/// is returned. The table begins empty, and ends with the entries that stay. Emails are marked anew before each pass,
+/// since fewer and fewer of them have a key that comes twice.
 pub(crate) fn settle<'p, 'a>(
     alloc: Global,
     keys: &[KeptKey<'_, '_>],
@@ -44,8 +44,8 @@ pub(crate) fn settle<'p, 'a>(
     Ok(kept)
 }
 
-// A pass over the first `len` entries. Those that stay come first, and their number is the answer. The table is
-// first of no entry, and then of those that stay of the emails with repeats.
+// One pass over the first `len` entries. Those that stay are moved to the start, and their number is returned. The
+// table begins empty, and ends with those that stay whose emails have repeats.
 fn pass<'p, 'a>(
     alloc: Global,
     keys: &[KeptKey<'_, '_>],
@@ -62,9 +62,11 @@ fn pass<'p, 'a>(
     requires table { IsTable keys.now [] table.old }
     ensures len { IfOk result (λ kept. kept ≤ len) }
     ensures whole { OnOk result (length entries.new ≡ length entries.old) }
-    ensures passed { IfOk result (λ kept. IsPass [] (mappings (take len entries.old)) (mappings (take kept entries.new))) }
+    ensures passed { IfOk result
+        (λ kept. IsPass [] (mappings (take len entries.old)) (mappings (take kept entries.new))) }
     ensures numbered { IfOk result (λ kept. All (IsNumbered keys.now) (take kept entries.new)) }
-    ensures unrepeated { IfOk result (λ kept. AreUnrepeated keys.now repeated.now (spec_entries (mappings (take kept entries.new)))) }
+    ensures unrepeated { IfOk result
+        (λ kept. AreUnrepeated keys.now repeated.now (spec_entries (mappings (take kept entries.new)))) }
     ensures table { IfOk result (λ kept. IsTable keys.now
         (spec_entries (of_repeated keys.now repeated.now (mappings (take kept entries.new)))) table.new) }
     ensures positions { IfOk result (λ kept. ArePositions keys.now
@@ -90,8 +92,8 @@ fn pass<'p, 'a>(
     Ok(kept)
 }
 
-// What is after each entry of an email with repeats, that of the last entry first. The table, which is of no entry, is
-// then of all of these.
+// For each entry whose email has repeats, what it has to know of the later ones; that of the last entry comes first.
+// The table begins empty, and ends with all of these entries.
 fn each_later<'p, 'a>(
     alloc: Global,
     keys: &[KeptKey<'_, '_>],
@@ -121,7 +123,7 @@ fn each_later<'p, 'a>(
     Ok(later_ones)
 }
 
-// Makes a table of the entries of the emails with repeats one of no entry. Only their rows are touched.
+// Empties a table of the entries whose emails have repeats. Only the rows of these entries are touched.
 fn forget_repeated<'p, 'a>(
     keys: &[KeptKey<'_, '_>],
     repeated: &[bool],
@@ -131,7 +133,8 @@ fn forget_repeated<'p, 'a>(
     requires ascending { IsStrictlySortedBy key_cmp keys.now }
     requires numbered { All (IsNumbered keys.now) entries.now }
     requires rows { length repeated.now ≡ length keys.now }
-    requires table { IsTable keys.now (spec_entries (of_repeated keys.now repeated.now (mappings entries.now))) table.old }
+    requires table { IsTable keys.now (spec_entries (of_repeated keys.now repeated.now (mappings entries.now)))
+        table.old }
     ensures table { IsTable keys.now [] table.new }
     ensures positions { ArePositions keys.now [] table.new }
 {
@@ -142,7 +145,7 @@ fn forget_repeated<'p, 'a>(
     }
 }
 
-// Adds the entries of the other emails to a table of those of emails with repeats.
+// Adds the entries whose emails have no repeats to a table of the others.
 fn append_others<'p, 'a>(
     keys: &[KeptKey<'_, '_>],
     repeated: &[bool],
@@ -152,7 +155,8 @@ fn append_others<'p, 'a>(
     requires ascending { IsStrictlySortedBy key_cmp keys.now }
     requires numbered { All (IsNumbered keys.now) entries.now }
     requires rows { length repeated.now ≡ length keys.now }
-    requires table { IsTable keys.now (spec_entries (of_repeated keys.now repeated.now (mappings entries.now))) table.old }
+    requires table { IsTable keys.now (spec_entries (of_repeated keys.now repeated.now (mappings entries.now)))
+        table.old }
     requires positions { ArePositions keys.now (of_repeated keys.now repeated.now (mappings entries.now)) table.old }
     ensures table { IsTable keys.now (spec_entries (mappings entries.now)) table.new }
     ensures positions { ArePositions keys.now (mappings entries.now) table.new }

@@ -1,4 +1,4 @@
-//! A history of which only the entries stay that change something.
+//! A history without its redundant entries.
 ghost use Rattle.std.specs.Prelude.{◌≡◌, All, IfOk, map, true};
 ghost use Rattle.std.specs.Option.{option_map};
 ghost use Rattle.mailmap_entries.specs.Entries.{mapping_of};
@@ -19,13 +19,13 @@ use mailmap_entries::Entry;
 use std::alloc::{AllocError, Global};
 use std::marker::Model;
 
-/// A history and what stays of it: the entries that change something.
+/// A history, and those of its entries that aren't redundant.
 #[derive(Drop)]
 pub struct Reduced<'p, 'a> {
     history: &'p [LocatedEntry<'a>],
     keys: SearchedKeys<'p, 'a>,
     kept: Vec<&'p LocatedEntry<'a>>,
-    // what the kept entries say, which is what the history says
+    // the kept entries, which say the same as the whole history
     table: Table<'p, 'a>,
 }
 
@@ -46,7 +46,7 @@ impl<'p, 'a> Reduced<'p, 'a> {
         &self.kept
     }
 
-    /// Where the last entry that stays of this entry's key stands, `None` if none does.
+    /// The position of the last entry that stays and has the key of this entry, `None` if there is none.
     pub fn beside(&self, entry: &Entry<'_>) -> Option<Position>
         ensures { result ≡ last_position self.now.kept (key (mapping_of entry.now)) }
     {
@@ -54,8 +54,8 @@ impl<'p, 'a> Reduced<'p, 'a> {
         self.table.summaries[number].position()
     }
 
-    /// What the whole history maps a name and an email to, `None` if it maps neither. What is answered borrows from
-    /// the texts of the entries alone.
+    /// What the whole history maps a name and an email to, `None` if it maps neither. The answer borrows only from the
+    /// texts of the entries.
     pub fn scan(&self, name: &[u8], email: &[u8]) -> Option<Fields<'a>>
         ensures { option_map fields_of result ≡ answers.scan (entries self.now.history) name.now email.now }
     {
@@ -63,11 +63,11 @@ impl<'p, 'a> Reduced<'p, 'a> {
     }
 }
 
-/// Which of the entries stay: passes from the first entry to the last are made until one lets nothing go, and in each
-/// pass an entry goes if the normal list is the same without it.
+/// Drops the redundant entries. Passes from the first entry to the last are made until one of them drops none. In each
+/// pass an entry is dropped if the normal list is the same without it.
 ///
-/// Of two lines `Jane <jd@x>` the second goes; of `Jane <jd@x>` and `Ann <jd@x>` the first does. An entry stays that is
-/// the first of its email, if the next ones spell the email in another way.
+/// Of two lines `Jane <jd@x>` the second is dropped; of `Jane <jd@x>` and `Ann <jd@x>` the first is. The first entry of
+/// an email stays if the next ones spell the email in another way.
 pub fn without_redundant<'p, 'a>(
     alloc: Global,
     entries: &'p [LocatedEntry<'a>],
@@ -80,7 +80,7 @@ pub fn without_redundant<'p, 'a>(
     reduce_numbered(alloc, entries, &mut rows)
 }
 
-// The same, where the entries have rows for their numbers.
+// The same, over rows that the numbers of the entries are put into.
 fn reduce_numbered<'p, 'a>(
     alloc: Global,
     entries: &'p [LocatedEntry<'a>],

@@ -1,5 +1,5 @@
-//! Emails of which some key comes twice. An entry goes only if its key comes again, and depends on no other email, so
-//! passes need not look at the entries of the others.
+//! Emails with repeats: those of which some key comes twice. An entry can be redundant only if its key comes again, and
+//! no other email matters for that. So passes need not look at the entries of the other emails.
 ghost use Rattle.std.specs.Prelude.{◌≡◌, All, IfOk, length};
 ghost use Rattle.std.specs.List.Sorted.{IsStrictlySortedBy};
 ghost use Rattle.mailmap_histories.specs.Histories.{key_cmp};
@@ -11,7 +11,7 @@ use crate::keys::KeptKey;
 use crate::numbers::NumberedEntry;
 use std::alloc::{AllocError, Global};
 
-/// Marks the emails of which some key comes twice, by their numbers.
+/// Marks the emails with repeats, by their numbers.
 pub(crate) fn emails_with_repeats(
     alloc: Global,
     keys: &[KeptKey<'_, '_>],
@@ -20,7 +20,8 @@ pub(crate) fn emails_with_repeats(
     requires ascending { IsStrictlySortedBy key_cmp keys.now }
     requires numbered { All (IsNumbered keys.now) entries.now }
     ensures rows { IfOk result (λ repeated. length repeated.items ≡ length keys.now) }
-    ensures unrepeated { IfOk result (λ repeated. AreUnrepeated keys.now repeated.items (spec_entries (mappings entries.now))) }
+    ensures unrepeated { IfOk result
+        (λ repeated. AreUnrepeated keys.now repeated.items (spec_entries (mappings entries.now))) }
 {
     let mut seen = vec![in alloc; false; keys.len()]?;
     let mut repeated = vec![in alloc; false; keys.len()]?;

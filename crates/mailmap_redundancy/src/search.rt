@@ -1,4 +1,4 @@
-//! Where a key is among keys in ascending order.
+//! Searches for a key among keys in ascending order.
 ghost use Rattle.std.specs.Prelude.{◌≡◌, ◌<◌, List, Contains, IfSome, IfNone, IsSome, Some, length, map, slice_get};
 ghost use Rattle.std.specs.List.Sorted.{IsStrictlySortedBy};
 ghost use Rattle.mailmap_histories.specs.Histories.{Key, key_cmp};
@@ -9,7 +9,8 @@ use mailmap_entries::fold::{Probe, search};
 use std::cmp::Ordering;
 use std::marker::Model;
 
-/// Keys, and the prefixes of their emails apart from them: these lie close together, and settle most steps of a search.
+/// Keys, and the prefixes of their emails in a vector of their own. There the prefixes are close together in memory,
+/// and most steps of a search need only them.
 #[derive(Drop)]
 pub(crate) struct SearchedKeys<'p, 'a> {
     keys: Vec<KeptKey<'p, 'a>>,
@@ -33,7 +34,7 @@ impl<'p, 'a> SearchedKeys<'p, 'a> {
         SearchedKeys { keys, prefixes }
     }
 
-    // How the key of a number compares to a key.
+    // How the key with this number compares to a key.
     fn compare_at(&self, number: usize, key: &PrefixedKey<'_>) -> Ordering
         requires { number < length self.now }
         ensures { slice_get (map (λ k. key_cmp k key.now) self.now) number ≡ Some result }
@@ -46,7 +47,7 @@ impl<'p, 'a> SearchedKeys<'p, 'a> {
     }
 }
 
-// How keys compare to a key.
+// The keys, as a list of how each compares to one key.
 #[derive(Drop)]
 struct KeyProbe<'k, 'p, 'b> {
     keys: &'k SearchedKeys<'p, 'p>,
@@ -65,7 +66,7 @@ impl Probe for KeyProbe<'_, '_, '_> {
     }
 }
 
-/// The number of a key, `None` if it is not there.
+/// The number of a key, `None` if the key isn't among them.
 pub(crate) fn find<'p>(keys: &SearchedKeys<'p, 'p>, key: &PrefixedKey<'_>) -> Option<usize>
     requires { IsStrictlySortedBy key_cmp keys.now }
     ensures some { IfSome result (IsNumber keys.now key.now) }
@@ -79,8 +80,8 @@ pub(crate) fn find<'p>(keys: &SearchedKeys<'p, 'p>, key: &PrefixedKey<'_>) -> Op
     search(keys.keys.len(), &mut probe).ok()
 }
 
-/// The same of a key with a name, whose email has this number. The keys of an email are next to each other, that
-/// without a name first. So where the next email begins otherwise, nothing is searched for.
+/// The same for a key with a name, if the number of its email's key is known. All keys of an email follow its own key.
+/// So if the next key's email has another prefix, the email has no key with a name, and there is nothing to search for.
 pub(crate) fn find_named<'p>(
     keys: &SearchedKeys<'p, 'p>,
     number: usize,

@@ -1,5 +1,5 @@
-//! What a stretch of a history says of a key and of its email, and whether an entry between two stretches changes
-//! anything.
+//! A summary of the entries that a key and its email have in a stretch of a history, and whether an entry between two
+//! stretches is redundant.
 ghost use Rattle.std.specs.Prelude.{◌≡◌, None, Some};
 ghost use Rattle.std.specs.Option.{option_copied, option_or};
 ghost use Rattle.mailmap_entries.specs.Entries.{mapping_of};
@@ -12,21 +12,21 @@ use crate::key_summary::KeySummary;
 use crate::located::LocatedEntry;
 use mailmap_entries::Entry;
 
-/// Of the entries of an email: the first, whose spelling counts.
+/// Of the entries of an email: the first one, whose spelling counts.
 #[derive(Clone, Copy)]
 pub(crate) struct EmailSummary<'p, 'a> {
     first: Option<&'p LocatedEntry<'a>>,
 }
 
 impl<'p, 'a> EmailSummary<'p, 'a> {
-    /// Of no entry.
+    /// The summary of no entry.
     pub(crate) fn none() -> EmailSummary<'p, 'a>
         ensures { spelling_of result ≡ None }
     {
         EmailSummary { first: None }
     }
 
-    /// Of one entry.
+    /// The summary of one entry.
     pub(crate) fn of(located: &'p LocatedEntry<'a>) -> EmailSummary<'p, 'a>
         ensures { spelling_of result ≡ Some (mapping_of located.now.entry).old_email }
     {
@@ -35,7 +35,7 @@ impl<'p, 'a> EmailSummary<'p, 'a> {
         }
     }
 
-    /// Of this stretch with another after it.
+    /// The summary of this stretch and the one that comes after it.
     pub(crate) fn joined(self, after: EmailSummary<'p, 'a>) -> EmailSummary<'p, 'a>
         ensures { spelling_of result ≡ option_or (spelling_of self.entry) (spelling_of after.entry) }
     {
@@ -55,15 +55,16 @@ impl<'p, 'a> EmailSummary<'p, 'a> {
     }
 }
 
-/// Of the entries of a key, and of those of its email.
+/// The summaries of the entries of a key and of the entries of its email.
 #[derive(Clone, Copy)]
 pub(crate) struct Summary<'p, 'a> {
     pub(crate) of_key: KeySummary<'p, 'a>,
     pub(crate) of_email: EmailSummary<'p, 'a>,
 }
 
-/// What an entry asks of those after it: whether there is one of its key, whether one of these gives a name or an
-/// email, and whether the first of them has its old name, and the first of its email its spelling.
+/// What an entry has to know of the later ones to be redundant: whether one has its key (`key`), whether one of that
+/// key gives a new name (`name`) or a new email (`email`), whether the first of that key that has an old name spells it
+/// as this entry does (`same_name`), and whether the first of its email spells the email as it does (`same_spelling`).
 #[derive(Clone, Copy)]
 pub(crate) struct Later {
     pub(crate) key: bool,
@@ -74,7 +75,7 @@ pub(crate) struct Later {
 }
 
 impl Later {
-    /// The answers that a summary gives to an entry.
+    /// What a summary of the later entries says to an entry.
     pub(crate) fn of(entry: &Entry, summary: &Summary) -> Later
         ensures { result ≡ spec.later_of (mapping_of entry.now) (summary_of summary.now) }
     {
@@ -88,7 +89,8 @@ impl Later {
     }
 }
 
-/// Whether an entry changes nothing between what was kept before it and what comes after it.
+/// Whether an entry is redundant between the entries that were kept before it and those after it. Without it, its key
+/// has to be there all the same, its email has to be spelled as with it, and its key has to map to the same fields.
 pub(crate) fn is_redundant(before: &Summary, entry: &Entry, after: Later) -> bool
     ensures { result ≡ spec.is_redundant_before (summary_of before.now) (mapping_of entry.now) after }
 {
@@ -97,7 +99,8 @@ pub(crate) fn is_redundant(before: &Summary, entry: &Entry, after: Later) -> boo
         && is_value_kept(&before.of_key, entry, after)
 }
 
-// Whether the key's value is the same without the entry, but for its email.
+// Whether the key keeps its fields and the spelling of its old name without the entry. With an old name, the last entry
+// of the key decides on both fields; without one, the last that gives a field decides on that field.
 fn is_value_kept(before: &KeySummary, entry: &Entry, after: Later) -> bool
     ensures { result ≡ spec.is_value_kept (key_summary_of before.now) (mapping_of entry.now) after }
 {
@@ -110,14 +113,15 @@ fn is_value_kept(before: &KeySummary, entry: &Entry, after: Later) -> bool
     }
 }
 
-// Whether the text that is given last is the same without the own one, where one after gives another or none does.
+// Whether the field that was given last stays the same without this entry's own one: a later entry gives the field
+// anyway, this entry doesn't give it, or the same text was given before.
 fn is_last_kept(before: Option<&[u8]>, own: Option<&[u8]>, after: bool) -> bool
     ensures { result ≡ spec.is_last_kept (option_copied before.entry) (option_copied own.entry) after }
 {
     after || own.is_none() || is_same_text(own, before)
 }
 
-// Whether the last entry has the new fields of this one.
+// Whether the last entry has the same new fields as this one.
 fn are_same_fields(entry: &Entry, last: Option<&LocatedEntry>) -> bool
     ensures { result ≡ spec.same_fields (new_fields (mapping_of entry.now)) (last_fields_of last.entry) }
 {
@@ -130,7 +134,7 @@ fn are_same_fields(entry: &Entry, last: Option<&LocatedEntry>) -> bool
     }
 }
 
-// Whether both are the same text, or none.
+// Whether both are the same text, or both are missing.
 fn is_same_text(a: Option<&[u8]>, b: Option<&[u8]>) -> bool
     ensures { result ≡ same_optional (option_copied a.entry) (option_copied b.entry) }
 {

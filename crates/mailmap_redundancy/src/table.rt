@@ -1,4 +1,4 @@
-//! What a history says of each key and of each email, by their numbers.
+//! A table with a summary for each key and each email of a history, by their numbers.
 ghost use Rattle.std.specs.Prelude.{◌≡◌, ◌<◌, ◌++◌, [], ◌∷◌, List, IfOk, vec_len};
 ghost use Rattle.std.specs.List.Sorted.{IsStrictlySortedBy};
 ghost use Rattle.mailmap_entries.specs.Entries.{Mapping};
@@ -22,7 +22,7 @@ impl<'p, 'a> Table<'p, 'a> {
     ghost use Rattle.mailmap_redundancy.specs.Numbers.{ArePositions, IsForgetting, IsTable, IsNumbered, summary_of, entry_of, located_entry_of};
     ghost use Rattle.mailmap_redundancy.specs.Redundancy.{LocatedMapping};
 
-    /// Of no entry.
+    /// The table of no entry.
     pub(crate) fn none(alloc: Global, keys: &[KeptKey<'_, '_>]) -> Result<Table<'p, 'a>, AllocError>
         ensures { IfOk result (IsTable keys.now []) }
     {
@@ -32,7 +32,7 @@ impl<'p, 'a> Table<'p, 'a> {
         })
     }
 
-    /// Makes the rows of an entry's key and email blank.
+    /// Empties the rows of an entry's key and email.
     pub(crate) fn forget(&mut self, x: &NumberedEntry)
         requires key { x.now.key < vec_len self.old.summaries }
         requires email { x.now.email < vec_len self.old.spellings }
@@ -43,7 +43,7 @@ impl<'p, 'a> Table<'p, 'a> {
         self.spellings[x.email] = EmailSummary::none();
     }
 
-    /// What is said of an entry's key and of its email.
+    /// The summaries of an entry's key and of its email.
     pub(crate) fn summary(&self, x: &NumberedEntry) -> Summary<'p, 'a>
         requires key { x.now.key < vec_len self.now.summaries }
         requires email { x.now.email < vec_len self.now.spellings }
@@ -56,7 +56,7 @@ impl<'p, 'a> Table<'p, 'a> {
         }
     }
 
-    /// Puts an entry after the others.
+    /// Adds an entry after the others.
     pub(crate) fn append(&mut self, x: &NumberedEntry<'p, 'a>)
         requires key { x.now.key < vec_len self.old.summaries }
         requires email { x.now.email < vec_len self.old.spellings }
@@ -70,7 +70,7 @@ impl<'p, 'a> Table<'p, 'a> {
         self.spellings[x.email] = self.spellings[x.email].joined(EmailSummary::of(x.located));
     }
 
-    /// Puts an entry before the others.
+    /// Adds an entry before the others.
     pub(crate) fn prepend(&mut self, x: &NumberedEntry<'p, 'a>)
         requires key { x.now.key < vec_len self.old.summaries }
         requires email { x.now.email < vec_len self.old.spellings }

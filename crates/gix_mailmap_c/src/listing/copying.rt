@@ -9,7 +9,8 @@ use gix_mailmap::{Entry, Snapshot};
 
 /// A length and that of an entry's texts together, if a length can be that large.
 pub(crate) fn len_with_texts(len: usize, entry: &Entry<'_>) -> Option<usize>
-    ensures { let all = len + length (entry_text (mapping_of entry.now)) in MatchOption result (2 ^ 64 ≤ all) (λ n. n ≡ all) }
+    ensures { let all = len + length (entry_text (mapping_of entry.now))
+        in MatchOption result (2 ^ 64 ≤ all) (λ n. n ≡ all) }
 {
     let len = len_with_text(len, entry.new_name())?;
     let len = len_with_text(len, entry.new_email())?;
@@ -19,7 +20,8 @@ pub(crate) fn len_with_texts(len: usize, entry: &Entry<'_>) -> Option<usize>
 
 // A length and that of a text together, if there is a text.
 fn len_with_text(len: usize, text: Option<&[u8]>) -> Option<usize>
-    ensures { let all = len + length (given (option_copied text.entry)) in MatchOption result (2 ^ 64 ≤ all) (λ n. n ≡ all) }
+    ensures { let all = len + length (given (option_copied text.entry))
+        in MatchOption result (2 ^ 64 ≤ all) (λ n. n ≡ all) }
 {
     match text {
         Some(text) => len.checked_add(text.len()),

@@ -1,4 +1,4 @@
-//! The first bytes of a text as a number. It settles most comparisons, without a look at the texts.
+//! The prefix of a text: its first sixteen bytes as a number. It settles most comparisons without a look at the texts.
 ghost use Rattle.std.specs.Prelude.{◌≡◌, ◌+◌, ◌<◌, map, slice_index_or};
 ghost use Rattle.std.specs.Char.{to_ascii_lowercase};
 ghost use Rattle.mailmap_entries.specs.Folding.{folded, text_cmp};
@@ -28,7 +28,7 @@ impl<'a> Prefixed<'a> {
         }
     }
 
-    /// The text with its prefix, if that is known.
+    /// The text with its prefix, which is known already.
     #[inline(always)]
     pub fn with_prefix(text: &'a [u8], prefix: u128) -> Prefixed<'a>
         requires { prefix ≡ key_prefix 16 (folded text.now) }
@@ -41,7 +41,7 @@ impl<'a> Prefixed<'a> {
 
 impl Steps {
     /// Compares two texts as [`cmp_ignore_ascii_case`] does, and counts it. The texts are read only if their prefixes
-    /// are alike.
+    /// are equal.
     #[inline(always)]
     pub fn compare_prefixed(&mut self, a: Prefixed<'_>, b: Prefixed<'_>) -> Ordering
         requires { self.old < usize.MAX }
@@ -56,8 +56,9 @@ impl Steps {
     }
 }
 
-/// The first sixteen bytes of a text as a number, the first byte worth most. Case doesn't count, and a byte after the
-/// end counts as 0. If the numbers of two texts differ, the texts are ordered as they are.
+/// The first sixteen bytes of a text as a number, of which the first byte is worth most. Capital letters count as small
+/// ones, and a byte after the end counts as 0. If the prefixes of two texts differ, the texts are ordered as the
+/// prefixes are.
 pub fn key_prefix(text: &[u8]) -> u128
     ensures { IsKeyPrefix result (folded text.now) }
 {
@@ -99,7 +100,8 @@ fn folded_at(text: &[u8], i: usize) -> u8
     }
 }
 
-/// Compares two texts with one prefix as [`cmp_ignore_ascii_case`] does, after their first sixteen bytes.
+/// Compares two texts of the same prefix as [`cmp_ignore_ascii_case`] does, but looks only at what follows their first
+/// sixteen bytes.
 pub fn compare_after_prefix(a: &[u8], b: &[u8]) -> Ordering
     requires { key_prefix 16 (folded a.now) ≡ key_prefix 16 (folded b.now) }
     ensures { result ≡ text_cmp (folded a.now) (folded b.now) }

@@ -1,4 +1,4 @@
-//! What is reported of a line by what its entry does.
+//! What is reported of a line because of what its entry does.
 ghost use Rattle.std.specs.Prelude.{◌≡◌, [], unwrap_or};
 ghost use Rattle.std.specs.Option.{option_map};
 ghost use Rattle.mailmap_entries.specs.Entries.{mapping_of};
@@ -10,7 +10,7 @@ use crate::verify::{Contact, Kind};
 use mailmap_entries::Entry;
 use mailmap_redundancy::{Fields, Reduced};
 
-/// That the entry has no effect, if it does not stay, or else that its contact is mapped on.
+/// That the entry has no effect, if it does not stay; else that its contact is itself mapped, if it is.
 pub(crate) fn reported_of_entry<'a>(
     reduced: &Reduced<'_, 'a>,
     entry: &Entry<'a>,
@@ -26,7 +26,7 @@ pub(crate) fn reported_of_entry<'a>(
     Some(Kind::NoEffect { beside })
 }
 
-// That the contact is mapped to another one.
+// That the contact is mapped to another one, if it is.
 fn reported_of_contact<'a>(reduced: &Reduced<'_, 'a>, contact: Contact<'a>) -> Option<Kind<'a>>
     ensures { option_map reported_of result ≡ spec_reported_of_contact (contact_of contact.entry)
         (spec_mapped (entries reduced.now.history) (contact_of contact.entry)) }

@@ -11,7 +11,7 @@ use mailmap_grammar::lines::{Strictness, read_line};
 use mailmap_redundancy::{LocatedEntry, Position};
 use std::alloc::{AllocError, Global};
 
-/// A line as it is, with its line feed.
+/// A line of a buffer, with its line feed.
 #[derive(Clone, Copy)]
 pub(crate) struct Line<'a> {
     pub(crate) position: Position,
@@ -32,7 +32,7 @@ pub(crate) fn read_lines<'a>(
     Ok(found)
 }
 
-// Appends the lines of one buffer, which are numbered from 1.
+// Appends the lines of one buffer, numbered from 1.
 fn push_lines<'a>(
     found: &mut Vec<Line<'a>>,
     number: usize,

@@ -1,4 +1,4 @@
-//! What lines say for themselves: what is reported of them by that alone, and their entries. Each line is read once.
+//! What each line says by itself: what is reported of it because of that, and its entry. Each line is read once.
 ghost use Rattle.std.specs.Prelude.{◌≡◌, map, IfOk};
 ghost use Rattle.std.specs.List.{filter_map};
 ghost use Rattle.std.specs.Option.{option_map, option_copied};
@@ -20,7 +20,7 @@ use mailmap_redundancy::LocatedEntry;
 use std::alloc::{AllocError, Global};
 use std::collections::VecDeque;
 
-/// What is reported of lines by what they say, and their entries, both in the order of the lines.
+/// What is reported of lines because of what they say, and the entries of lines, both in the order of the lines.
 #[derive(Drop)]
 pub(crate) struct LinesRead<'a> {
     pub(crate) reported: VecDeque<Finding<'a>>,
@@ -60,7 +60,7 @@ fn read_strictly<'a>(line: &Line<'a>) -> (Option<Kind<'a>>, Option<Entry<'a>>)
     read_piece(&piece)
 }
 
-// The line without the line feed at its end. It says nothing, and without it lines are trimmed faster.
+// The line without the line feed at its end. The line feed says nothing, and lines are trimmed faster without it.
 #[inline]
 fn without_feed(line: &[u8]) -> &[u8]
     ensures { IsPieceOf line.now result.now }
@@ -72,8 +72,7 @@ fn without_feed(line: &[u8]) -> &[u8]
     &line[..len - 1]
 }
 
-// The same of a line with or without its line feed. If the strict reading takes it, the entry is the same one for
-// lookups.
+// The same for a line with or without its line feed. If strict reading finds an entry, lenient reading finds the same.
 #[inline]
 fn read_piece<'a>(line: &Line<'a>) -> (Option<Kind<'a>>, Option<Entry<'a>>)
     ensures reported { option_map reported_of result.0

@@ -1,4 +1,4 @@
-//! The walk over lines and, in step with them, what was reported of them, their entries, and those that stay.
+//! A walk over the lines, in step with what was reported of them, with their entries, and with the entries that stay.
 ghost use Rattle.std.specs.Prelude.{◌≡◌, ◌++◌, ◌||◌, map, filter, is_none, option_to_list, IfOk, OnOk};
 ghost use Rattle.std.specs.List.{filter_map, flat_map};
 ghost use Rattle.std.specs.Option.{option_map};
@@ -14,7 +14,7 @@ use mailmap_redundancy::{LocatedEntry, Position, Reduced};
 use std::alloc::{AllocError, Global};
 use std::collections::VecDeque;
 
-/// What is reported of the lines of a reduced history: `reported` by what they say, and the rest by what their entries
+/// All findings: `reported` has those that follow from what the lines say, and the others follow from what the entries
 /// do.
 pub(crate) fn findings<'a>(
     alloc: Global,
@@ -44,7 +44,7 @@ pub(crate) fn findings<'a>(
     Ok(found)
 }
 
-/// The lines but those whose entries go.
+/// The text without the lines whose entries are redundant.
 pub(crate) fn text_left(
     alloc: Global,
     lines: &[Line<'_>],
@@ -71,7 +71,7 @@ pub(crate) fn text_left(
     Ok(text)
 }
 
-// Whether a line is left: it gives no entry, or one that stays.
+// Whether a line stays: it gives no entry, or its entry stays.
 fn is_left(met: Option<&LocatedEntry<'_>>, stays: bool) -> bool
     ensures { result ≡ (is_none (option_map located_of_reference met.entry) || stays) }
 {

@@ -6,7 +6,9 @@ use crate::actor::{Signature, SignatureRef};
 
 /// Signatures of a commit are equal if their three texts are, wherever these lie.
 fn is_same_ref(a: &SignatureRef<'_>, b: &SignatureRef<'_>) -> bool
-    ensures { IsTrue result ↔ ((a.now.name.now ≡ b.now.name.now) × (a.now.email.now ≡ b.now.email.now) × (a.now.time.now ≡ b.now.time.now)) }
+    ensures { IsTrue result
+        ↔ ((a.now.name.now ≡ b.now.name.now) × (a.now.email.now ≡ b.now.email.now)
+        × (a.now.time.now ≡ b.now.time.now)) }
 {
     a == b
 }

@@ -30,8 +30,11 @@ impl Snapshot {
     ) -> Result<Snapshot, AllocError>
         requires can { I.can_next entries }
         requires finite { IsFinite (I.remaining entries) }
-        ensures ok { IfOk result (λ made. (xs : List Item) × Drains I.next_gives entries xs × IsNormal (map mapping_of xs) made) }
-        ensures out_of_memory { OnErr result ((xs : List Item) × (rest : I) × Yields I.next_gives entries xs rest × (accepted (map mapping_of xs) ≢ [])) }
+        ensures ok { IfOk result
+            (λ made. (xs : List Item) × Drains I.next_gives entries xs × IsNormal (map mapping_of xs) made) }
+        ensures out_of_memory { OnErr result
+            ((xs : List Item) × (rest : I) × Yields I.next_gives entries xs rest
+            × (accepted (map mapping_of xs) ≢ [])) }
     {
         let mut snapshot = Snapshot::empty(alloc);
         snapshot.merge(entries)?;
@@ -47,11 +50,14 @@ impl Snapshot {
         requires finite { IsFinite (I.remaining entries) }
         // The entries of `entries` come after those that were listed, and after any history that the snapshot stood
         // for. If none of them is accepted nothing changes.
-        ensures ok { OnOk result ((xs : List Item) × Drains I.next_gives entries xs × IsMerged self.old (map mapping_of xs) self.new) }
+        ensures ok { OnOk result
+            ((xs : List Item) × Drains I.next_gives entries xs × IsMerged self.old (map mapping_of xs) self.new) }
         ensures err { OnErr result (self.new ≡ self.old) }
 
         // Memory is asked for only once an entry is accepted.
-        ensures out_of_memory { OnErr result ((xs : List Item) × (rest : I) × Yields I.next_gives entries xs rest × (accepted (map mapping_of xs) ≢ [])) }
+        ensures out_of_memory { OnErr result
+            ((xs : List Item) × (rest : I) × Yields I.next_gives entries xs rest
+            × (accepted (map mapping_of xs) ≢ [])) }
     {
         self.tables.merge(entries)
     }

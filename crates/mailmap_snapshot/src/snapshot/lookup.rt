@@ -80,7 +80,7 @@ impl Snapshot {
     ///
     /// Entries for the signature's very name count before those for all names of its email, and then for both fields:
     /// a new name that they lack is not taken from the others. The case of ASCII letters does not count, neither in the
-    /// name nor in the email; where the email differs from the kept spelling in any byte and no new one is given, that
+    /// name nor in the email; if the email differs from the kept spelling in any byte and no new one is given, that
     /// spelling is the email. git leaves such an email as it is.
     ///
     /// What is answered borrows only from the snapshot, and may be kept when the signature is gone.
@@ -108,7 +108,8 @@ impl Snapshot {
         look_up(&self.tables.view(), name, email, &mut Steps::new())
     }
 
-    /// As [`try_resolve_ref`](Snapshot::try_resolve_ref()), and counts the comparisons of emails and of names in `steps`.
+    /// As [`try_resolve_ref`](Snapshot::try_resolve_ref()), and counts the comparisons of emails and of names in
+    /// `steps`.
     ///
     /// With E different emails in the snapshot and N old names of the email that is found, these are at most as many as
     /// E and N have binary digits together, and at least one for each of the two that is not 0. If no email is found,

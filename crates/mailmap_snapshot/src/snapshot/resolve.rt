@@ -13,17 +13,17 @@ use mailmap_signatures::actor::SignatureRef;
 use std::alloc::{AllocError, Global};
 use std::borrow::CowSlice;
 
-/// Resolving signatures: the name and the email that the mailmap gives replace those that were recorded, each
-/// if there is one, and the others stay. A time that can't be read becomes the default one.
+/// Resolving signatures: a name or an email that the mailmap gives replaces the recorded one, and the other stays. A
+/// time that can't be read becomes the default one.
 ///
 /// Each answer is stated twice by the contracts: from the entries of the snapshot, and from any history that the
 /// snapshot stands for, as the entries that were merged one after another.
 impl Snapshot {
     /// The signature as the mailmap maps it, or `None` if it maps neither its name nor its email.
     ///
-    /// Nothing is mapped if no entry is for the email, and if the entry that is for it would change nothing. An
-    /// email that differs from the mailmap's spelling only in the case of its letters is mapped to that spelling, so it
-    /// is answered. `None` takes no memory, and so can't run out of memory.
+    /// Nothing is mapped if no entry is for the email, or if the entry for it would change nothing. An email that
+    /// differs from the mailmap's spelling only in the case of its letters is mapped to that spelling. The answer
+    /// `None` takes no memory, and so this can't run out of memory then.
     ///
     /// ```rust
     /// let mailmap = Snapshot::from_bytes(alloc, b"Jane Doe <jane@x> <jd@y>")?;
@@ -40,11 +40,13 @@ impl Snapshot {
     ) -> Result<Option<actor::Signature>, AllocError>
         // nothing exactly when nothing is mapped
         ensures none { (result ≡ Ok None) ↔ (mapped self.now signature.entry ≡ None) }
-        ensures some { IfOk result (λ answer. IfSome answer (λ s. IsResolved self.now signature.entry (owned_fields s))) }
+        ensures some { IfOk result
+            (λ answer. IfSome answer (λ s. IsResolved self.now signature.entry (owned_fields s))) }
         // it runs out of memory only if something is mapped
         ensures out_of_memory { OnErr result (IsSome (mapped self.now signature.entry)) }
         // the same, by a history that the snapshot stands for
-        ensures history_none { (h : List Mapping) → IsNormal h self.now → (result ≡ Ok None) ↔ (mapped h signature.entry ≡ None) }
+        ensures history_none { (h : List Mapping) → IsNormal h self.now → (result ≡ Ok None)
+            ↔ (mapped h signature.entry ≡ None) }
         ensures history_some { (h : List Mapping) → IsNormal h self.now →
             IfOk result (λ answer. IfSome answer (λ s. IsResolved h signature.entry (owned_fields s))) }
     {
@@ -57,7 +59,7 @@ impl Snapshot {
         }
     }
 
-    /// The signature as the mailmap maps it, a copy of `signature` where it maps nothing.
+    /// The signature as the mailmap maps it, a copy of `signature` if it maps nothing.
     ///
     /// ```rust
     /// let mailmap = Snapshot::from_bytes(alloc, b"Jane Doe <jane@x> <jd@y>")?;
@@ -73,7 +75,8 @@ impl Snapshot {
     ) -> Result<actor::Signature, AllocError>
         ensures view { IfOk result (λ s. IsResolved self.now signature.entry (owned_fields s)) }
         // the same, by a history that the snapshot stands for
-        ensures history { (h : List Mapping) → IsNormal h self.now → IfOk result (λ s. IsResolved h signature.entry (owned_fields s)) }
+        ensures history { (h : List Mapping) → IsNormal h self.now
+            → IfOk result (λ s. IsResolved h signature.entry (owned_fields s)) }
     {
         match self.try_resolve(alloc, signature)? {
             Some(resolved) => Ok(resolved),
@@ -83,7 +86,7 @@ impl Snapshot {
 
     /// The signature as the mailmap maps it, with mapped texts owned and the others borrowed from `signature`.
     ///
-    /// If nothing is mapped both are borrowed and no memory is taken, so that this can't run out of memory. It suits
+    /// If nothing is mapped, both are borrowed and no memory is taken, so this can't run out of memory then. It suits
     /// views that show many signatures, of which a mailmap changes few:
     ///
     /// ```rust
@@ -103,7 +106,8 @@ impl Snapshot {
         // it runs out of memory only if something is mapped
         ensures out_of_memory { OnErr result (IsSome (mapped self.now signature.entry)) }
         // the same, by a history that the snapshot stands for
-        ensures history { (h : List Mapping) → IsNormal h self.now → IfOk result (λ s. IsResolved h signature.entry (cow_fields s)) }
+        ensures history { (h : List Mapping) → IsNormal h self.now
+            → IfOk result (λ s. IsResolved h signature.entry (cow_fields s)) }
         ensures history_owned { (h : List Mapping) → IsNormal h self.now → IfOk result (OwnsMapped h signature.entry) }
     {
         match self.try_resolve_ref(signature) {

@@ -6,8 +6,8 @@ ghost use Rattle.mailmap_entries.specs.Folding.{text_cmp};
 ghost use Rattle.mailmap_histories.specs.Histories.{answered};
 ghost use Rattle.mailmap_snapshot.specs.Signatures.{shown};
 
-/// A name and an email that replace those of a signature. They are lent by the snapshot that answered, so
-/// they may be kept when the signature is gone, and not over a merge of the snapshot.
+/// A name and an email that replace those of a signature. They are lent by the snapshot that answered: they may be kept
+/// when the signature is gone, but not over a merge of the snapshot.
 ///
 /// At least one of them is there in every answer.
 #[derive(Drop)]

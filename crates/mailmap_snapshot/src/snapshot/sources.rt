@@ -1,4 +1,4 @@
-//! Merging from several sources, where running out of memory skips a source and is reported.
+//! Merging from several sources. A source is skipped if memory runs out, and that is reported.
 ghost use Rattle.std.specs.Prelude.{◌≡◌, ◌≢◌, ℕ, [], Some, true, false, length, slice_get, OnOk, OnErr};
 ghost use Rattle.std.specs.List.{All};
 ghost use Rattle.mailmap_histories.specs.Building.{IsMerged};
@@ -25,13 +25,14 @@ impl Snapshot {
     /// whether it was merged. If memory ran out, that source changed nothing, and the next one is merged all the same.
     pub fn merge_sources(&mut self, sources: &[Source<'_>], made: &mut [bool])
         requires { length sources.now ≡ length made.old }
-        // What the sources say that are marked as made comes after what was listed, and after any history that the
-        // snapshot stood for. If none of it is accepted nothing changes.
+        // What the sources marked as made say comes after what was listed, and after any history that the snapshot
+        // stood for. If none of it is accepted, nothing changes.
         ensures merged { IsMerged self.old (history sources.now made.new) self.new }
         ensures none_made { All (λ is_made. is_made ≡ false) made.new → self.new ≡ self.old }
 
         // A source without an accepted entry asks for no memory, so it is always made.
-        ensures never_out_of_memory { (i : ℕ) (s : Said) → slice_get sources.now i ≡ Some s → accepted (said_by s) ≡ [] → slice_get made.new i ≡ Some true }
+        ensures never_out_of_memory { (i : ℕ) (s : Said) → slice_get sources.now i ≡ Some s → accepted (said_by s) ≡ []
+            → slice_get made.new i ≡ Some true }
         ensures marks { length made.new ≡ length made.old }
     {
         // What is listed is its own normal list, by the invariant of the tables.

@@ -16,7 +16,8 @@ use thiserror::Error;
 #[derive(Debug, PartialEq, Eq, Drop, Error)]
 pub enum WriteError {
     /// No line can hold the entry at this index of the listing, counted from 0: read back, it would be another. Lines
-    /// hold each entry that was ever read from one, so this comes of the constructors of [`Entry`](mailmap_entries::Entry) alone.
+    /// hold each entry that was ever read from one, so only the constructors of [`Entry`](mailmap_entries::Entry) make
+    /// such entries.
     #[error("entry {index} cannot be written")]
     Unwritable { index: usize },
     /// Out of memory.
@@ -38,14 +39,15 @@ impl From<AllocError> for WriteError {
 impl Snapshot {
     /// The snapshot as a mailmap: the text that [`Snapshot::from_bytes`] reads as an equal snapshot.
     ///
-    /// It has a line for each entry of [`Snapshot::iter`], in its order: a blank, the new name, the new email in `<` and
-    /// `>`, the old name, the old email in `<` and `>`, and a line feed, with a blank after each part but the last. By
-    /// the blank in front a name may begin with `#` and the line is still no comment. Equal snapshots have the same text.
+    /// It has a line for each entry of [`Snapshot::iter`], in its order: a blank, the new name, the new email in `<`
+    /// and `>`, the old name, the old email in `<` and `>`, and a line feed, with a blank after each part but the last.
+    /// By the blank in front a name may begin with `#` and the line is still no comment. Equal snapshots have the same
+    /// text.
     ///
-    /// `Err` if no line can hold an entry, with the index of the first such, or if memory runs out. That an entry
-    /// can't be written is found before memory is asked for.
+    /// `Err` if no line can hold some entry, with the index of the first such entry, or if memory runs out. That an
+    /// entry can't be written is found before memory is asked for.
     ///
-    /// `n@y` by the empty email is written as ` <n@y> <>`; the name `N` by the empty email is refused.
+    /// `n@y` by the empty email is written as ` <n@y> <>`; the name `N` by the empty email can't be written.
     pub fn write(&self, alloc: Global) -> Result<Vec<u8>, WriteError>
         ensures ok { IfOk result (λ v. v.items ≡ text self.now) }
         ensures writable { OnOk result (All IsWritable self.now) }
@@ -62,8 +64,8 @@ impl Snapshot {
         Ok(self.write_lines(alloc)?)
     }
 
-    /// The text that [`Snapshot::write`] gives, for a caller who knows that a line can hold each entry: none is looked at
-    /// for that again. Whatever buffers build is such a snapshot, as `law_text` says in its clause `builds`.
+    /// The text that [`Snapshot::write`] gives, for a caller who knows that a line can hold each entry: none is looked
+    /// at for that again. Whatever buffers build is such a snapshot, as `law_text` says in its clause `builds`.
     ///
     /// `Err` if memory runs out.
     ///
