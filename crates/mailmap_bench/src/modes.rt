@@ -82,7 +82,12 @@ pub fn lookups<R: Runtime + AllocGlobal>(rt: &R, words: &[String], laps: &mut La
     let snapshot = snapshot_of(rt, words)?;
     let text = file(rt, words, 1)?;
     let contacts = contacts(rt.alloc(), &text)?;
-    let tally = often(rt, number(words, 2)?, laps, || look_up(&snapshot, &contacts))?;
+    let tally = often(
+        rt,
+        number(words, 2)?,
+        laps,
+        || look_up(&snapshot, &contacts),
+    )?;
     let count = contacts.len();
     let laps = laps.summary();
     println!(rt; "bench-lookup {laps} contacts={count} hits={tally}")?;

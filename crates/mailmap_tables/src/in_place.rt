@@ -55,7 +55,8 @@ fn put_each(tables: &mut ReservedTables, entries: &[Entry<'_>])
     requires accepted { AllByRecursion (λ m. is_accepted m ≡ true) (map mapping_of entries.now) }
     requires reserved { Fits tables.old (map mapping_of entries.now) }
     ensures complete { IsComplete tables.new.held }
-    ensures normal { IsNormal (listing tables.old.held.groups ++ map mapping_of entries.now) (listing tables.new.held.groups) }
+    ensures normal { IsNormal (listing tables.old.held.groups ++ map mapping_of entries.now)
+        (listing tables.new.held.groups) }
 {
     for entry in entries {
         put(tables, entry);
@@ -69,7 +70,8 @@ fn put(tables: &mut ReservedTables, entry: &Entry<'_>)
     requires accepted { is_accepted (mapping_of entry.now) ≡ true }
     requires reserved { (ms : List Mapping) × Fits tables.old (mapping_of entry.now ∷ ms) }
     ensures complete { IsComplete tables.new.held }
-    ensures normal { IsNormal (listing tables.old.held.groups ++ mapping_of entry.now ∷ []) (listing tables.new.held.groups) }
+    ensures normal { IsNormal (listing tables.old.held.groups ++ mapping_of entry.now ∷ [])
+        (listing tables.new.held.groups) }
     ensures reserved { (ms : List Mapping) → Fits tables.old (mapping_of entry.now ∷ ms) → Fits tables.new ms }
 {
     let email = email_index(tables, entry);
@@ -127,10 +129,13 @@ fn email_index(tables: &mut ReservedTables, entry: &Entry<'_>) -> usize
 // Gives an email new fields, each if there is one.
 fn put_fields(tables: &mut ReservedTables, email: usize, given: Given<'_>)
     requires within { email < length tables.old.held.groups }
-    requires bytes { HoldsAt (λ (g : EmailGroup). own_reserved g (fields_given given) ≤ tables.old.bytes) tables.old.held.groups email }
-    ensures changed { HoldsAt (λ (g : EmailGroup). EmailChanged email (record g { own = given_or (fields_given given.entry) g.own })
+    requires bytes { HoldsAt (λ (g : EmailGroup). own_reserved g (fields_given given) ≤ tables.old.bytes)
+        tables.old.held.groups email }
+    ensures changed { HoldsAt
+        (λ (g : EmailGroup). EmailChanged email (record g { own = given_or (fields_given given.entry) g.own })
         tables.old.held tables.new.held) tables.old.held.groups email }
-    ensures reserved { HoldsAt (λ (g : EmailGroup). TookReserved (own_reserved g (fields_given given.entry)) 0 0 tables.old tables.new)
+    ensures reserved { HoldsAt
+        (λ (g : EmailGroup). TookReserved (own_reserved g (fields_given given.entry)) 0 0 tables.old tables.new)
         tables.old.held.groups email }
 {
     let (texts, _) = tables.view().email(email);
@@ -141,10 +146,12 @@ fn put_fields(tables: &mut ReservedTables, email: usize, given: Given<'_>)
 // Puts a name among those of an email, or new fields in place of those that it has.
 fn put_name(tables: &mut ReservedTables, email: usize, named: Named<'_>)
     requires within { email < length tables.old.held.groups }
-    requires ascending { HoldsAt (λ (g : EmailGroup). IsStrictlySortedBy text_cmp (map name_key g.names)) tables.old.held.groups email }
+    requires ascending { HoldsAt (λ (g : EmailGroup). IsStrictlySortedBy text_cmp (map name_key g.names))
+        tables.old.held.groups email }
     requires bytes { name_reserved (named_group named) ≤ tables.old.bytes }
     requires names { 0 < tables.old.names }
-    ensures put { HoldsAt (λ (g : EmailGroup). NameAdded email g (named_group named.entry) tables.old.held tables.new.held)
+    ensures put { HoldsAt
+        (λ (g : EmailGroup). NameAdded email g (named_group named.entry) tables.old.held tables.new.held)
         tables.old.held.groups email }
     ensures reserved { TookReserved (name_reserved (named_group named.entry)) 0 1 tables.old tables.new }
 {
@@ -164,14 +171,17 @@ fn put_name(tables: &mut ReservedTables, email: usize, named: Named<'_>)
 // The index of a name among those of an email, and its row, or where it would be.
 fn name_index(tables: &ReservedTables, email: usize, name: &[u8]) -> Result<(usize, NameRow), usize>
     requires within { email < length tables.now.held.groups }
-    requires ascending { HoldsAt (λ (g : EmailGroup). IsStrictlySortedBy text_cmp (map name_key g.names)) tables.now.held.groups email }
+    requires ascending { HoldsAt (λ (g : EmailGroup). IsStrictlySortedBy text_cmp (map name_key g.names))
+        tables.now.held.groups email }
     ensures found { IfOk result (λ f. HoldsAt (λ (g : EmailGroup). IsFound name_key (folded name.now) 0 g.names f.0)
         tables.now.held.groups email) }
-    ensures existing { IfOk result (λ f. HoldsAt (λ (g : EmailGroup). slice_get g.names f.0 ≡ Some (name_group tables.now.held.pool f.1))
+    ensures existing { IfOk result
+        (λ f. HoldsAt (λ (g : EmailGroup). slice_get g.names f.0 ≡ Some (name_group tables.now.held.pool f.1))
         tables.now.held.groups email) }
     ensures lies { IfOk result (λ f. NameLies (length tables.now.held.pool) f.1) }
     ensures len { IfOk result (λ f. f.1.old_len ≡ length name.now) }
-    ensures missing { IfErr result (λ index. HoldsAt (λ (g : EmailGroup). IsMissing name_key (folded name.now) 0 g.names index)
+    ensures missing { IfErr result
+        (λ index. HoldsAt (λ (g : EmailGroup). IsMissing name_key (folded name.now) 0 g.names index)
         tables.now.held.groups email) }
 {
     let view = tables.view();

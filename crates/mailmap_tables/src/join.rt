@@ -60,7 +60,9 @@ fn put_name<'k>(
     requires lie { AllByRecursion (NameLies (length out.old.pool)) kept.now }
     requires ascending { IsStrictlySortedBy text_cmp (map name_key (map (name_group out.old.pool) kept.now)) }
     ensures lie { IfOk result (λ left. AllByRecursion (NameLies (length out.new.pool)) left.now) }
-    ensures put { IfOk result (λ left. NamePut (map (name_group out.old.pool) kept.entry.now) (map (name_group out.new.pool) left.now) (named_group named.entry) out.old out.new) }
+    ensures put { IfOk result
+        (λ left. NamePut (map (name_group out.old.pool) kept.entry.now) (map (name_group out.new.pool) left.now)
+        (named_group named.entry) out.old out.new) }
 {
     match find_name(&out.view(), kept, named.old_name) {
         Ok(index) => {
@@ -104,7 +106,8 @@ fn join_names(
     requires kept_ascend { IsStrictlySortedBy text_cmp (map name_key (map (name_group out.old.pool) kept.now)) }
     requires named { AllByRecursion (λ p. IsNamed (mapping_at p)) named.now }
     requires named_ascend { IsAscending text_cmp (map name_text (map mapping_at named.now)) }
-    ensures { OnOk result (NamesPut (map (name_group out.old.pool) kept.now) (map mapping_at named.now) out.old out.new) }
+    ensures { OnOk result
+        (NamesPut (map (name_group out.old.pool) kept.now) (map mapping_at named.now) out.old out.new) }
 {
     let mut standing = kept;
     let mut left = named;
@@ -128,7 +131,8 @@ fn join_email(
     requires ascending { IsStrictlySortedBy text_cmp (map name_key (map (name_group out.old.pool) names.now)) }
     requires none_pending { out.old.pending ≡ [] }
     requires group { EmailEntries (map mapping_at batch.now) }
-    ensures { OnOk result (EmailPut (group_of out.old.pool texts names.now) (map mapping_at batch.now) out.old out.new) }
+    ensures { OnOk result
+        (EmailPut (group_of out.old.pool texts names.now) (map mapping_at batch.now) out.old out.new) }
 {
     let len = unnamed_len(batch);
     let own = out.own_row(texts, last_given(before(batch, len)))?;
@@ -147,7 +151,8 @@ fn pass_emails(
     requires within { to ≤ length standing.now.groups }
     requires pool { Extends standing.now.pool out.old.pool }
     requires none_pending { out.old.pending ≡ [] }
-    ensures { OnOk result (out.new ≡ record out.old { groups = out.old.groups ++ take (to - from) (drop from standing.now.groups) }) }
+    ensures { OnOk result
+        (out.new ≡ record out.old { groups = out.old.groups ++ take (to - from) (drop from standing.now.groups) }) }
 {
     out.push_names(standing.names_between(from, to))?;
     for index in from..to {
@@ -172,7 +177,9 @@ fn join_group(
     requires some { 0 < length group.now }
     requires group { EmailEntries (map mapping_at group.now) }
     ensures within { IfOk result (λ next. next ≤ length standing.now.groups) }
-    ensures put { IfOk result (λ next. GroupPut (drop from standing.now.groups) (drop next standing.now.groups) (map indexed_mapping group.now) (first_email (map mapping_at group.now)) out.old out.new) }
+    ensures put { IfOk result
+        (λ next. GroupPut (drop from standing.now.groups) (drop next standing.now.groups)
+        (map indexed_mapping group.now) (first_email (map mapping_at group.now)) out.old out.new) }
 {
     match find_email(standing, from, group[0].entry.old_email()) {
         Ok(index) => {
@@ -224,7 +231,9 @@ pub(crate) fn joined(
 ) -> Result<Tables, AllocError>
     requires standing { AreGroups standing.now.groups }
     requires accepted { AllByRecursion (λ m. is_accepted m ≡ true) (map mapping_of entries.now) }
-    ensures { IfOk result (λ made. IsComplete made × IsNormal (listing standing.now.groups ++ map mapping_of entries.now) (listing made.groups)) }
+    ensures { IfOk result
+        (λ made. IsComplete made
+        × IsNormal (listing standing.now.groups ++ map mapping_of entries.now) (listing made.groups)) }
 {
     let batch = sorted(alloc, entries)?;
     let out = Tables::over_pool(alloc, standing, batch.len(), texts_len(entries))?;

@@ -31,7 +31,9 @@ impl Tables {
         ensures err { OnErr result (self.new ≡ self.old) }
 
         // Memory is asked for only once an entry is accepted.
-        ensures out_of_memory { OnErr result ((xs : List Item) × (rest : I) × Yields I.next_gives entries xs rest × (accepted (map mapping_of xs) ≢ [])) }
+        ensures out_of_memory { OnErr result
+            ((xs : List Item) × (rest : I) × Yields I.next_gives entries xs rest
+            × (accepted (map mapping_of xs) ≢ [])) }
     {
         let alloc = self.allocator();
         let collected = accepted_of(alloc, self, entries)?;

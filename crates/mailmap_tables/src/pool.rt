@@ -75,9 +75,11 @@ impl Pool {
         ensures lies { IfOk result (λ span. ForSome span (LiesIn (length self.new.bytes.items))) }
         ensures spells { IfOk result (λ span. option_map (spelled self.new.bytes.items) span
             ≡ option_or (option_copied given.entry) (option_map (spelled self.old.bytes.items) existing)) }
-        ensures bytes { length self.new.bytes.items ≤ length self.old.bytes.items + optional_bytes (option_copied given.entry) }
+        ensures bytes { length self.new.bytes.items ≤ length self.old.bytes.items + optional_bytes
+            (option_copied given.entry) }
         ensures capacity { vec_capacity self.old.bytes ≤ vec_capacity self.new.bytes }
-        ensures succeeds { vec_len self.old.bytes + optional_bytes (option_copied given.entry) ≤ vec_capacity self.old.bytes
+        ensures succeeds { vec_len self.old.bytes + optional_bytes (option_copied given.entry) ≤ vec_capacity
+            self.old.bytes
             → IsOk result }
     {
         match given {
@@ -143,11 +145,13 @@ impl Pool {
         requires { TextsLie (length self.old.bytes.items) texts }
         ensures grown { Extends self.old.bytes.items self.new.bytes.items }
         ensures lies { IfOk result (TextsLie (length self.new.bytes.items)) }
-        ensures spells { IfOk result (OwnSpells self.old.bytes.items self.new.bytes.items texts (fields_given given.entry)) }
+        ensures spells { IfOk result
+            (OwnSpells self.old.bytes.items self.new.bytes.items texts (fields_given given.entry)) }
         ensures bytes { length self.new.bytes.items
             ≤ length self.old.bytes.items + own_reserved (group_of self.old.bytes.items texts []) (fields_given given.entry) }
         ensures capacity { vec_capacity self.old.bytes ≤ vec_capacity self.new.bytes }
-        ensures succeeds { vec_len self.old.bytes + own_reserved (group_of self.old.bytes.items texts []) (fields_given given.entry)
+        ensures succeeds { vec_len self.old.bytes + own_reserved (group_of self.old.bytes.items texts [])
+            (fields_given given.entry)
             ≤ vec_capacity self.old.bytes → IsOk result }
     {
         let (existing_name, existing_email) = fields(&self.bytes, texts);

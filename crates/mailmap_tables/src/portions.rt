@@ -20,6 +20,9 @@ const PORTION: usize = 16_384;
 // So many of them are looked at.
 const SAMPLE: usize = 4_096;
 
+// So many bytes of the pool are copied in less time than it takes to join an entry.
+const BYTES_AN_ENTRY: usize = 256;
+
 // A prime number, so that keys with like beginnings or endings go to different slots.
 const SLOTS: usize = 8_191;
 
@@ -43,10 +46,13 @@ pub(crate) fn accepted_of<'a, I: Iterator<Item = Entry<'a>> + Drop>(
     requires can { I.can_next entries }
     requires finite { IsFinite (I.remaining entries) }
     requires complete { IsComplete standing.now }
-    ensures ok { IfOk result (λ c. (xs : List Item) × Drains I.next_gives entries xs × IsCollected standing.now (map mapping_of xs) c.made (map mapping_of c.batch.items)) }
+    ensures ok { IfOk result
+        (λ c. (xs : List Item) × Drains I.next_gives entries xs
+        × IsCollected standing.now (map mapping_of xs) c.made (map mapping_of c.batch.items)) }
 
     // Memory is asked for only once an entry is accepted.
-    ensures out_of_memory { OnErr result ((xs : List Item) × (rest : I) × Yields I.next_gives entries xs rest × (accepted (map mapping_of xs) ≢ [])) }
+    ensures out_of_memory { OnErr result
+        ((xs : List Item) × (rest : I) × Yields I.next_gives entries xs rest × (accepted (map mapping_of xs) ≢ [])) }
 {
     let mut collected = Collected::none(alloc, standing);
     for entry in entries {
@@ -81,8 +87,10 @@ impl<'a> Collected<'a> {
     #[inline(always)]
     fn push(&mut self, standing: &Tables, entry: Entry<'a>) -> Result<(), AllocError>
         requires accepted { is_accepted (mapping_of entry) ≡ true }
-        requires collected { (h : List Mapping) × IsCollected standing.now h self.old.made (map mapping_of self.old.batch.items) }
-        ensures { OnOk result ((h : List Mapping) → IsCollected standing.now h self.old.made (map mapping_of self.old.batch.items)
+        requires collected { (h : List Mapping)
+            × IsCollected standing.now h self.old.made (map mapping_of self.old.batch.items) }
+        ensures { OnOk result
+            ((h : List Mapping) → IsCollected standing.now h self.old.made (map mapping_of self.old.batch.items)
             → IsCollected standing.now (h ++ mapping_of entry.entry ∷ []) self.new.made (map mapping_of self.new.batch.items)) }
     {
         self.batch.push(entry)?;
@@ -95,7 +103,8 @@ impl<'a> Collected<'a> {
     // Joins the batch with the tables, if its keys come again and again. Else the batch goes on without an end.
     fn end_portion(&mut self, standing: &Tables) -> Result<(), AllocError>
         requires { (h : List Mapping) × IsCollected standing.now h self.old.made (map mapping_of self.old.batch.items) }
-        ensures { OnOk result ((h : List Mapping) → IsCollected standing.now h self.old.made (map mapping_of self.old.batch.items)
+        ensures { OnOk result
+            ((h : List Mapping) → IsCollected standing.now h self.old.made (map mapping_of self.old.batch.items)
             → IsCollected standing.now h self.new.made (map mapping_of self.new.batch.items)) }
     {
         self.portion = usize::MAX;
@@ -130,7 +139,8 @@ impl<'a> Collected<'a> {
     /// The standing tables with all entries after them.
     pub(crate) fn tables(&self, standing: &Tables) -> Result<Tables, AllocError>
         requires { (h : List Mapping) × IsCollected standing.now h self.now.made (map mapping_of self.now.batch.items) }
-        ensures { IfOk result (λ t. (h : List Mapping) → IsCollected standing.now h self.now.made (map mapping_of self.now.batch.items)
+        ensures { IfOk result
+            (λ t. (h : List Mapping) → IsCollected standing.now h self.now.made (map mapping_of self.now.batch.items)
             → IsCollected standing.now h (Some t) []) }
     {
         let alloc = *self.batch.allocator();
@@ -148,10 +158,12 @@ impl<'a> Collected<'a> {
     }
 }
 
-// How many entries are to be joined at once after tables: more than these have rows, so that passing those on costs
-// less than joining.
+// How many entries are to be joined at once after tables. A portion passes on all their rows and copies their pool, so it
+// has so many entries that joining them costs more.
 fn portion_after(tables: &Tables) -> usize {
-    PORTION.max(tables.view().row_count().saturating_mul(4))
+    let view = tables.view();
+    let rows = view.row_count().saturating_mul(4);
+    PORTION.max(rows).max(view.pool.len() / BYTES_AN_ENTRY)
 }
 
 // Whether the keys of entries come again and again, as far as a look at the first ones can tell.

@@ -140,7 +140,8 @@ impl ReservedTables {
         ensures lies { NameLies (length self.new.held.pool) result }
         ensures spells { name_group self.new.held.pool result
             ≡ record (named_group named.entry) { old_name = spelled self.old.held.pool old_name } }
-        ensures reserved { TookReserved (old_name.len + fields_reserved (named_group named.entry)) 0 0 self.old self.new }
+        ensures reserved { TookReserved (old_name.len + fields_reserved (named_group named.entry)) 0 0 self.old
+            self.new }
     {
         self.pool.name_row(old_name, named, replaced).unwrap()
     }
@@ -152,7 +153,8 @@ impl ReservedTables {
         ensures grown { (more : List ℕ) × (self.new.held ≡ record self.old.held { pool = self.old.held.pool ++ more }) }
         ensures lies { TextsLie (length self.new.held.pool) result }
         ensures spells { OwnSpells self.old.held.pool self.new.held.pool texts (fields_given given.entry) result }
-        ensures reserved { TookReserved (own_reserved (group_of self.old.held.pool texts []) (fields_given given.entry)) 0 0 self.old self.new }
+        ensures reserved { TookReserved
+            (own_reserved (group_of self.old.held.pool texts []) (fields_given given.entry)) 0 0 self.old self.new }
     {
         self.pool.own_row(texts, given).unwrap()
     }
@@ -162,7 +164,11 @@ impl ReservedTables {
         requires index { index ≤ length self.old.held.groups }
         requires lies { LiesIn (length self.old.held.pool) old_email }
         requires reserved { 0 < self.old.emails }
-        ensures held { self.new.held ≡ record self.old.held { groups = insert self.old.held.groups index (bare (spelled self.old.held.pool old_email)) } }
+        ensures held { self.new.held
+            ≡ record self.old.held {
+              groups = insert self.old.held.groups
+                  index (bare (spelled self.old.held.pool old_email));
+            } }
         ensures reserved { TookReserved 0 1 0 self.old self.new }
     {
         let prefix = key_prefix(self.view().text(old_email));
@@ -182,7 +188,11 @@ impl ReservedTables {
         requires index { HoldsAt (λ (g : EmailGroup). index ≤ length g.names) self.old.held.groups email }
         requires lies { NameLies (length self.old.held.pool) row }
         requires reserved { 0 < self.old.names }
-        ensures held { HoldsAt (λ (g : EmailGroup). self.new.held ≡ with_email_at self.old.held email (record g { names = insert g.names index (name_group self.old.held.pool row) })) self.old.held.groups email }
+        ensures held { HoldsAt
+            (λ (g : EmailGroup). self.new.held
+            ≡ with_email_at self.old.held email
+            (record g { names = insert g.names index (name_group self.old.held.pool row) })) self.old.held.groups
+            email }
         ensures reserved { TookReserved 0 0 1 self.old self.new }
     {
         prove!(self.names.len() < self.names.capacity());
@@ -197,7 +207,11 @@ impl ReservedTables {
         requires email { email < length self.old.held.groups }
         requires index { HoldsAt (λ (g : EmailGroup). index < length g.names) self.old.held.groups email }
         requires lies { NameLies (length self.old.held.pool) row }
-        ensures held { HoldsAt (λ (g : EmailGroup). self.new.held ≡ with_email_at self.old.held email (record g { names = slice_set g.names index (name_group self.old.held.pool row) })) self.old.held.groups email }
+        ensures held { HoldsAt
+            (λ (g : EmailGroup). self.new.held
+            ≡ with_email_at self.old.held email
+            (record g { names = slice_set g.names index (name_group self.old.held.pool row) })) self.old.held.groups
+            email }
         ensures reserved { TookReserved 0 0 0 self.old self.new }
     {
         let start = self.emails[email].names_start;
@@ -209,8 +223,12 @@ impl ReservedTables {
     pub(crate) fn replace_texts(&mut self, email: usize, texts: Texts)
         requires email { email < length self.old.held.groups }
         requires lies { TextsLie (length self.old.held.pool) texts }
-        requires same { HoldsAt (λ (g : EmailGroup). spelled self.old.held.pool (old_span texts) ≡ g.old_email) self.old.held.groups email }
-        ensures held { HoldsAt (λ (g : EmailGroup). self.new.held ≡ with_email_at self.old.held email (record g { own = fields_of self.old.held.pool texts })) self.old.held.groups email }
+        requires same { HoldsAt (λ (g : EmailGroup). spelled self.old.held.pool (old_span texts) ≡ g.old_email)
+            self.old.held.groups email }
+        ensures held { HoldsAt
+            (λ (g : EmailGroup). self.new.held
+            ≡ with_email_at self.old.held email (record g { own = fields_of self.old.held.pool texts }))
+            self.old.held.groups email }
         ensures reserved { TookReserved 0 0 0 self.old self.new }
     {
         self.emails[email].texts = texts;

@@ -1,5 +1,4 @@
-//! Where emails and names are in tables, or where they would be: each is a search that compares keys by [`Steps`]
-//! alone.
+//! Searches for emails and names in tables. They compare keys only by [`Steps`], which counts the comparisons.
 ghost use Rattle.std.specs.Prelude.{◌≡◌, ◌<◌, ◌≤◌, ◌+◌, ◌-◌, ◌^◌, All, length, map, drop, min, IfOk, IfErr};
 ghost use Rattle.std.specs.List.{AllByRecursion};
 ghost use Rattle.std.specs.List.Sorted.{IsStrictlySortedBy};
@@ -17,7 +16,7 @@ use mailmap_entries::fold::{Probe, Steps, search};
 use std::cmp::Ordering;
 use std::mem;
 
-// How the emails of tables, from one index on, compare to an email.
+// The emails of tables from one index on, as a list of how each compares to one email.
 #[derive(Drop)]
 struct EmailProbe<'a> {
     tables: &'a View<'a>,
@@ -38,7 +37,7 @@ impl Probe for EmailProbe<'_> {
     }
 }
 
-// How the names of an email compare to a name.
+// The names of an email, as a list of how each compares to one name.
 #[derive(Drop)]
 struct NameProbe<'a> {
     tables: &'a View<'a>,
@@ -59,7 +58,7 @@ impl Probe for NameProbe<'_> {
     }
 }
 
-/// Where an email is among those of the tables from `start` on, or where it would be.
+/// The index of an email among those of the tables from `start` on, or the index where it would be.
 pub(crate) fn find_email(tables: &View<'_>, start: usize, email: &[u8]) -> Result<usize, usize>
     requires start { start ≤ length tables.now.groups }
     requires ascending { IsStrictlySortedBy text_cmp (map email_key tables.now.groups) }
@@ -69,7 +68,7 @@ pub(crate) fn find_email(tables: &View<'_>, start: usize, email: &[u8]) -> Resul
     search_email(tables, start, email, &mut Steps::new())
 }
 
-/// Where a name is among the names of an email, or where it would be.
+/// The index of a name among the names of an email, or the index where it would be.
 pub(crate) fn find_name(tables: &View<'_>, names: &[NameRow], name: &[u8]) -> Result<usize, usize>
     requires lie { AllByRecursion (NameLies (length tables.now.pool)) names.now }
     requires ascending { IsStrictlySortedBy text_cmp

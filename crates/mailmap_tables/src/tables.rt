@@ -125,7 +125,8 @@ impl Tables {
     /// Puts a name after those that no email has taken.
     pub fn push_name(&mut self, row: NameRow) -> Result<(), AllocError>
         requires { NameLies (length self.old.pool) row }
-        ensures { OnOk result (self.new ≡ record self.old { pending = self.old.pending ++ name_group self.old.pool row ∷ [] }) }
+        ensures { OnOk result
+            (self.new ≡ record self.old { pending = self.old.pending ++ name_group self.old.pool row ∷ [] }) }
     {
         self.names.push(row)?;
         Ok(())
@@ -134,7 +135,8 @@ impl Tables {
     /// Puts names after those that no email has taken.
     pub fn push_names(&mut self, rows: &[NameRow]) -> Result<(), AllocError>
         requires { AllByRecursion (NameLies (length self.old.pool)) rows.now }
-        ensures { OnOk result (self.new ≡ record self.old { pending = self.old.pending ++ map (name_group self.old.pool) rows.now }) }
+        ensures { OnOk result
+            (self.new ≡ record self.old { pending = self.old.pending ++ map (name_group self.old.pool) rows.now }) }
     {
         self.names.extend_from_slice(rows)?;
         Ok(())

@@ -14,7 +14,7 @@ pub struct Span {
     pub len: usize,
 }
 
-/// A length that no text has. It says that there is no text.
+/// A length that no text has: there is no text.
 pub const NO_TEXT: usize = usize::MAX;
 
 /// Where the texts of a row are in the pool: the old one starts there, and after it come the new name and the new
@@ -114,7 +114,7 @@ fn span_of(start: usize, len: usize) -> Option<Span>
     }
 }
 
-// How many bytes a length stands for.
+// The number of bytes of a text with this length, 0 if there is no text.
 #[tactic(auto, unfolding(crate::specs::Texts::byte_count))]
 fn byte_count(len: usize) -> usize
     ensures { result ≡ byte_count len }
@@ -148,9 +148,11 @@ pub(crate) fn together(
     ensures grown { Extends pool.old.items pool.new.items }
     ensures lies { IfOk result (TextsLie (length pool.new.items)) }
     ensures spells { IfOk result (RowSpells pool.old.items pool.new.items old new_name new_email) }
-    ensures bytes { length pool.new.items ≤ length pool.old.items + (old.len + (span_bytes new_name + span_bytes new_email)) }
+    ensures bytes { length pool.new.items ≤ length
+        pool.old.items + (old.len + (span_bytes new_name + span_bytes new_email)) }
     ensures capacity { vec_capacity pool.old ≤ vec_capacity pool.new }
-    ensures succeeds { vec_len pool.old + (old.len + (span_bytes new_name + span_bytes new_email)) ≤ vec_capacity pool.old → IsOk result }
+    ensures succeeds { vec_len pool.old + (old.len + (span_bytes new_name + span_bytes new_email)) ≤ vec_capacity
+        pool.old → IsOk result }
 {
     let len = pool.len();
     if are_together(old, new_name, new_email) {

@@ -114,7 +114,8 @@ impl<'a> View<'a> {
     pub fn names_between(&self, from: usize, to: usize) -> &'a [NameRow]
         requires up { from ≤ to }
         requires within { to ≤ length self.now.groups }
-        ensures names { map (name_group self.now.pool) result.now ≡ flat_map (λ (g : EmailGroup). g.names) (take (to - from) (drop from self.now.groups)) }
+        ensures names { map (name_group self.now.pool) result.now
+            ≡ flat_map (λ (g : EmailGroup). g.names) (take (to - from) (drop from self.now.groups)) }
         ensures lie { AllByRecursion (NameLies (length self.now.pool)) result.now }
     {
         part(

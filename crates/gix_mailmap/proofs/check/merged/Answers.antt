@@ -17,7 +17,7 @@ returns c =
     let bufs = c.args.buffers.now in
     let e = c.flat_map-entries.ensures in
     let road = YieldsList-from_flat_map _ _ _ mapping_of (λ (b : Bor Text). good b.now) _ (λ (x : Bor (Bor Text)) u q called. (search rules, λ j becomes. YieldsList-from_first mapping_of (λ s. s) (good x.now.now) (search (rules, tests))))
-        (YieldsList-from_slice bufs (ap (λ s. s) search)) e.closure e.front e.back e.done in
+    (YieldsList-from_slice bufs (ap (λ s. s) search)) e.closure e.front e.back e.done in
     let same = sym (flat_map-map good (λ (b : Bor Text). b.now) bufs) in
     let gives = gives_said road in
     IfOk-weaker c.new.result _ _ (λ made m. subst (λ l. IsNormal l made) (gives.whole m.0 m.1 ∙ same) m.2) c.new.ensures.ok
