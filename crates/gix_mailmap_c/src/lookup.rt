@@ -34,7 +34,8 @@ pub extern "C" fn gix_mailmap_lookup(
     ensures described { IfSome (contents m.old) (λ n. let f = fields_for n name.now email.now in
         IsDescribed f.name name.now new_name.new × IsDescribed f.email email.now new_email.new) }
     ensures answer { IfSome (contents m.old) (λ n.
-        IsAnswered (fields_for n name.now email.now) name.now email.now name_out.old name_out.new email_out.old email_out.new result) }
+        IsAnswered (fields_for n name.now email.now) name.now email.now name_out.old name_out.new
+        email_out.old email_out.new result) }
     ensures closed { IfNone (contents m.old)
         ((result ≡ 3) × (name_out.new ≡ name_out.old) × (new_name.new ≡ new_name.old)
         × (email_out.new ≡ email_out.old) × (new_email.new ≡ new_email.old)) }

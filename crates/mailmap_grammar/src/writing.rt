@@ -34,7 +34,8 @@ fn is_writable_name(name: Option<&[u8]>) -> bool
 fn are_writable_emails(new_email: Option<&[u8]>, old_email: &[u8]) -> bool
     ensures { let new = option_copied new_email.entry in
         let old = old_email.now in
-        IsTrue result ↔ (IfSome new IsWritableEmail × IsWritableEmail old × IfSome new (λ email. email ≢ []) × IfNone new (old ≢ [])) }
+        IsTrue result ↔ (IfSome new IsWritableEmail × IsWritableEmail old
+        × IfSome new (λ email. email ≢ []) × IfNone new (old ≢ [])) }
 {
     match new_email {
         Some(new_email) => {

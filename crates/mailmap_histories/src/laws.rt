@@ -76,7 +76,8 @@ pub fn law_of_email()
 pub fn law_one_email()
     ensures { (h : List Mapping) (name other_name email other_email : Text)
         → folded name ≡ folded other_name → folded email ≡ folded other_email → IsSome (spelling h (folded email))
-        → unwrap_or (fields_for h name email).email email ≡ unwrap_or (fields_for h other_name other_email).email other_email }
+        → unwrap_or (fields_for h name email).email email
+        ≡ unwrap_or (fields_for h other_name other_email).email other_email }
 {}
 
 /// Texts, and keys, compare as equal exactly if they are the same. So the filters of the definitions pick entries by

@@ -32,7 +32,10 @@ pub struct Reduced<'p, 'a> {
 impl<'p, 'a> Model for Reduced<'p, 'a> {
     ghost Value = { ReducedHistory };
 
-    ghost view = { λ s. record { history = map located_of s.history.now; kept = map located_of_reference s.kept.items } };
+    ghost view = { λ s. record {
+      history = map located_of s.history.now;
+      kept = map located_of_reference s.kept.items;
+    } };
 
     ghost invariant = { λ s. IsReducedState s.keys (map located_of s.history.now)
         (map located_of_reference s.kept.items) s.table };

@@ -148,7 +148,8 @@ impl Pool {
         ensures spells { IfOk result
             (OwnSpells self.old.bytes.items self.new.bytes.items texts (fields_given given.entry)) }
         ensures bytes { length self.new.bytes.items
-            ≤ length self.old.bytes.items + own_reserved (group_of self.old.bytes.items texts []) (fields_given given.entry) }
+            ≤ length self.old.bytes.items + own_reserved (group_of self.old.bytes.items texts [])
+            (fields_given given.entry) }
         ensures capacity { vec_capacity self.old.bytes ≤ vec_capacity self.new.bytes }
         ensures succeeds { vec_len self.old.bytes + own_reserved (group_of self.old.bytes.items texts [])
             (fields_given given.entry)

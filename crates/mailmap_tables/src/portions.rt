@@ -91,7 +91,8 @@ impl<'a> Collected<'a> {
             × IsCollected standing.now h self.old.made (map mapping_of self.old.batch.items) }
         ensures { OnOk result
             ((h : List Mapping) → IsCollected standing.now h self.old.made (map mapping_of self.old.batch.items)
-            → IsCollected standing.now (h ++ mapping_of entry.entry ∷ []) self.new.made (map mapping_of self.new.batch.items)) }
+            → IsCollected standing.now (h ++ mapping_of entry.entry ∷ []) self.new.made
+            (map mapping_of self.new.batch.items)) }
     {
         self.batch.push(entry)?;
         if self.batch.len() < self.portion {

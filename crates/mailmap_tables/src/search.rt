@@ -27,7 +27,8 @@ struct EmailProbe<'a> {
 }
 
 impl Probe for EmailProbe<'_> {
-    ghost answers = { λ p. map (λ g. text_cmp (email_key g) (folded p.email.text.now)) (drop p.start p.tables.now.groups) };
+    ghost answers = { λ p. map (λ g. text_cmp (email_key g) (folded p.email.text.now))
+        (drop p.start p.tables.now.groups) };
 
     ghost asked = { λ p. p.steps };
 
@@ -48,7 +49,8 @@ struct NameProbe<'a> {
 }
 
 impl Probe for NameProbe<'_> {
-    ghost answers = { λ p. map (λ n. text_cmp (name_key n) (folded p.name.now)) (map (name_group p.tables.now.pool) p.names.now) };
+    ghost answers = { λ p. map (λ n. text_cmp (name_key n) (folded p.name.now))
+        (map (name_group p.tables.now.pool) p.names.now) };
 
     ghost asked = { λ p. p.steps };
 

@@ -169,7 +169,8 @@ impl Tables {
         requires pending { count ≤ length self.old.pending }
         ensures { OnOk result (self.new ≡ record {
           pool = self.old.pool;
-          groups = self.old.groups ++ record (group_of self.old.pool texts []) { names = take count self.old.pending } ∷ [];
+          groups = self.old.groups
+              ++ record (group_of self.old.pool texts []) { names = take count self.old.pending } ∷ [];
           pending = drop count self.old.pending;
         }) }
     {

@@ -76,7 +76,8 @@ pub(crate) fn push_entry<'a>(
 ) -> Result<(), AllocError>
     ensures { OnOk result (map located_of found.new.items
         ≡ map located_of found.old.items
-        ++ option_to_list (option_map (λ e. record { position = position; entry = e }) (option_map mapping_of given.entry))) }
+        ++ option_to_list (option_map (λ e. record { position = position; entry = e })
+        (option_map mapping_of given.entry))) }
 {
     if let Some(entry) = given {
         found.push(LocatedEntry { position, entry })?;

@@ -120,7 +120,8 @@ fn push_reported<'a>(
 ) -> Result<(), AllocError>
     ensures { OnOk result (map finding_of found.new.items
         ≡ map finding_of found.old.items
-        ++ reported_of_met (entries reduced.now.history) reduced.now.kept stays (option_map located_of_reference met.entry)) }
+        ++ reported_of_met (entries reduced.now.history) reduced.now.kept stays
+        (option_map located_of_reference met.entry)) }
 {
     let Some(located) = met else {
         return Ok(());
@@ -138,7 +139,8 @@ pub(crate) fn push_kind<'a>(
 ) -> Result<(), AllocError>
     ensures { OnOk result (map finding_of found.new.items
         ≡ map finding_of found.old.items
-        ++ map (λ t. record { position = position; reported = t }) (option_to_list (option_map reported_of kind.entry))) }
+        ++ map (λ t. record { position = position; reported = t })
+        (option_to_list (option_map reported_of kind.entry))) }
 {
     if let Some(kind) = kind {
         found.push(Finding { position, kind })?;
