@@ -1,5 +1,4 @@
 //! Texts put into the caller's buffers.
-ghost use Rattle.std.specs.Prelude.{◌≡◌};
 ghost use Rattle.gix_mailmap_c.specs.Handed.{IsPut, ArePut};
 
 use crate::copies::copy;

@@ -2,7 +2,6 @@
 ghost use Rattle.std.specs.Prelude.{◌≡◌, IfSome, IfNone};
 ghost use Rattle.std.specs.Option.{option_copied};
 ghost use Rattle.mailmap_histories.specs.Histories.{fields_for};
-ghost use Rattle.gix_mailmap_c.specs.Handed.{ArePut};
 ghost use Rattle.gix_mailmap_c.specs.Handles.{contents};
 ghost use Rattle.gix_mailmap_c.specs.Fields.{IsAnswered, IsDescribed};
 
@@ -12,8 +11,6 @@ use crate::held::lent::snapshot;
 use crate::held::{Mailmap, is_open};
 use crate::status::CLOSED;
 use gix_mailmap::Snapshot;
-use gix_mailmap::actor::SignatureRef;
-use mailmap_entries::fold::Steps;
 
 /// Looks a name and an email up: the proper ones are copied into `name_out` and `email_out`, and `new_name` and
 /// `new_email` say how long they are, and whether the mailmap gave them. One that it doesn't give is the one asked for.
@@ -91,12 +88,7 @@ fn proper<'a>(
     ensures name { option_copied result.0 ≡ (fields_for snapshot.now name.now email.now).name }
     ensures email { option_copied result.1 ≡ (fields_for snapshot.now name.now email.now).email }
 {
-    let contact = SignatureRef {
-        name,
-        email,
-        time: "",
-    };
-    match snapshot.try_resolve_ref_counted(contact, &mut Steps::new()) {
+    match snapshot.try_resolve_contact(name, email) {
         Some(found) => (found.name, found.email),
         None => (None, None),
     }

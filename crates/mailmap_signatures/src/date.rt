@@ -1,5 +1,5 @@
 //! The times of commit signatures.
-ghost use Rattle.std.specs.Prelude.{◌≡◌, ◌+◌, ◌-◌, ◌*◌, ◌∷◌, [], ℤ, pos, MatchOption};
+ghost use Rattle.std.specs.Prelude.{◌+◌, ◌-◌, ◌*◌, ◌∷◌, [], ℤ, pos, MatchOption};
 ghost use Rattle.std.specs.Option.{SomeIff};
 ghost use Rattle.std.specs.Char.{IsAsciiDigit};
 ghost use Rattle.mailmap_signatures.specs.Times.{AreDigits, number, SpellsSeconds, SpellsOffset, Reads};

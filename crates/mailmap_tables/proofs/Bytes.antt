@@ -1,5 +1,5 @@
 -- How many bytes texts have, and how many go into the pool at most.
-use Rattle.std.proofs.Common.{◌≡◌, ◌+◌, ◌≤◌, ℕ, List, [], ◌∷◌, map, option_map, min, length, sum_by, Option, Some, None, sym, ap, ◌∙◌, arith, refl}
+use Rattle.std.proofs.Common.{◌≡◌, ◌+◌, ◌≤◌, ℕ, List, [], option_map, min, length, Option, Some, None, sym, ap, ◌∙◌, arith, refl}
 use Rattle.std.specs.Option.{ForSome, option_or}
 use Rattle.std.proofs.lemmas.List.{length-map}
 use Rattle.mailmap_entries.specs.Folding.{Text, folded}

@@ -1,5 +1,5 @@
 -- One entry that is put in place.
-use Rattle.std.proofs.Common.{◌≡◌, ◌+◌, ◌*◌, ◌≤◌, ◌<◌, get_or, ℕ, zero, suc, true, List, [], ◌∷◌, ◌++◌, map, take, drop, length, min, set, sum_by, Contains, IsSome, rules, Some, None, append-nil, append_assoc, refl, sym, ap, subst, ◌∙◌, arith}
+use Rattle.std.proofs.Common.{◌≡◌, ◌+◌, ◌*◌, ◌≤◌, ◌<◌, get_or, ℕ, zero, suc, true, List, [], ◌∷◌, ◌++◌, map, take, drop, length, min, set, sum_by, Contains, IsSome, rules, None, append-nil, append_assoc, refl, sym, ap, subst, ◌∙◌, arith}
 use Rattle.std.specs.List.{AllByRecursion, insert}
 use Rattle.std.specs.List.Sorted.{IsStrictlySortedBy}
 use Rattle.std.proofs.Math.Nat.{suc-mul, zero-mul}
@@ -13,7 +13,7 @@ use Rattle.mailmap_histories.proofs.Alike.{alike_itself}
 use Rattle.mailmap_tables.specs.Groups.{AreGroups, Contents, EmailGroup, IsComplete, IsGroup, email_key, listing, name_key, name_row}
 use Rattle.mailmap_batches.specs.Given.{NameGroup}
 use Rattle.mailmap_tables.specs.Merging.{AllJoined, EmailJoined, EmailLookup, NameLookup, NamePut, NamesJoined, GroupPut, bare, known, unknown}
-use Rattle.mailmap_batches.specs.Given.{IsEarliest, IsNamed, NameEntries, give}
+use Rattle.mailmap_batches.specs.Given.{IsEarliest, IsNamed, NameEntries}
 use Rattle.mailmap_batches.specs.Batches.{IsSorted, email_text}
 use Rattle.mailmap_tables.specs.Named.{given_or}
 use Rattle.mailmap_tables.specs.Reserved.{EmailChanged, EmailReady, Fits, OwnWithin, Reserved, Says, entry_bytes, entry_reserved, field_bytes, own_bytes, with_email_at}

@@ -1,21 +1,17 @@
 //! Joining a sorted batch with the standing tables: email by email, and within an email name by name. The standing rows
 //! between two emails of the batch are passed on without a look at their texts.
-ghost use Rattle.std.specs.Prelude.{◌≡◌, ◌≢◌, ◌+◌, ◌-◌, ◌<◌, ◌≤◌, [], ◌++◌, ◌∷◌, List, true, OnOk, OnErr, IfOk, take, drop, map, length, ℕ};
-ghost use Rattle.std.specs.Option.{option_copied, option_map, option_or, ForSome};
+ghost use Rattle.std.specs.Prelude.{◌≡◌, ◌+◌, ◌-◌, ◌<◌, ◌≤◌, [], ◌++◌, ◌∷◌, true, OnOk, IfOk, take, drop, map, length};
+ghost use Rattle.std.specs.Option.{option_copied};
 ghost use Rattle.std.specs.List.{AllByRecursion};
 ghost use Rattle.std.specs.List.Sorted.{IsStrictlySortedBy};
 ghost use Rattle.mailmap_entries.specs.Entries.{mapping_of};
 ghost use Rattle.mailmap_entries.specs.Folding.{text_cmp};
 ghost use Rattle.mailmap_tables.specs.Groups.{AreGroups, IsComplete, name_key, listing};
-ghost use Rattle.std.specs.Iterator.{IsFinite, Drains, Yields};
 ghost use Rattle.mailmap_histories.specs.Histories.{IsNormal, accepted, is_accepted, key, key_cmp};
-ghost use Rattle.mailmap_entries.specs.declared.entry.Entry.{Entry as Item};
 ghost use Rattle.mailmap_batches.specs.Batches.{IsAscending, first_email, mapping_at, indexed_mapping, name_text};
-ghost use Rattle.mailmap_batches.specs.Given.{IsNamed, named_group, fields_given};
+ghost use Rattle.mailmap_batches.specs.Given.{IsNamed, named_group};
 ghost use Rattle.mailmap_tables.specs.Merging.{Extends, NamePut, NamesPut, EmailEntries, EmailPut, GroupPut, AllJoined};
-ghost use Rattle.mailmap_tables.specs.Pool.{spelled, LiesIn, NameLies, RowsLie, TextsLie, name_group, group_of};
-ghost use Rattle.mailmap_tables.specs.Named.{OwnSpells};
-ghost use Rattle.mailmap_tables.specs.Reserved.{optional_bytes};
+ghost use Rattle.mailmap_tables.specs.Pool.{spelled, LiesIn, NameLies, RowsLie, name_group, group_of};
 
 use crate::lengths::texts_len;
 use crate::listing::Iter;

@@ -1,8 +1,6 @@
 //! Tables with memory reserved beforehand: texts and rows go in where they belong, and no step can fail.
-ghost use Rattle.std.specs.Prelude.{List, ℕ, ◌≡◌, ◌≤◌, ◌<◌, ◌+◌, ◌-◌, ◌++◌, [], ◌∷◌, length, IfOk, IfErr, OnOk, map, take, drop, Some, None, slice_get, slice_set, vec_len, vec_capacity};
-ghost use Rattle.std.specs.Option.{ForSome, option_map};
+ghost use Rattle.std.specs.Prelude.{List, ℕ, ◌≡◌, ◌≤◌, ◌<◌, ◌+◌, ◌-◌, ◌++◌, [], length, IfOk, IfErr, OnOk, map, slice_set, vec_len, vec_capacity};
 ghost use Rattle.std.specs.List.{AllByRecursion, HoldsAt, insert};
-ghost use Rattle.mailmap_entries.specs.Folding.{folded};
 ghost use Rattle.mailmap_tables.specs.Reserved.{one_later};
 
 use crate::pool::Pool;
@@ -43,7 +41,6 @@ impl Model for ReservedTables {
 
 impl ReservedTables {
     ghost use Rattle.mailmap_tables.specs.Groups.{EmailGroup};
-    ghost use Rattle.mailmap_batches.specs.Given.{NameGroup};
     ghost use Rattle.mailmap_tables.specs.Merging.{bare};
     ghost use Rattle.mailmap_tables.specs.Named.{OwnSpells};
     ghost use Rattle.mailmap_batches.specs.Given.{fields_given, named_group};

@@ -1,11 +1,9 @@
 //! The tables of a snapshot: one pool of bytes that holds each text, a flat table of emails and a flat table of names,
 //! whose rows say where their texts are in the pool.
-ghost use Rattle.std.specs.Prelude.{◌≡◌, ◌≤◌, ◌<◌, ◌++◌, [], ◌∷◌, length, ◌-◌, List, ℕ, OnOk, OnErr, IfOk, map, Some, slice_get, take, drop};
-ghost use Rattle.std.specs.Option.{option_map, option_copied, ForSome};
-ghost use Rattle.std.specs.List.{AllByRecursion, HoldsAt, flat_map};
+ghost use Rattle.std.specs.Prelude.{◌≡◌, ◌≤◌, ◌<◌, ◌++◌, [], ◌∷◌, length, ◌-◌, List, ℕ, OnOk, OnErr, IfOk, map, take, drop};
+ghost use Rattle.std.specs.List.{AllByRecursion};
 ghost use Rattle.mailmap_entries.specs.Folding.{folded};
 ghost use Rattle.mailmap_entries.specs.Prefixes.{IsKeyPrefix};
-ghost use Rattle.mailmap_tables.specs.Pool.{end_of};
 
 use crate::pool::Pool;
 use crate::texts::{Span, Texts};
@@ -50,8 +48,7 @@ impl Model for Tables {
 }
 
 impl Tables {
-    ghost use Rattle.mailmap_tables.specs.Groups.{Contents, EmailGroup};
-    ghost use Rattle.mailmap_batches.specs.Given.{NameGroup};
+    ghost use Rattle.mailmap_tables.specs.Groups.{Contents};
     ghost use Rattle.mailmap_tables.specs.Named.{OwnSpells};
     ghost use Rattle.mailmap_batches.specs.Given.{fields_given, named_group};
     ghost use Rattle.mailmap_tables.specs.Pool.{spelled, LiesIn, NameLies, TextsLie, name_group, group_of};

@@ -33,7 +33,6 @@ impl<'a> Model for View<'a> {
 
 impl<'a> View<'a> {
     ghost use Rattle.mailmap_tables.specs.Groups.{Contents, EmailGroup, listing};
-    ghost use Rattle.mailmap_batches.specs.Given.{NameGroup};
     ghost use Rattle.mailmap_tables.specs.Pool.{spelled, LiesIn, NameLies, TextsLie, name_group, group_of, RowsLie};
     ghost use Rattle.mailmap_tables.specs.Texts.{email_span, name_span};
     ghost use Rattle.mailmap_tables.specs.Reserved.{own_bytes};

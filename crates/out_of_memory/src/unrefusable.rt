@@ -144,8 +144,10 @@ fn borrows() -> bool {
 fn looks_up(snapshot: &Snapshot) -> bool {
     let mut steps = Steps::new();
     let plain = snapshot.try_resolve_ref(JANE);
+    let by_contact = snapshot.try_resolve_contact(JANE.name, JANE.email);
     let counted = snapshot.try_resolve_ref_counted(JANE, &mut steps);
     is_jane_doe(plain)
+        && is_jane_doe(by_contact)
         && is_jane_doe(counted)
         && steps.count() == 2
         && lists(snapshot, &team())

@@ -1,13 +1,8 @@
 //! The listing of a snapshot, and what follows from it: equality, the hash, the debug text and a copy.
-ghost use Rattle.std.specs.Prelude.{◌≡◌, ◌↔◌, List, [], length, map, option_map, IsTrue, IfOk};
-ghost use Rattle.std.specs.Iterator.{YieldsFirstBy, item_count};
-ghost use Rattle.std.specs.List.{AllByRecursion};
-ghost use Rattle.std.specs.Option.{option_to_list};
+ghost use Rattle.std.specs.Prelude.{◌≡◌, ◌↔◌, length, map, IsTrue, IfOk};
 ghost use Rattle.mailmap_entries.specs.Entries.{mapping_of};
 ghost use Rattle.mailmap_histories.specs.Building.{IsListing};
-ghost use Rattle.mailmap_tables.specs.Groups.{listing, name_row, own_rows};
-ghost use Rattle.mailmap_tables.specs.Remaining.{left_to_list};
-ghost use Rattle.mailmap_tables.specs.Pool.{NameLies, TextsLie, group_of, name_group};
+ghost use Rattle.mailmap_tables.specs.Groups.{listing};
 
 use crate::snapshot::Snapshot;
 use mailmap_entries::Entry;

@@ -1,5 +1,4 @@
-use Rattle.std.proofs.Common.{◌≡◌, IfOk, Bor, List, map, refl, sym, ap, subst, ◌∙◌, rules, tests}
-use Rattle.std.specs.List.{flat_map}
+use Rattle.std.proofs.Common.{Bor, sym, ap, subst, ◌∙◌, rules, tests}
 use Rattle.std.proofs.lemmas.Iterator.{YieldsList-from_slice}
 use Rattle.std.proofs.lemmas.Iterator.Consumers.{YieldsList-from_first}
 use Rattle.std.proofs.lemmas.Iterator.Adapters.{YieldsList-from_flat_map}
@@ -9,7 +8,7 @@ use Rattle.mailmap_entries.specs.Entries.{mapping_of}
 use Rattle.mailmap_entries.specs.Folding.{Text}
 use Rattle.mailmap_histories.specs.Histories.{IsNormal}
 use Rattle.mailmap_grammar.specs.Lines.{good}
-use Rattle.mailmap_snapshot.proofs.Sources.{Gives, gives_said}
+use Rattle.mailmap_snapshot.proofs.Sources.{gives_said}
 use Rattle.gix_mailmap.proofs.check.merged.Goals as goal
 
 pub returns : goal.returns

@@ -1,8 +1,8 @@
-use Rattle.std.proofs.Common.{◌≡◌, ◌<◌, ◌≤◌, ◌∙◌, [], length, take, drop, get_or, ◌+◌, ◌++◌, ◌∷◌, sym, ap, subst, refl, arith, take-append-drop}
+use Rattle.std.proofs.Common.{◌≡◌, ◌∙◌, [], take, drop, get_or, ◌+◌, sym, ap, subst, refl, arith, take-append-drop}
 use Rattle.std.specs.List.{insert}
 use Rattle.mailmap_entries.specs.Entries.{mapping_of}
 use Rattle.mailmap_entries.specs.Folding.{Text, folded}
-use Rattle.mailmap_tables.specs.Groups.{Contents, EmailGroup, email_key}
+use Rattle.mailmap_tables.specs.Groups.{Contents, email_key}
 use Rattle.mailmap_tables.specs.Merging.{bare, known, unknown}
 use Rattle.mailmap_batches.specs.Batches.{email_text}
 use Rattle.mailmap_tables.specs.KeySearch.{IsFound, IsMissing}

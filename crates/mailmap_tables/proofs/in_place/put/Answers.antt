@@ -1,14 +1,13 @@
-use Rattle.std.proofs.Common.{◌≡◌, ◌≤◌, ◌<◌, ◌∙◌, ◌∷◌, [], ℕ, List, None, Some, length, map, refl, sym, ap, subst, arith}
-use Rattle.mailmap_entries.specs.Entries.{Mapping, mapping_of}
+use Rattle.std.proofs.Common.{◌≤◌, ◌∷◌, [], map, refl, sym, ap, subst, arith}
+use Rattle.mailmap_entries.specs.Entries.{mapping_of}
 use Rattle.mailmap_entries.specs.Folding.{text_cmp}
 use Rattle.std.specs.List.Sorted.{IsStrictlySortedBy}
 use Rattle.mailmap_histories.specs.Histories.{Fields}
-use Rattle.mailmap_tables.specs.Groups.{Contents, EmailGroup, name_key}
-use Rattle.mailmap_batches.specs.Given.{NameGroup}
+use Rattle.mailmap_tables.specs.Groups.{EmailGroup, name_key}
 use Rattle.mailmap_tables.specs.Merging.{EmailJoined}
 use Rattle.mailmap_tables.specs.Named.{given_or}
 use Rattle.mailmap_batches.specs.Given.{fields_given, named_group}
-use Rattle.mailmap_tables.specs.Reserved.{EmailChanged, NameAdded, entry_reserved, optional_bytes, own_bytes, own_reserved}
+use Rattle.mailmap_tables.specs.Reserved.{EmailChanged, NameAdded, optional_bytes, own_reserved}
 use Rattle.mailmap_tables.proofs.Bytes.{or_bytes}
 use Rattle.mailmap_tables.proofs.InPlace.{first_reserved, group_given, group_named, name_joined, put_done, put_fits, ready_ascends, ready_there, ready_within, existing_reserved}
 use Rattle.mailmap_tables.proofs.in_place.put.Goals as goal

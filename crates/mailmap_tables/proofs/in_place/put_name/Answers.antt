@@ -7,7 +7,7 @@ use Rattle.mailmap_batches.specs.Given.{NameGroup}
 use Rattle.mailmap_tables.specs.Merging.{known, unknown}
 use Rattle.mailmap_batches.specs.Given.{named_group}
 use Rattle.mailmap_tables.specs.Pool.{name_group, spelled}
-use Rattle.mailmap_tables.specs.Reserved.{EmailChanged, with_email_at}
+use Rattle.mailmap_tables.specs.Reserved.{with_email_at}
 use Rattle.mailmap_tables.specs.Texts.{old_span}
 use Rattle.mailmap_tables.proofs.InPlace.{changed_from, insert_parts, set_parts}
 use Rattle.mailmap_tables.proofs.Parting.{found_key, missing_above, missing_head, split_head}

@@ -1,9 +1,7 @@
-use Rattle.std.proofs.Common.{◌≡◌, ◌≤◌, ◌+◌, ◌∙◌, length, vec_len, vec_capacity, Option, Some, None, refl, sym, ap, arith}
+use Rattle.std.proofs.Common.{◌≡◌, ◌∙◌, Option, Some, None, refl, sym, ap, arith}
 use Rattle.std.specs.Option.{option_or}
 use Rattle.mailmap_entries.specs.Folding.{Text}
-use Rattle.mailmap_tables.specs.Merging.{Extends}
 use Rattle.mailmap_batches.specs.Given.{named_group}
-use Rattle.mailmap_tables.specs.Pool.{name_group, spelled}
 use Rattle.mailmap_tables.specs.Reserved.{optional_bytes}
 use Rattle.mailmap_tables.specs.Texts.{span_bytes}
 use Rattle.mailmap_tables.proofs.Bytes.{spans_bytes}

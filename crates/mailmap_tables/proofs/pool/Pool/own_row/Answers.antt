@@ -1,4 +1,4 @@
-use Rattle.std.proofs.Common.{vec_len, vec_capacity, arith}
+use Rattle.std.proofs.Common.{arith}
 use Rattle.mailmap_batches.specs.Given.{fields_given}
 use Rattle.mailmap_tables.proofs.Bytes.{own_copied}
 use Rattle.mailmap_entries.proofs.Results.{if_ok_map}
