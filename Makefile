@@ -49,7 +49,7 @@ $(LIB)/c/libgix_mailmap.so: $(SOURCES) include/gix_mailmap.map
 	    -Wl,--version-script,include/gix_mailmap.map -Wl,--whole-archive $(LIB)/c/libgix_mailmap.a -Wl,--no-whole-archive
 
 test:
-	tests/refused_memory.sh
+	tests/out_of_memory.sh
 	rt ci
 	$(MAKE) build $(DUMP)
 	tests/original/compare.py $(PROGRAM) $(DUMP)

@@ -9,7 +9,7 @@ trap 'rm -rf "$work"' EXIT
 
 mkdir -p "$work/crates/case/src"
 cp "$top/HANDLES" "$work"
-for crate in mailmap_entries mailmap_grammar mailmap_histories mailmap_signatures mailmap_batches mailmap_sifting mailmap_findings \
+for crate in mailmap_entries mailmap_grammar mailmap_histories mailmap_signatures mailmap_batches mailmap_redundancy mailmap_findings \
     mailmap_tables mailmap_snapshot gix_mailmap; do
     mkdir "$work/crates/$crate"
     cp -r "$top/crates/$crate/"{src,specs,proofs} "$work/crates/$crate"

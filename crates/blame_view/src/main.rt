@@ -4,7 +4,7 @@
 //! `Jane <bugs@example.com> 1711398853 +0800`.
 //!
 //! The three calls that resolve a signature differ in what they copy. Here each does what it suits: `resolve_cow` shows
-//! authors, `resolve` keeps one for later, and `try_resolve` tells whom the mailmap changes.
+//! authors, `resolve` keeps one for later, and `try_resolve` says whom the mailmap changes.
 #![tactic(auto)]
 
 use anyhow::{Context, Result};

@@ -30,7 +30,7 @@ lines-last b s off =
     cond-false _ _ _ (ne_eqb b 10 off)
     ∙ (elim (b == 13) as (λ t. cond (t && true) ([] ∷ lines s) ((b ∷ []) ∷ lines s) ≡ cond t ([] ∷ lines s) ((b ∷ []) ∷ lines s)) [ true ↦ refl | false ↦ refl ])
 
--- what a piece is without its carriage return goes on behind each byte in front of it
+-- what a piece is without its carriage return goes on after each byte in front of it
 bare-cons : (b c : ℕ) (piece line : Text) → IsBare (b ∷ c ∷ piece) line → (rest : Text) × (line ≡ b ∷ rest) × IsBare (c ∷ piece) rest
 bare-cons b c piece line h = ⊎_elim (λ e. ended line e) (λ same. (c ∷ piece, sym same.0, inr (refl, λ front e. same.1 (b ∷ front) (sym same.0 ∙ ap (λ l. b ∷ l) e)))) h
   where
@@ -38,7 +38,7 @@ bare-cons b c piece line h = ⊎_elim (λ e. ended line e) (λ same. (c ∷ piec
     ended [] e = absurd (cc)
     ended (x ∷ rest) e = (rest, (let h : x ≡ b = cc in ap (λ y. y ∷ rest) h), inl (let h : c ∷ piece ≡ rest ++ 13 ∷ [] = cc in h))
 
--- a piece, its line feed, and what stands behind
+-- a piece, its line feed, and what is after
 lines-line : (piece line rest : Text) → HoldsNo 10 piece → IsBare piece line → lines (piece ++ 10 ∷ rest) ≡ line ∷ lines rest
 lines-line [] line rest h bare = lines-feed rest ∙ ap (λ l. l ∷ lines rest) (⊎_elim (λ e. absurd (nothing line e)) (λ same. same.0) bare)
   where
@@ -75,7 +75,7 @@ lines-open [] h some = absurd (some refl)
 lines-open (b ∷ []) h some = cond-false _ _ _ (ne_eqb b 10 h.0) ∙ no_end b [] ((b ∷ []) ∷ [])
 lines-open (b ∷ c ∷ l) h some = lines-byte b c l h.0 h.1.0 ∙ ap (with_first b) (lines-open (c ∷ l) h.1 (λ e. cc))
 
--- pieces with their line feeds, and what stands behind them
+-- pieces with their line feeds, and what is after them
 lines-fed : (ps ls : List Text) (rest : Text) → AllByRecursion (HoldsNo 10) ps → AllZip IsBare ps ls → lines (fed ps ++ rest) ≡ ls ++ lines rest
 lines-fed [] [] rest h bare = refl
 lines-fed [] (l ∷ ls) rest h bare = absurd bare

@@ -6,11 +6,11 @@ use Rattle.std.proofs.lemmas.Bool.{cases_Bool, cond-true, cond-false, eqb-false,
 use Rattle.std.proofs.lemmas.Bool.Decides.{nat_tests}
 use Rattle.bstr.specs.Text.{line_len, lines_of, no_cr, without_terminator}
 use Rattle.bstr.proofs.lemmas.LineLemmas.{lines-nil, lines-step}
-use Rattle.gix_mailmap.specs.Contacts.{answer, answers, feeds, half_answer, lines, replaced}
+use Rattle.gix_mailmap.specs.Contacts.{answer, answers, feeds, contact_answer, lines, replaced}
 use Rattle.mailmap_entries.specs.Entries.{Mapping}
 use Rattle.mailmap_entries.specs.Folding.{Text}
 use Rattle.mailmap_histories.specs.Histories.{IsNormal, fields_for, no_fields}
-use Rattle.mailmap_grammar.specs.Lines.{Half, Absent, Unclosed, Closed, cut, trimmed_half, with_first}
+use Rattle.mailmap_grammar.specs.Lines.{ParsedContact, Absent, Unclosed, Closed, cut, trimmed_contact, with_first}
 use Rattle.mailmap_grammar.specs.Trimming.{trim}
 use Rattle.mailmap_histories.proofs.Alike.{same_scan}
 use Rattle.mailmap_histories.proofs.Normal.{alike_normal}
@@ -33,9 +33,9 @@ without-some b z = ap (λ t. cond (t && slice_index (b ∷ z) (length (b ∷ z) 
 -- a byte in front of other bytes is no end of them
 no_cr-cons : (b c : ℕ) (z : Text) → no_cr (b ∷ c ∷ z) ≡ b ∷ no_cr (c ∷ z)
 no_cr-cons b c z =
-    let place : length (b ∷ c ∷ z) - 1 ≡ suc (length (c ∷ z) - 1) = omega arith in
+    let index : length (b ∷ c ∷ z) - 1 ≡ suc (length (c ∷ z) - 1) = omega arith in
     no_cr-some b (c ∷ z)
-    ∙ ap (λ k. cond (slice_index (b ∷ c ∷ z) k == 13) (take k (b ∷ c ∷ z)) (b ∷ c ∷ z)) place
+    ∙ ap (λ k. cond (slice_index (b ∷ c ∷ z) k == 13) (take k (b ∷ c ∷ z)) (b ∷ c ∷ z)) index
     ∙ cond_cons _ b _ _
     ∙ ap (λ l. b ∷ l) (sym (no_cr-some c z))
 
@@ -53,7 +53,7 @@ without-cons b c (d ∷ z) other =
     ∙ ap (λ k. b ∷ cond (slice_index (c ∷ d ∷ z) k == 10) (no_cr (take k (c ∷ d ∷ z))) (c ∷ d ∷ z)) (sym inner)
     ∙ ap (λ l. b ∷ l) (sym (without-some c (d ∷ z)))
 
--- what a byte that is no line feed does to the lines behind it
+-- what a byte that is no line feed does to the lines after it
 with_byte : (b c : ℕ) (s : Text) → b ≢ 10 → map without_terminator (lines_of (b ∷ c ∷ s)) ≡ cond (b == 13 && feeds (c ∷ s)) (map without_terminator (lines_of (c ∷ s))) (with_first b (map without_terminator (lines_of (c ∷ s))))
 unfolding line_len
 with_byte b c s other =
@@ -133,16 +133,16 @@ module _ (h n : List Mapping) (d : IsNormal h n) where
   same_fields : (name email : Text) → fields_for n name email ≡ fields_for h name email
   same_fields name email = ap (λ o. unwrap_or o no_fields) (sym (same_scan h n name email (alike_normal h n d)))
 
-  same_half : (line : Text) (half : Half) → half_answer n line half ≡ half_answer h line half
-  same_half line Absent = refl
-  same_half line Unclosed = refl
-  same_half line (Closed name email rest) = ap (λ f. replaced f name email) (same_fields name email)
+  same_contact : (line : Text) (contact : ParsedContact) → contact_answer n line contact ≡ contact_answer h line contact
+  same_contact line Absent = refl
+  same_contact line Unclosed = refl
+  same_contact line (Closed name email rest) = ap (λ f. replaced f name email) (same_fields name email)
 
   -- a normal list answers each line as its history does
   same_lines : (ls : List Text) → flat_map (λ line. answer n line ++ 10 ∷ []) ls ≡ flat_map (λ line. answer h line ++ 10 ∷ []) ls
   same_lines [] = refl
   same_lines (l ∷ ls) =
-      ap (λ x. (x ++ 10 ∷ []) ++ flat_map (λ line. answer n line ++ 10 ∷ []) ls) (same_half l (trimmed_half (cut (trim l))))
+      ap (λ x. (x ++ 10 ∷ []) ++ flat_map (λ line. answer n line ++ 10 ∷ []) ls) (same_contact l (trimmed_contact (cut (trim l))))
       ∙ ap (λ x. (answer h l ++ 10 ∷ []) ++ x) (same_lines ls)
 
   pub same_answers : (contacts : Text) → answers n contacts ≡ answers h contacts

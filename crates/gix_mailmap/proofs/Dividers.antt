@@ -55,7 +55,7 @@ first_divider line behind (divider, last) = ⊎_elim
     (λ others. ⊎_elim (λ is. rw is) (λ is. rw (last is, is)) others)
     divider
 
--- what is left of whole lines behind some bytes ends a line too
+-- what is left of whole lines after some bytes ends a line too
 EndsLine-drop : (n : ℕ) (xs : List ℕ) → EndsLine xs → EndsLine (drop n xs)
 EndsLine-drop n xs (inl none) = inl (drop_all n xs (omega (arith, ap length none)))
 EndsLine-drop n xs (inr (front, is)) = ⊎_elim
@@ -76,12 +76,12 @@ past_line before line behind (inr (front, is)) divider other =
     let len = ap line_len regrouped in
     omega arith
 
--- there is a line only where there are bytes
+-- there is a line only if there are bytes
 some_line : (bs line : List ℕ) (left : List (List ℕ)) → line ∷ left ≡ lines_of bs → 0 < length bs
 some_line [] line left is = let none = is ∙ lines-nil in cc
 some_line (b ∷ bs) line left is = omega arith
 
--- there are bytes only where there is a line
+-- there are bytes only if there is a line
 no_bytes : (bs : List ℕ) → [] ≡ lines_of bs → length bs ≡ 0
 no_bytes [] none = refl
 no_bytes (b ∷ bs) none = let some = lines-step (b ∷ bs) (omega arith) in absurd (cc)
@@ -90,33 +90,34 @@ no_bytes (b ∷ bs) none = let some = lines-step (b ∷ bs) (omega arith) in abs
 abbrev by : (A : Type 0) → A → A
 by A a = a
 
--- A walk over the lines of the input has come to this place: these lines are left, and the input is not parted before it.
-pub record HasPassed (input : List ℕ) (place : ℕ) (left : List (List ℕ)) : Type 0 where
-  pub within : place ≤ length input
-  pub starts : place < length input → EndsLine (take place input)
-  pub left_are : left ≡ lines_of (drop place input)
-  pub none : (p r : List ℕ) → PartsAt input p r → place ≤ length p
+-- A walk over the lines of the input has come to this index: these lines are left, and the input is not parted before
+-- it.
+pub record HasPassed (input : List ℕ) (index : ℕ) (left : List (List ℕ)) : Type 0 where
+  pub within : index ≤ length input
+  pub starts : index < length input → EndsLine (take index input)
+  pub left_are : left ≡ lines_of (drop index input)
+  pub none : (p r : List ℕ) → PartsAt input p r → index ≤ length p
 
 -- the walk begins at the front, with all lines left
 pub begins : (input : List ℕ) → HasPassed input 0 (lines_of input)
 begins input = record { within = omega arith; starts = λ some. inl refl; left_are = refl; none = λ p r parts. omega arith }
 
-module _ (input : List ℕ) (place : ℕ) (lines : List (List ℕ)) (line : List ℕ) (left : List (List ℕ)) (next : lines ≡ line ∷ left) (passed : HasPassed input place lines) where
+module _ (input : List ℕ) (index : ℕ) (lines : List (List ℕ)) (line : List ℕ) (left : List (List ℕ)) (next : lines ≡ line ∷ left) (passed : HasPassed input index lines) where
   abbrev rest : List ℕ
-  rest = drop place input
+  rest = drop index input
 
-  -- the line at the place, and what the step over it leaves
+  -- the line at the index, and what the step over it leaves
   record Stepped : Type 0 where
     is : line ≡ take (line_len rest) rest
     len : length line ≡ line_len rest
     some : 0 < length rest
     short : line_len rest ≤ length rest
-    long : place + length rest ≡ length input
+    long : index + length rest ≡ length input
     left_is : left ≡ lines_of (drop (line_len rest) rest)
 
   stepped : Stepped
   stepped =
-      let long : place + length rest ≡ length input = omega (arith, passed.within, length-drop place input) in
+      let long : index + length rest ≡ length input = omega (arith, passed.within, length-drop index input) in
       let some : 0 < length rest = some_line rest line left (sym next ∙ passed.left_are) in
       let bounds = line_len-bounds rest some in
       let both : line ∷ left ≡ take (line_len rest) rest ∷ lines_of (drop (line_len rest) rest) = sym next ∙ passed.left_are ∙ lines-step rest some in
@@ -130,71 +131,71 @@ module _ (input : List ℕ) (place : ℕ) (lines : List (List ℕ)) (line : List
       }
 
   -- the line lies within the input
-  pub fits : place + length line ≤ length input
+  pub fits : index + length line ≤ length input
   fits = omega (arith, stepped.len, stepped.short, stepped.long)
 
   -- a line that is not `--` is passed
-  pub passes : (IsDividerLine line → ⊥) → HasPassed input (place + length line) left
+  pub passes : (IsDividerLine line → ⊥) → HasPassed input (index + length line) left
   passes other = record {
     within = fits;
     starts = λ more.
         let ends = line_ends rest (omega (arith, stepped.len, stepped.long)) in
         inr (
-          take place input ++ ends.0,
-          take-add place (length line) input ∙ ap (λ n. take place input ++ take n rest) stepped.len ∙ ap (λ l. take place input ++ l) ends.1
-              ∙ sym (append_assoc (take place input) ends.0 (10 ∷ [])),
+          take index input ++ ends.0,
+          take-add index (length line) input ∙ ap (λ n. take index input ++ take n rest) stepped.len ∙ ap (λ l. take index input ++ l) ends.1
+              ∙ sym (append_assoc (take index input) ends.0 (10 ∷ [])),
         );
-    left_are = stepped.left_is ∙ ap (λ n. lines_of (drop n rest)) (sym stepped.len) ∙ ap lines_of (drop-drop (length line) place input);
+    left_are = stepped.left_is ∙ ap (λ n. lines_of (drop n rest)) (sym stepped.len) ∙ ap lines_of (drop-drop (length line) index input);
     none = λ p r parts.
-        let before = drop place p in
-        let within : place ≤ length p = passed.none p r parts in
+        let before = drop index p in
+        let within : index ≤ length p = passed.none p r parts in
         let rest_is : rest ≡ before ++ (parts.line ++ r) =
-        ap (drop place) (parts.whole ∙ append_assoc p parts.line r) ∙ drop-append-le place p (parts.line ++ r) within in
-        let bound = past_line before parts.line r (EndsLine-drop place p parts.starts) parts.divides
+        ap (drop index) (parts.whole ∙ append_assoc p parts.line r) ∙ drop-append-le index p (parts.line ++ r) within in
+        let bound = past_line before parts.line r (EndsLine-drop index p parts.starts) parts.divides
         (λ divider. other (subst IsDividerLine (sym (stepped.is ∙ ap (λ b. take (line_len b) b) rest_is)) divider)) in
-        omega (arith, stepped.len, ap line_len rest_is, length-drop place p);
+        omega (arith, stepped.len, ap line_len rest_is, length-drop index p);
   }
 
   -- at a line `--` the input is parted
-  pub parted : IsDividerLine line → IsSplit input (take place input) (drop (place + length line) input)
+  pub parted : IsDividerLine line → IsSplit input (take index input) (drop (index + length line) input)
   parted divider = inl (record {
     parts = record {
       line = line;
       whole =
           let behind = drop (length line) rest in
           let line_is : take (length line) rest ≡ line = ap (λ n. take n rest) stepped.len ∙ sym stepped.is in
-          sym (take-append-drop place input)
-          ∙ ap (λ l. take place input ++ l) (sym (take-append-drop (length line) rest) ∙ ap (λ l. l ++ behind) line_is)
-          ∙ sym (append_assoc (take place input) line behind)
-          ∙ ap (λ l. (take place input ++ line) ++ l) (drop-drop (length line) place input);
+          sym (take-append-drop index input)
+          ∙ ap (λ l. take index input ++ l) (sym (take-append-drop (length line) rest) ∙ ap (λ l. l ++ behind) line_is)
+          ∙ sym (append_assoc (take index input) line behind)
+          ∙ ap (λ l. (take index input ++ line) ++ l) (drop-drop (length line) index input);
       starts = passed.starts (omega (arith, stepped.some, stepped.long));
       divides = (
         divider,
         λ bare. ⊎_elim
-            (λ end. drop_all (place + length line) input end)
+            (λ end. drop_all (index + length line) input end)
             (λ more.
             let ends = line_ends rest (omega (arith, stepped.len, stepped.long)) in
             absurd (no_feed ends.0 (sym bare ∙ stepped.is ∙ ends.1)))
-            (le_or_lt (length input) (place + length line)),
+            (le_or_lt (length input) (index + length line)),
       );
     };
-    first = λ p r parts. omega (arith, passed.none p r parts, length-take-le place input passed.within);
+    first = λ p r parts. omega (arith, passed.none p r parts, length-take-le index input passed.within);
   })
 
--- where no line is left the input is not parted
-pub ended : (input : List ℕ) (place : ℕ) (lines : List (List ℕ)) → lines ≡ [] → HasPassed input place lines → IsSplit input [] input
-ended input place lines over passed = inr (record {
+-- if no line is left the input is not parted
+pub ended : (input : List ℕ) (index : ℕ) (lines : List (List ℕ)) → lines ≡ [] → HasPassed input index lines → IsSplit input [] input
+ended input index lines over passed = inr (record {
   none = λ p r parts.
-      let less = no_bytes (drop place input) (sym over ∙ passed.left_are) in
+      let less = no_bytes (drop index input) (sym over ∙ passed.left_are) in
       let long = ap length parts.whole ∙ length-append (p ++ parts.line) r in
-      omega (arith, less, long, length-append p parts.line, IsDividerLine-length parts.line parts.divides.0, length-drop place input, passed.none p r parts);
+      omega (arith, less, long, length-append p parts.line, IsDividerLine-length parts.line parts.divides.0, length-drop index input, passed.none p r parts);
   nothing = refl;
   all = refl;
 })
 
 -- ---- an input is parted in one way
 
--- what is behind a line `--` is behind it in each reading: the line is the first one, either way
+-- what is after a line `--` is after it in each reading: the line is the first one, either way
 same_behind : (line behind line' behind' : List ℕ) → IsDivider line behind → IsDivider line' behind' → line ++ behind ≡ line' ++ behind' → behind ≡ behind'
 same_behind line r line' s here there same =
     let lines : line ≡ line' = sym (first_divider line r here) ∙ ap (λ bs. take (line_len bs) bs) same ∙ first_divider line' s there in

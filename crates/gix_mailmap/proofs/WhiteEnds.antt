@@ -6,7 +6,7 @@ use Rattle.std.specs.Str.{encode_utf8_all}
 use Rattle.std.proofs.lemmas.Bool.{cases_lt, cond-true, cond-false, lt-ltb, le-ltb}
 use Rattle.mailmap_grammar.specs.Lines.{HoldsNo}
 use Rattle.mailmap_grammar.specs.Trimming.{trim, BeginsWhite, EndsWhite}
-use Rattle.mailmap_histories.proofs.Parts.{all_front, all_back}
+use Rattle.mailmap_histories.proofs.Parts.{all_head, all_tail}
 use Rattle.mailmap_grammar.proofs.Trimmed.{trimmed-same, trimmed-made, trim-white_start, trim-white_end}
 
 -- ---- the bytes of white space
@@ -89,7 +89,7 @@ EndsWhite-ascii b s low h =
     let same : bytes.first ≡ b = alone end.0 bytes.first one in
     ap is_whitespace (sym same ∙ k.0) ∙ h.2)
     (λ k.
-    let high = all_back (λ x. 128 ≤ x) end.0 (b ∷ []) (subst (AllByRecursion (λ x. 128 ≤ x)) end.1 k) in
+    let high = all_tail (λ x. 128 ≤ x) end.0 (b ∷ []) (subst (AllByRecursion (λ x. 128 ≤ x)) end.1 k) in
     absurd (omega (arith, high.0)))
     bytes.kind
   where
@@ -162,7 +162,7 @@ EndsWhite-trimmed s e h = (parts s).no_end (subst EndsWhite e h)
 pub HoldsNo-trim : (x : ℕ) (s : List ℕ) → HoldsNo x s → HoldsNo x (trim s)
 HoldsNo-trim x s h =
     let p = parts s in
-    all_front _ (trim s) p.end (all_back _ p.front (trim s ++ p.end) (subst (HoldsNo x) p.whole h))
+    all_head _ (trim s) p.end (all_tail _ p.front (trim s ++ p.end) (subst (HoldsNo x) p.whole h))
 
 -- the empty text is trimmed
 pub trim-nil : trim [] ≡ []

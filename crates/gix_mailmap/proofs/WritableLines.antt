@@ -3,39 +3,39 @@ use Rattle.std.proofs.Common.{◌≡◌, ◌≢◌, ◌+◌, ℕ, true, false, c
 use Rattle.std.specs.List.{AllByRecursion}
 use Rattle.mailmap_grammar.specs.CanonicalText.{IsWritableName, IsWritableEmail, IsWritable}
 use Rattle.mailmap_entries.specs.Folding.{Text}
-use Rattle.mailmap_grammar.specs.Lines.{Reading, Half, Absent, Unclosed, Closed, HoldsNo, cut, trimmed_half, non_empty, two_halves, first_half, line_reading, is_comment, unless_blank, reading, readings_from, pieces, good_of, good}
+use Rattle.mailmap_grammar.specs.Lines.{Reading, ParsedContact, Absent, Unclosed, Closed, HoldsNo, cut, trimmed_contact, non_empty, two_contacts, first_contact, line_reading, is_comment, unless_blank, reading, readings_from, pieces, good_of, good}
 use Rattle.mailmap_grammar.specs.Trimming.{trim}
 use Rattle.mailmap_grammar.proofs.Cut.{closed-cut}
 use Rattle.mailmap_grammar.proofs.LineFeeds.{pieces-hold_no}
-use Rattle.mailmap_histories.proofs.Parts.{all_front, all_back, all_append}
+use Rattle.mailmap_histories.proofs.Parts.{all_head, all_tail, all_append}
 use Rattle.gix_mailmap.proofs.WhiteEnds.{trim-trim, HoldsNo-trim}
 
 -- ---- what a line says
 
--- what a trimmed half has can be written
-abbrev HalfFits : Half → Type 0
-HalfFits Absent = Unit {0}
-HalfFits Unclosed = Unit {0}
-HalfFits (Closed name email rest) = IfSome (non_empty name) IsWritableName × IsWritableEmail email × HoldsNo 10 rest
+-- what a trimmed contact has can be written
+abbrev ContactFits : ParsedContact → Type 0
+ContactFits Absent = Unit {0}
+ContactFits Unclosed = Unit {0}
+ContactFits (Closed name email rest) = IfSome (non_empty name) IsWritableName × IsWritableEmail email × HoldsNo 10 rest
 
 -- a trimmed name, if it is not empty
 name_fits : (s : Text) → s ≡ trim s → HoldsNo 60 s → HoldsNo 10 s → IfSome (non_empty s) IsWritableName
 name_fits [] same opening line = tt
 name_fits (b ∷ s) same opening line = record { some = λ e. absurd (cc); trimmed = same; no_opening = opening; one_line = line }
 
--- the halves of a line
-half_fits : (s : Text) → HoldsNo 10 s → HalfFits (trimmed_half (cut s))
-half_fits s line =
-    elim (cut s) as (λ h. cut s ≡ h → HalfFits (trimmed_half h)) [
+-- the contacts of a line
+contact_fits : (s : Text) → HoldsNo 10 s → ContactFits (trimmed_contact (cut s))
+contact_fits s line =
+    elim (cut s) as (λ h. cut s ≡ h → ContactFits (trimmed_contact h)) [
       | Absent ↦ λ e. tt
       | Unclosed ↦ λ e. tt
       | Closed a b c ↦ λ e.
           let is = closed-cut s a b c e in
           let whole : HoldsNo 10 (a ++ 60 ∷ (b ++ 62 ∷ c)) = subst (HoldsNo 10) is.whole line in
-          let behind = all_back _ a (60 ∷ (b ++ 62 ∷ c)) whole in (
-            name_fits (trim a) (sym (trim-trim a)) (HoldsNo-trim 60 a is.no_opening) (HoldsNo-trim 10 a (all_front _ a (60 ∷ (b ++ 62 ∷ c)) whole)),
-            record { trimmed = sym (trim-trim b); no_closing = HoldsNo-trim 62 b is.no_closing; one_line = HoldsNo-trim 10 b (all_front _ b (62 ∷ c) behind.1) },
-            (all_back _ b (62 ∷ c) behind.1).1,
+          let behind = all_tail _ a (60 ∷ (b ++ 62 ∷ c)) whole in (
+            name_fits (trim a) (sym (trim-trim a)) (HoldsNo-trim 60 a is.no_opening) (HoldsNo-trim 10 a (all_head _ a (60 ∷ (b ++ 62 ∷ c)) whole)),
+            record { trimmed = sym (trim-trim b); no_closing = HoldsNo-trim 62 b is.no_closing; one_line = HoldsNo-trim 10 b (all_head _ b (62 ∷ c) behind.1) },
+            (all_tail _ b (62 ∷ c) behind.1).1,
           )
     ] refl
 
@@ -44,8 +44,8 @@ beside : (email : Text) (o : Option Text) → OnSome o (IsSome (Some email))
 beside email None = tt
 beside email (Some name) = refl
 
--- an entry of one half or of two
-two_fit : (n : ℕ) (t name email : Text) (h : Half) → IfSome (non_empty name) IsWritableName → IsWritableEmail email → email ≢ [] → HalfFits h → IfOk (two_halves n t name email h) IsWritable
+-- an entry of one contact or of two
+two_fit : (n : ℕ) (t name email : Text) (h : ParsedContact) → IfSome (non_empty name) IsWritableName → IsWritableEmail email → email ≢ [] → ContactFits h → IfOk (two_contacts n t name email h) IsWritable
 two_fit n t [] email Absent a b some c = tt
 two_fit n t [] email Unclosed a b some c = tt
 two_fit n t (x ∷ name) email Absent a b some c = record { names = (a, tt); emails = (tt, b); some_new = tt; some_old = some; beside = tt }
@@ -53,17 +53,17 @@ two_fit n t (x ∷ name) email Unclosed a b some c = record { names = (a, tt); e
 two_fit n t [] email (Closed d f g) a b some c = record { names = (a, c.0); emails = (b, c.1); some_new = some; some_old = tt; beside = beside email (non_empty d) }
 two_fit n t (x ∷ name) email (Closed d f g) a b some c = record { names = (a, c.0); emails = (b, c.1); some_new = some; some_old = tt; beside = beside email (non_empty d) }
 
--- what a line says by its first half
-first_fits : (n : ℕ) (t : Text) (h : Half) → HalfFits h → IfOk (first_half (λ name email rest. two_halves n t name email (trimmed_half (cut rest))) n t h) IsWritable
+-- what a line says by its first contact
+first_fits : (n : ℕ) (t : Text) (h : ParsedContact) → ContactFits h → IfOk (first_contact (λ name email rest. two_contacts n t name email (trimmed_contact (cut rest))) n t h) IsWritable
 first_fits n t Absent a = tt
 first_fits n t Unclosed a = tt
 first_fits n t (Closed name [] rest) a = tt
-first_fits n t (Closed name (b ∷ email) rest) a = two_fit n t name (b ∷ email) (trimmed_half (cut rest)) a.0 a.1 (λ e. absurd (cc)) (half_fits rest a.2)
+first_fits n t (Closed name (b ∷ email) rest) a = two_fit n t name (b ∷ email) (trimmed_contact (cut rest)) a.0 a.1 (λ e. absurd (cc)) (contact_fits rest a.2)
 
 -- what a trimmed line says
 says_fits : (n : ℕ) (t : Text) → HoldsNo 10 t → IfSome (unless_blank line_reading n t) (λ r. IfOk r IsWritable)
 says_fits n [] line = tt
-says_fits n (b ∷ t) line = first_fits n (b ∷ t) (trimmed_half (cut (b ∷ t))) (half_fits (b ∷ t) line)
+says_fits n (b ∷ t) line = first_fits n (b ∷ t) (trimmed_contact (cut (b ∷ t))) (contact_fits (b ∷ t) line)
 
 -- what a line says
 reading_fits : (n : ℕ) (l : Text) → HoldsNo 10 l → IfSome (reading n l) (λ r. IfOk r IsWritable)

@@ -34,7 +34,7 @@ module _ (f : Mapping → Option Text) where
       last_all [] a = tt
       last_all (y ∷ ys) a = all_last P y ys a.0 a.1
 
-  -- where none is given, what follows for each entry follows
+  -- if none is given, what follows for each entry follows
   given_none : (Q : Type 0) (l : List Mapping) → is_some (first l) ≡ true → AllByRecursion (λ x. IfNone (f x) Q) l → IfNone (last_given f l) Q
   given_none Q [] some a = absurd (cc)
   given_none Q (x ∷ l) some a = elim (f x) as (λ o. IfNone o Q → IfNone (last (cons_option o (filter_map f l))) Q) [ None ↦ λ q. none_or (last (filter_map f l)) q | Some y ↦ λ _. tt ] a.0
@@ -61,7 +61,7 @@ some_folded [] t same some = absurd (some refl)
 some_folded (b ∷ s) [] same some = absurd (cc)
 some_folded (b ∷ s) (c ∷ t) same some = λ e. absurd (cc)
 
--- what follows from a fact that holds where nothing is there
+-- what follows from a fact that holds if nothing is there
 if_none : (o : Option Text) (P Q : Type 0) → (P → Q) → IfNone o P → IfNone o Q
 if_none None P Q f p = f p
 if_none (Some s) P Q f p = tt
@@ -71,12 +71,12 @@ on_some : (o : Option Text) (P : Type 0) → P → OnSome o P
 on_some None P p = tt
 on_some (Some s) P p = p
 
--- a fact that holds where something is there
+-- a fact that holds if something is there
 at_some : (o : Option Text) (P : Type 0) → IsSome o → OnSome o P → P
 at_some None P is p = absurd (cc)
 at_some (Some s) P is p = p
 
--- nothing is to be shown where something is there
+-- nothing is to be shown if something is there
 none_of_some : (o : Option Text) (Q : Type 0) → IsSome o → IfNone o Q
 none_of_some None Q is = absurd (cc)
 none_of_some (Some s) Q is = tt

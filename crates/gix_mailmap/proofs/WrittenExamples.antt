@@ -34,7 +34,7 @@ blank_front : IsWritable (by (Some (codes " N")) None None (codes "a@x")) → �
 unfolding encode_utf8
 blank_front w = BeginsWhite-trimmed (codes " N") w.names.0.trimmed (32, codes "N", refl, refl)
 
--- white space past ASCII behind an email
+-- white space past ASCII after an email
 blank_end : IsWritable (by (Some (codes "N")) None None (codes "a@x" ++ 194 ∷ 160 ∷ [])) → ⊥
 unfolding encode_utf8
 blank_end w = EndsWhite-trimmed (codes "a@x" ++ 194 ∷ 160 ∷ []) w.emails.1.trimmed (160, codes "a@x", refl, refl)

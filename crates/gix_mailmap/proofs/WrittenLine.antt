@@ -4,7 +4,7 @@ use Rattle.mailmap_grammar.specs.CanonicalText.{IsWritableName, IsWritableEmail,
 use Rattle.mailmap_entries.specs.Entries.{Mapping}
 use Rattle.mailmap_entries.specs.Folding.{Text}
 use Rattle.mailmap_histories.specs.Histories.{is_accepted}
-use Rattle.mailmap_grammar.specs.Lines.{HoldsNo, Reading, Half, Absent, Unclosed, Closed, cut, trimmed_half, non_empty, two_halves, strict_halves, first_half, line_reading, strict_line_reading, unless_blank, reading_by, reading, strict_reading}
+use Rattle.mailmap_grammar.specs.Lines.{HoldsNo, Reading, ParsedContact, Absent, Unclosed, Closed, cut, trimmed_contact, non_empty, two_contacts, strict_contacts, first_contact, line_reading, strict_line_reading, unless_blank, reading_by, reading, strict_reading}
 use Rattle.mailmap_grammar.specs.Trimming.{trim, BeginsWhite, EndsWhite}
 use Rattle.mailmap_grammar.proofs.Cut.{cut-absent, cut-closed}
 use Rattle.mailmap_histories.proofs.Parts.{all_append}
@@ -33,7 +33,7 @@ name_opening : (o : Option Text) → IfSome o IsWritableName → IfSome o (Holds
 name_opening None h = tt
 name_opening (Some s) h = h.no_opening
 
--- trimming takes the blank behind a name
+-- trimming takes the blank after a name
 trim-name_part : (o : Option Text) → IfSome o IsWritableName → trim (name_part o) ≡ unwrap_or o []
 trim-name_part None h = trim-nil
 trim-name_part (Some name) h = trim-blank_end name ∙ sym h.trimmed
@@ -83,72 +83,72 @@ BeginsWhite-body (Some nn) ne on oe w a h =
 
 -- ---- how it is cut
 
--- the first half where there is a new email
+-- the first contact if there is a new email
 cut_first : (nn on : Option Text) (ne oe : Text) → IfSome nn (HoldsNo 60) → HoldsNo 62 ne → cut (body (mapping nn (Some ne) on oe)) ≡ Closed (name_part nn) ne (32 ∷ (name_part on ++ bracketed_email oe))
 cut_first nn on ne oe name email =
     cut-closed _ _ _ _ (record { whole = simp append_assoc; no_opening = HoldsNo-name_part 60 nn (omega arith) name; no_closing = email })
 
--- the second half
+-- the second contact
 cut_second : (on : Option Text) (oe : Text) → IfSome on (HoldsNo 60) → HoldsNo 62 oe → cut (32 ∷ (name_part on ++ bracketed_email oe)) ≡ Closed (32 ∷ name_part on) oe []
 cut_second on oe name email =
     cut-closed _ _ _ _ (record { whole = refl; no_opening = (omega arith, HoldsNo-name_part 60 on (omega arith) name); no_closing = email })
 
--- the one half where there is no new email
+-- the one contact if there is no new email
 cut_only : (nn oe : Text) → HoldsNo 60 nn → HoldsNo 62 oe → cut (body (mapping (Some nn) None None oe)) ≡ Closed (nn ++ 32 ∷ []) oe []
 cut_only nn oe name email =
     cut-closed _ _ _ _ (record { whole = simp append-nil; no_opening = HoldsNo-name_part 60 (Some nn) (omega arith) name; no_closing = email })
 
--- ---- what its halves say
+-- ---- what its contacts say
 
--- a first half with an email is read on
-with_email : (both : Text → Text → Text → Reading) (n : ℕ) (t name email rest : Text) → email ≢ [] → first_half both n t (Closed name email rest) ≡ both name email rest
+-- a first contact with an email is read on
+with_email : (both : Text → Text → Text → Reading) (n : ℕ) (t name email rest : Text) → email ≢ [] → first_contact both n t (Closed name email rest) ≡ both name email rest
 with_email both n t name [] rest some = absurd (some refl)
 with_email both n t name (b ∷ email) rest some = refl
 
--- two halves are an entry with a new email
-two_closed : (n : ℕ) (t name email a b c : Text) → two_halves n t name email (Closed a b c) ≡ Ok (mapping (non_empty name) (Some email) (non_empty a) b)
+-- two contacts are an entry with a new email
+two_closed : (n : ℕ) (t name email a b c : Text) → two_contacts n t name email (Closed a b c) ≡ Ok (mapping (non_empty name) (Some email) (non_empty a) b)
 two_closed n t [] email a b c = refl
 two_closed n t (x ∷ name) email a b c = refl
 
 -- a name and an email are an entry without one
-name_alone : (n : ℕ) (t name email : Text) → name ≢ [] → two_halves n t name email Absent ≡ Ok (mapping (Some name) None None email)
+name_alone : (n : ℕ) (t name email : Text) → name ≢ [] → two_contacts n t name email Absent ≡ Ok (mapping (Some name) None None email)
 name_alone n t [] email some = absurd (some refl)
 name_alone n t (x ∷ name) email some = refl
 
--- a reader of two halves that goes its own way only where the second is not closed
+-- a reader of two contacts that goes its own way only if the second is not closed
 abbrev Agrees : ℕ → Text → (Text → Text → Text → Reading) → Type 0
-Agrees n t both = (name email rest : Text) (h : Half) → cut rest ≡ h → h ≢ Unclosed → both name email rest ≡ two_halves n t name email (trimmed_half h)
+Agrees n t both = (name email rest : Text) (h : ParsedContact) → cut rest ≡ h → h ≢ Unclosed → both name email rest ≡ two_contacts n t name email (trimmed_contact h)
 
 -- a written line says its entry, by each such reader
 says : (both : Text → Text → Text → Reading) (n : ℕ) (t : Text) (nn ne on : Option Text) (oe : Text) → Agrees n t both
-    → IsWritable (mapping nn ne on oe) → is_accepted (mapping nn ne on oe) ≡ true → first_half both n t (trimmed_half (cut (body (mapping nn ne on oe)))) ≡ Ok (mapping nn ne on oe)
+    → IsWritable (mapping nn ne on oe) → is_accepted (mapping nn ne on oe) ≡ true → first_contact both n t (trimmed_contact (cut (body (mapping nn ne on oe)))) ≡ Ok (mapping nn ne on oe)
 says both n t None None on oe agrees w a = absurd (cc)
 says both n t (Some nn) None (Some on) oe agrees w a = let e = w.beside in absurd (cc)
 says both n t (Some nn) None None oe agrees w a =
-    ap (λ h. first_half both n t (trimmed_half h)) (cut_only nn oe w.names.0.no_opening w.emails.1.no_closing)
-    ∙ (λ i. first_half both n t (Closed (trim-name_part (Some nn) w.names.0 i) (sym w.emails.1.trimmed i) []))
+    ap (λ h. first_contact both n t (trimmed_contact h)) (cut_only nn oe w.names.0.no_opening w.emails.1.no_closing)
+    ∙ (λ i. first_contact both n t (Closed (trim-name_part (Some nn) w.names.0 i) (sym w.emails.1.trimmed i) []))
     ∙ with_email both n t nn oe [] w.some_old
     ∙ agrees nn oe [] Absent (cut-absent [] tt) (λ e. cc)
     ∙ name_alone n t nn oe w.names.0.some
 says both n t nn (Some ne) on oe agrees w a =
     let rest = 32 ∷ (name_part on ++ bracketed_email oe) in
-    ap (λ h. first_half both n t (trimmed_half h)) (cut_first nn on ne oe (name_opening nn w.names.0) w.emails.0.no_closing)
-    ∙ (λ i. first_half both n t (Closed (trim-name_part nn w.names.0 i) (sym w.emails.0.trimmed i) rest))
+    ap (λ h. first_contact both n t (trimmed_contact h)) (cut_first nn on ne oe (name_opening nn w.names.0) w.emails.0.no_closing)
+    ∙ (λ i. first_contact both n t (Closed (trim-name_part nn w.names.0 i) (sym w.emails.0.trimmed i) rest))
     ∙ with_email both n t (unwrap_or nn []) ne rest w.some_new
     ∙ agrees (unwrap_or nn []) ne rest _ (cut_second on oe (name_opening on w.names.1) w.emails.1.no_closing) (λ e. cc)
-    ∙ (λ i. two_halves n t (unwrap_or nn []) ne (Closed ((trim-blank_start (name_part on) ∙ trim-name_part on w.names.1) i) (sym w.emails.1.trimmed i) []))
+    ∙ (λ i. two_contacts n t (unwrap_or nn []) ne (Closed ((trim-blank_start (name_part on) ∙ trim-name_part on w.names.1) i) (sym w.emails.1.trimmed i) []))
     ∙ two_closed n t (unwrap_or nn []) ne (unwrap_or on []) oe []
     ∙ (λ i. Ok (mapping (non_empty-name nn w.names.0 i) (Some ne) (non_empty-name on w.names.1 i) oe))
 
 -- so goes the one reading
-lenient : (n : ℕ) (t : Text) → Agrees n t (λ name email rest. two_halves n t name email (trimmed_half (cut rest)))
-lenient n t name email rest h is other = ap (λ h. two_halves n t name email (trimmed_half h)) is
+lenient : (n : ℕ) (t : Text) → Agrees n t (λ name email rest. two_contacts n t name email (trimmed_contact (cut rest)))
+lenient n t name email rest h is other = ap (λ h. two_contacts n t name email (trimmed_contact h)) is
 
--- so goes the strict one, which leaves the other only at an unclosed second half
-strict : (n : ℕ) (t : Text) → Agrees n t (λ name email rest. strict_halves n t name email rest (trimmed_half (cut rest)))
-strict n t name email rest Absent is other = ap (λ h. strict_halves n t name email rest (trimmed_half h)) is
+-- so goes the strict one, which leaves the other only at an unclosed second contact
+strict : (n : ℕ) (t : Text) → Agrees n t (λ name email rest. strict_contacts n t name email rest (trimmed_contact (cut rest)))
+strict n t name email rest Absent is other = ap (λ h. strict_contacts n t name email rest (trimmed_contact h)) is
 strict n t name email rest Unclosed is other = absurd (other refl)
-strict n t name email rest (Closed a b c) is other = ap (λ h. strict_halves n t name email rest (trimmed_half h)) is
+strict n t name email rest (Closed a b c) is other = ap (λ h. strict_contacts n t name email rest (trimmed_contact h)) is
 
 -- ---- the whole line
 

@@ -4,7 +4,7 @@ use Rattle.std.specs.List.{AllByRecursion, AllZip, flat_map}
 use Rattle.mailmap_entries.specs.Entries.{Mapping}
 use Rattle.mailmap_entries.specs.Folding.{Text}
 use Rattle.mailmap_histories.specs.Histories.{Fields, fields_for}
-use Rattle.mailmap_grammar.specs.Lines.{Half, Absent, Unclosed, Closed, cut, good, trimmed_half, with_first, fed, HoldsNo}
+use Rattle.mailmap_grammar.specs.Lines.{ParsedContact, Absent, Unclosed, Closed, cut, good, trimmed_contact, with_first, fed, HoldsNo}
 use Rattle.mailmap_grammar.specs.Trimming.{trim}
 
 -- a line feed comes next
@@ -22,8 +22,8 @@ lines (b ∷ s) = if b == 10 then [] ∷ lines s else if b == 13 && feeds s then
 abbrev pub IsBare : Text → Text → Type 0
 IsBare piece line = (piece ≡ line ++ 13 ∷ []) ⊎ ((piece ≡ line) × ((front : Text) → line ≡ front ++ 13 ∷ [] → ⊥))
 
--- ls are the lines of s: the pieces that a line feed ends, each without its carriage return, and behind them the last piece as
--- it stands, if no line feed ends it
+-- ls are the lines of s: the pieces that a line feed ends, each without its carriage return, and after them the last
+-- piece as it is, if no line feed ends it
 pub record AreLines (s : Text) (ls : List Text) : Type 0 where
   pub ended : List Text
   pub bare : List Text
@@ -31,24 +31,24 @@ pub record AreLines (s : Text) (ls : List Text) : Type 0 where
   pub no_feed : AllByRecursion (HoldsNo 10) ended
   pub whole : ((s ≡ fed ended) × (ls ≡ bare)) ⊎ ((last : Text) × (last ≢ []) × HoldsNo 10 last × (s ≡ fed ended ++ last) × (ls ≡ bare ++ last ∷ []))
 
--- a name and an email as a contact line; without a blank where the name is empty
+-- a name and an email as a contact line; without a blank if the name is empty
 abbrev pub contact : Text → Text → Text
 contact [] email = 60 ∷ email ++ 62 ∷ []
 contact (b ∷ name) email = (b ∷ name) ++ 32 ∷ 60 ∷ email ++ 62 ∷ []
 
--- a contact with these fields, where there are any, in the place of its own
+-- a contact with these fields, if there are any, in place of its own
 abbrev pub replaced : Fields → Text → Text → Text
 replaced f name email = contact (unwrap_or f.name name) (unwrap_or f.email email)
 
--- what a history answers to a line that begins with this half: a line that is no contact is its own answer
-abbrev pub half_answer : List Mapping → Text → Half → Text
-half_answer h line Absent = line
-half_answer h line Unclosed = line
-half_answer h line (Closed name email rest) = replaced (fields_for h name email) name email
+-- what a history answers to a line that begins with this contact: a line that is no contact is its own answer
+abbrev pub contact_answer : List Mapping → Text → ParsedContact → Text
+contact_answer h line Absent = line
+contact_answer h line Unclosed = line
+contact_answer h line (Closed name email rest) = replaced (fields_for h name email) name email
 
--- the answer to a line: a contact is what stands at the front of the trimmed line, its email may be empty
+-- the answer to a line: a contact is what is at the front of the trimmed line, its email may be empty
 abbrev pub answer : List Mapping → Text → Text
-answer h line = half_answer h line (trimmed_half (cut (trim line)))
+answer h line = contact_answer h line (trimmed_contact (cut (trim line)))
 
 -- one answer for each line of contacts, each with a line feed at its end
 abbrev pub answers : List Mapping → Text → Text

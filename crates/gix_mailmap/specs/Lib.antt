@@ -13,8 +13,8 @@ pub use Rattle.mailmap_histories.specs.Listings
 pub use Rattle.mailmap_snapshot.specs.Answers
 pub use Rattle.mailmap_snapshot.specs.Writing
 pub use Rattle.mailmap_snapshot.specs.Sources
-pub use Rattle.mailmap_sifting.specs.Sifting
-pub use Rattle.mailmap_findings.specs.Places
+pub use Rattle.mailmap_redundancy.specs.Redundancy
+pub use Rattle.mailmap_findings.specs.Positions
 pub use Rattle.mailmap_findings.specs.Findings
 pub mod Contacts
 pub mod Parts

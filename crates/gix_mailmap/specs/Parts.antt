@@ -9,7 +9,7 @@ EndsLine bytes = (bytes ≡ []) ⊎ ((front : List ℕ) × (bytes ≡ front ++ 1
 abbrev pub IsDividerLine : List ℕ → Type 0
 IsDividerLine line = (line ≡ 45 ∷ 45 ∷ 10 ∷ []) ⊎ ((line ≡ 45 ∷ 45 ∷ 13 ∷ 10 ∷ []) ⊎ (line ≡ 45 ∷ 45 ∷ []))
 
--- such a line before these bytes: where nothing ends it, nothing is behind it
+-- such a line before these bytes: if nothing ends it, nothing is after it
 abbrev pub IsDivider : List ℕ → List ℕ → Type 0
 IsDivider line behind = IsDividerLine line × (line ≡ 45 ∷ 45 ∷ [] → behind ≡ [])
 
@@ -25,12 +25,12 @@ pub record IsFirstParting (input before behind : List ℕ) : Type 0 where
   pub parts : PartsAt input before behind
   pub first : (p r : List ℕ) → PartsAt input p r → length before ≤ length p
 
--- no line of the input is `--`, and all of it is behind
+-- no line of the input is `--`, and all of it is after
 pub record IsUndivided (input before behind : List ℕ) : Type 0 where
   pub none : (p r : List ℕ) → PartsAt input p r → ⊥
   pub nothing : before ≡ []
   pub all : behind ≡ input
 
--- what stands before the first line `--` and what behind it; without such a line nothing and the whole input
+-- what is before the first line `--` and what after it; without such a line nothing and the whole input
 abbrev pub IsSplit : List ℕ → List ℕ → List ℕ → Type 0
 IsSplit input before behind = IsFirstParting input before behind ⊎ IsUndivided input before behind

@@ -10,18 +10,18 @@ mod parts;
 
 use bstr::ByteSlice;
 pub use compaction::compact;
-use mailmap_grammar::halves::{Half, parse_name_and_email, trim};
+use mailmap_grammar::contacts::{ParsedContact, parse_name_and_email, trim};
 use mailmap_grammar::parse_ignore_errors;
 use mailmap_snapshot::snapshot::Snapshot;
 pub use parts::split;
 use std::alloc::{AllocError, Global};
 
-/// Answers each line of `contacts` by what the buffers map, later buffers behind earlier ones: a line for each line.
+/// Answers each line of `contacts` by what the buffers map, later buffers after earlier ones: a line for each line.
 ///
 /// A contact is a name and an email in brackets, `Jane <jane@x>`; name and email are trimmed, either may be empty, and
-/// what stands behind the `>` is ignored. Its answer is the name, a blank and the email in brackets that the mailmap
-/// puts in their place, without the blank where the name is empty. Every other line is answered by itself as it stands,
-/// without its line end; `#` means nothing here. Each answer ends with a line feed, also where the last line has none.
+/// what is after the `>` is ignored. Its answer is the name, a blank and the email in brackets that the mailmap
+/// puts in their place, without the blank if the name is empty. Every other line is answered by itself as it is,
+/// without its line end; `#` means nothing here. Each answer ends with a line feed, even if the last line has none.
 ///
 /// By the buffer `Jane Doe <jane@x>` the contacts `jane <JANE@x>\r\nplain` are answered `Jane Doe <jane@x>\nplain\n`.
 pub fn check(alloc: Global, buffers: &[&[u8]], contacts: &[u8]) -> Result<Vec<u8>, AllocError>
@@ -35,11 +35,9 @@ pub fn check(alloc: Global, buffers: &[&[u8]], contacts: &[u8]) -> Result<Vec<u8
 pub(crate) fn merged(alloc: Global, buffers: &[&[u8]]) -> Result<Snapshot, AllocError>
     ensures { IfOk result (IsNormal (flat_map good (map (λ b. b.now) buffers.now))) }
 {
-    let mut snapshot = Snapshot::empty(alloc);
-    for buf in buffers {
-        snapshot.merge(parse_ignore_errors(buf))?;
-    }
-    Ok(snapshot)
+    // One merge of all: each merge of more than a few entries copies what is there.
+    let entries = buffers.iter().flat_map(|buf| parse_ignore_errors(buf));
+    Snapshot::new(alloc, entries)
 }
 
 // The answers to all lines, each with its line feed.
@@ -58,14 +56,14 @@ fn answer_all(alloc: Global, snapshot: &Snapshot, contacts: &[u8]) -> Result<Vec
 fn push_answer(text: &mut Vec<u8>, snapshot: &Snapshot, line: &[u8]) -> Result<(), AllocError>
     ensures { OnOk result (text.new.items ≡ text.old.items ++ answer snapshot.now line.now) }
 {
-    let Half::Closed { name, email, .. } = parse_name_and_email(trim(line)) else {
+    let ParsedContact::Closed { name, email, .. } = parse_name_and_email(trim(line)) else {
         return text.extend_from_slice(line);
     };
     let (name, email) = resolved(snapshot, name, email);
     push_contact(text, name, email)
 }
 
-// The name and the email that stand in the place of those of a contact.
+// The name and the email that replace those of a contact.
 fn resolved<'a>(snapshot: &'a Snapshot, name: &'a [u8], email: &'a [u8]) -> (&'a [u8], &'a [u8])
     ensures name { result.0.now ≡ unwrap_or (fields_for snapshot.now name.now email.now).name name.now }
     ensures email { result.1.now ≡ unwrap_or (fields_for snapshot.now name.now email.now).email email.now }
@@ -78,7 +76,8 @@ fn resolved<'a>(snapshot: &'a Snapshot, name: &'a [u8], email: &'a [u8]) -> (&'a
 
 /// Appends a contact as a line shows it: the name and a blank, unless it is empty, and the email in brackets.
 ///
-/// The name `Jane` and the email `j@x` are `Jane <j@x>`. Where memory is refused, a front of it may have been appended.
+/// The name `Jane` and the email `j@x` are `Jane <j@x>`. If memory runs out, the beginning of it may have been
+/// appended.
 pub fn push_contact(text: &mut Vec<u8>, name: &[u8], email: &[u8]) -> Result<(), AllocError>
     ensures { OnOk result (text.new.items ≡ text.old.items ++ contact name.now email.now) }
 {

@@ -14,7 +14,7 @@ pub use mailmap_histories::laws::{
     law_condense, law_equal, law_exists, law_headline, law_neighbours, law_of_email, law_one_email,
     law_own_entries, law_reorder, law_repeated, law_scan, law_self, law_shortest, law_unique,
 };
-pub use mailmap_sifting::laws::{
+pub use mailmap_redundancy::laws::{
     law_each_key_stays, law_none_can_go, law_same_listing, law_settled, law_some_stay,
 };
 pub use mailmap_signatures::laws::law_time;
@@ -25,8 +25,8 @@ pub fn law_parts()
     ensures { (input p r q s : Text) → IsSplit input p r → IsSplit input q s → (p ≡ q) × (r ≡ s) }
 {}
 
-/// The lines of contacts are the pieces between line feeds, without the one carriage return that may stand before a line
-/// feed; the last piece, if no line feed ends it, is a line as it stands.
+/// The lines of contacts are the pieces between line feeds, without the one carriage return that may be before a line
+/// feed; the last piece, if no line feed ends it, is a line as it is.
 pub fn law_lines()
     ensures { (s : Text) (ls : List Text) → (lines s ≡ ls) ↔ AreLines s ls }
 {}

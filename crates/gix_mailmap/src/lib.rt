@@ -16,7 +16,7 @@
 //!   `<m@y> Jo <a@x>` map `Jo` to the email `m@y`, and leave the name.
 //! - A name that has an entry of its own takes nothing from those without an old name; each other name of the email does.
 //!
-//! What each function promises stands in its `ensures`; the definitions are those of `specs/`, and [`laws`] has what
+//! What each function promises is in its `ensures`; the definitions are those of `specs/`, and [`laws`] has what
 //! follows from them.
 #![tactic(auto)]
 

@@ -1,21 +1,21 @@
--- Lists that are put into a buffer, one behind another.
+-- Lists that are put into a buffer, one after another.
 use Rattle.std.proofs.Common.{◌≡◌, ℕ, Option, zero, suc, ◌+◌, ◌<◌, ◌≤◌, List, [], ◌∷◌, ◌++◌, length, take, drop, None, refl, sym, ap, subst, ◌∙◌, append_assoc, append-nil, arith, length-append}
 use Rattle.std.specs.List.{slice_get}
 use Rattle.std.proofs.Math.ListN.{set}
 use Rattle.std.proofs.lemmas.List.{take_more_set, drop-set-lt, drop-drop, take-append-drop}
 use Rattle.mailmap_entries.specs.Entries.{Mapping}
 use Rattle.mailmap_entries.specs.Folding.{Text}
-use Rattle.gix_mailmap_c.specs.Listed.{IsBehind, all_told, entry_text, given}
+use Rattle.gix_mailmap_c.specs.Listed.{IsBehind, all_listed, entry_text, given}
 
 module _ {X : Type 0} where
-  -- a part of `all` stands at the front of the buffer, up to the place, and the others are left; behind the place the buffer
+  -- a part of `all` is at the front of the buffer, up to the index, and the others are left; after the index the buffer
   -- is as it was
   pub record Copied (left all : List X) (end : ℕ) (now old : List X) : Type 0 where
     pub until : end + length left ≡ length all
     pub front : take end now ++ left ≡ all
     pub rest : drop end now ≡ drop end old
 
-  -- what is the same from a place on is so from a later one on
+  -- what is the same from an index on is so from a later one on
   later : (n k e : ℕ) (xs ys : List X) → e ≡ n + k → drop n xs ≡ drop n ys → drop e xs ≡ drop e ys
   later n k e xs ys at same =
       ap (λ p. drop p xs) at ∙ sym (drop-drop k n xs) ∙ ap (drop k) same ∙ drop-drop k n ys ∙ ap (λ p. drop p ys) (sym at)
@@ -35,7 +35,7 @@ module _ {X : Type 0} where
       ∙ ap (λ l. l ++ drop end now) (sym (append-nil (take end now)) ∙ c.front)
       ∙ ap (λ l. all ++ l) (c.rest ∙ ap (λ p. drop p old) whole)
 
-  -- one list behind another
+  -- one list after another
   pub behind_both : (s t a m b : List X) (start mid end : ℕ) → IsBehind s start a m mid → IsBehind t mid m b end → IsBehind (s ++ t) start a b end
   behind_both s t a m b start mid end p q =
       record {
@@ -45,32 +45,32 @@ module _ {X : Type 0} where
       }
 
   -- an element that is set
-  pub behind_set : (xs : List X) (place : ℕ) (x : X) → place < length xs → IsBehind (x ∷ []) place xs (set xs place x) (place + 1)
-  behind_set xs place x lt =
+  pub behind_set : (xs : List X) (index : ℕ) (x : X) → index < length xs → IsBehind (x ∷ []) index xs (set xs index x) (index + 1)
+  behind_set xs index x lt =
       record {
         until = refl;
-        front = take_more_set xs place x lt;
-        rest = drop-set-lt (place + 1) xs place x (omega arith);
+        front = take_more_set xs index x lt;
+        rest = drop-set-lt (index + 1) xs index x (omega arith);
       }
 
-  -- where nothing is left behind a place, no later place has anything
+  -- if nothing is left after an index, no later index has anything
   pub nothing_at : (n k : ℕ) (xs : List X) → drop n xs ≡ [] → n ≤ k → slice_get xs k ≡ None
   nothing_at n k [] e le = refl
   nothing_at zero k (x ∷ xs) e le = cc
   nothing_at (suc n) zero (x ∷ xs) e le = absurd (omega arith)
   nothing_at (suc n) (suc k) (x ∷ xs) e le = nothing_at n k xs e (omega arith)
 
--- as many are told as there are
-pub length-all_told : (start : ℕ) (ms : List Mapping) → length (all_told start ms) ≡ length ms
-length-all_told start [] = refl
-length-all_told start (m ∷ ms) = ap suc (length-all_told (start + length (entry_text m)) ms)
+-- as many are listed as there are
+pub length-all_listed : (start : ℕ) (ms : List Mapping) → length (all_listed start ms) ≡ length ms
+length-all_listed start [] = refl
+length-all_listed start (m ∷ ms) = ap suc (length-all_listed (start + length (entry_text m)) ms)
 
 -- there is room for one more
-pub told_room : (start place n : ℕ) (left rest all : List Mapping) (m : Mapping) → left ≡ m ∷ rest → place + length (all_told start left) ≡ length (all_told 0 all) → length all ≤ n → place < n
-told_room start place n left rest all m e until room =
-    omega (arith, length-all_told start left, length-all_told 0 all, ap length e, until, room)
+pub listed_room : (start index n : ℕ) (left rest all : List Mapping) (m : Mapping) → left ≡ m ∷ rest → index + length (all_listed start left) ≡ length (all_listed 0 all) → length all ≤ n → index < n
+listed_room start index n left rest all m e until room =
+    omega (arith, length-all_listed start left, length-all_listed 0 all, ap length e, until, room)
 
--- the four texts of an entry, one behind another
+-- the four texts of an entry, one after another
 pub behind_entry : (m : Mapping) (name email old : Option Text) (last : Text) → name ≡ m.new_name → email ≡ m.new_email → old ≡ m.old_name → last ≡ m.old_email
     → (o p q r s : Text) (a b c d e : ℕ) → IsBehind (given name) a o p b → IsBehind (given email) b p q c → IsBehind (given old) c q r d → IsBehind last d r s e
     → IsBehind (entry_text m) a o s e

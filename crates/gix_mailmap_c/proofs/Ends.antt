@@ -8,7 +8,7 @@ use borrow.Rule.Slice.PartMut.{put_mid}
 use lib.Lanes.{chunk, put_chunk}
 
 module _ {X : Type 0} where
-  -- the first n elements stand at the front; with those from m on behind the first m, the whole list does
+  -- the first n elements are at the front; with those from m on after the first m, the whole list does
   pub whole_by_ends : (s b first back : List X) (n m k : ℕ) → n ≤ length s → m ≤ n → m + k ≡ length s
       → first ≡ take n s ++ drop n b → back ≡ drop m s → take m first ++ (back ++ drop k (drop m first)) ≡ s ++ drop (length s) b
   whole_by_ends s b first back n m k covers meet end first_is back_is =

@@ -1,9 +1,9 @@
--- How what is found in a mailmap is told.
+-- How what is found in a mailmap is reported.
 use Rattle.std.specs.Prelude.{◌≡◌, ◌∷◌, ℕ, List, [], map}
 use Rattle.mailmap_entries.specs.Folding.{Text}
 use Rattle.mailmap_grammar.specs.Lines.{Kind, no_email, missing_closing_bracket, empty_email, nothing_to_map, unclosed_second}
 use Rattle.mailmap_findings.specs.Findings as library
-use Rattle.mailmap_findings.specs.Findings.{AreFindings, Told, fault, ignored_text, no_effect, itself_mapped}
+use Rattle.mailmap_findings.specs.Findings.{AreFindings, Reported, fault, ignored_text, no_effect, itself_mapped}
 use Rattle.gix_mailmap_c.specs.declared.findings.Finding.{Finding}
 
 -- the number of a fault
@@ -14,28 +14,28 @@ fault_number empty_email = 3
 fault_number nothing_to_map = 4
 fault_number unclosed_second = 5
 
--- that of what is told
-abbrev pub number : Told → ℕ
+-- that of what is reported
+abbrev pub number : Reported → ℕ
 number (fault f) = fault_number f.kind
 number (ignored_text text) = 6
 number (no_effect beside) = 7
 number (itself_mapped contact to) = 8
 
 -- the line beside which there is no effect; 0 with every other kind
-abbrev pub beside_line : Told → ℕ
+abbrev pub beside_line : Reported → ℕ
 beside_line (fault f) = 0
 beside_line (ignored_text text) = 0
 beside_line (no_effect beside) = beside.line
 beside_line (itself_mapped contact to) = 0
 
-abbrev pub one_told : library.Finding → Finding
-one_told f = record { line = f.place.line; kind = number f.told; beside = beside_line f.told }
+abbrev pub one_reported : library.Finding → Finding
+one_reported f = record { line = f.position.line; kind = number f.reported; beside = beside_line f.reported }
 
-abbrev pub all_told : List library.Finding → List Finding
-all_told fs = map one_told fs
+abbrev pub all_reported : List library.Finding → List Finding
+all_reported fs = map one_reported fs
 
--- what is found in the one mailmap is told, each finding in its order
-pub record AreToldOf (mailmap : Text) (told : List Finding) : Type 0 where
+-- what is found in the one mailmap is reported, each finding in its order
+pub record AreReportedOf (mailmap : Text) (reported : List Finding) : Type 0 where
   pub found : List library.Finding
   pub whole : AreFindings (mailmap ∷ []) found
-  pub each : told ≡ all_told found
+  pub each : reported ≡ all_reported found

@@ -1,7 +1,7 @@
 -- What a call writes into the caller's buffers: bytes of texts, or findings.
 use Rattle.std.specs.Prelude.{◌≡◌, ◌<◌, ◌≤◌, ◌++◌, ◌⊎◌, ℕ, List, length, drop}
 
--- the text stands at the front of the buffer, and the rest of the buffer is as it was
+-- the text is at the front of the buffer, and the rest of the buffer is as it was
 pub record IsWritten {X : Type 0} (text before after : List X) : Type 0 where
   pub fits : length text ≤ length before
   pub written : after ≡ text ++ drop (length text) before
@@ -10,18 +10,18 @@ pub record IsWritten {X : Type 0} (text before after : List X) : Type 0 where
 abbrev pub IsWrittenOrShort : {X : Type 0} → List X → List X → List X → ℕ → Type 0
 IsWrittenOrShort text before after status = ((status ≡ 0) × IsWritten text before after) ⊎ ((status ≡ 1) × (length before < length text) × (after ≡ before))
 
--- a text is put into a buffer, if it fits, and its length is told
+-- a text is put into a buffer, if it fits, and its length is given
 pub record IsPut {X : Type 0} (text before after : List X) (needed status : ℕ) : Type 0 where
   pub counted : needed ≡ length text
   pub put : IsWrittenOrShort text before after status
 
--- status 2: memory was refused, and the buffer is as it was
+-- status 2: out of memory, and the buffer is as it was
 pub record IsRefused {X : Type 0} (before after : List X) (needed status : ℕ) : Type 0 where
   pub says : status ≡ 2
   pub none : needed ≡ 0
   pub kept : after ≡ before
 
--- a text of which P holds is put into a buffer, or memory was refused
+-- a text of which P holds is put into a buffer, or out of memory
 abbrev pub IsHanded : {X : Type 0} → (List X → Type 0) → List X → List X → ℕ → ℕ → Type 0
 IsHanded {X} P before after needed status = ((text : List X) × P text × IsPut text before after needed status) ⊎ IsRefused before after needed status
 

@@ -10,6 +10,6 @@ use Rattle.gix_mailmap_c.specs.contracts.held.Mailmap.{the_row}
 abbrev pub with_entries : Mailmap → List Mapping → Mailmap
 with_entries m entries = record m { entries = entries }
 
--- m ends with what is listed last behind r
+-- m ends with what is listed last after r
 abbrev pub LendsSnapshot : MutBor Mailmap → MutBor (List Mapping) → Fml
 LendsSnapshot m r = Lends the_row Snapshot.the_row m r (with_entries m.now)

@@ -1,4 +1,4 @@
--- How the entries of a listing are told, and how their texts are written.
+-- How the entries of a listing are listed, and how their texts are written.
 use Rattle.std.specs.Prelude.{◌≡◌, ◌+◌, ◌<◌, ◌⊎◌, ◌++◌, ℕ, Option, Some, None, List, [], ◌∷◌, length, take, drop, is_some, unwrap_or}
 use Rattle.std.specs.List.{flat_map}
 use Rattle.mailmap_entries.specs.Entries.{Mapping}
@@ -11,7 +11,7 @@ use Rattle.gix_mailmap_c.specs.declared.listing.Listed.{Listed}
 abbrev pub given : Option Text → Text
 given t = unwrap_or t []
 
--- the texts of an entry, one behind another
+-- the texts of an entry, one after another
 abbrev pub entry_text : Mapping → Text
 entry_text m = given m.new_name ++ given m.new_email ++ given m.old_name ++ m.old_email
 
@@ -23,37 +23,37 @@ all_text ms = flat_map entry_text ms
 abbrev pub field_of : Option Text → Field
 field_of t = record { len = length (given t); is_given = is_some t }
 
--- an entry whose texts begin at a place
-abbrev pub told_at : ℕ → Mapping → Listed
-told_at start m = record { start = start; new_name = field_of m.new_name; new_email = field_of m.new_email; old_name = field_of m.old_name; old_email = field_of (Some m.old_email) }
+-- an entry whose texts begin at an offset
+abbrev pub listed_at : ℕ → Mapping → Listed
+listed_at start m = record { start = start; new_name = field_of m.new_name; new_email = field_of m.new_email; old_name = field_of m.old_name; old_email = field_of (Some m.old_email) }
 
--- entries whose texts stand one behind another, the first at a place
-abbrev pub all_told : ℕ → List Mapping → List Listed
-all_told start [] = []
-all_told start (m ∷ ms) = told_at start m ∷ all_told (start + length (entry_text m)) ms
+-- entries whose texts are one after another, the first at an offset
+abbrev pub all_listed : ℕ → List Mapping → List Listed
+all_listed start [] = []
+all_listed start (m ∷ ms) = listed_at start m ∷ all_listed (start + length (entry_text m)) ms
 
--- a list is put behind a place: what stands before it stays, and so does what stands behind its end
+-- a list is put after an index: what is before it stays, and so does what is after its end
 pub record IsBehind {X : Type 0} (s : List X) (start : ℕ) (before after : List X) (end : ℕ) : Type 0 where
   pub until : end ≡ start + length s
   pub front : take end after ≡ take start before ++ s
   pub rest : drop end after ≡ drop end before
 
--- each entry is told at its place, and what stands behind them is as it was
-pub record AreTold (ms : List Mapping) (before after : List Listed) : Type 0 where
-  pub told : after ≡ all_told 0 ms ++ drop (length ms) before
+-- each entry is listed at its index, and what is after them is as it was
+pub record AreListed (ms : List Mapping) (before after : List Listed) : Type 0 where
+  pub listed : after ≡ all_listed 0 ms ++ drop (length ms) before
 
 pub record IsAllWritten (ms : List Mapping) (before after : Text) : Type 0 where
   pub written : after ≡ all_text ms ++ drop (length (all_text ms)) before
 
--- status 0: all entries are told, and their texts written; 1: there is too little room for the entries or for their texts,
--- and all is as it was
+-- status 0: all entries are listed, and their texts written; 1: there is too little room for the entries or for their
+-- texts, and all is as it was
 abbrev pub Lists : List Mapping → List Listed → List Listed → Text → Text → ℕ → Type 0
 Lists ms e_before e_after t_before t_after status =
-    ((status ≡ 0) × AreTold ms e_before e_after × IsAllWritten ms t_before t_after)
+    ((status ≡ 0) × AreListed ms e_before e_after × IsAllWritten ms t_before t_after)
     ⊎ ((status ≡ 1) × ((length e_before < length ms) ⊎ (length t_before < length (all_text ms))) × (e_after ≡ e_before) × (t_after ≡ t_before))
 
--- the entry at a place is told, and its texts are written if there is room for them; status 5: there is no such entry, and
--- all is as it was
-abbrev pub Tells : Option Mapping → Listed → Listed → Text → Text → ℕ → Type 0
-Tells None e_before e_after t_before t_after status = (status ≡ 5) × (e_after ≡ e_before) × (t_after ≡ t_before)
-Tells (Some m) e_before e_after t_before t_after status = (e_after ≡ told_at 0 m) × IsWrittenOrShort (entry_text m) t_before t_after status
+-- the entry at an index is listed, and its texts are written if there is room for them; status 5: there is no such
+-- entry, and all is as it was
+abbrev pub ListsOne : Option Mapping → Listed → Listed → Text → Text → ℕ → Type 0
+ListsOne None e_before e_after t_before t_after status = (status ≡ 5) × (e_after ≡ e_before) × (t_after ≡ t_before)
+ListsOne (Some m) e_before e_after t_before t_after status = (e_after ≡ listed_at 0 m) × IsWrittenOrShort (entry_text m) t_before t_after status

@@ -1,11 +1,10 @@
 //! Texts put into the caller's buffers.
-ghost use Rattle.std.specs.Prelude.{◌≡◌};
 ghost use Rattle.gix_mailmap_c.specs.Handed.{IsPut, ArePut};
 
 use crate::copies::copy;
 use crate::status::{DONE, SHORT};
 
-/// Copies a text to the front of `out`, if it fits, and tells its length.
+/// Copies a text to the front of `out`, if it fits, and gives its length.
 pub(crate) fn put(text: &[u8], out: &mut [u8], needed: &mut usize) -> u32
     ensures { IsPut text.now out.old out.new needed.new result }
 {

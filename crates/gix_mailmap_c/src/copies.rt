@@ -1,5 +1,5 @@
 //! A text copied to the front of a buffer.
-ghost use Rattle.std.specs.Prelude.{◌≡◌, ◌≤◌, ◌+◌, length};
+ghost use Rattle.std.specs.Prelude.{◌≤◌, ◌+◌, length};
 ghost use Rattle.gix_mailmap_c.specs.Handed.{IsWritten};
 
 use std::simd::Simd;

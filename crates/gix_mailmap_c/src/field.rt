@@ -1,4 +1,4 @@
-//! What is told of a text beside its bytes.
+//! What is said of a text beside its bytes.
 ghost use Rattle.std.specs.Prelude.{◌≡◌, length, unwrap_or, is_some};
 ghost use Rattle.std.specs.Option.{option_copied};
 ghost use Rattle.gix_mailmap_c.specs.Listed.{field_of};
@@ -12,10 +12,10 @@ pub struct Field {
 }
 
 impl Field {
-    /// Tells of a text that the mailmap may give, and of the one that stands where it doesn't. Field by field, so that
+    /// Describes a text that the mailmap may give, or the one that is used if it doesn't. Field by field, so that
     /// what lies between the fields isn't written.
     #[inline(always)]
-    pub(crate) fn tell(&mut self, given: Option<&[u8]>, other: &[u8])
+    pub(crate) fn describe(&mut self, given: Option<&[u8]>, other: &[u8])
         ensures len { self.new.len ≡ length (unwrap_or (option_copied given.entry) other.now) }
         ensures is_given { self.new.is_given ≡ is_some (option_copied given.entry) }
     {

@@ -1,8 +1,8 @@
 //! What is wrong with a mailmap, line by line.
 ghost use Rattle.std.specs.Prelude.{◌≡◌, ◌≤◌, length, map};
 ghost use Rattle.mailmap_grammar.specs.Lines.{fault_of};
-ghost use Rattle.mailmap_findings.specs.Findings.{finding_of, told_of};
-ghost use Rattle.gix_mailmap_c.specs.Findings.{all_told, beside_line, fault_number, number, one_told, AreToldOf};
+ghost use Rattle.mailmap_findings.specs.Findings.{finding_of, reported_of};
+ghost use Rattle.gix_mailmap_c.specs.Findings.{all_reported, beside_line, fault_number, number, one_reported, AreReportedOf};
 ghost use Rattle.gix_mailmap_c.specs.Handed.{IsHanded, IsPut, IsWritten};
 
 use crate::status::{DONE, REFUSED, SHORT};
@@ -11,8 +11,8 @@ use gix_mailmap::verify;
 use gix_mailmap::verify::Kind;
 use std::alloc::Global;
 
-/// What is told of a line: its number, counted from 1, what is wrong with it, and for a line of no effect the number of
-/// the line that it has none beside; `beside` is 0 for all others.
+/// What is reported of a line: its number, counted from 1, what is wrong with it, and for a line of no effect the
+/// number of the line that it has none beside; `beside` is 0 for all others.
 ///
 /// `kind` is 1 to 5 for the faults, in the order of [`Error`], 6 for ignored text, 7 for no effect, and 8 for a contact
 /// that is itself mapped.
@@ -25,21 +25,22 @@ pub struct Finding {
 }
 
 impl Finding {
-    /// Of what the library tells.
+    /// Of what the library reports.
     fn of(found: &verify::Finding<'_>) -> Finding
-        ensures { result ≡ one_told (finding_of found.now) }
+        ensures { result ≡ one_reported (finding_of found.now) }
     {
         Finding {
-            line: found.place.line,
+            line: found.position.line,
             kind: number_of(&found.kind),
             beside: beside_of(&found.kind),
         }
     }
 }
 
-/// Tells what is wrong with the lines of a mailmap, in their order, as [`verify`](gix_mailmap::verify::verify()) does.
+/// Reports what is wrong with the lines of a mailmap, in their order, as [`verify`](gix_mailmap::verify::verify())
+/// does.
 ///
-/// `DONE`: the findings stand at the front of `out`, and `needed` is their number. `SHORT`: `out` has too little room for
+/// `DONE`: the findings are at the front of `out`, and `needed` is their number. `SHORT`: `out` has too little room for
 /// them, and `needed` is their number. `REFUSED`: `needed` is 0. The rest of `out` stays as it was.
 #[unsafe(no_mangle)]
 pub extern "C" fn gix_mailmap_verify(
@@ -48,7 +49,7 @@ pub extern "C" fn gix_mailmap_verify(
     out: &mut [Finding],
     needed: &mut usize,
 ) -> u32
-    ensures { IsHanded (AreToldOf mailmap.now) out.old out.new needed.new result }
+    ensures { IsHanded (AreReportedOf mailmap.now) out.old out.new needed.new result }
 {
     match verify::verify(alloc, &[mailmap]) {
         Ok(found) => put(found.as_slice(), out, needed),
@@ -59,34 +60,34 @@ pub extern "C" fn gix_mailmap_verify(
     }
 }
 
-// Tells findings at the front of `out`, if they fit, and their number.
+// Puts findings at the front of `out`, if they fit, and their number.
 fn put(found: &[verify::Finding<'_>], out: &mut [Finding], needed: &mut usize) -> u32
-    ensures { IsPut (all_told (map finding_of found.now)) out.old out.new needed.new result }
+    ensures { IsPut (all_reported (map finding_of found.now)) out.old out.new needed.new result }
 {
     *needed = found.len();
     if found.len() > out.len() {
         return SHORT;
     }
-    tell(found, out);
+    report(found, out);
     DONE
 }
 
-// Tells each finding at its place.
-fn tell(found: &[verify::Finding<'_>], out: &mut [Finding])
+// Puts each finding at its index.
+fn report(found: &[verify::Finding<'_>], out: &mut [Finding])
     requires { length found.now ≤ length out.old }
-    ensures { IsWritten (all_told (map finding_of found.now)) out.old out.new }
+    ensures { IsWritten (all_reported (map finding_of found.now)) out.old out.new }
 {
-    let mut place = 0;
+    let mut index = 0;
     for finding in found {
         let one = Finding::of(finding);
-        out[place] = one;
-        place += 1;
+        out[index] = one;
+        index += 1;
     }
 }
 
-// The number of what is told.
+// The number of what is reported.
 fn number_of(kind: &Kind<'_>) -> u32
-    ensures { result ≡ number (told_of kind.now) }
+    ensures { result ≡ number (reported_of kind.now) }
 {
     match kind {
         Kind::Fault(fault) => number_of_fault(fault),
@@ -111,7 +112,7 @@ fn number_of_fault(fault: &Error<'_>) -> u32
 
 // The number of the line beside which there is no effect, or 0.
 fn beside_of(kind: &Kind<'_>) -> usize
-    ensures { result ≡ beside_line (told_of kind.now) }
+    ensures { result ≡ beside_line (reported_of kind.now) }
 {
     match kind {
         Kind::NoEffect { beside } => beside.line,

@@ -30,7 +30,7 @@ pub extern "C" fn gix_mailmap_open(alloc: Global, m: &mut Mailmap, text: &[u8]) 
     }
 }
 
-/// Adds the entries of `text` behind those that the mailmap has.
+/// Adds the entries of `text` after those that the mailmap has.
 ///
 /// `DONE`, `REFUSED`: the mailmap is as it was, or `CLOSED`.
 #[unsafe(no_mangle)]
@@ -66,7 +66,7 @@ fn opened_box(alloc: Global, text: &[u8]) -> Result<Box<Snapshot>, AllocError>
 fn add(snapshot: &mut Snapshot, text: &[u8]) -> Result<(), AllocError>
     ensures ok { OnOk result (IsMerged snapshot.old (good text.now) snapshot.new) }
     ensures err { OnErr result (snapshot.new ≡ snapshot.old) }
-    ensures refused { OnErr result (accepted (good text.now) ≢ []) }
+    ensures out_of_memory { OnErr result (accepted (good text.now) ≢ []) }
 {
     snapshot.merge(parse_ignore_errors(text))
 }

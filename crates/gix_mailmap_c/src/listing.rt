@@ -2,19 +2,19 @@
 ghost use Rattle.std.specs.Prelude.{◌≡◌, ◌≤◌, ◌^◌, length, min, option_map, slice_get, IfSome, IfNone, MatchOption};
 ghost use Rattle.mailmap_entries.specs.Entries.{mapping_of};
 ghost use Rattle.gix_mailmap_c.specs.Handles.{contents};
-ghost use Rattle.gix_mailmap_c.specs.Listed.{all_text, told_at, Lists, Tells};
+ghost use Rattle.gix_mailmap_c.specs.Listed.{all_text, listed_at, Lists, ListsOne};
 
 mod copying;
 
 use crate::field::Field;
 use crate::held::lent::snapshot;
 use crate::held::{Mailmap, is_open};
-use crate::listing::copying::{copy_entry, copy_texts, len_with_texts, tell};
+use crate::listing::copying::{copy_entry, copy_texts, len_with_texts, list};
 use crate::status::{CLOSED, DONE, NO_ENTRY, SHORT};
 use gix_mailmap::{Entry, Snapshot};
 
-/// An entry as it is told: where its texts begin among those that are written, and of each how long it is and whether
-/// there is one. They stand one behind another in this order; an old email is always there.
+/// An entry as it is listed: where its texts begin among those that are written, and of each how long it is and whether
+/// there is one. They are one after another in this order; an old email is always there.
 #[repr(C)]
 #[derive(Clone, Copy)]
 pub struct Listed {
@@ -28,7 +28,7 @@ pub struct Listed {
 impl Listed {
     /// Of an entry whose texts begin at `start`.
     pub(crate) fn of(start: usize, entry: &Entry<'_>) -> Listed
-        ensures { result ≡ told_at start (mapping_of entry.now) }
+        ensures { result ≡ listed_at start (mapping_of entry.now) }
     {
         Listed {
             start,
@@ -40,10 +40,10 @@ impl Listed {
     }
 }
 
-/// Tells how many entries the mailmap lists, and how long all their texts are: the largest number where they are longer
+/// Gives how many entries the mailmap lists, and how long all their texts are: the largest number where they are longer
 /// than that.
 ///
-/// `DONE`, or `CLOSED`: nothing is told. It goes over all entries.
+/// `DONE`, or `CLOSED`: nothing is given. It goes over all entries.
 #[unsafe(no_mangle)]
 pub extern "C" fn gix_mailmap_len(
     m: &mut Mailmap,
@@ -51,8 +51,10 @@ pub extern "C" fn gix_mailmap_len(
     texts_len: &mut usize,
 ) -> u32
     ensures kept { contents m.new ≡ contents m.old }
-    ensures told { IfSome (contents m.old) (λ n. (result ≡ 0) × (entries_len.new ≡ length n) × (texts_len.new ≡ min usize.MAX (length (all_text n)))) }
-    ensures closed { IfNone (contents m.old) ((result ≡ 3) × (entries_len.new ≡ entries_len.old) × (texts_len.new ≡ texts_len.old)) }
+    ensures listed { IfSome (contents m.old)
+        (λ n. (result ≡ 0) × (entries_len.new ≡ length n) × (texts_len.new ≡ min usize.MAX (length (all_text n)))) }
+    ensures closed { IfNone (contents m.old)
+        ((result ≡ 3) × (entries_len.new ≡ entries_len.old) × (texts_len.new ≡ texts_len.old)) }
 {
     if !is_open(m) {
         return CLOSED;
@@ -63,10 +65,10 @@ pub extern "C" fn gix_mailmap_len(
     DONE
 }
 
-/// Tells all entries, in the order of [`Snapshot::iter`], and writes their texts, one entry's behind another's.
+/// Lists all entries, in the order of [`Snapshot::iter`], and writes their texts, one entry's after another's.
 ///
 /// `DONE`; `SHORT`: there is too little room for the entries or for their texts, and both stay as they were; `CLOSED`:
-/// nothing is written. What stands behind the last entry, and behind the last text, stays as it was.
+/// nothing is written. What is after the last entry, and after the last text, stays as it was.
 #[unsafe(no_mangle)]
 pub extern "C" fn gix_mailmap_list(m: &mut Mailmap, entries: &mut [Listed], texts: &mut [u8]) -> u32
     ensures kept { contents m.new ≡ contents m.old }
@@ -79,25 +81,26 @@ pub extern "C" fn gix_mailmap_list(m: &mut Mailmap, entries: &mut [Listed], text
     list(snapshot(m), entries, texts)
 }
 
-/// Tells the entry at a place of the listing, counted from 0, and writes its texts. It goes over those before it.
+/// Lists the entry at an index of the listing, counted from 0, and writes its texts. It goes over those before it.
 ///
-/// `DONE`; `SHORT`: there is too little room for the texts, which stay as they were, and the entry is told; `NO_ENTRY`:
-/// the mailmap lists no more than `place` entries, and nothing is written; `CLOSED`: nothing is written.
+/// `DONE`; `SHORT`: there is too little room for the texts, which stay as they were, and the entry is given;
+/// `NO_ENTRY`: the mailmap lists no more than `index` entries, and nothing is written; `CLOSED`: nothing is written.
 #[unsafe(no_mangle)]
 pub extern "C" fn gix_mailmap_entry(
     m: &mut Mailmap,
-    place: usize,
+    index: usize,
     entry: &mut Listed,
     texts: &mut [u8],
 ) -> u32
     ensures kept { contents m.new ≡ contents m.old }
-    ensures entry { IfSome (contents m.old) (λ n. Tells (slice_get n place) entry.old entry.new texts.old texts.new result) }
+    ensures entry { IfSome (contents m.old)
+        (λ n. ListsOne (slice_get n index) entry.old entry.new texts.old texts.new result) }
     ensures closed { IfNone (contents m.old) ((result ≡ 3) × (entry.new ≡ entry.old) × (texts.new ≡ texts.old)) }
 {
     if !is_open(m) {
         return CLOSED;
     }
-    tell_one(snapshot(m), place, entry, texts)
+    list_one(snapshot(m), index, entry, texts)
 }
 
 // How long the texts of all entries are, if a length can be that large.
@@ -120,7 +123,7 @@ fn list(snapshot: &Snapshot, entries: &mut [Listed], texts: &mut [u8]) -> u32
     }
     match texts_len_of(snapshot) {
         Some(len) if len <= texts.len() => {
-            tell(snapshot, entries);
+            list(snapshot, entries);
             copy_texts(snapshot, texts);
             DONE
         }
@@ -128,14 +131,14 @@ fn list(snapshot: &Snapshot, entries: &mut [Listed], texts: &mut [u8]) -> u32
     }
 }
 
-// Tells one entry of a snapshot.
-fn tell_one(snapshot: &Snapshot, place: usize, told: &mut Listed, texts: &mut [u8]) -> u32
-    ensures { Tells (slice_get snapshot.now place) told.old told.new texts.old texts.new result }
+// Lists one entry of a snapshot.
+fn list_one(snapshot: &Snapshot, index: usize, listed: &mut Listed, texts: &mut [u8]) -> u32
+    ensures { ListsOne (slice_get snapshot.now index) listed.old listed.new texts.old texts.new result }
 {
-    let Some(entry) = entry_at(snapshot, place) else {
+    let Some(entry) = entry_at(snapshot, index) else {
         return NO_ENTRY;
     };
-    *told = Listed::of(0, &entry);
+    *listed = Listed::of(0, &entry);
     match len_with_texts(0, &entry) {
         Some(len) if len <= texts.len() => {
             copy_entry(&entry, texts, 0);
@@ -145,13 +148,13 @@ fn tell_one(snapshot: &Snapshot, place: usize, told: &mut Listed, texts: &mut [u
     }
 }
 
-// The entry at a place of the listing.
-fn entry_at(snapshot: &Snapshot, place: usize) -> Option<Entry<'_>>
-    ensures { option_map mapping_of result ≡ slice_get snapshot.now place }
+// The entry at an index of the listing.
+fn entry_at(snapshot: &Snapshot, index: usize) -> Option<Entry<'_>>
+    ensures { option_map mapping_of result ≡ slice_get snapshot.now index }
 {
     let mut passed = 0;
     for entry in snapshot.iter() {
-        if passed == place {
+        if passed == index {
             return Some(entry);
         }
         passed += 1;

@@ -2,9 +2,8 @@
 ghost use Rattle.std.specs.Prelude.{◌≡◌, IfSome, IfNone};
 ghost use Rattle.std.specs.Option.{option_copied};
 ghost use Rattle.mailmap_histories.specs.Histories.{fields_for};
-ghost use Rattle.gix_mailmap_c.specs.Handed.{ArePut};
 ghost use Rattle.gix_mailmap_c.specs.Handles.{contents};
-ghost use Rattle.gix_mailmap_c.specs.Fields.{IsAnswered, IsTold};
+ghost use Rattle.gix_mailmap_c.specs.Fields.{IsAnswered, IsDescribed};
 
 use crate::buffers::put_both;
 use crate::field::Field;
@@ -12,14 +11,12 @@ use crate::held::lent::snapshot;
 use crate::held::{Mailmap, is_open};
 use crate::status::CLOSED;
 use gix_mailmap::Snapshot;
-use gix_mailmap::actor::SignatureRef;
-use mailmap_entries::fold::Steps;
 
 /// Looks a name and an email up: the proper ones are copied into `name_out` and `email_out`, and `new_name` and
-/// `new_email` tell how long they are, and whether the mailmap gave them. One that it doesn't give is the one asked for.
+/// `new_email` say how long they are, and whether the mailmap gave them. One that it doesn't give is the one asked for.
 ///
-/// `DONE`; `SHORT`: one of the buffers is too short, both stay as they were, and the lengths are told; `CLOSED`: nothing
-/// is written. What stands behind an answer in its buffer stays as it was.
+/// `DONE`; `SHORT`: one of the buffers is too short, both stay as they were, and the lengths are given; `CLOSED`:
+/// nothing is written. What is after an answer in its buffer stays as it was.
 #[unsafe(no_mangle)]
 pub extern "C" fn gix_mailmap_lookup(
     m: &mut Mailmap,
@@ -31,11 +28,13 @@ pub extern "C" fn gix_mailmap_lookup(
     new_email: &mut Field,
 ) -> u32
     ensures kept { contents m.new ≡ contents m.old }
-    ensures told { IfSome (contents m.old) (λ n. let f = fields_for n name.now email.now in
-        IsTold f.name name.now new_name.new × IsTold f.email email.now new_email.new) }
+    ensures described { IfSome (contents m.old) (λ n. let f = fields_for n name.now email.now in
+        IsDescribed f.name name.now new_name.new × IsDescribed f.email email.now new_email.new) }
     ensures answer { IfSome (contents m.old) (λ n.
-        IsAnswered (fields_for n name.now email.now) name.now email.now name_out.old name_out.new email_out.old email_out.new result) }
-    ensures closed { IfNone (contents m.old) ((result ≡ 3) × (name_out.new ≡ name_out.old) × (new_name.new ≡ new_name.old)
+        IsAnswered (fields_for n name.now email.now) name.now email.now name_out.old name_out.new
+        email_out.old email_out.new result) }
+    ensures closed { IfNone (contents m.old)
+        ((result ≡ 3) × (name_out.new ≡ name_out.old) × (new_name.new ≡ new_name.old)
         × (email_out.new ≡ email_out.old) × (new_email.new ≡ new_email.old)) }
 {
     if !is_open(m) {
@@ -63,13 +62,14 @@ fn answer(
     email_out: &mut [u8],
     new_email: &mut Field,
 ) -> u32
-    ensures name { IsTold (fields_for snapshot.now name.now email.now).name name.now new_name.new }
-    ensures email { IsTold (fields_for snapshot.now name.now email.now).email email.now new_email.new }
-    ensures answer { IsAnswered (fields_for snapshot.now name.now email.now) name.now email.now name_out.old name_out.new email_out.old email_out.new result }
+    ensures name { IsDescribed (fields_for snapshot.now name.now email.now).name name.now new_name.new }
+    ensures email { IsDescribed (fields_for snapshot.now name.now email.now).email email.now new_email.new }
+    ensures answer { IsAnswered (fields_for snapshot.now name.now email.now) name.now email.now name_out.old
+        name_out.new email_out.old email_out.new result }
 {
     let (proper_name, proper_email) = proper(snapshot, name, email);
-    new_name.tell(proper_name, name);
-    new_email.tell(proper_email, email);
+    new_name.describe(proper_name, name);
+    new_email.describe(proper_email, email);
     put_both(
         proper_name.unwrap_or(name),
         name_out,
@@ -88,12 +88,7 @@ fn proper<'a>(
     ensures name { option_copied result.0 ≡ (fields_for snapshot.now name.now email.now).name }
     ensures email { option_copied result.1 ≡ (fields_for snapshot.now name.now email.now).email }
 {
-    let contact = SignatureRef {
-        name,
-        email,
-        time: "",
-    };
-    match snapshot.try_resolve_ref_counted(contact, &mut Steps::new()) {
+    match snapshot.try_resolve_contact(name, email) {
         Some(found) => (found.name, found.email),
         None => (None, None),
     }

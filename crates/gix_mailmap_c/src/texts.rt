@@ -12,7 +12,7 @@ use std::alloc::Global;
 
 /// Answers each line of `contacts` by what `mailmap` maps, as [`check`](gix_mailmap::check::check()) does.
 ///
-/// `DONE`: the answers stand at the front of `out`, and `needed` is their length. `SHORT`: `out` is too short for them,
+/// `DONE`: the answers are at the front of `out`, and `needed` is their length. `SHORT`: `out` is too short for them,
 /// and `needed` is their length. `REFUSED`: `needed` is 0. The rest of `out` stays as it was.
 #[unsafe(no_mangle)]
 pub extern "C" fn gix_mailmap_check(

@@ -26,7 +26,7 @@ fn assert_checked(
     Ok(())
 }
 
-/// Each contact is looked up; later buffers stand behind earlier ones.
+/// Each contact is looked up; later buffers come after earlier ones.
 #[test]
 fn contacts_are_answered_by_the_buffers(rt: HostRuntime) -> Result<(), AllocError> {
     static ROWS: [(&[&[u8]], &[u8], &[u8]); 4] = [
@@ -53,7 +53,7 @@ fn contacts_are_answered_by_the_buffers(rt: HostRuntime) -> Result<(), AllocErro
     Ok(())
 }
 
-/// Contacts that nothing is known of are trimmed, and other lines stand as they are, without their ends.
+/// Contacts that nothing is known of are trimmed, and other lines stay as they are, without their ends.
 #[test]
 fn without_buffers_contacts_are_laid_out(rt: HostRuntime) -> Result<(), AllocError> {
     static ROWS: [(&[u8], &[u8]); 3] = [

@@ -1,7 +1,7 @@
 use mailmap_io::failure::Failure;
 use std::test::Fail;
 
-/// A program prints them behind its own name.
+/// A program prints them after its own name.
 #[test]
 fn each_failure_has_its_text(rt: HostRuntime) -> Result<(), Fail> {
     static ROWS: [(Failure, &str); 5] = [

@@ -17,6 +17,12 @@ pub(crate) fn paths_of(alloc: Global, names: &[&str]) -> Result<Vec<String>, All
     Ok(paths)
 }
 
+/// Wants as paths the arguments from an index on.
+pub(crate) fn assert_paths(rt: &impl Abort, paths: &[String], arguments: &[String], from: usize) {
+    assert!(rt; from <= arguments.len());
+    assert!(rt; paths.iter().eq(arguments[from..].iter()));
+}
+
 /// Files that are kept in memory. Of the last one with a name the bytes are read.
 #[derive(Drop)]
 pub(crate) struct Shelf<'a> {
@@ -97,7 +103,7 @@ fn assert_failing<F: FileSystem>(
     Ok(())
 }
 
-/// The first file that isn't there is named by its place among the paths.
+/// The first file that isn't there is named by its number among the paths.
 #[test]
 fn a_file_that_is_not_there_is_named_by_its_place(rt: HostRuntime) -> Result<(), AllocError> {
     static ROWS: [(&[&str], usize); 3] = [

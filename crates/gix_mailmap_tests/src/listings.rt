@@ -158,7 +158,7 @@ fn merge_rows(alloc: Global, snapshot: &mut Snapshot, rows: &[Row]) -> Result<()
     snapshot.merge(entries.iter().copied())
 }
 
-/// Wants the last rows of the snapshot of the first, behind which the later ones are merged.
+/// Wants the last rows of the snapshot of the first, after which the later ones are merged.
 fn assert_merged(
     rt: &impl Abort,
     alloc: Global,
@@ -319,7 +319,7 @@ fn entries_over_and_over(
     Ok(entries)
 }
 
-/// Wants these entries of a snapshot of some rows behind which entries are merged at once, and of its copy.
+/// Wants these entries of a snapshot of some rows after which entries are merged at once, and of its copy.
 fn assert_merged_at_once(
     rt: &impl Abort,
     alloc: Global,
@@ -332,7 +332,7 @@ fn assert_merged_at_once(
     assert_copy_lists(rt, alloc, snapshot, want)
 }
 
-/// Where few keys come again and again, their entries are joined in portions, of which the last one may be whole or not.
+/// If few keys come again and again, their entries are joined in portions, of which the last one may be whole or not.
 #[test]
 fn many_rounds_in_one_merge_leave_the_entries_of_the_last(
     rt: HostRuntime,
@@ -397,7 +397,7 @@ fn the_debug_text_is_that_of_the_entries(rt: HostRuntime) -> Result<(), AllocErr
     assert_debug_of_entries(&rt, rt.alloc(), &snapshot)
 }
 
-// `abcdefghijkl`, the letters in capitals whose places are the binary ones of a number.
+// `abcdefghijkl`, the letters in capitals whose indexes are the binary ones of a number.
 fn capitals(number: u32) -> [u8; 12] {
     let mut text = *b"abcdefghijkl";
     let mut rest = number;
@@ -410,7 +410,7 @@ fn capitals(number: u32) -> [u8; 12] {
     text
 }
 
-/// Each spelling of a text of twelve letters, and its number behind a word.
+/// Each spelling of a text of twelve letters, and its number after a word.
 fn all_spellings(alloc: Global, word: &str) -> Result<Vec<([u8; 12], String)>, AllocError> {
     let mut all = Vec::new(alloc);
     for number in 0..4096 {

@@ -31,12 +31,14 @@ fn assert_answer(rt: &impl Abort, answer: Answer<'_>, want: Answer<'_>) {
     assert_eq!(rt; answer, want);
 }
 
-/// Wants these answers of both lookups, to a name and an email each.
+/// Wants these answers of each lookup, to a name and an email each.
 fn assert_answers(rt: &impl Abort, snapshot: &Snapshot, table: &[Question]) {
     for (name, email, want) in table {
         let asked = signature(name, email);
         let plain = snapshot.try_resolve_ref(asked);
         assert_answer(rt, answer_of(plain), *want);
+        let by_contact = snapshot.try_resolve_contact(name, email);
+        assert_answer(rt, answer_of(by_contact), *want);
         let counted = snapshot.try_resolve_ref_counted(asked, &mut Steps::new());
         assert_answer(rt, answer_of(counted), *want);
     }

@@ -1,7 +1,7 @@
 use crate::check::assert_bytes;
 use crate::files::paths_of;
 use gix_mailmap::lines::Error;
-use gix_mailmap::verify::{Contact, Finding, Kind, Place};
+use gix_mailmap::verify::{Contact, Finding, Kind, Position};
 use mailmap_io::outcome::Outcome;
 use mailmap_reports::report::{judge, report_of};
 use std::alloc::{AllocError, Global};
@@ -16,11 +16,11 @@ fn assert_reported(
     want: &[u8],
 ) -> Result<(), AllocError> {
     let paths = paths_of(alloc, names)?;
-    let place = Place {
+    let position = Position {
         buffer: 1,
         line: 30,
     };
-    let findings = [Finding { place, kind }];
+    let findings = [Finding { position, kind }];
     let text = report_of(alloc, paths.as_slice(), &findings)?;
     assert_bytes(rt, &text, want);
     assert_eq!(rt; judge(&findings), Outcome::Found);
@@ -81,7 +81,7 @@ const EMPTY: Contact<'static> = Contact {
 /// Texts are shown byte for byte. A name that is missing or empty is left out with its blank.
 #[test]
 fn each_warning_has_its_line(rt: HostRuntime) -> Result<(), AllocError> {
-    let beside = Place { buffer: 0, line: 7 };
+    let beside = Position { buffer: 0, line: 7 };
     let rows: [(Kind<'_>, &[u8]); 4] = [
         (
             Kind::IgnoredText(b"# \xfe"),

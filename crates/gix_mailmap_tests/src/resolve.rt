@@ -76,7 +76,7 @@ fn assert_same(rt: &impl Abort, one: &Signature<'_>, other: &Signature<'_>) {
     assert_eq!(rt; one, other);
 }
 
-/// Wants this copy of an answer, where no text is to be borrowed.
+/// Wants this copy of an answer, if no text is to be borrowed.
 fn assert_copied(
     rt: &impl Abort,
     alloc: Global,
@@ -92,7 +92,7 @@ fn assert_copied(
 /// An email, and the texts of the answer to Bob and the email.
 type Answered = (&'static str, Text<'static>, Text<'static>);
 
-/// Wants these answers where there is one entry.
+/// Wants these answers if there is one entry.
 fn assert_all_answered(
     rt: &impl Abort,
     alloc: Global,

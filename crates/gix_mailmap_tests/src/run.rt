@@ -98,7 +98,7 @@ fn assert_ended(rt: &impl Abort, ended: Result<(), Failure>, want: Result<(), Fa
 }
 
 /// A reader that fails is `Input`, wherever it fails and for whatever cause, and nothing is written.
-/// An interrupted read is made again, and behind the end nothing is read.
+/// An interrupted read is made again, and after the end nothing is read.
 #[test]
 fn a_reader_that_fails_is_input_and_nothing_is_written(rt: HostRuntime) {
     static ROWS: [(&[Turn], Result<(), Failure>, &[u8]); 7] = [
@@ -130,7 +130,8 @@ fn a_reader_that_fails_is_input_and_nothing_is_written(rt: HostRuntime) {
     }
 }
 
-/// A writer that fails or takes no more is `Output`, and what it took is a front of the answers. At the end it is flushed.
+/// A writer that fails or takes no more is `Output`, and what it took is the beginning of the answers. At the end it is
+/// flushed.
 #[test]
 fn a_writer_that_fails_is_output_and_holds_a_front(rt: HostRuntime) {
     static ROWS: [(&[Turn], Turn, Result<(), Failure>, &[u8]); 6] = [

@@ -1,27 +1,17 @@
 use crate::check::assert_bytes;
-use crate::files::{SHELF, paths_of};
+use crate::files::{SHELF, assert_paths, paths_of};
 use mailmap_io::failure::Failure;
 use mailmap_runs::task::{Mode, Task, perform, task_of};
 use std::alloc::{AllocError, Global};
 use std::process::Abort;
 
-/// Wants this mode, and as paths the arguments from a place on.
-fn assert_task(
-    rt: &impl Abort,
-    alloc: Global,
-    arguments: &[&str],
-    mode: Mode,
-    from: usize,
-) -> Result<(), AllocError> {
-    let arguments = paths_of(alloc, arguments)?;
-    let task = task_of(arguments.as_slice());
+fn assert_task(rt: &impl Abort, arguments: &[String], mode: Mode, from: usize) {
+    let task = task_of(arguments);
     assert_eq!(rt; task.mode, mode);
-    assert!(rt; from <= arguments.len());
-    assert!(rt; task.paths.iter().eq(arguments[from..].iter()));
-    Ok(())
+    assert_paths(rt, task.paths, arguments, from);
 }
 
-/// The first argument is the program's own name. `--compact` counts right behind it alone.
+/// The first argument is the program's own name. `--compact` counts only right after it.
 #[test]
 fn arguments_ask_for_answers_or_for_one_mailmap(rt: HostRuntime) -> Result<(), AllocError> {
     static ROWS: [(&[&str], Mode, usize); 7] = [
@@ -34,7 +24,8 @@ fn arguments_ask_for_answers_or_for_one_mailmap(rt: HostRuntime) -> Result<(), A
         (&[], Mode::Answer, 0),
     ];
     for (arguments, mode, from) in &ROWS {
-        assert_task(&rt, rt.alloc(), arguments, *mode, *from)?;
+        let arguments = paths_of(rt.alloc(), arguments)?;
+        assert_task(&rt, arguments.as_slice(), *mode, *from);
     }
     Ok(())
 }

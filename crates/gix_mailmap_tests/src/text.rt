@@ -41,22 +41,22 @@ fn assert_written(
     assert_read_back(rt, alloc, &snapshot, want)
 }
 
-/// Wants the entry at `place` to be refused.
+/// Wants the entry at `index` to be refused.
 fn assert_unwritable(
     rt: &impl Abort,
     alloc: Global,
     rows: &[Row],
-    place: usize,
+    index: usize,
 ) -> Result<(), AllocError> {
     let snapshot = snapshot_of_rows(alloc, rows)?;
     let refused = snapshot.write(alloc).err();
-    assert_refused_at(rt, refused, place);
+    assert_refused_at(rt, refused, index);
     Ok(())
 }
 
-/// Wants the entry at `place` to be what was refused.
-fn assert_refused_at(rt: &impl Abort, refused: Option<WriteError>, place: usize) {
-    assert_eq!(rt; refused, Some(WriteError::Unwritable { place }));
+/// Wants the entry at `index` to be what was refused.
+fn assert_refused_at(rt: &impl Abort, refused: Option<WriteError>, index: usize) {
+    assert_eq!(rt; refused, Some(WriteError::Unwritable { index }));
 }
 
 #[test]
@@ -97,8 +97,8 @@ fn the_first_entry_that_no_line_can_hold_is_named(rt: HostRuntime) -> Result<(),
         (&[Name(b"N", b"a@x\xc2\xa0")], 0),
         (&[Name(b"N\nM", b"a@x")], 0),
     ];
-    for (rows, place) in &TABLE {
-        assert_unwritable(&rt, rt.alloc(), rows, *place)?;
+    for (rows, index) in &TABLE {
+        assert_unwritable(&rt, rt.alloc(), rows, *index)?;
     }
     Ok(())
 }
@@ -117,7 +117,7 @@ fn assert_error_text(
 
 #[test]
 fn the_texts_of_write_errors(rt: HostRuntime) -> Result<(), AllocError> {
-    let unwritable = WriteError::Unwritable { place: 3 };
+    let unwritable = WriteError::Unwritable { index: 3 };
     assert_error_text(&rt, rt.alloc(), &unwritable, "entry 3 cannot be written")?;
     let memory = WriteError::Memory(AllocError);
     assert_error_text(&rt, rt.alloc(), &memory, "out of memory")

@@ -1,5 +1,5 @@
 use crate::check::assert_bytes;
-use crate::files::{SHELF, paths_of};
+use crate::files::{SHELF, assert_paths, paths_of};
 use crate::run::{ALL, BREAKS, Sink, Source, Turn};
 use mailmap_io::failure::Failure;
 use mailmap_io::outcome::Outcome;
@@ -8,23 +8,13 @@ use std::alloc::{AllocError, Global};
 use std::io::{Read, Write};
 use std::process::Abort;
 
-/// Wants this mode, and as paths the arguments from a place on.
-fn assert_task(
-    rt: &impl Abort,
-    alloc: Global,
-    arguments: &[&str],
-    mode: Mode,
-    from: usize,
-) -> Result<(), AllocError> {
-    let arguments = paths_of(alloc, arguments)?;
-    let task = task_of(arguments.as_slice());
+fn assert_task(rt: &impl Abort, arguments: &[String], mode: Mode, from: usize) {
+    let task = task_of(arguments);
     assert_eq!(rt; task.mode, mode);
-    assert!(rt; from <= arguments.len());
-    assert!(rt; task.paths.iter().eq(arguments[from..].iter()));
-    Ok(())
+    assert_paths(rt, task.paths, arguments, from);
 }
 
-/// The first argument is the program's own name. `--prune` and `--help` count right behind it alone.
+/// The first argument is the program's own name. `--prune` and `--help` count only right after it.
 #[test]
 fn arguments_ask_for_findings_a_pruned_mailmap_or_help(rt: HostRuntime) -> Result<(), AllocError> {
     static ROWS: [(&[&str], Mode, usize); 9] = [
@@ -39,7 +29,8 @@ fn arguments_ask_for_findings_a_pruned_mailmap_or_help(rt: HostRuntime) -> Resul
         (&[], Mode::Verify, 0),
     ];
     for (arguments, mode, from) in &ROWS {
-        assert_task(&rt, rt.alloc(), arguments, *mode, *from)?;
+        let arguments = paths_of(rt.alloc(), arguments)?;
+        assert_task(&rt, arguments.as_slice(), *mode, *from);
     }
     Ok(())
 }
@@ -120,7 +111,7 @@ fn a_task_is_done_with_its_files_or_with_the_input(rt: HostRuntime) {
     }
 }
 
-/// Whatever stands behind `--help`, the usage is printed.
+/// Whatever comes after `--help`, the usage is printed.
 #[test]
 fn help_is_the_usage(rt: HostRuntime) {
     let mut input: &[u8] = b"plain\n";
@@ -130,7 +121,7 @@ fn help_is_the_usage(rt: HostRuntime) {
     assert_bytes(&rt, &output, USAGE.as_bytes());
 }
 
-/// A reader that fails is `Input`, and nothing is written. It is read only where no file is given, and not for help.
+/// A reader that fails is `Input`, and nothing is written. It is read only if no file is given, and not for help.
 #[test]
 fn a_reader_that_fails_is_input_and_nothing_is_written(rt: HostRuntime) {
     static ROWS: [(Mode, &[&str], Result<Outcome, Failure>); 5] = [
@@ -152,7 +143,7 @@ fn a_reader_that_fails_is_input_and_nothing_is_written(rt: HostRuntime) {
     }
 }
 
-/// A writer that fails is `Output`, and what it took is a front of what is printed.
+/// A writer that fails is `Output`, and what it took is the beginning of what is printed.
 #[test]
 fn a_writer_that_fails_is_output_and_holds_a_front(rt: HostRuntime) {
     static ROWS: [(Mode, &[Turn], Turn, Result<Outcome, Failure>, &[u8]); 5] = [

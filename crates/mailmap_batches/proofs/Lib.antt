@@ -1,5 +1,5 @@
 pub mod Numbered
 pub mod Stable
 pub mod Arranged
-mod Rests
-pub mod FrontRuns
+mod LongPrefixes
+pub mod LeadingNames

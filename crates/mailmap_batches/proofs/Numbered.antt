@@ -1,4 +1,4 @@
--- Entries with their places, and keys that never fall.
+-- Entries with their indexes, and keys that never fall.
 use Rattle.std.proofs.Common.{◌≡◌, ◌+◌, ◌<◌, ◌≤◌, ℕ, suc, length, get_or, arith, false, List, [], ◌∷◌, ◌++◌, map, Ordering, refl, ap}
 use Rattle.std.specs.List.{AllByRecursion, enumerate_from}
 use Rattle.std.specs.Ordering.{is_lt}

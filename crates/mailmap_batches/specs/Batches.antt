@@ -7,14 +7,14 @@ use Rattle.std.specs.declared.cmp.Ordering.{Ordering}
 use Rattle.mailmap_entries.specs.Entries.{Mapping, mapping_of}
 use Rattle.mailmap_entries.specs.Folding.{Text, folded}
 use Rattle.mailmap_histories.specs.Histories.{Key, key, key_cmp, of_key}
-use Rattle.mailmap_batches.specs.declared.indexed.Placed.{Placed}
+use Rattle.mailmap_batches.specs.declared.indexed.IndexedEntry.{IndexedEntry}
 
 -- what an entry of a batch says
-abbrev pub mapping_at : Placed → Mapping
+abbrev pub mapping_at : IndexedEntry → Mapping
 mapping_at p = mapping_of p.entry.now
 
-abbrev pub placed_at : Placed → ℕ × Mapping
-placed_at p = (p.index, mapping_at p)
+abbrev pub indexed_mapping : IndexedEntry → ℕ × Mapping
+indexed_mapping p = (p.index, mapping_at p)
 
 abbrev pub email_text : Mapping → Text
 email_text m = folded m.old_email
@@ -27,7 +27,7 @@ first_email (m ∷ ms) = email_text m
 abbrev pub name_text : Mapping → Text
 name_text m = folded (unwrap_or m.old_name [])
 
--- no key is below one that stands before it
+-- no key is below one that comes before it
 abbrev pub IsAscending : {K : Type 0} → (K → K → Ordering) → List K → Type 0
 IsAscending cmp [] = Unit {0}
 IsAscending cmp (x ∷ xs) = AllByRecursion (λ y. is_lt (cmp y x) ≡ false) xs × IsAscending cmp xs

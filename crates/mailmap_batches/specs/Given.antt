@@ -25,16 +25,16 @@ abbrev pub StartsOther : {X : Type 0} → (X → Type 0) → List X → Type 0
 StartsOther P [] = Unit {0}
 StartsOther P (x ∷ xs) = ¬ P x
 
--- the entries at the front of a batch that have one old name, and the name that stands for them:
+-- the entries at the start of a batch that have one old name, and the name that stands for them:
 -- spelled as the first has it, with the fields of the last
-pub record NameRun (ms : List Mapping) (n : NameGroup) (later : List Mapping) : Type 0 where
-  pub front : Mapping
+pub record NameEntries (ms : List Mapping) (n : NameGroup) (later : List Mapping) : Type 0 where
+  pub head : Mapping
   pub more : List Mapping
-  pub whole : ms ≡ front ∷ more ++ later
-  pub named : front.old_name ≡ Some n.old_name
+  pub whole : ms ≡ head ∷ more ++ later
+  pub named : head.old_name ≡ Some n.old_name
   pub same : AllByRecursion (λ m. name_text m ≡ folded n.old_name) more
-  pub new_name : (unwrap_or (last more) front).new_name ≡ n.new_name
-  pub new_email : (unwrap_or (last more) front).new_email ≡ Some n.new_email
+  pub new_name : (unwrap_or (last more) head).new_name ≡ n.new_name
+  pub new_email : (unwrap_or (last more) head).new_email ≡ Some n.new_email
   pub other : StartsOther (λ m. name_text m ≡ folded n.old_name) later
 
 -- what the name says
@@ -48,7 +48,7 @@ give f m = record { name = option_or m.new_name f.name; email = option_or m.new_
 abbrev pub fields_given : Given → Fields
 fields_given g = record { name = option_copied g.new_name; email = option_copied g.new_email }
 
--- the earliest entry of a run
+-- the earliest entry of a group
 pub record IsEarliest (ps : List (ℕ × Mapping)) (p : ℕ × Mapping) : Type 0 where
   pub among : Contains ps p
   pub least : All (λ q. p.0 ≤ q.0) ps

@@ -5,15 +5,15 @@ ghost use Rattle.std.specs.Ordering.{nat_cmp};
 ghost use Rattle.std.specs.List.{AllByRecursion, enumerate_from};
 ghost use Rattle.mailmap_entries.specs.Folding.{Text, folded, text_cmp};
 ghost use Rattle.mailmap_histories.specs.Histories.{key, key_cmp};
-ghost use Rattle.mailmap_entries.specs.Fronts.{IsFront, front_number};
-ghost use Rattle.mailmap_batches.specs.Batches.{IsSorted, IsAscending, mapping_at, placed_at, email_text, name_text};
-ghost use Rattle.mailmap_batches.specs.Sorting.{IsArranged, IsDone, IsRun, email_front};
-ghost use Rattle.mailmap_batches.specs.declared.indexed.Placed.{Placed as At};
+ghost use Rattle.mailmap_entries.specs.Prefixes.{IsKeyPrefix, key_prefix};
+ghost use Rattle.mailmap_batches.specs.Batches.{IsSorted, IsAscending, mapping_at, indexed_mapping, email_text, name_text};
+ghost use Rattle.mailmap_batches.specs.Sorting.{IsArranged, IsDone, IsPrefixGroup, email_prefix};
+ghost use Rattle.mailmap_batches.specs.declared.indexed.IndexedEntry.{IndexedEntry as At};
 
-use crate::groups::email_run;
-use crate::indexed::{HasEntry, Placed};
+use crate::groups::email_group_len;
+use crate::indexed::{HasEntry, IndexedEntry};
 use mailmap_entries::fold::cmp_ignore_ascii_case;
-use mailmap_entries::fold::front::front_number;
+use mailmap_entries::fold::prefix::key_prefix;
 use std::alloc::{AllocError, Global};
 use std::cmp::Ordering;
 use std::marker::Model;
@@ -22,232 +22,233 @@ use std::marker::Model;
 pub fn sorted<'e, 'a, T: HasEntry<'a>>(
     alloc: Global,
     entries: &'e [T],
-) -> Result<Vec<Placed<'e, 'a>>, AllocError>
-    ensures { IfOk result (λ batch. IsSorted (map T.mapped entries.now) (map placed_at batch.items)) }
+) -> Result<Vec<IndexedEntry<'e, 'a>>, AllocError>
+    ensures { IfOk result (λ batch. IsSorted (map T.mapped entries.now) (map indexed_mapping batch.items)) }
 {
     if let Some(batch) = ascending(alloc, entries)? {
         return Ok(batch);
     }
-    let mut batch = with_places(alloc, entries)?;
-    batch.sort_by(compare_fronts)?;
-    in_runs(alloc, &batch)
+    let mut batch = with_indexes(alloc, entries)?;
+    batch.sort_by(compare_prefixes)?;
+    in_groups(alloc, &batch)
 }
 
-// The entries in order, if their old emails came in the order of their fronts already.
+// The entries in order, if their old emails came in the order of their prefixes already.
 fn ascending<'e, 'a, T: HasEntry<'a>>(
     alloc: Global,
     entries: &'e [T],
-) -> Result<Option<Vec<Placed<'e, 'a>>>, AllocError>
+) -> Result<Option<Vec<IndexedEntry<'e, 'a>>>, AllocError>
     ensures { IfOk result (λ found. ForSome found
-        (λ batch. IsSorted (map T.mapped entries.now) (map placed_at batch.items))) }
+        (λ batch. IsSorted (map T.mapped entries.now) (map indexed_mapping batch.items))) }
 {
-    let mut runs = Runs::new(alloc, entries.len())?;
+    let mut groups = PrefixGroups::new(alloc, entries.len())?;
     for (index, item) in entries.iter().enumerate() {
         let entry = item.entry();
-        let front = front_number(entry.old_email());
-        if front < runs.front {
+        let prefix = key_prefix(entry.old_email());
+        if prefix < groups.prefix {
             return Ok(None);
         }
-        runs.push(front, Placed { index, entry })?;
+        groups.push(prefix, IndexedEntry { index, entry })?;
     }
-    Ok(Some(runs.finish()?))
+    Ok(Some(groups.finish()?))
 }
 
-// The entries in order, which stand in the order of their fronts.
-fn in_runs<'e, 'a>(
+// The entries in order, which are in the order of their prefixes.
+fn in_groups<'e, 'a>(
     alloc: Global,
-    batch: &[FrontedEntry<'e, 'a>],
-) -> Result<Vec<Placed<'e, 'a>>, AllocError>
-    requires { IsAscending nat_cmp (map email_front batch.now) }
+    batch: &[PrefixedEntry<'e, 'a>],
+) -> Result<Vec<IndexedEntry<'e, 'a>>, AllocError>
+    requires { IsAscending nat_cmp (map email_prefix batch.now) }
     ensures { IfOk result (λ done. IsArranged batch.now done.items) }
 {
-    let mut runs = Runs::new(alloc, batch.len())?;
-    for fronted in batch {
-        runs.push(fronted.front, fronted.placed)?;
+    let mut groups = PrefixGroups::new(alloc, batch.len())?;
+    for prefixed in batch {
+        groups.push(prefixed.prefix, prefixed.indexed)?;
     }
-    runs.finish()
+    groups.finish()
 }
 
-// An entry with its place, and the front of its old email.
+// An entry with its index, and the prefix of its old email.
 #[derive(Drop)]
-struct FrontedEntry<'e, 'a> {
-    front: u128,
-    placed: Placed<'e, 'a>,
+struct PrefixedEntry<'e, 'a> {
+    prefix: u128,
+    indexed: IndexedEntry<'e, 'a>,
 }
 
-impl<'e, 'a> Model for FrontedEntry<'e, 'a> {
+impl<'e, 'a> Model for PrefixedEntry<'e, 'a> {
     ghost Value = { At };
 
-    ghost view = { λ f. f.placed };
+    ghost view = { λ f. f.indexed };
 
-    ghost invariant = { λ f. IsFront f.front (email_text (mapping_at f.placed)) };
+    ghost invariant = { λ f. IsKeyPrefix f.prefix (email_text (mapping_at f.indexed)) };
 }
 
-// Each entry with its place.
-fn with_places<'e, 'a, T: HasEntry<'a>>(
+// Each entry with its index.
+fn with_indexes<'e, 'a, T: HasEntry<'a>>(
     alloc: Global,
     entries: &'e [T],
-) -> Result<Vec<FrontedEntry<'e, 'a>>, AllocError>
-    ensures { IfOk result (λ batch. map placed_at batch.items ≡ enumerate_from 0 (map T.mapped entries.now)) }
+) -> Result<Vec<PrefixedEntry<'e, 'a>>, AllocError>
+    ensures { IfOk result (λ batch. map indexed_mapping batch.items ≡ enumerate_from 0 (map T.mapped entries.now)) }
 {
     let mut batch = Vec::with_capacity(alloc, entries.len())?;
     for (index, item) in entries.iter().enumerate() {
         let entry = item.entry();
-        batch.push(with_front(Placed { index, entry }))?;
+        batch.push(with_prefix(IndexedEntry { index, entry }))?;
     }
     Ok(batch)
 }
 
-fn with_front<'e, 'a>(placed: Placed<'e, 'a>) -> FrontedEntry<'e, 'a>
-    ensures { result ≡ placed.entry }
+fn with_prefix<'e, 'a>(indexed: IndexedEntry<'e, 'a>) -> PrefixedEntry<'e, 'a>
+    ensures { result ≡ indexed.entry }
 {
-    let front = front_number(placed.entry.old_email());
-    FrontedEntry { front, placed }
+    let prefix = key_prefix(indexed.entry.old_email());
+    PrefixedEntry { prefix, indexed }
 }
 
-// By the first bytes of the old emails alone.
+// Only by the first bytes of the old emails.
 #[inline(always)]
-fn compare_fronts(a: &FrontedEntry, b: &FrontedEntry) -> Ordering
-    ensures { result ≡ nat_cmp (email_front a.now) (email_front b.now) }
+fn compare_prefixes(a: &PrefixedEntry, b: &PrefixedEntry) -> Ordering
+    ensures { result ≡ nat_cmp (email_prefix a.now) (email_prefix b.now) }
 {
-    a.front.cmp(&b.front)
+    a.prefix.cmp(&b.prefix)
 }
 
-// Entries that come in the order of their fronts: those of the last front as they came, and the others in order.
+// Entries that come in the order of their prefixes: those of the last prefix as they came, and the others in order.
 #[derive(Drop)]
-struct Runs<'e, 'a> {
-    done: Vec<Placed<'e, 'a>>,
-    run: Vec<Placed<'e, 'a>>,
-    front: u128,
+struct PrefixGroups<'e, 'a> {
+    done: Vec<IndexedEntry<'e, 'a>>,
+    group: Vec<IndexedEntry<'e, 'a>>,
+    prefix: u128,
 }
 
-impl<'e, 'a> Runs<'e, 'a> {
+impl<'e, 'a> PrefixGroups<'e, 'a> {
     // No entry yet, and room for so many.
-    fn new(alloc: Global, len: usize) -> Result<Runs<'e, 'a>, AllocError>
-        ensures none { IfOk result (λ runs. IsRun [] runs.done.items runs.run.items runs.front) }
-        ensures front { IfOk result (λ runs. runs.front ≡ 0) }
+    fn new(alloc: Global, len: usize) -> Result<PrefixGroups<'e, 'a>, AllocError>
+        ensures none { IfOk result (λ groups. IsPrefixGroup [] groups.done.items groups.group.items groups.prefix) }
+        ensures prefix { IfOk result (λ groups. groups.prefix ≡ 0) }
     {
-        Ok(Runs {
+        Ok(PrefixGroups {
             done: Vec::with_capacity(alloc, len)?,
-            run: Vec::new(alloc),
-            front: 0,
+            group: Vec::new(alloc),
+            prefix: 0,
         })
     }
 
-    // Puts an entry behind the others.
+    // Puts an entry after the others.
     #[inline(always)]
-    fn push(&mut self, front: u128, placed: Placed<'e, 'a>) -> Result<(), AllocError>
-        requires front { IsFront front (email_text (mapping_at placed)) }
-        requires up { self.old.front ≤ front }
+    fn push(&mut self, prefix: u128, indexed: IndexedEntry<'e, 'a>) -> Result<(), AllocError>
+        requires prefix { IsKeyPrefix prefix (email_text (mapping_at indexed)) }
+        requires up { self.old.prefix ≤ prefix }
         ensures pushed { OnOk result ((seen : List At)
-            → IsRun seen self.old.done.items self.old.run.items self.old.front
-            → IsRun (seen ++ placed.entry ∷ []) self.new.done.items self.new.run.items self.new.front) }
-        ensures front { OnOk result (self.new.front ≡ front) }
+            → IsPrefixGroup seen self.old.done.items self.old.group.items self.old.prefix
+            → IsPrefixGroup (seen ++ indexed.entry ∷ []) self.new.done.items self.new.group.items self.new.prefix) }
+        ensures prefix { OnOk result (self.new.prefix ≡ prefix) }
     {
-        if self.front < front {
+        if self.prefix < prefix {
             self.close()?;
-            self.front = front;
+            self.prefix = prefix;
         }
-        self.run.push(placed)?;
+        self.group.push(indexed)?;
         Ok(())
     }
 
-    // Puts the last run in order, too.
+    // Puts the last group in order, too.
     fn close(&mut self) -> Result<(), AllocError>
         ensures closed { OnOk result ((seen : List At)
-            → IsRun seen self.old.done.items self.old.run.items self.old.front
-            → IsDone seen self.new.done.items self.old.front) }
-        ensures empty { OnOk result (self.new.run.items ≡ []) }
+            → IsPrefixGroup seen self.old.done.items self.old.group.items self.old.prefix
+            → IsDone seen self.new.done.items self.old.prefix) }
+        ensures empty { OnOk result (self.new.group.items ≡ []) }
     {
-        sort_run(&mut self.run)?;
-        self.done.extend_from_slice(&self.run)?;
-        self.run.clear();
+        sort_group(&mut self.group)?;
+        self.done.extend_from_slice(&self.group)?;
+        self.group.clear();
         Ok(())
     }
 
     // All entries in order.
-    fn finish(mut self) -> Result<Vec<Placed<'e, 'a>>, AllocError>
+    fn finish(mut self) -> Result<Vec<IndexedEntry<'e, 'a>>, AllocError>
         ensures { IfOk result (λ done. (seen : List At)
-            → IsRun seen self.entry.done.items self.entry.run.items self.entry.front → IsArranged seen done.items) }
+            → IsPrefixGroup seen self.entry.done.items self.entry.group.items self.entry.prefix
+            → IsArranged seen done.items) }
     {
         self.close()?;
         Ok(self.done)
     }
 }
 
-// Longer runs are mostly of one email.
+// Longer groups are mostly of one email.
 const FEW: usize = 8;
 
-// Puts a run in order.
-fn sort_run(run: &mut Vec<Placed<'_, '_>>) -> Result<(), AllocError>
-    ensures { OnOk result (IsArranged run.old.items run.new.items) }
+// Puts a group in order.
+fn sort_group(group: &mut Vec<IndexedEntry<'_, '_>>) -> Result<(), AllocError>
+    ensures { OnOk result (IsArranged group.old.items group.new.items) }
 {
-    if run.len() <= FEW {
-        return run.sort_by(compare);
+    if group.len() <= FEW {
+        return group.sort_by(compare);
     }
-    if email_run(run, run[0].entry.old_email()) == run.len() {
-        return sort_names(run);
+    if email_group_len(group, group[0].entry.old_email()) == group.len() {
+        return sort_names(group);
     }
-    sort_rests(run)
+    sort_by_long_prefixes(group)
 }
 
 // Puts entries whose emails begin alike in order. Most emails differ in the sixteen bytes that follow.
-fn sort_rests(run: &mut Vec<Placed<'_, '_>>) -> Result<(), AllocError>
-    ensures { OnOk result (IsArranged run.old.items run.new.items) }
+fn sort_by_long_prefixes(group: &mut Vec<IndexedEntry<'_, '_>>) -> Result<(), AllocError>
+    ensures { OnOk result (IsArranged group.old.items group.new.items) }
 {
-    let alloc = *run.allocator();
-    let mut rested = with_rests(alloc, run)?;
-    rested.sort_by(compare_rested)?;
-    *run = without_rests(alloc, &rested)?;
+    let alloc = *group.allocator();
+    let mut long_prefixed = with_long_prefixes(alloc, group)?;
+    long_prefixed.sort_by(compare_long_prefixes)?;
+    *group = without_long_prefixes(alloc, &long_prefixed)?;
     Ok(())
 }
 
-// An entry with its place, the front of its old email, and the front of what stands behind that.
+// An entry with its index, the prefix of its old email, and the prefix of what is after that.
 #[derive(Drop)]
-struct RestedEntry<'e, 'a> {
-    front: u128,
-    rest: u128,
-    placed: Placed<'e, 'a>,
+struct LongPrefixEntry<'e, 'a> {
+    prefix: u128,
+    next_prefix: u128,
+    indexed: IndexedEntry<'e, 'a>,
 }
 
-impl<'e, 'a> Model for RestedEntry<'e, 'a> {
+impl<'e, 'a> Model for LongPrefixEntry<'e, 'a> {
     ghost Value = { At };
 
-    ghost view = { λ f. f.placed };
+    ghost view = { λ f. f.indexed };
 
-    ghost invariant = { λ f. IsFront f.front (email_text (mapping_at f.placed))
-        × (f.rest ≡ front_number 16 (drop 16 (email_text (mapping_at f.placed)))) };
+    ghost invariant = { λ f. IsKeyPrefix f.prefix (email_text (mapping_at f.indexed))
+        × (f.next_prefix ≡ key_prefix 16 (drop 16 (email_text (mapping_at f.indexed)))) };
 }
 
-// The entries with both fronts.
-fn with_rests<'e, 'a>(
+// The entries with both prefixes.
+fn with_long_prefixes<'e, 'a>(
     alloc: Global,
-    run: &[Placed<'e, 'a>],
-) -> Result<Vec<RestedEntry<'e, 'a>>, AllocError>
-    ensures { IfOk result (λ rested. rested.items ≡ run.now) }
+    group: &[IndexedEntry<'e, 'a>],
+) -> Result<Vec<LongPrefixEntry<'e, 'a>>, AllocError>
+    ensures { IfOk result (λ long_prefixed. long_prefixed.items ≡ group.now) }
 {
-    let mut rested = Vec::with_capacity(alloc, run.len())?;
-    for placed in run {
-        rested.push(with_rest(*placed))?;
+    let mut long_prefixed = Vec::with_capacity(alloc, group.len())?;
+    for indexed in group {
+        long_prefixed.push(with_long_prefix(*indexed))?;
     }
-    Ok(rested)
+    Ok(long_prefixed)
 }
 
-fn with_rest<'e, 'a>(placed: Placed<'e, 'a>) -> RestedEntry<'e, 'a>
-    ensures { result ≡ placed.entry }
+fn with_long_prefix<'e, 'a>(indexed: IndexedEntry<'e, 'a>) -> LongPrefixEntry<'e, 'a>
+    ensures { result ≡ indexed.entry }
 {
-    let email = placed.entry.old_email();
-    let front = front_number(email);
-    let rest = front_number(behind_front(email));
-    RestedEntry {
-        front,
-        rest,
-        placed,
+    let email = indexed.entry.old_email();
+    let prefix = key_prefix(email);
+    let next_prefix = key_prefix(after_prefix(email));
+    LongPrefixEntry {
+        prefix,
+        next_prefix,
+        indexed,
     }
 }
 
-// What stands behind the first sixteen bytes.
-fn behind_front(text: &[u8]) -> &[u8]
+// What is after the first sixteen bytes.
+fn after_prefix(text: &[u8]) -> &[u8]
     ensures { folded result.now ≡ drop 16 (folded text.now) }
 {
     if text.len() < 16 {
@@ -256,28 +257,28 @@ fn behind_front(text: &[u8]) -> &[u8]
     &text[16..]
 }
 
-// The entries alone.
-fn without_rests<'e, 'a>(
+// Only the entries.
+fn without_long_prefixes<'e, 'a>(
     alloc: Global,
-    rested: &[RestedEntry<'e, 'a>],
-) -> Result<Vec<Placed<'e, 'a>>, AllocError>
-    ensures { IfOk result (λ run. run.items ≡ rested.now) }
+    long_prefixed: &[LongPrefixEntry<'e, 'a>],
+) -> Result<Vec<IndexedEntry<'e, 'a>>, AllocError>
+    ensures { IfOk result (λ group. group.items ≡ long_prefixed.now) }
 {
-    let mut run = Vec::with_capacity(alloc, rested.len())?;
-    for entry in rested {
-        run.push(entry.placed)?;
+    let mut group = Vec::with_capacity(alloc, long_prefixed.len())?;
+    for entry in long_prefixed {
+        group.push(entry.indexed)?;
     }
-    Ok(run)
+    Ok(group)
 }
 
-// By both fronts, and then by the whole keys.
+// By both prefixes, and then by the whole keys.
 #[inline(always)]
-fn compare_rested(a: &RestedEntry, b: &RestedEntry) -> Ordering
+fn compare_long_prefixes(a: &LongPrefixEntry, b: &LongPrefixEntry) -> Ordering
     ensures { result ≡ key_cmp (key (mapping_at a.now)) (key (mapping_at b.now)) }
 {
-    match a.front.cmp(&b.front) {
-        Ordering::Equal => match a.rest.cmp(&b.rest) {
-            Ordering::Equal => compare(&a.placed, &b.placed),
+    match a.prefix.cmp(&b.prefix) {
+        Ordering::Equal => match a.next_prefix.cmp(&b.next_prefix) {
+            Ordering::Equal => compare(&a.indexed, &b.indexed),
             unequal => unequal,
         },
         unequal => unequal,
@@ -285,80 +286,80 @@ fn compare_rested(a: &RestedEntry, b: &RestedEntry) -> Ordering
 }
 
 // Puts entries of one email in order. Most names differ in their first bytes.
-fn sort_names(run: &mut Vec<Placed<'_, '_>>) -> Result<(), AllocError>
-    requires { (email : Text) × AllByRecursion (λ p. email_text (mapping_at p) ≡ email) run.old.items }
-    ensures { OnOk result (IsArranged run.old.items run.new.items) }
+fn sort_names(group: &mut Vec<IndexedEntry<'_, '_>>) -> Result<(), AllocError>
+    requires { (email : Text) × AllByRecursion (λ p. email_text (mapping_at p) ≡ email) group.old.items }
+    ensures { OnOk result (IsArranged group.old.items group.new.items) }
 {
-    let alloc = *run.allocator();
-    let mut named = with_names(alloc, run)?;
+    let alloc = *group.allocator();
+    let mut named = with_names(alloc, group)?;
     named.sort_by(compare_named)?;
-    *run = without_names(alloc, &named)?;
+    *group = without_names(alloc, &named)?;
     Ok(())
 }
 
-// An entry with its place, and the front of its old name, 0 where there is none.
+// An entry with its index, and the prefix of its old name, 0 if there is none.
 #[derive(Drop)]
 struct NamedEntry<'e, 'a> {
-    front: u128,
-    placed: Placed<'e, 'a>,
+    prefix: u128,
+    indexed: IndexedEntry<'e, 'a>,
 }
 
 impl<'e, 'a> Model for NamedEntry<'e, 'a> {
     ghost Value = { At };
 
-    ghost view = { λ f. f.placed };
+    ghost view = { λ f. f.indexed };
 
-    ghost invariant = { λ f. IsFront f.front (name_text (mapping_at f.placed)) };
+    ghost invariant = { λ f. IsKeyPrefix f.prefix (name_text (mapping_at f.indexed)) };
 }
 
-// The entries with the fronts of their names.
+// The entries with the prefixes of their names.
 fn with_names<'e, 'a>(
     alloc: Global,
-    run: &[Placed<'e, 'a>],
+    group: &[IndexedEntry<'e, 'a>],
 ) -> Result<Vec<NamedEntry<'e, 'a>>, AllocError>
-    ensures { IfOk result (λ named. named.items ≡ run.now) }
+    ensures { IfOk result (λ named. named.items ≡ group.now) }
 {
-    let mut named = Vec::with_capacity(alloc, run.len())?;
-    for placed in run {
-        named.push(with_name(*placed))?;
+    let mut named = Vec::with_capacity(alloc, group.len())?;
+    for indexed in group {
+        named.push(with_name(*indexed))?;
     }
     Ok(named)
 }
 
-fn with_name<'e, 'a>(placed: Placed<'e, 'a>) -> NamedEntry<'e, 'a>
-    ensures { result ≡ placed.entry }
+fn with_name<'e, 'a>(indexed: IndexedEntry<'e, 'a>) -> NamedEntry<'e, 'a>
+    ensures { result ≡ indexed.entry }
 {
-    let front = front_number(placed.entry.old_name().unwrap_or(&[]));
-    NamedEntry { front, placed }
+    let prefix = key_prefix(indexed.entry.old_name().unwrap_or(&[]));
+    NamedEntry { prefix, indexed }
 }
 
-// The entries alone.
+// Only the entries.
 fn without_names<'e, 'a>(
     alloc: Global,
     named: &[NamedEntry<'e, 'a>],
-) -> Result<Vec<Placed<'e, 'a>>, AllocError>
-    ensures { IfOk result (λ run. run.items ≡ named.now) }
+) -> Result<Vec<IndexedEntry<'e, 'a>>, AllocError>
+    ensures { IfOk result (λ group. group.items ≡ named.now) }
 {
-    let mut run = Vec::with_capacity(alloc, named.len())?;
+    let mut group = Vec::with_capacity(alloc, named.len())?;
     for entry in named {
-        run.push(entry.placed)?;
+        group.push(entry.indexed)?;
     }
-    Ok(run)
+    Ok(group)
 }
 
-// By old name alone, and first by its front.
+// Only by old name, and first by its prefix.
 #[inline(always)]
 fn compare_named(a: &NamedEntry, b: &NamedEntry) -> Ordering
     ensures { result ≡ option_cmp text_cmp (key (mapping_at a.now)).1 (key (mapping_at b.now)).1 }
 {
-    match a.front.cmp(&b.front) {
-        Ordering::Equal => compare_names(a.placed.entry.old_name(), b.placed.entry.old_name()),
+    match a.prefix.cmp(&b.prefix) {
+        Ordering::Equal => compare_names(a.indexed.entry.old_name(), b.indexed.entry.old_name()),
         unequal => unequal,
     }
 }
 
 // By old email, then without an old name first, then by old name, in the order in which case doesn't count.
-fn compare(a: &Placed, b: &Placed) -> Ordering
+fn compare(a: &IndexedEntry, b: &IndexedEntry) -> Ordering
     ensures { result ≡ key_cmp (key (mapping_at a.now)) (key (mapping_at b.now)) }
 {
     match cmp_ignore_ascii_case(a.entry.old_email(), b.entry.old_email()) {

@@ -4,10 +4,10 @@ ghost use Rattle.std.specs.Prelude.{◌≡◌, ◌≢◌, ◌<◌, ◌≤◌, Is
 ghost use Rattle.std.specs.List.{AllByRecursion, HoldsAt, fold};
 ghost use Rattle.mailmap_entries.specs.Folding.{folded};
 ghost use Rattle.mailmap_histories.specs.Histories.{no_fields};
-ghost use Rattle.mailmap_batches.specs.Batches.{email_text, mapping_at, name_text, placed_at};
-ghost use Rattle.mailmap_batches.specs.Given.{IsEarliest, IsNamed, NameRun, fields_given, give, named_group};
+ghost use Rattle.mailmap_batches.specs.Batches.{email_text, mapping_at, name_text, indexed_mapping};
+ghost use Rattle.mailmap_batches.specs.Given.{IsEarliest, IsNamed, NameEntries, fields_given, give, named_group};
 
-use crate::indexed::Placed;
+use crate::indexed::IndexedEntry;
 
 /// The texts that stand for an old name.
 #[derive(Clone, Copy)]
@@ -31,8 +31,8 @@ fn is_same(a: &[u8], b: &[u8]) -> bool
     a == b || a.eq_ignore_ascii_case(b)
 }
 
-/// How many entries at the front have this old email, which the first one has.
-pub fn email_run(batch: &[Placed<'_, '_>], email: &[u8]) -> usize
+/// How many entries at the start have this old email, which the first one has.
+pub fn email_group_len(batch: &[IndexedEntry<'_, '_>], email: &[u8]) -> usize
     requires { HoldsAt (λ p. email_text (mapping_at p) ≡ folded email.now) batch.now 0 }
     ensures within { result ≤ length batch.now }
     ensures same { AllByRecursion (λ p. email_text (mapping_at p) ≡ folded email.now) (take result batch.now) }
@@ -47,22 +47,22 @@ pub fn email_run(batch: &[Placed<'_, '_>], email: &[u8]) -> usize
     batch.len()
 }
 
-/// How many entries at the front have no old name.
-pub fn unnamed_run(batch: &[Placed<'_, '_>]) -> usize
+/// How many entries at the start have no old name.
+pub fn unnamed_len(batch: &[IndexedEntry<'_, '_>]) -> usize
     ensures within { result ≤ length batch.now }
     ensures none { AllByRecursion (λ p. (mapping_at p).old_name ≡ None) (take result batch.now) }
     ensures other { result < length batch.now → HoldsAt (λ p. (mapping_at p).old_name ≢ None) batch.now result }
 {
-    for (i, placed) in batch.iter().enumerate() {
-        if placed.entry.old_name().is_some() {
+    for (i, indexed) in batch.iter().enumerate() {
+        if indexed.entry.old_name().is_some() {
             return i;
         }
     }
     batch.len()
 }
 
-// How many entries at the front have this old name, which the first one has.
-fn name_run(batch: &[Placed<'_, '_>], name: &[u8]) -> usize
+// How many entries at the start have this old name, which the first one has.
+fn name_group_len(batch: &[IndexedEntry<'_, '_>], name: &[u8]) -> usize
     requires { HoldsAt (λ p. name_text (mapping_at p) ≡ folded name.now) batch.now 0 }
     ensures within { result ≤ length batch.now }
     ensures same { AllByRecursion (λ p. name_text (mapping_at p) ≡ folded name.now) (take result batch.now) }
@@ -78,17 +78,18 @@ fn name_run(batch: &[Placed<'_, '_>], name: &[u8]) -> usize
     batch.len()
 }
 
-/// The name at the front of a batch of named entries, and how many entries it stands for.
-pub fn front_name<'a>(batch: &[Placed<'_, 'a>]) -> (Named<'a>, usize)
+/// The name that a batch of named entries begins with, and how many entries have it.
+pub fn leading_name<'a>(batch: &[IndexedEntry<'_, 'a>]) -> (Named<'a>, usize)
     requires some { 0 < length batch.now }
     requires named { AllByRecursion (λ p. IsNamed (mapping_at p)) batch.now }
     ensures within { result.1 ≤ length batch.now }
-    ensures run { NameRun (map mapping_at batch.now) (named_group result.0) (map mapping_at (drop result.1 batch.now)) }
+    ensures group { NameEntries (map mapping_at batch.now) (named_group result.0)
+        (map mapping_at (drop result.1 batch.now)) }
 {
     let Some(old_name) = batch[0].entry.old_name() else {
         unreachable!()
     };
-    let len = name_run(batch, old_name);
+    let len = name_group_len(batch, old_name);
     let last = batch[len - 1].entry;
     let Some(new_email) = last.new_email() else {
         unreachable!()
@@ -105,48 +106,54 @@ pub fn front_name<'a>(batch: &[Placed<'_, 'a>]) -> (Named<'a>, usize)
 }
 
 /// The fields that entries without an old name give last, each for itself.
-pub fn last_given<'a>(own: &[Placed<'_, 'a>]) -> Given<'a>
+pub fn last_given<'a>(own: &[IndexedEntry<'_, 'a>]) -> Given<'a>
     ensures { fields_given result ≡ fold give no_fields (map mapping_at own.now) }
 {
     let mut given = Given {
         new_name: None,
         new_email: None,
     };
-    for placed in own {
+    for indexed in own {
         given = Given {
-            new_name: placed.entry.new_name().or(given.new_name),
-            new_email: placed.entry.new_email().or(given.new_email),
+            new_name: indexed.entry.new_name().or(given.new_name),
+            new_email: indexed.entry.new_email().or(given.new_email),
         };
     }
     given
 }
 
 /// The entry that came first.
-pub fn earliest<'e, 'a>(batch: &[Placed<'e, 'a>]) -> Placed<'e, 'a>
+pub fn earliest<'e, 'a>(batch: &[IndexedEntry<'e, 'a>]) -> IndexedEntry<'e, 'a>
     requires { 0 < length batch.now }
-    ensures { IsEarliest (map placed_at batch.now) (placed_at result) }
+    ensures { IsEarliest (map indexed_mapping batch.now) (indexed_mapping result) }
 {
     let mut first = batch[0];
-    for placed in batch {
-        if placed.index < first.index {
-            first = *placed;
+    for indexed in batch {
+        if indexed.index < first.index {
+            first = *indexed;
         }
     }
     first
 }
 
-/// The entries before a place.
-pub fn before<'s, 'e, 'a>(batch: &'s [Placed<'e, 'a>], place: usize) -> &'s [Placed<'e, 'a>]
-    requires { place ≤ length batch.now }
-    ensures { result.now ≡ take place batch.now }
+/// The entries before an index.
+pub fn before<'s, 'e, 'a>(
+    batch: &'s [IndexedEntry<'e, 'a>],
+    index: usize,
+) -> &'s [IndexedEntry<'e, 'a>]
+    requires { index ≤ length batch.now }
+    ensures { result.now ≡ take index batch.now }
 {
-    &batch[..place]
+    &batch[..index]
 }
 
-/// The entries from a place on.
-pub fn behind<'s, 'e, 'a>(batch: &'s [Placed<'e, 'a>], place: usize) -> &'s [Placed<'e, 'a>]
-    requires { place ≤ length batch.now }
-    ensures { result.now ≡ drop place batch.now }
+/// The entries from an index on.
+pub fn after<'s, 'e, 'a>(
+    batch: &'s [IndexedEntry<'e, 'a>],
+    index: usize,
+) -> &'s [IndexedEntry<'e, 'a>]
+    requires { index ≤ length batch.now }
+    ensures { result.now ≡ drop index batch.now }
 {
-    &batch[place..]
+    &batch[index..]
 }

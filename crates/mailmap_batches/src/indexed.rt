@@ -1,12 +1,12 @@
-//! Entries of a batch, each with its place among them.
+//! Entries of a batch, each with its index among them.
 ghost use Rattle.std.specs.Prelude.{◌≡◌};
 ghost use Rattle.mailmap_entries.specs.Entries.{Mapping, mapping_of};
 
 use mailmap_entries::Entry;
 
-/// An entry of a batch, and its place among them.
+/// An entry of a batch, and its index among them.
 #[derive(Clone, Copy)]
-pub struct Placed<'e, 'a> {
+pub struct IndexedEntry<'e, 'a> {
     pub index: usize,
     pub entry: &'e Entry<'a>,
 }

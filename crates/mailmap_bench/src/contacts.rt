@@ -4,7 +4,7 @@ use bstr::ByteSlice;
 use gix_mailmap::actor::SignatureRef;
 use std::alloc::{AllocError, Global};
 
-/// The name and the email of a line, as in `Jane <j@x>`, `None` where there is none.
+/// The name and the email of a line, as in `Jane <j@x>`, `None` if there is none.
 fn contact(line: &[u8]) -> Option<SignatureRef<'_>> {
     let line = line.trim();
     let open = line.find_byte(b'<')?;

@@ -6,17 +6,17 @@ use std::fs;
 use std::rt::Files;
 
 /// The bytes of the file that a word names.
-pub fn file<R: Files + AllocGlobal>(rt: &R, words: &[String], place: usize) -> Result<Vec<u8>> {
-    let path = words.get(place).context("argument missing")?;
+pub fn file<R: Files + AllocGlobal>(rt: &R, words: &[String], index: usize) -> Result<Vec<u8>> {
+    let path = words.get(index).context("argument missing")?;
     let bytes = fs::read(rt, path).context(format_args!("{path}"))?;
     Ok(bytes)
 }
 
-/// The number that a word spells, 1 where there is no word, and never 0.
-pub fn number(words: &[String], place: usize) -> Result<usize>
+/// The number that a word spells, 1 if there is no word, and never 0.
+pub fn number(words: &[String], index: usize) -> Result<usize>
     ensures { IfOk result (λ n. 0 < n) }
 {
-    let Some(word) = words.get(place) else {
+    let Some(word) = words.get(index) else {
         return Ok(1);
     };
     let number = word

@@ -26,7 +26,7 @@ impl Laps {
         Ok(())
     }
 
-    /// What is told of the runs.
+    /// What is reported of the runs.
     pub fn summary(&mut self) -> Summary {
         self.nanos.sort_unstable();
         let nanos = &self.nanos;

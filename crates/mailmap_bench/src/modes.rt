@@ -17,12 +17,7 @@ use std::time::Instant;
 /// Walks over the items of a file.
 pub fn walks<R: Runtime + AllocGlobal>(rt: &R, words: &[String], laps: &mut Laps) -> Result<()> {
     let buf = file(rt, words, 0)?;
-    let mut tally = Tally::new();
-    for _ in 0..number(words, 1)? {
-        let start = Instant::now(rt)?;
-        tally = walk(&buf);
-        laps.end(rt, start)?;
-    }
+    let tally = often(rt, number(words, 1)?, laps, || walk(&buf))?;
     let bytes = buf.len();
     let laps = laps.summary();
     println!(rt; "bench-parse {laps} bytes={bytes} items={tally}")?;
@@ -86,14 +81,29 @@ fn listed(snapshot: &Snapshot) -> Tally {
 pub fn lookups<R: Runtime + AllocGlobal>(rt: &R, words: &[String], laps: &mut Laps) -> Result<()> {
     let snapshot = snapshot_of(rt, words)?;
     let text = file(rt, words, 1)?;
-    look_up_often(rt, &snapshot, &text, number(words, 2)?, laps)
+    let contacts = contacts(rt.alloc(), &text)?;
+    let tally = often(
+        rt,
+        number(words, 2)?,
+        laps,
+        || look_up(&snapshot, &contacts),
+    )?;
+    let count = contacts.len();
+    let laps = laps.summary();
+    println!(rt; "bench-lookup {laps} contacts={count} hits={tally}")?;
+    Ok(())
 }
 
 /// Looks contacts up in the snapshot of a file, and reads the answers.
 pub fn answers<R: Runtime + AllocGlobal>(rt: &R, words: &[String], laps: &mut Laps) -> Result<()> {
     let snapshot = snapshot_of(rt, words)?;
     let text = file(rt, words, 1)?;
-    answer_often(rt, &snapshot, &text, number(words, 2)?, laps)
+    let contacts = contacts(rt.alloc(), &text)?;
+    let tally = often(rt, number(words, 2)?, laps, || answer(&snapshot, &contacts))?;
+    let count = contacts.len();
+    let laps = laps.summary();
+    println!(rt; "bench-answer {laps} contacts={count} answers={tally}")?;
+    Ok(())
 }
 
 fn snapshot_of<R: Runtime + AllocGlobal>(rt: &R, words: &[String]) -> Result<Snapshot> {
@@ -101,24 +111,22 @@ fn snapshot_of<R: Runtime + AllocGlobal>(rt: &R, words: &[String]) -> Result<Sna
     Ok(Snapshot::from_bytes(rt.alloc(), &buf)?)
 }
 
-fn look_up_often<R: Runtime + AllocGlobal>(
+// Times each round of some work, and gives the tally of the last one.
+fn often<R: Runtime, W: Fn() -> Tally>(
     rt: &R,
-    snapshot: &Snapshot,
-    text: &[u8],
     rounds: usize,
     laps: &mut Laps,
-) -> Result<()> {
-    let contacts = contacts(rt.alloc(), text)?;
+    work: W,
+) -> Result<Tally>
+    requires { W.IsAlwaysCallable work }
+{
     let mut tally = Tally::new();
     for _ in 0..rounds {
         let start = Instant::now(rt)?;
-        tally = look_up(snapshot, &contacts);
+        tally = work();
         laps.end(rt, start)?;
     }
-    let count = contacts.len();
-    let laps = laps.summary();
-    println!(rt; "bench-lookup {laps} contacts={count} hits={tally}")?;
-    Ok(())
+    Ok(tally)
 }
 
 fn look_up(snapshot: &Snapshot, contacts: &[SignatureRef<'_>]) -> Tally {
@@ -129,26 +137,6 @@ fn look_up(snapshot: &Snapshot, contacts: &[SignatureRef<'_>]) -> Tally {
         }
     }
     tally
-}
-
-fn answer_often<R: Runtime + AllocGlobal>(
-    rt: &R,
-    snapshot: &Snapshot,
-    text: &[u8],
-    rounds: usize,
-    laps: &mut Laps,
-) -> Result<()> {
-    let contacts = contacts(rt.alloc(), text)?;
-    let mut tally = Tally::new();
-    for _ in 0..rounds {
-        let start = Instant::now(rt)?;
-        tally = answer(snapshot, &contacts);
-        laps.end(rt, start)?;
-    }
-    let count = contacts.len();
-    let laps = laps.summary();
-    println!(rt; "bench-answer {laps} contacts={count} answers={tally}")?;
-    Ok(())
 }
 
 fn answer(snapshot: &Snapshot, contacts: &[SignatureRef<'_>]) -> Tally {

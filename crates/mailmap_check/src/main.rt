@@ -18,7 +18,7 @@ use std::process::ExitCode;
 fn main(rt: HostRuntime) -> ExitCode {
     let ended = start(&rt);
     if let Err(failure) = ended {
-        // Where standard error fails as well, the status alone tells.
+        // If standard error fails as well, only the status reports it.
         let _ = eprintln!(rt; "mailmap_check: {failure}");
     }
     exit_code(ended.map(|()| Outcome::Clean))

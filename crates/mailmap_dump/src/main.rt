@@ -64,7 +64,7 @@ fn read_files<R: Files + AllocGlobal>(rt: &R, paths: &[String]) -> Result<Vec<Ve
     Ok(files)
 }
 
-// The snapshot of the files, later ones behind earlier ones.
+// The snapshot of the files, later ones after earlier ones.
 fn merged(alloc: Global, files: &[Vec<u8>]) -> Result<Snapshot, AllocError> {
     let mut snapshot = Snapshot::empty(alloc);
     for file in files {

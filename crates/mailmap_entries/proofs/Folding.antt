@@ -32,16 +32,16 @@ smaller-less (x ∷ xs) (y ∷ ys) h = ⊎_elim
     (λ same. ap (λ o. ordering_then o (slice_cmp nat_cmp xs ys)) (sym (nat_cmp_is x y Equal same.0)) ∙ smaller-less xs ys same.1)
     h
 
--- only one text is told equal
+-- only one text compares as equal
 pub equal-same : (xs ys : List ℕ) → slice_cmp nat_cmp xs ys ≡ Equal → xs ≡ ys
 equal-same xs ys e = slice_cmp-IsAntisymmetric nat_cmp-IsAntisymmetric xs ys e
 
--- and each is told equal to itself
+-- and each compares as equal to itself
 pub same-equal : (xs : List ℕ) → slice_cmp nat_cmp xs xs ≡ Equal
 same-equal [] = refl
 same-equal (x ∷ xs) = ap (λ o. ordering_then o (slice_cmp nat_cmp xs xs)) (sym (nat_cmp_is x x Equal refl)) ∙ same-equal xs
 
--- where nothing is left of one of two texts of k and l bytes, the lengths decide
+-- if nothing is left of one of two texts of k and l bytes, the lengths decide
 pub text_cmp-end : (s t : Text) (k l : ℕ) → k + length t ≡ l + length s → (length s ≡ 0) ⊎ (length t ≡ 0) → text_cmp (folded s) (folded t) ≡ nat_cmp k l
 text_cmp-end [] [] k l long empty = nat_cmp_is k l Equal (omega arith)
 text_cmp-end [] (y ∷ t) k l long empty = nat_cmp_is k l Less (omega arith)

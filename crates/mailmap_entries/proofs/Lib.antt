@@ -1,5 +1,5 @@
 pub mod Folding
-pub mod Fronts
+pub mod Prefixes
 pub mod Lowercase
 pub mod Search
 pub mod Lookups

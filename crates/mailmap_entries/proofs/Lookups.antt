@@ -22,7 +22,7 @@ module _ {K : Type 0} {R : K → K → Ordering} (o : IsTotalOrder R) where
   above_other k y q Greater is other up = above y q (o.trans q k y (o.antisymm q k ∙ ap ordering_reverse is) up)
 
   module _ {X : Type 0} (key : X → K) (q : K) where
-    -- behind a key that is not below q stand keys above q alone
+    -- after a key that is not below q are only keys above q
     greater_behind : (k : K) (a : Ordering) → R k q ≡ a → a ≢ Less → (xs : List X) → AllByRecursion (λ y. R k y ≡ Less) (map key xs) → AllByRecursion (λ a. a ≡ Greater) (map (λ x. R (key x) q) xs)
     greater_behind k a is other [] all = tt
     greater_behind k a is other (x ∷ xs) all = (above_other k (key x) q a is other all.0, greater_behind k a is other xs all.1)
@@ -41,7 +41,7 @@ module _ {K : Type 0} {R : K → K → Ordering} (o : IsTotalOrder R) where
     IsPartitioned-from_ascending (x ∷ xs) up = parted_on (key x) (R (key x) q) refl xs up.0 (IsPartitioned-from_ascending xs up.1)
 
 module _ {X K : Type 0} (R : K → K → Ordering) (key : X → K) (q : K) where
-  -- the place that a search finds is one of the table, and the key there compares as equal
+  -- the index that a search finds is one of the table, and the key there compares as equal
   pub found-at : (xs : List X) (i : ℕ) → slice_get (map (λ x. R (key x) q) xs) i ≡ Some Equal → (i < length xs) × HoldsAt (λ x. R (key x) q ≡ Equal) xs i
   found-at xs i found =
       let compare : X → Ordering = λ x. R (key x) q in
@@ -53,7 +53,7 @@ module _ {X K : Type 0} (R : K → K → Ordering) (key : X → K) (q : K) where
   pub found-key : IsAntisymmetric R → (xs : List X) (i : ℕ) → slice_get (map (λ x. R (key x) q) xs) i ≡ Some Equal → (i < length xs) × HoldsAt (λ x. key x ≡ q) xs i
   found-key same xs i found = let at = found-at xs i found in (at.0, λ d. same (key (get_or xs i d)) q (at.1 d))
 
-  -- before the place where nothing is found stand the lower keys
+  -- before the index where nothing is found stand the lower keys
   pub missing-below : (xs : List X) (i : ℕ) → i ≤ length xs → IsPartitionPoint (λ a. a ≡ Less) (λ a. a ≡ Greater) (map (λ x. R (key x) q) xs) i → AllWithin (λ x. R (key x) q ≡ Less) xs 0 i
   missing-below xs i le missing = λ k d low high.
       sym (get_or-map (λ x. R (key x) q) xs k d Less (omega arith)) ∙ missing.0 k Less low high

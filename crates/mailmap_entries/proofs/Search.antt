@@ -49,7 +49,7 @@ greater_or [] k d all h = absurd (omega arith)
 greater_or (x ∷ xs) zero d all h = all.0
 greater_or (x ∷ xs) (suc k) d all h = greater_or xs k d all.1 (omega arith)
 
--- before a `Less` stand `Less` alone
+-- before a `Less` are only `Less`
 pub less_before : (xs : List Ordering) (k j : ℕ) (d : Ordering) → IsPartitioned xs → slice_get xs k ≡ Some Less → j ≤ k → get_or xs j d ≡ Less
 unfolding IsPartitioned
 less_before [] k j d parted e le = absurd (cc)
@@ -61,7 +61,7 @@ less_before (Equal ∷ xs) (suc k) j d parted e le = let wrong = greater_at xs k
 less_before (Greater ∷ xs) zero j d parted e le = absurd (cc)
 less_before (Greater ∷ xs) (suc k) j d parted e le = let wrong = greater_at xs k Less parted e in absurd (cc)
 
--- from a `Greater` on stand `Greater` alone
+-- from a `Greater` on are only `Greater`
 pub greater_from : (xs : List Ordering) (k j : ℕ) (d : Ordering) → IsPartitioned xs → slice_get xs k ≡ Some Greater → k ≤ j → j < length xs → get_or xs j d ≡ Greater
 unfolding IsPartitioned
 greater_from [] k j d parted e le h = absurd (cc)

@@ -14,6 +14,11 @@ pub record Mapping : Type 0 where
   pub old_name : Option Text
   pub old_email : Text
 
+-- the mapping of these four texts
+abbrev pub mapping : Option Text → Option Text → Option Text → Text → Mapping
+mapping new_name new_email old_name old_email =
+    record { new_name = new_name; new_email = new_email; old_name = old_name; old_email = old_email }
+
 -- what an entry says: the texts that it borrows
 abbrev pub mapping_of : Entry → Mapping
 mapping_of e = record {

@@ -1,4 +1,4 @@
 pub mod Folding
-pub mod Fronts
+pub mod Prefixes
 pub mod Entries
 pub mod Search

@@ -1,8 +1,8 @@
 //! What one line of a mailmap maps.
 //!
-//! A commit names its author and its committer by a name and an email. An [`Entry`] says what stands in the place of
-//! these: its old fields say which commits it is for, its new fields what they are to show. Which of the fields can be
-//! there together is git's mailmap format, and each combination has its constructor.
+//! A commit names its author and its committer by a name and an email. An [`Entry`] says what replaces these: its old
+//! fields say which commits it is for, and its new fields what these commits are to show. The format of git's mailmaps
+//! says which fields can be there together, and each combination has its constructor.
 //!
 //! | line | new name | new email | old name | old email |
 //! |---|---|---|---|---|
@@ -16,9 +16,9 @@ ghost use Rattle.std.specs.Prelude.{◌≡◌, IsSome};
 mod derived;
 /// A mapping of names and emails, which borrows its texts: from the buffer that was parsed, or from whoever made it.
 ///
-/// The old email, and the old name where there is one, are looked for without regard to the case of ASCII letters; the
-/// new name and the new email, each where there is one, stand in the place of what the commit has. An entry with an old
-/// name always has a new email. Texts are bytes and need not be UTF-8.
+/// The old email, and the old name if there is one, are compared without regard to the case of ASCII letters. The new
+/// name and the new email replace what the commit has; either may be missing. An entry with an old name always has a
+/// new email. Texts are bytes and need not be UTF-8.
 ///
 /// Entries come from the lines of a mailmap and from a snapshot's listing, or are made by the constructors below. The
 /// constructors take texts as they are: an empty one, or one with white space or brackets that no line could hold, too.
@@ -53,11 +53,11 @@ impl<'a> Default for Entry<'a> {
 
 /// Constructors, one for each combination of fields that a line of a mailmap can have.
 impl<'a> Entry<'a> {
-    ghost use Rattle.mailmap_entries.specs.Entries.{mapping_of};
+    ghost use Rattle.mailmap_entries.specs.Entries.{mapping, mapping_of};
 
     /// An entry that changes the name by an email, as the line `Proper <commit@x>` does.
     pub fn change_name_by_email(proper_name: &'a [u8], commit_email: &'a [u8]) -> Self
-        ensures { mapping_of result ≡ record { new_name = Some proper_name.now; new_email = None; old_name = None; old_email = commit_email.now } }
+        ensures { mapping_of result ≡ mapping (Some proper_name.now) None None commit_email.now }
     {
         Entry {
             new_name: Some(proper_name),
@@ -69,7 +69,7 @@ impl<'a> Entry<'a> {
 
     /// An entry that changes the email by an email, as the line `<proper@x> <commit@x>` does.
     pub fn change_email_by_email(proper_email: &'a [u8], commit_email: &'a [u8]) -> Self
-        ensures { mapping_of result ≡ record { new_name = None; new_email = Some proper_email.now; old_name = None; old_email = commit_email.now } }
+        ensures { mapping_of result ≡ mapping None (Some proper_email.now) None commit_email.now }
     {
         Entry {
             new_email: Some(proper_email),
@@ -85,7 +85,7 @@ impl<'a> Entry<'a> {
         commit_name: &'a [u8],
         commit_email: &'a [u8],
     ) -> Self
-        ensures { mapping_of result ≡ record { new_name = None; new_email = Some proper_email.now; old_name = Some commit_name.now; old_email = commit_email.now } }
+        ensures { mapping_of result ≡ mapping None (Some proper_email.now) (Some commit_name.now) commit_email.now }
     {
         Entry {
             new_email: Some(proper_email),
@@ -101,7 +101,7 @@ impl<'a> Entry<'a> {
         proper_email: &'a [u8],
         commit_email: &'a [u8],
     ) -> Self
-        ensures { mapping_of result ≡ record { new_name = Some proper_name.now; new_email = Some proper_email.now; old_name = None; old_email = commit_email.now } }
+        ensures { mapping_of result ≡ mapping (Some proper_name.now) (Some proper_email.now) None commit_email.now }
     {
         Entry {
             new_name: Some(proper_name),
@@ -119,7 +119,8 @@ impl<'a> Entry<'a> {
         commit_name: &'a [u8],
         commit_email: &'a [u8],
     ) -> Self
-        ensures { mapping_of result ≡ record { new_name = Some proper_name.now; new_email = Some proper_email.now; old_name = Some commit_name.now; old_email = commit_email.now } }
+        ensures { mapping_of result
+            ≡ mapping (Some proper_name.now) (Some proper_email.now) (Some commit_name.now) commit_email.now }
     {
         Entry {
             new_name: Some(proper_name),
@@ -130,26 +131,26 @@ impl<'a> Entry<'a> {
     }
 }
 
-/// Access. What is lent lives as long as the texts do, also where the entry, or the iterator that gave it, is gone.
+/// Getters. What they return lives as long as the texts do, even if the entry, or the iterator that gave it, is gone.
 impl<'a> Entry<'a> {
     ghost use Rattle.std.specs.Option.{option_copied};
     ghost use Rattle.mailmap_entries.specs.Entries.{mapping_of};
 
-    /// The name to map to, `None` where the commit keeps its name.
+    /// The name to map to, `None` if the commit keeps its name.
     pub fn new_name(&self) -> Option<&'a [u8]>
         ensures { option_copied result ≡ (mapping_of self.now).new_name }
     {
         self.new_name
     }
 
-    /// The email to map to, `None` where the commit keeps its email.
+    /// The email to map to, `None` if the commit keeps its email.
     pub fn new_email(&self) -> Option<&'a [u8]>
         ensures { option_copied result ≡ (mapping_of self.now).new_email }
     {
         self.new_email
     }
 
-    /// The name to look for and replace, `None` where the entry is for all names of its old email.
+    /// The name to look for and replace, `None` if the entry is for all names of its old email.
     pub fn old_name(&self) -> Option<&'a [u8]>
         ensures { option_copied result ≡ (mapping_of self.now).old_name }
     {

@@ -1,11 +1,11 @@
-//! The order in which the case of ASCII letters does not count, and a search by it that is counted.
+//! The order in which the case of ASCII letters does not count, and a search that counts its comparisons.
 ghost use Rattle.std.specs.Prelude.{◌≡◌, ◌↔◌, ◌+◌, ◌-◌, ◌<◌, ◌≤◌, ℕ, List, length, slice_get, IfOk, IfErr};
 ghost use Rattle.std.specs.List.Sorted.{IsSearchInRange, IsPartitionPoint};
 ghost use Rattle.std.specs.declared.cmp.Ordering.{Ordering as Answer};
 ghost use Rattle.mailmap_entries.specs.Folding.{folded, text_cmp, IsBelow};
 ghost use Rattle.mailmap_entries.specs.Search.{IsPartitioned, digits};
 
-pub mod front;
+pub mod prefix;
 
 use std::cmp::Ordering;
 use std::marker::Model;
@@ -35,37 +35,38 @@ pub fn cmp_ignore_ascii_case(a: &[u8], b: &[u8]) -> Ordering
     a.len().cmp(&b.len())
 }
 
-/// A list of answers that is asked for one place at a time, and counts how often.
+/// A sorted list that is searched for something. It is asked about one index at a time, and counts the questions.
 ///
-/// An answer says how what stands at the place compares to what is sought: `Less` before it,
-/// `Equal` at it and `Greater` behind it.
+/// The answer says how the element at the index compares to what is sought: `Less` before it, `Equal` at it and
+/// `Greater` after it.
 pub trait Probe {
     ghost answers: { Self → List Answer };
 
     ghost asked: { Self → ℕ };
 
-    /// Answers for a place of the list, and counts it.
-    fn ask(&mut self, place: usize) -> Ordering
-        requires within { place < length (answers self.old) }
+    /// Answers for an index of the list, and counts the question.
+    fn ask(&mut self, index: usize) -> Ordering
+        requires within { index < length (answers self.old) }
         requires countable { asked self.old < usize.MAX }
-        ensures answer { slice_get (answers self.old) place ≡ Some result }
+        ensures answer { slice_get (answers self.old) index ≡ Some result }
         ensures same { answers self.new ≡ answers self.old }
         ensures counted { asked self.new ≡ asked self.old + 1 };
 }
 
-/// Finds the `Equal` of a list of answers, or the place where it would stand.
+/// A binary search for the index with the answer `Equal`.
 ///
-/// `Ok` has the place of the `Equal`. `Err` has the number of the `Less`, where no answer is
-/// `Equal`. It asks at one place and parts the rest in two halves, so it asks at most as often as
-/// the length has binary digits: once for one place, ten times for 1,023 places, and never for none.
+/// `Ok` has that index. If no answer is `Equal`, `Err` has the number of the answers `Less`: the index where the
+/// element would be. Each question halves what is left to search, so there are at most as many questions as the length
+/// has binary digits: one for one element, ten for 1,023 elements, and none for an empty list.
 pub fn search<P: Probe>(len: usize, p: &mut P) -> Result<usize, usize>
     requires whole { len ≡ length (P.answers p.old) }
     requires parted { IsPartitioned (P.answers p.old) }
     requires countable { P.asked p.old ≤ usize.MAX - 64 }
     ensures within { IsSearchInRange result len }
     ensures found { IfOk result (λ i. slice_get (P.answers p.old) i ≡ Some Ordering.Equal) }
-    // `Less` before the place, and `Greater` from it on
-    ensures missing { IfErr result (λ i. IsPartitionPoint (λ a. a ≡ Ordering.Less) (λ a. a ≡ Ordering.Greater) (P.answers p.old) i) }
+    // `Less` before the index, and `Greater` from it on
+    ensures missing { IfErr result
+        (λ i. IsPartitionPoint (λ a. a ≡ Ordering.Less) (λ a. a ≡ Ordering.Greater) (P.answers p.old) i) }
     ensures same { P.answers p.new ≡ P.answers p.old }
     ensures at_most { P.asked p.new ≤ P.asked p.old + digits len }
     ensures at_least { 0 < len → P.asked p.old < P.asked p.new }

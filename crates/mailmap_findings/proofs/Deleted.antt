@@ -1,4 +1,4 @@
--- All lines that are told to have no effect can be deleted at once: the entries of the others are those that stay.
+-- All lines that are reported to have no effect can be deleted at once: the entries of the others are those that stay.
 use Rattle.std.proofs.Common.{◌≡◌, ◌≢◌, Bool, true, false, true≢false, if◌then◌else◌, Option, Some, None, option_to_list, is_some, List, [], ◌∷◌, ◌++◌, Ok, Err, map, filter, ap, refl, subst, sym, ◌∙◌}
 use Rattle.std.specs.Prelude.{◌||◌, ◌&&◌, ◌↔◌, Contains, is_none, not}
 use Rattle.std.specs.List.{AllByRecursion, cons_option, flat_map, list_any}
@@ -10,15 +10,15 @@ use Rattle.mailmap_entries.specs.Entries.{Mapping}
 use Rattle.mailmap_entries.specs.Folding.{Text}
 use Rattle.mailmap_grammar.specs.Lines.{Reading, good, non_empty, strict_reading}
 use Rattle.mailmap_histories.specs.Histories.{IsNormal, is_accepted, key}
-use Rattle.mailmap_sifting.specs.Sifting.{IsSifted, PlacedMapping, entries, last_place}
-use Rattle.mailmap_sifting.specs.declared.placed.Place.{Place}
-use Rattle.mailmap_sifting.proofs.Kept.{last_stays, one_sifted, sifted_normal, sifted_sublist, some_sifted}
-use Rattle.mailmap_findings.specs.Findings.{AreFindings, Contact, Finding, IsPruned, Told, contact, findings, has_no_effect, ignored, ignored_text, is_idle, is_left, mapped, no_effect, same_contact, told_of_contact, told_of_entry, told_of_line, told_of_reading, itself_mapped}
-use Rattle.mailmap_findings.specs.Places.{Line, entry, lines, placed, same_place, stands_at}
+use Rattle.mailmap_redundancy.specs.Redundancy.{IsReduced, LocatedMapping, entries, last_position}
+use Rattle.mailmap_redundancy.specs.declared.located.Position.{Position}
+use Rattle.mailmap_redundancy.proofs.Kept.{last_stays, one_reduced, reduced_normal, reduced_sublist, some_reduced}
+use Rattle.mailmap_findings.specs.Findings.{AreFindings, Contact, Finding, IsPruned, Reported, contact, findings, has_no_effect, ignored, ignored_text, is_redundant, is_left, mapped, no_effect, same_contact, reported_of_contact, reported_of_entry, reported_of_line, reported_of_reading, itself_mapped}
+use Rattle.mailmap_findings.specs.Positions.{Line, entry, lines, located, same_position, stands_at}
 use Rattle.mailmap_findings.specs.Steps.{AreApart}
-use Rattle.mailmap_findings.proofs.Accepted.{placed_accepted}
+use Rattle.mailmap_findings.proofs.Accepted.{located_accepted}
 use Rattle.mailmap_findings.proofs.Placing.{apart_lines}
-use Rattle.mailmap_findings.proofs.Pruned.{placed_left}
+use Rattle.mailmap_findings.proofs.Pruned.{located_left}
 use Rattle.mailmap_findings.proofs.Read.{good-lines}
 use Rattle.mailmap_findings.proofs.Walking.{differs, same_itself, starts}
 
@@ -40,146 +40,146 @@ filter_same : (p q : Line → Bool) (ls : List Line) → AllByRecursion (λ l. p
 filter_same p q [] all = refl
 filter_same p q (l ∷ ls) all = ap (λ b. if b then l ∷ filter p ls else filter p ls) all.0 ∙ ap (λ xs. if q l then l ∷ xs else xs) (filter_same p q ls all.1)
 
--- ---- what is told of a line
+-- ---- what is reported of a line
 
-abbrev told_at : Place → List Told → List Finding
-told_at place ts = map (λ t. record { place = place; told = t }) ts
+abbrev reported_at : Position → List Reported → List Finding
+reported_at position ts = map (λ t. record { position = position; reported = t }) ts
 
--- whether a finding says that the line at this place has no effect
-abbrev idle_at : Place → Finding → Bool
-idle_at place f = has_no_effect f.told && same_place f.place place
+-- whether a finding says that the line at this position has no effect
+abbrev redundant_at : Position → Finding → Bool
+redundant_at position f = has_no_effect f.reported && same_position f.position position
 
-any_here : (place : Place) (ts : List Told) → list_any (idle_at place) (told_at place ts) ≡ list_any has_no_effect ts
-any_here place [] = refl
-any_here place (t ∷ ts) =
-    ap (λ b. (has_no_effect t && b) || list_any (idle_at place) (told_at place ts)) (same_itself place)
-    ∙ ap (λ b. b || list_any (idle_at place) (told_at place ts)) (and_true (has_no_effect t))
-    ∙ ap (λ b. has_no_effect t || b) (any_here place ts)
+any_here : (position : Position) (ts : List Reported) → list_any (redundant_at position) (reported_at position ts) ≡ list_any has_no_effect ts
+any_here position [] = refl
+any_here position (t ∷ ts) =
+    ap (λ b. (has_no_effect t && b) || list_any (redundant_at position) (reported_at position ts)) (same_itself position)
+    ∙ ap (λ b. b || list_any (redundant_at position) (reported_at position ts)) (and_true (has_no_effect t))
+    ∙ ap (λ b. has_no_effect t || b) (any_here position ts)
 
-none_there : (place there : Place) (ts : List Told) → there ≢ place → list_any (idle_at place) (told_at there ts) ≡ false
-none_there place there [] other = refl
-none_there place there (t ∷ ts) other =
-    ap (λ b. b || list_any (idle_at place) (told_at there ts)) (and_right (has_no_effect t) (same_place there place) (differs there place other))
-    ∙ none_there place there ts other
+none_there : (position there : Position) (ts : List Reported) → there ≢ position → list_any (redundant_at position) (reported_at there ts) ≡ false
+none_there position there [] other = refl
+none_there position there (t ∷ ts) other =
+    ap (λ b. b || list_any (redundant_at position) (reported_at there ts)) (and_right (has_no_effect t) (same_position there position) (differs there position other))
+    ∙ none_there position there ts other
 
 text_none : (o : Option Text) → list_any has_no_effect (option_to_list (option_map ignored_text o)) ≡ false
 text_none None = refl
 text_none (Some t) = refl
 
-reading_none : (line : Text) (o : Option Reading) → list_any has_no_effect (option_to_list (told_of_reading line o)) ≡ false
+reading_none : (line : Text) (o : Option Reading) → list_any has_no_effect (option_to_list (reported_of_reading line o)) ≡ false
 reading_none line None = refl
 reading_none line (Some (Err f)) = refl
 reading_none line (Some (Ok e)) = text_none (non_empty (ignored line))
 
-contact_none : (c to : Contact) → list_any has_no_effect (option_to_list (told_of_contact c to)) ≡ false
+contact_none : (c to : Contact) → list_any has_no_effect (option_to_list (reported_of_contact c to)) ≡ false
 contact_none c to = elim (same_contact c to) as (λ b. list_any has_no_effect (option_to_list (if b then None else Some (itself_mapped c to))) ≡ false) [ true ↦ refl | false ↦ refl ]
 
-place_some : (o : Option Place) → is_some o ≡ true → list_any has_no_effect (option_to_list (option_map no_effect o)) ≡ true
-place_some None e = absurd (true≢false (sym e))
-place_some (Some p) e = refl
+position_some : (o : Option Position) → is_some o ≡ true → list_any has_no_effect (option_to_list (option_map no_effect o)) ≡ true
+position_some None e = absurd (true≢false (sym e))
+position_some (Some p) e = refl
 
 -- an entry of this key stays
-abbrev IfStays : List PlacedMapping → Option Mapping → Type 0
+abbrev IfStays : List LocatedMapping → Option Mapping → Type 0
 IfStays kept None = Unit {0}
-IfStays kept (Some e) = is_some (last_place kept (key e)) ≡ true
+IfStays kept (Some e) = is_some (last_position kept (key e)) ≡ true
 
-module _ (h : List Mapping) (kept : List PlacedMapping) where
-  entry_any : (stays : Bool) (e : Mapping) → IfStays kept (Some e) → list_any has_no_effect (option_to_list (told_of_entry h kept stays e)) ≡ not stays
+module _ (h : List Mapping) (kept : List LocatedMapping) where
+  entry_any : (stays : Bool) (e : Mapping) → IfStays kept (Some e) → list_any has_no_effect (option_to_list (reported_of_entry h kept stays e)) ≡ not stays
   entry_any true e beside = contact_none (contact e) (mapped h (contact e))
-  entry_any false e beside = place_some (last_place kept (key e)) beside
+  entry_any false e beside = position_some (last_position kept (key e)) beside
 
-  line_any : (l : Line) → IfStays kept (entry l) → list_any has_no_effect (told_of_line h kept (stands_at kept l.place) l) ≡ not (is_left kept l)
+  line_any : (l : Line) → IfStays kept (entry l) → list_any has_no_effect (reported_of_line h kept (stands_at kept l.position) l) ≡ not (is_left kept l)
   line_any l beside =
-      let stays = stands_at kept l.place in
-      list_any-append has_no_effect (option_to_list (told_of_reading l.text (strict_reading l.place.line l.text))) (option_to_list (option_and_then (told_of_entry h kept stays) (entry l)))
-      ∙ ap (λ b. b || list_any has_no_effect (option_to_list (option_and_then (told_of_entry h kept stays) (entry l)))) (reading_none l.text (strict_reading l.place.line l.text))
-      ∙ elim (entry l) as (λ o. IfStays kept o → list_any has_no_effect (option_to_list (option_and_then (told_of_entry h kept stays) o)) ≡ not (is_none o || stays)) [
+      let stays = stands_at kept l.position in
+      list_any-append has_no_effect (option_to_list (reported_of_reading l.text (strict_reading l.position.line l.text))) (option_to_list (option_and_then (reported_of_entry h kept stays) (entry l)))
+      ∙ ap (λ b. b || list_any has_no_effect (option_to_list (option_and_then (reported_of_entry h kept stays) (entry l)))) (reading_none l.text (strict_reading l.position.line l.text))
+      ∙ elim (entry l) as (λ o. IfStays kept o → list_any has_no_effect (option_to_list (option_and_then (reported_of_entry h kept stays) o)) ≡ not (is_none o || stays)) [
         | None ↦ λ _. refl
         | Some e ↦ λ is. entry_any stays e is
       ] beside
 
-  none_elsewhere : (place : Place) (ls : List Line) → AllByRecursion (λ l. l.place ≢ place) ls → list_any (idle_at place) (flat_map (findings h kept) ls) ≡ false
-  none_elsewhere place [] all = refl
-  none_elsewhere place (l ∷ ls) all =
-      list_any-append (idle_at place) (findings h kept l) (flat_map (findings h kept) ls)
-      ∙ ap (λ b. b || list_any (idle_at place) (flat_map (findings h kept) ls)) (none_there place l.place (told_of_line h kept (stands_at kept l.place) l) all.0)
-      ∙ none_elsewhere place ls all.1
+  none_elsewhere : (position : Position) (ls : List Line) → AllByRecursion (λ l. l.position ≢ position) ls → list_any (redundant_at position) (flat_map (findings h kept) ls) ≡ false
+  none_elsewhere position [] all = refl
+  none_elsewhere position (l ∷ ls) all =
+      list_any-append (redundant_at position) (findings h kept l) (flat_map (findings h kept) ls)
+      ∙ ap (λ b. b || list_any (redundant_at position) (flat_map (findings h kept) ls)) (none_there position l.position (reported_of_line h kept (stands_at kept l.position) l) all.0)
+      ∙ none_elsewhere position ls all.1
 
-  behind_line : (l : Line) (fs : List Finding) (ls : List Line) → AllByRecursion (λ m. m.place ≢ l.place) ls
-      → AllByRecursion (λ m. list_any (idle_at m.place) fs ≡ not (is_left kept m)) ls → AllByRecursion (λ m. list_any (idle_at m.place) (findings h kept l ++ fs) ≡ not (is_left kept m)) ls
-  behind_line l fs [] apart all = tt
-  behind_line l fs (m ∷ ls) apart all = (
-    list_any-append (idle_at m.place) (findings h kept l) fs
-        ∙ ap (λ b. b || list_any (idle_at m.place) fs) (none_there m.place l.place (told_of_line h kept (stands_at kept l.place) l) (λ e. apart.0 (sym e)))
+  after_line : (l : Line) (fs : List Finding) (ls : List Line) → AllByRecursion (λ m. m.position ≢ l.position) ls
+      → AllByRecursion (λ m. list_any (redundant_at m.position) fs ≡ not (is_left kept m)) ls → AllByRecursion (λ m. list_any (redundant_at m.position) (findings h kept l ++ fs) ≡ not (is_left kept m)) ls
+  after_line l fs [] apart all = tt
+  after_line l fs (m ∷ ls) apart all = (
+    list_any-append (redundant_at m.position) (findings h kept l) fs
+        ∙ ap (λ b. b || list_any (redundant_at m.position) fs) (none_there m.position l.position (reported_of_line h kept (stands_at kept l.position) l) (λ e. apart.0 (sym e)))
         ∙ all.0,
-    behind_line l fs ls apart.1 all.1,
+    after_line l fs ls apart.1 all.1,
   )
 
-  told_idle : (ls : List Line) → AreApart ls → AllByRecursion (λ l. IfStays kept (entry l)) ls → AllByRecursion (λ l. list_any (idle_at l.place) (flat_map (findings h kept) ls) ≡ not (is_left kept l)) ls
-  told_idle [] apart stay = tt
-  told_idle (l ∷ ls) apart stay = (
-    list_any-append (idle_at l.place) (findings h kept l) (flat_map (findings h kept) ls)
-        ∙ ap (λ b. list_any (idle_at l.place) (findings h kept l) || b) (none_elsewhere l.place ls apart.0)
-        ∙ or_false (list_any (idle_at l.place) (findings h kept l))
-        ∙ any_here l.place (told_of_line h kept (stands_at kept l.place) l)
+  reported_redundant : (ls : List Line) → AreApart ls → AllByRecursion (λ l. IfStays kept (entry l)) ls → AllByRecursion (λ l. list_any (redundant_at l.position) (flat_map (findings h kept) ls) ≡ not (is_left kept l)) ls
+  reported_redundant [] apart stay = tt
+  reported_redundant (l ∷ ls) apart stay = (
+    list_any-append (redundant_at l.position) (findings h kept l) (flat_map (findings h kept) ls)
+        ∙ ap (λ b. list_any (redundant_at l.position) (findings h kept l) || b) (none_elsewhere l.position ls apart.0)
+        ∙ or_false (list_any (redundant_at l.position) (findings h kept l))
+        ∙ any_here l.position (reported_of_line h kept (stands_at kept l.position) l)
         ∙ line_any l stay.0,
-    behind_line l (flat_map (findings h kept) ls) ls apart.0 (told_idle ls apart.1 stay.1),
+    after_line l (flat_map (findings h kept) ls) ls apart.0 (reported_redundant ls apart.1 stay.1),
   )
 
-  not_told : (fs : List Finding) (ls : List Line) → AllByRecursion (λ l. list_any (idle_at l.place) fs ≡ not (is_left kept l)) ls → AllByRecursion (λ l. not (list_any (idle_at l.place) fs) ≡ is_left kept l) ls
-  not_told fs [] all = tt
-  not_told fs (l ∷ ls) all = (ap not all.0 ∙ not_not (is_left kept l), not_told fs ls all.1)
+  not_reported : (fs : List Finding) (ls : List Line) → AllByRecursion (λ l. list_any (redundant_at l.position) fs ≡ not (is_left kept l)) ls → AllByRecursion (λ l. not (list_any (redundant_at l.position) fs) ≡ is_left kept l) ls
+  not_reported fs [] all = tt
+  not_reported fs (l ∷ ls) all = (ap not all.0 ∙ not_not (is_left kept l), not_reported fs ls all.1)
 
--- ---- the lines that are not told
+-- ---- the lines that are not reported
 
-module _ (kept : List PlacedMapping) where
-  lines_stay : (ls : List Line) → AllByRecursion (λ x. is_some (last_place kept (key x.entry)) ≡ true) (placed ls) → AllByRecursion (λ l. IfStays kept (entry l)) ls
+module _ (kept : List LocatedMapping) where
+  lines_stay : (ls : List Line) → AllByRecursion (λ x. is_some (last_position kept (key x.entry)) ≡ true) (located ls) → AllByRecursion (λ l. IfStays kept (entry l)) ls
   lines_stay [] = λ all. tt
   lines_stay (l ∷ ls) =
-      elim (entry l) as (λ o. AllByRecursion (λ x. is_some (last_place kept (key x.entry)) ≡ true) (cons_option (option_map (λ e. record { place = l.place; entry = e }) o) (placed ls))
+      elim (entry l) as (λ o. AllByRecursion (λ x. is_some (last_position kept (key x.entry)) ≡ true) (cons_option (option_map (λ e. record { position = l.position; entry = e }) o) (located ls))
       → IfStays kept o × AllByRecursion (λ m. IfStays kept (entry m)) ls) [
         | None ↦ λ all. (tt, lines_stay ls all)
         | Some e ↦ λ all. (all.0, lines_stay ls all.1)
       ]
 
-each_stays : (xs kept : List PlacedMapping) → IsSifted xs kept → AllByRecursion (λ x. is_accepted x.entry ≡ true) xs → AllByRecursion (λ x. is_some (last_place kept (key x.entry)) ≡ true) xs
-each_stays xs kept sifted accepted = both xs (recursion_from_All (Contains xs) xs (All-contains_itself xs)) accepted
+each_stays : (xs kept : List LocatedMapping) → IsReduced xs kept → AllByRecursion (λ x. is_accepted x.entry ≡ true) xs → AllByRecursion (λ x. is_some (last_position kept (key x.entry)) ≡ true) xs
+each_stays xs kept reduced accepted = both xs (recursion_from_All (Contains xs) xs (All-contains_itself xs)) accepted
   where
-    both : (ys : List PlacedMapping) → AllByRecursion (Contains xs) ys → AllByRecursion (λ x. is_accepted x.entry ≡ true) ys → AllByRecursion (λ x. is_some (last_place kept (key x.entry)) ≡ true) ys
+    both : (ys : List LocatedMapping) → AllByRecursion (Contains xs) ys → AllByRecursion (λ x. is_accepted x.entry ≡ true) ys → AllByRecursion (λ x. is_some (last_position kept (key x.entry)) ≡ true) ys
     both [] inside good = tt
-    both (y ∷ ys) inside good = (last_stays xs kept y sifted inside.0 good.0, both ys inside.1 good.1)
+    both (y ∷ ys) inside good = (last_stays xs kept y reduced inside.0 good.0, both ys inside.1 good.1)
 
-pub left_lines : (buffers : List Text) (found : List Finding) (are : AreFindings buffers found) → filter (λ l. not (is_idle found l)) (lines buffers) ≡ filter (is_left are.kept) (lines buffers)
+pub left_lines : (buffers : List Text) (found : List Finding) (are : AreFindings buffers found) → filter (λ l. not (is_redundant found l)) (lines buffers) ≡ filter (is_left are.kept) (lines buffers)
 left_lines buffers found are =
     let ls = lines buffers in
-    let h = entries (placed ls) in
+    let h = entries (located ls) in
     let all : List Finding = flat_map (findings h are.kept) ls in
-    let stay = lines_stay are.kept ls (each_stays (placed ls) are.kept are.sifted (placed_accepted ls)) in
-    ap (λ fs. filter (λ (l : Line). not (is_idle fs l)) ls) are.whole
-    ∙ filter_same (λ (l : Line). not (is_idle all l)) (is_left are.kept) ls (not_told h are.kept all ls (told_idle h are.kept ls (apart_lines 0 buffers) stay))
+    let stay = lines_stay are.kept ls (each_stays (located ls) are.kept are.reduced (located_accepted ls)) in
+    ap (λ fs. filter (λ (l : Line). not (is_redundant fs l)) ls) are.whole
+    ∙ filter_same (λ (l : Line). not (is_redundant all l)) (is_left are.kept) ls (not_reported h are.kept all ls (reported_redundant h are.kept ls (apart_lines 0 buffers) stay))
 
-left_entries : (buffers : List Text) (found : List Finding) (are : AreFindings buffers found) → placed (filter (λ l. not (is_idle found l)) (lines buffers)) ≡ are.kept
+left_entries : (buffers : List Text) (found : List Finding) (are : AreFindings buffers found) → located (filter (λ l. not (is_redundant found l)) (lines buffers)) ≡ are.kept
 left_entries buffers found are =
     let ls = lines buffers in
-    ap placed (left_lines buffers found are)
-    ∙ placed_left are.kept ls are.kept (starts are.kept ls (record { sublist = sifted_sublist (placed ls) are.kept are.sifted; apart = apart_lines 0 buffers }))
+    ap located (left_lines buffers found are)
+    ∙ located_left are.kept ls are.kept (starts are.kept ls (record { sublist = reduced_sublist (located ls) are.kept are.reduced; apart = apart_lines 0 buffers }))
 
 pub same_listing : (buffers : List Text) (found : List Finding) (n : List Mapping) → AreFindings buffers found
-    → IsNormal (flat_map good buffers) n ↔ IsNormal (entries (placed (filter (λ l. not (is_idle found l)) (lines buffers)))) n
+    → IsNormal (flat_map good buffers) n ↔ IsNormal (entries (located (filter (λ l. not (is_redundant found l)) (lines buffers)))) n
 same_listing buffers found n are =
-    let there = sifted_normal (placed (lines buffers)) are.kept n are.sifted in
-    let e : entries (placed (filter (λ (l : Line). not (is_idle found l)) (lines buffers))) ≡ entries are.kept = ap entries (left_entries buffers found are) in (
+    let there = reduced_normal (located (lines buffers)) are.kept n are.reduced in
+    let e : entries (located (filter (λ (l : Line). not (is_redundant found l)) (lines buffers))) ≡ entries are.kept = ap entries (left_entries buffers found are) in (
       λ d. subst (λ g. IsNormal g n) (sym e) (there.0 (subst (λ g. IsNormal g n) (sym (good-lines 0 buffers)) d)),
       λ d. subst (λ g. IsNormal g n) (good-lines 0 buffers) (there.1 (subst (λ g. IsNormal g n) e d)),
     )
 
--- what is left of a pruned buffer is the lines that are not told to have no effect
-pub pruned_told : (buffer text : Text) (found : List Finding) → AreFindings (buffer ∷ []) found → IsPruned buffer text
-    → text ≡ flat_map (λ l. l.text) (filter (λ l. not (is_idle found l)) (lines (buffer ∷ [])))
-pruned_told buffer text found are pruned =
+-- what is left of a pruned buffer is the lines that are not reported to have no effect
+pub pruned_reported : (buffer text : Text) (found : List Finding) → AreFindings (buffer ∷ []) found → IsPruned buffer text
+    → text ≡ flat_map (λ l. l.text) (filter (λ l. not (is_redundant found l)) (lines (buffer ∷ [])))
+pruned_reported buffer text found are pruned =
     let ls = lines (buffer ∷ []) in
     pruned.whole
-    ∙ ap (λ kept. flat_map (λ (l : Line). l.text) (filter (is_left kept) ls)) (one_sifted (placed ls) pruned.kept are.kept pruned.sifted are.sifted)
+    ∙ ap (λ kept. flat_map (λ (l : Line). l.text) (filter (is_left kept) ls)) (one_reduced (located ls) pruned.kept are.kept pruned.reduced are.reduced)
     ∙ ap (flat_map (λ (l : Line). l.text)) (sym (left_lines (buffer ∷ []) found are))
 
 -- ---- there is one answer
@@ -187,21 +187,21 @@ pruned_told buffer text found are pruned =
 pub some_findings : (buffers : List Text) → (found : List Finding) × AreFindings buffers found
 some_findings buffers =
     let ls = lines buffers in
-    let sifted = some_sifted (placed ls) in
-    (flat_map (findings (entries (placed ls)) sifted.0) ls, record { kept = sifted.0; sifted = sifted.1; whole = refl })
+    let reduced = some_reduced (located ls) in
+    (flat_map (findings (entries (located ls)) reduced.0) ls, record { kept = reduced.0; reduced = reduced.1; whole = refl })
 
 pub one_findings : (buffers : List Text) (found other : List Finding) → AreFindings buffers found → AreFindings buffers other → found ≡ other
 one_findings buffers found other a b =
     let ls = lines buffers in
-    a.whole ∙ ap (λ kept. flat_map (findings (entries (placed ls)) kept) ls) (one_sifted (placed ls) a.kept b.kept a.sifted b.sifted) ∙ sym b.whole
+    a.whole ∙ ap (λ kept. flat_map (findings (entries (located ls)) kept) ls) (one_reduced (located ls) a.kept b.kept a.reduced b.reduced) ∙ sym b.whole
 
 pub some_pruned : (buffer : Text) → (text : Text) × IsPruned buffer text
 some_pruned buffer =
     let ls = lines (buffer ∷ []) in
-    let sifted = some_sifted (placed ls) in
-    (flat_map (λ (l : Line). l.text) (filter (is_left sifted.0) ls), record { kept = sifted.0; sifted = sifted.1; whole = refl })
+    let reduced = some_reduced (located ls) in
+    (flat_map (λ (l : Line). l.text) (filter (is_left reduced.0) ls), record { kept = reduced.0; reduced = reduced.1; whole = refl })
 
 pub one_pruned : (buffer text other : Text) → IsPruned buffer text → IsPruned buffer other → text ≡ other
 one_pruned buffer text other a b =
     let ls = lines (buffer ∷ []) in
-    a.whole ∙ ap (λ kept. flat_map (λ (l : Line). l.text) (filter (is_left kept) ls)) (one_sifted (placed ls) a.kept b.kept a.sifted b.sifted) ∙ sym b.whole
+    a.whole ∙ ap (λ kept. flat_map (λ (l : Line). l.text) (filter (is_left kept) ls)) (one_reduced (located ls) a.kept b.kept a.reduced b.reduced) ∙ sym b.whole

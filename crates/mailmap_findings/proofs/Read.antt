@@ -10,12 +10,12 @@ use Rattle.std.proofs.Math.Seq.{drop-cons}
 use Rattle.std.proofs.lemmas.List.Elements.{filter_map-append}
 use Rattle.mailmap_entries.specs.Folding.{Text}
 use Rattle.mailmap_grammar.specs.Trimming.{trim}
-use Rattle.mailmap_sifting.specs.declared.placed.Place.{Place}
-use Rattle.mailmap_findings.specs.Findings.{ignored, ignored_text, told_of_reading}
-use Rattle.mailmap_grammar.specs.Lines.{behind_emails, cut, non_empty, Reading, reading_by, line_reading, strict_line_reading, unless_blank, reading, strict_reading, readings_from, pieces, with_first, good, good_of}
+use Rattle.mailmap_redundancy.specs.declared.located.Position.{Position}
+use Rattle.mailmap_findings.specs.Findings.{ignored, ignored_text, reported_of_reading}
+use Rattle.mailmap_grammar.specs.Lines.{trailing_text, cut, non_empty, Reading, reading_by, line_reading, strict_line_reading, unless_blank, reading, strict_reading, readings_from, pieces, with_first, good, good_of}
 use Rattle.mailmap_grammar.proofs.Trimmed.{trim-white_end}
-use Rattle.mailmap_sifting.specs.Sifting.{PlacedMapping, entries}
-use Rattle.mailmap_findings.specs.Places.{IsPieceOf, Line, entry, placed, placed_entry, placed_from, whole_lines, lines_from, lines}
+use Rattle.mailmap_redundancy.specs.Redundancy.{LocatedMapping, entries}
+use Rattle.mailmap_findings.specs.Positions.{IsPieceOf, Line, entry, located, located_entry, located_from, whole_lines, lines_from, lines}
 
 -- a line feed at the end says nothing
 reading_by-feed : (says : ℕ → Text → Reading) (n : ℕ) (z : Text) → reading_by says n (z ++ 10 ∷ []) ≡ reading_by says n z
@@ -47,18 +47,18 @@ are_pieces (b ∷ s) =
 pub same_reading : (says : ℕ → Text → Reading) (n : ℕ) (w p : Text) → IsPieceOf w p → reading_by says n w ≡ reading_by says n p
 same_reading says n w p is = ⊎_elim (λ e. ap (reading_by says n) e) (λ e. ap (reading_by says n) e ∙ reading_by-feed says n p) is
 
--- what is told of it by what it says, and its entry, are the same
-told_alike : (w p : Text) → ignored w ≡ ignored p → (o : Option Reading) → told_of_reading w o ≡ told_of_reading p o
-told_alike w p is None = refl
-told_alike w p is (Some (Err f)) = refl
-told_alike w p is (Some (Ok e)) = ap (λ t. option_map ignored_text (non_empty t)) is
+-- what is reported of it by what it says, and its entry, are the same
+reported_alike : (w p : Text) → ignored w ≡ ignored p → (o : Option Reading) → reported_of_reading w o ≡ reported_of_reading p o
+reported_alike w p is None = refl
+reported_alike w p is (Some (Err f)) = refl
+reported_alike w p is (Some (Ok e)) = ap (λ t. option_map ignored_text (non_empty t)) is
 
 same_ignored : (w p : Text) → IsPieceOf w p → ignored w ≡ ignored p
 unfolding encode_utf8
-same_ignored w p is = ⊎_elim (λ e. ap ignored e) (λ e. ap ignored e ∙ ap (λ t. trim (behind_emails (cut t))) (trim-white_end 10 p refl)) is
+same_ignored w p is = ⊎_elim (λ e. ap ignored e) (λ e. ap ignored e ∙ ap (λ t. trim (trailing_text (cut t))) (trim-white_end 10 p refl)) is
 
-pub same_told : (n : ℕ) (w p : Text) → IsPieceOf w p → told_of_reading w (strict_reading n w) ≡ told_of_reading p (strict_reading n p)
-same_told n w p is = told_alike w p (same_ignored w p is) (strict_reading n w) ∙ ap (told_of_reading p) (same_reading strict_line_reading n w p is)
+pub same_reported : (n : ℕ) (w p : Text) → IsPieceOf w p → reported_of_reading w (strict_reading n w) ≡ reported_of_reading p (strict_reading n p)
+same_reported n w p is = reported_alike w p (same_ignored w p is) (strict_reading n w) ∙ ap (reported_of_reading p) (same_reading strict_line_reading n w p is)
 
 -- a line feed at the end
 pub last-feed : (s : Text) → 0 < length s → get_or s (length s - 1) 0 ≡ 10 → s ≡ take (length s - 1) s ++ 10 ∷ []
@@ -68,54 +68,54 @@ last-feed s some is =
     let one : drop n s ≡ 10 ∷ [] = drop-cons s n 0 (omega arith) ∙ ap (λ x. x ∷ drop (suc n) s) is ∙ ap (λ r. 10 ∷ r) none in
     sym (ap (λ r. take n s ++ r) (sym one) ∙ take-append-drop n s)
 
-pub same_entry : (place : Place) (w p : Text) → IsPieceOf w p → entry (record { place = place; text = w }) ≡ entry (record { place = place; text = p })
+pub same_entry : (position : Position) (w p : Text) → IsPieceOf w p → entry (record { position = position; text = w }) ≡ entry (record { position = position; text = p })
 unfolding entry
-same_entry place w p is = ap (option_and_then result_ok) (same_reading line_reading place.line w p is)
+same_entry position w p is = ap (option_and_then result_ok) (same_reading line_reading position.line w p is)
 
 -- ---- all that lines say
 
 abbrev pub said : (ℕ → Text → Option Reading) → List Line → List Reading
-said read ls = flat_map (λ l. option_to_list (read l.place.line l.text)) ls
+said read ls = flat_map (λ l. option_to_list (read l.position.line l.text)) ls
 
-said-placed : (says : ℕ → Text → Reading) (buffer n : ℕ) (ws ps : List Text) → ArePiecesOf ws ps → said (reading_by says) (placed_from buffer n ws) ≡ readings_from (reading_by says) n ps
-unfolding placed_from readings_from
-said-placed says buffer n [] [] are = refl
-said-placed says buffer n [] (p ∷ ps) are = absurd are
-said-placed says buffer n (w ∷ ws) [] are = absurd are
-said-placed says buffer n (w ∷ ws) (p ∷ ps) are =
-    ap (λ o. option_to_list o ++ said (reading_by says) (placed_from buffer (n + 1) ws)) (same_reading says n w p are.0)
-    ∙ ap (λ rs. option_to_list (reading_by says n p) ++ rs) (said-placed says buffer (n + 1) ws ps are.1)
+said-located : (says : ℕ → Text → Reading) (buffer n : ℕ) (ws ps : List Text) → ArePiecesOf ws ps → said (reading_by says) (located_from buffer n ws) ≡ readings_from (reading_by says) n ps
+unfolding located_from readings_from
+said-located says buffer n [] [] are = refl
+said-located says buffer n [] (p ∷ ps) are = absurd are
+said-located says buffer n (w ∷ ws) [] are = absurd are
+said-located says buffer n (w ∷ ws) (p ∷ ps) are =
+    ap (λ o. option_to_list o ++ said (reading_by says) (located_from buffer (n + 1) ws)) (same_reading says n w p are.0)
+    ∙ ap (λ rs. option_to_list (reading_by says n p) ++ rs) (said-located says buffer (n + 1) ws ps are.1)
 
 pub said-buffer : (says : ℕ → Text → Reading) (s : Text) → said (reading_by says) (lines (s ∷ [])) ≡ readings_from (reading_by says) 1 (pieces s)
 unfolding lines_from
-said-buffer says s = ap (said (reading_by says)) (append-nil (placed_from 0 1 (whole_lines s))) ∙ said-placed says 0 1 (whole_lines s) (pieces s) (are_pieces s)
+said-buffer says s = ap (said (reading_by says)) (append-nil (located_from 0 1 (whole_lines s))) ∙ said-located says 0 1 (whole_lines s) (pieces s) (are_pieces s)
 
 -- ---- the entries
 
-good_first : (o : Option Reading) (l : Line) (ls : List Line) (rs : List Reading) → entry l ≡ option_and_then result_ok o → entries (placed ls) ≡ good_of rs
-    → entries (placed (l ∷ ls)) ≡ good_of (option_to_list o ++ rs)
+good_first : (o : Option Reading) (l : Line) (ls : List Line) (rs : List Reading) → entry l ≡ option_and_then result_ok o → entries (located ls) ≡ good_of rs
+    → entries (located (l ∷ ls)) ≡ good_of (option_to_list o ++ rs)
 unfolding good_of
-good_first None l ls rs is e = ap (λ x. entries (cons_option (option_map (λ m. record { place = l.place; entry = m }) x) (placed ls))) is ∙ e
-good_first (Some (Ok m)) l ls rs is e = ap (λ x. entries (cons_option (option_map (λ m. record { place = l.place; entry = m }) x) (placed ls))) is ∙ ap (λ es. m ∷ es) e
-good_first (Some (Err f)) l ls rs is e = ap (λ x. entries (cons_option (option_map (λ m. record { place = l.place; entry = m }) x) (placed ls))) is ∙ e
+good_first None l ls rs is e = ap (λ x. entries (cons_option (option_map (λ m. record { position = l.position; entry = m }) x) (located ls))) is ∙ e
+good_first (Some (Ok m)) l ls rs is e = ap (λ x. entries (cons_option (option_map (λ m. record { position = l.position; entry = m }) x) (located ls))) is ∙ ap (λ es. m ∷ es) e
+good_first (Some (Err f)) l ls rs is e = ap (λ x. entries (cons_option (option_map (λ m. record { position = l.position; entry = m }) x) (located ls))) is ∙ e
 
-good-placed : (buffer n : ℕ) (ws ps : List Text) → ArePiecesOf ws ps → entries (placed (placed_from buffer n ws)) ≡ good_of (readings_from reading n ps)
-unfolding placed_from readings_from good_of entry
-good-placed buffer n [] [] are = refl
-good-placed buffer n [] (p ∷ ps) are = absurd are
-good-placed buffer n (w ∷ ws) [] are = absurd are
-good-placed buffer n (w ∷ ws) (p ∷ ps) are =
-    good_first (reading n p) (record { place = record { buffer = buffer; line = n }; text = w }) (placed_from buffer (n + 1) ws) (readings_from reading (n + 1) ps)
+good-located : (buffer n : ℕ) (ws ps : List Text) → ArePiecesOf ws ps → entries (located (located_from buffer n ws)) ≡ good_of (readings_from reading n ps)
+unfolding located_from readings_from good_of entry
+good-located buffer n [] [] are = refl
+good-located buffer n [] (p ∷ ps) are = absurd are
+good-located buffer n (w ∷ ws) [] are = absurd are
+good-located buffer n (w ∷ ws) (p ∷ ps) are =
+    good_first (reading n p) (record { position = record { buffer = buffer; line = n }; text = w }) (located_from buffer (n + 1) ws) (readings_from reading (n + 1) ps)
     (ap (option_and_then result_ok) (same_reading line_reading n w p are.0))
-    (good-placed buffer (n + 1) ws ps are.1)
+    (good-located buffer (n + 1) ws ps are.1)
 
-entries-append : (xs ys : List Line) → entries (placed (xs ++ ys)) ≡ entries (placed xs) ++ entries (placed ys)
-entries-append xs ys = ap entries (filter_map-append placed_entry xs ys) ∙ map-append (λ (x : PlacedMapping). x.entry) (placed xs) (placed ys)
+entries-append : (xs ys : List Line) → entries (located (xs ++ ys)) ≡ entries (located xs) ++ entries (located ys)
+entries-append xs ys = ap entries (filter_map-append located_entry xs ys) ∙ map-append (λ (x : LocatedMapping). x.entry) (located xs) (located ys)
 
-pub good-lines : (buffer : ℕ) (ss : List Text) → entries (placed (lines_from buffer ss)) ≡ flat_map good ss
+pub good-lines : (buffer : ℕ) (ss : List Text) → entries (located (lines_from buffer ss)) ≡ flat_map good ss
 unfolding lines_from
 good-lines buffer [] = refl
 good-lines buffer (s ∷ ss) =
-    entries-append (placed_from buffer 1 (whole_lines s)) (lines_from (buffer + 1) ss)
-    ∙ ap (λ es. es ++ entries (placed (lines_from (buffer + 1) ss))) (good-placed buffer 1 (whole_lines s) (pieces s) (are_pieces s))
+    entries-append (located_from buffer 1 (whole_lines s)) (lines_from (buffer + 1) ss)
+    ∙ ap (λ es. es ++ entries (located (lines_from (buffer + 1) ss))) (good-located buffer 1 (whole_lines s) (pieces s) (are_pieces s))
     ∙ ap (λ es. good s ++ es) (good-lines (buffer + 1) ss)

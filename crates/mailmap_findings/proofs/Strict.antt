@@ -2,25 +2,25 @@
 use Rattle.std.proofs.Common.{◌≡◌, ℕ, Bool, true, false, cond, Some, None, Ok, [], ◌∷◌}
 use Rattle.mailmap_entries.specs.Entries.{Mapping}
 use Rattle.mailmap_entries.specs.Folding.{Text}
-use Rattle.mailmap_grammar.specs.Lines.{Half, Absent, Unclosed, Closed, Reading, cut, first_half, is_comment, line_reading, reading, strict_halves, strict_line_reading, strict_reading, trimmed_half, two_halves, unless_blank}
+use Rattle.mailmap_grammar.specs.Lines.{ParsedContact, Absent, Unclosed, Closed, Reading, cut, first_contact, is_comment, line_reading, reading, strict_contacts, strict_line_reading, strict_reading, trimmed_contact, two_contacts, unless_blank}
 use Rattle.mailmap_grammar.specs.Trimming.{trim}
 
-halves : (n : ℕ) (t name email rest : Text) (h : Half) (e : Mapping) → strict_halves n t name email rest h ≡ Ok e → two_halves n t name email h ≡ Ok e
-halves n t name email rest Absent e is = is
-halves n t name email rest Unclosed e is = cc
-halves n t name email rest (Closed a b c) e is = is
+contacts : (n : ℕ) (t name email rest : Text) (h : ParsedContact) (e : Mapping) → strict_contacts n t name email rest h ≡ Ok e → two_contacts n t name email h ≡ Ok e
+contacts n t name email rest Absent e is = is
+contacts n t name email rest Unclosed e is = cc
+contacts n t name email rest (Closed a b c) e is = is
 
-first : (n : ℕ) (t : Text) (h : Half) (e : Mapping)
-    → first_half (λ name email rest. strict_halves n t name email rest (trimmed_half (cut rest))) n t h ≡ Ok e
-    → first_half (λ name email rest. two_halves n t name email (trimmed_half (cut rest))) n t h ≡ Ok e
+first : (n : ℕ) (t : Text) (h : ParsedContact) (e : Mapping)
+    → first_contact (λ name email rest. strict_contacts n t name email rest (trimmed_contact (cut rest))) n t h ≡ Ok e
+    → first_contact (λ name email rest. two_contacts n t name email (trimmed_contact (cut rest))) n t h ≡ Ok e
 first n t Absent e is = is
 first n t Unclosed e is = is
 first n t (Closed name [] rest) e is = is
-first n t (Closed name (b ∷ email) rest) e is = halves n t name (b ∷ email) rest (trimmed_half (cut rest)) e is
+first n t (Closed name (b ∷ email) rest) e is = contacts n t name (b ∷ email) rest (trimmed_contact (cut rest)) e is
 
 unless : (n : ℕ) (t : Text) (e : Mapping) → unless_blank strict_line_reading n t ≡ Some (Ok e) → unless_blank line_reading n t ≡ Some (Ok e)
 unless n [] e is = is
-unless n (b ∷ t) e is = λ i. Some (first n (b ∷ t) (trimmed_half (cut (b ∷ t))) e (inside is) i)
+unless n (b ∷ t) e is = λ i. Some (first n (b ∷ t) (trimmed_contact (cut (b ∷ t))) e (inside is) i)
   where
     inside : {r : Reading} → Some r ≡ Some (Ok e) → r ≡ Ok e
     inside q = cc

@@ -2,32 +2,32 @@
 use Rattle.std.proofs.Common.{◌≡◌, List, [], ◌∷◌, Result, Ok, Err, IfOk, filter, sym, ap, subst, ◌∙◌}
 use Rattle.std.specs.List.{flat_map}
 use Rattle.mailmap_entries.specs.Folding.{Text}
-use Rattle.mailmap_sifting.specs.Sifting.{PlacedMapping, IsSifted, IsSublist, entries}
-use Rattle.mailmap_sifting.proofs.Kept.{sifted_sublist}
+use Rattle.mailmap_redundancy.specs.Redundancy.{LocatedMapping, IsReduced, IsSublist, entries}
+use Rattle.mailmap_redundancy.proofs.Kept.{reduced_sublist}
 use Rattle.mailmap_findings.specs.Findings.{AreFindings, Finding, IsPruned, findings, is_left}
-use Rattle.mailmap_findings.specs.Places.{Line, lines, placed}
+use Rattle.mailmap_findings.specs.Positions.{Line, lines, located}
 use Rattle.mailmap_findings.specs.Steps.{AreApart, IsWalk}
 use Rattle.mailmap_findings.proofs.Placing.{apart_lines}
 
-module _ (buffers : List Text) (ls : List Line) (xs kept : List PlacedMapping) (are : ls ≡ lines buffers) (given : xs ≡ placed ls) (sifted : IsSifted xs kept) where
+module _ (buffers : List Text) (ls : List Line) (xs kept : List LocatedMapping) (are : ls ≡ lines buffers) (given : xs ≡ located ls) (reduced : IsReduced xs kept) where
   pub is_walk : IsWalk kept ls
-  is_walk = record { sublist = subst (IsSublist kept) given (sifted_sublist xs kept sifted); apart = subst AreApart (sym are) (apart_lines 0 buffers) }
+  is_walk = record { sublist = subst (IsSublist kept) given (reduced_sublist xs kept reduced); apart = subst AreApart (sym are) (apart_lines 0 buffers) }
 
-  all_placed : xs ≡ placed (lines buffers)
-  all_placed = given ∙ ap placed are
+  all_located : xs ≡ located (lines buffers)
+  all_located = given ∙ ap located are
 
-  pub are_findings : (h : List PlacedMapping) (found : List Finding) → h ≡ xs → found ≡ flat_map (findings (entries h) kept) ls → AreFindings buffers found
-  are_findings h found whole told = record {
+  pub are_findings : (h : List LocatedMapping) (found : List Finding) → h ≡ xs → found ≡ flat_map (findings (entries h) kept) ls → AreFindings buffers found
+  are_findings h found whole reported = record {
     kept = kept;
-    sifted = subst (λ ys. IsSifted ys kept) all_placed sifted;
-    whole = told ∙ ap (λ ys. flat_map (findings (entries ys) kept) ls) (whole ∙ all_placed) ∙ ap (flat_map (findings (entries (placed (lines buffers))) kept)) are;
+    reduced = subst (λ ys. IsReduced ys kept) all_located reduced;
+    whole = reported ∙ ap (λ ys. flat_map (findings (entries ys) kept) ls) (whole ∙ all_located) ∙ ap (flat_map (findings (entries (located (lines buffers))) kept)) are;
   }
 
-pub is_pruned : (buffer text : Text) (ls : List Line) (xs kept : List PlacedMapping) → ls ≡ lines (buffer ∷ []) → xs ≡ placed ls → IsSifted xs kept
+pub is_pruned : (buffer text : Text) (ls : List Line) (xs kept : List LocatedMapping) → ls ≡ lines (buffer ∷ []) → xs ≡ located ls → IsReduced xs kept
     → text ≡ flat_map (λ l. l.text) (filter (is_left kept) ls) → IsPruned buffer text
-is_pruned buffer text ls xs kept are given sifted left = record {
+is_pruned buffer text ls xs kept are given reduced left = record {
   kept = kept;
-  sifted = subst (λ ys. IsSifted ys kept) (given ∙ ap placed are) sifted;
+  reduced = subst (λ ys. IsReduced ys kept) (given ∙ ap located are) reduced;
   whole = left ∙ ap (λ ks. flat_map (λ (l : Line). l.text) (filter (is_left kept) ks)) are;
 }
 

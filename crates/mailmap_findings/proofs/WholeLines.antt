@@ -4,7 +4,7 @@ use Rattle.std.proofs.lemmas.Bool.{cases_Bool, cond-true, cond-false}
 use Rattle.bstr.specs.Text.{line_len, lines_of}
 use Rattle.bstr.proofs.lemmas.LineLemmas.{lines-nil, lines-step}
 use Rattle.mailmap_grammar.specs.Lines.{with_first}
-use Rattle.mailmap_findings.specs.Places.{whole_lines}
+use Rattle.mailmap_findings.specs.Positions.{whole_lines}
 
 -- one more byte in front of the first line
 one_more : (b : ℕ) (s : List ℕ) → (b ∷ take (line_len s) s) ∷ lines_of (drop (line_len s) s) ≡ with_first b (lines_of s)

@@ -1,10 +1,10 @@
--- Lines as they stand: together they are their buffer, and some of them are the lines of what they are together.
+-- Lines as they are: together they are their buffer, and some of them are the lines of what they are together.
 use Rattle.std.proofs.Common.{◌≡◌, ◌≢◌, ◌⊎◌, ◌==◌, ℕ, Bool, true, false, if◌then◌else◌, List, [], ◌∷◌, ◌++◌, map, filter, inl, inr, ⊎_elim, append-nil, refl, sym, ap, ◌∙◌}
 use Rattle.std.specs.List.{flat_map}
 use Rattle.std.proofs.lemmas.Bool.{cond-false, cond_both, ne_eqb, eqb-false, eqb-true}
 use Rattle.mailmap_entries.specs.Folding.{Text}
 use Rattle.mailmap_grammar.specs.Lines.{HoldsNo, with_first}
-use Rattle.mailmap_findings.specs.Places.{Line, whole_lines}
+use Rattle.mailmap_findings.specs.Positions.{Line, whole_lines}
 
 abbrev pub joined : List Text → Text
 joined ts = flat_map (λ t. t) ts

@@ -2,6 +2,6 @@ pub use Rattle.mailmap_entries.specs.Folding
 pub use Rattle.mailmap_entries.specs.Entries
 pub use Rattle.mailmap_grammar.specs.Lines
 pub use Rattle.mailmap_histories.specs.Histories
-pub mod Places
+pub mod Positions
 pub mod Findings
 pub mod Steps

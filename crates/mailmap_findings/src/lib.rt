@@ -1,5 +1,5 @@
-//! What is wrong with mailmaps, line by line, and which of their lines may go. The crate `gix_mailmap` passes on what
-//! users need of this.
+//! What is wrong with mailmaps, line by line, and which of their lines can be deleted. The crate `gix_mailmap` passes
+//! on what users need of this.
 #![tactic(auto)]
 
 pub mod laws;

@@ -1,4 +1,4 @@
--- A text round its first `<` and the first `>` behind it.
+-- A text round its first `<` and the first `>` after it.
 use Rattle.std.proofs.Common.{◌≡◌, ◌⊎◌, ℕ, Some, None, option_map, List, [], ◌∷◌, ◌++◌, refl, sym, ap, ◌∙◌, inl, inr, ⊎_elim}
 use Rattle.std.proofs.lemmas.Bool.{cases_eq, cond-true, cond-false, ne_eqb, eq-eqb}
 use Rattle.mailmap_grammar.specs.Lines.{split_once, opened, closed, cut, Absent, Unclosed, Closed, HoldsNo, IsCut, IsUnclosed}
@@ -35,7 +35,7 @@ pub cut-absent : (s : List ℕ) → HoldsNo 60 s → cut s ≡ Absent
 cut-absent s h = ap opened (once-none 60 s h)
 
 pub cut-unclosed : (s : List ℕ) → IsUnclosed s → cut s ≡ Unclosed
-cut-unclosed s h = ap cut h.whole ∙ ap opened (once-some 60 h.before h.behind h.no_opening) ∙ ap (closed h.before) (once-none 62 h.behind h.no_closing)
+cut-unclosed s h = ap cut h.whole ∙ ap opened (once-some 60 h.before h.after h.no_opening) ∙ ap (closed h.before) (once-none 62 h.after h.no_closing)
 
 pub cut-closed : (s a b c : List ℕ) → IsCut s a b c → cut s ≡ Closed a b c
 cut-closed s a b c h = ap cut h.whole ∙ ap opened (once-some 60 a (b ++ 62 ∷ c) h.no_opening) ∙ ap (closed a) (once-some 62 b c h.no_closing)
@@ -45,7 +45,7 @@ kind s = ⊎_elim
     (λ h. absent_kind h (cut-absent s h))
     (λ h. ⊎_elim
     (λ k.
-    let is : IsUnclosed s = record { before = h.0; behind = h.1; whole = h.3; no_opening = h.2; no_closing = k } in
+    let is : IsUnclosed s = record { before = h.0; after = h.1; whole = h.3; no_opening = h.2; no_closing = k } in
     unclosed_kind is (cut-unclosed s is))
     (λ k.
     let is : IsCut s h.0 k.0 k.1 = record { whole = h.3 ∙ ap (λ t. h.0 ++ 60 ∷ t) k.3; no_opening = h.2; no_closing = k.2 } in

@@ -3,132 +3,132 @@ use Rattle.std.proofs.Common.{◌≡◌, ◌≢◌, ◌⊎◌, ℕ, true, false,
 use Rattle.std.proofs.lemmas.Bool.{cond-true, cond-false, eqb-true, cases_Bool}
 use Rattle.mailmap_entries.specs.Folding.{Text}
 use Rattle.mailmap_grammar.specs.Trimming.{trim, IsTrimmed}
-use Rattle.mailmap_grammar.specs.Lines.{Reading, Half, Absent, Unclosed, Closed, cut, trimmed_half, fault, nothing_to_map, by_both, by_name, two_halves, strict_halves, first_half, is_comment, unless_blank, reading_by, line_reading, strict_line_reading, reading, strict_reading, HoldsNo, IsUnclosed, IsHalf, NoHalf, IsSecondRead, second, name_alone, neither, IsSecondReadStrictly, open_second, as_ever, IsFirstRead, no_bracket, open_first, blank_email, first, IsComment, IsReadBy, comment, blank, said, IsRead, IsReadStrictly}
+use Rattle.mailmap_grammar.specs.Lines.{Reading, ParsedContact, Absent, Unclosed, Closed, cut, trimmed_contact, fault, nothing_to_map, by_both, by_name, two_contacts, strict_contacts, first_contact, is_comment, unless_blank, reading_by, line_reading, strict_line_reading, reading, strict_reading, HoldsNo, IsUnclosed, IsContact, NoContact, IsSecondRead, second, name_alone, neither, IsSecondReadStrictly, open_second, as_ever, IsFirstRead, no_bracket, open_first, blank_email, first, IsComment, IsReadBy, comment, blank, said, IsRead, IsReadStrictly}
 use Rattle.mailmap_grammar.proofs.Cut.{kind, absent_kind, unclosed_kind, closed_kind, cut-absent, cut-unclosed, cut-closed}
 use Rattle.mailmap_grammar.proofs.Trimmed.{trimmed-same, trimmed-made}
 
-half-cut : (s name email rest : Text) → IsHalf s name email rest → trimmed_half (cut s) ≡ Closed name email rest
-half-cut s name email rest h =
+contact-cut : (s name email rest : Text) → IsContact s name email rest → trimmed_contact (cut s) ≡ Closed name email rest
+contact-cut s name email rest h =
     let is_name : name ≡ trim h.before = trimmed-same _ _ h.is_name in
     let is_email : email ≡ trim h.between = trimmed-same _ _ h.is_email in
-    ap trimmed_half (cut-closed _ _ _ _ h.is_cut) ∙ rw (← is_name, ← is_email) refl
+    ap trimmed_contact (cut-closed _ _ _ _ h.is_cut) ∙ rw (← is_name, ← is_email) refl
 
--- each text has no `<`, no `>` behind it, or a half
-data HalfKind (s : Text) : Type 0 where
-  absent_half : HoldsNo 60 s → trimmed_half (cut s) ≡ Absent → HalfKind s
-  unclosed_half : IsUnclosed s → trimmed_half (cut s) ≡ Unclosed → HalfKind s
-  closed_half : (name email rest : Text) → IsHalf s name email rest → trimmed_half (cut s) ≡ Closed name email rest → HalfKind s
+-- each text has no `<`, no `>` after it, or a contact
+data ContactKind (s : Text) : Type 0 where
+  absent_contact : HoldsNo 60 s → trimmed_contact (cut s) ≡ Absent → ContactKind s
+  unclosed_contact : IsUnclosed s → trimmed_contact (cut s) ≡ Unclosed → ContactKind s
+  closed_contact : (name email rest : Text) → IsContact s name email rest → trimmed_contact (cut s) ≡ Closed name email rest → ContactKind s
 
-half_kind : (s : Text) → HalfKind s
-half_kind s = elim (kind s) [
-  | absent_kind h e ↦ absent_half h (ap trimmed_half e)
-  | unclosed_kind h e ↦ unclosed_half h (ap trimmed_half e)
-  | closed_kind a b c h e ↦ closed_half (trim a) (trim b) c
+contact_kind : (s : Text) → ContactKind s
+contact_kind s = elim (kind s) [
+  | absent_kind h e ↦ absent_contact h (ap trimmed_contact e)
+  | unclosed_kind h e ↦ unclosed_contact h (ap trimmed_contact e)
+  | closed_kind a b c h e ↦ closed_contact (trim a) (trim b) c
       (record { before = a; between = b; is_cut = h; is_name = trimmed-made a (trim a) refl; is_email = trimmed-made b (trim b) refl })
-      (ap trimmed_half e)
+      (ap trimmed_contact e)
 ]
 
-no_half : (s : Text) → NoHalf s → (trimmed_half (cut s) ≡ Absent) ⊎ (trimmed_half (cut s) ≡ Unclosed)
-no_half s h = ⊎_elim (λ a. inl (ap trimmed_half (cut-absent s a))) (λ u. inr (ap trimmed_half (cut-unclosed s u))) h
+no_contact : (s : Text) → NoContact s → (trimmed_contact (cut s) ≡ Absent) ⊎ (trimmed_contact (cut s) ≡ Unclosed)
+no_contact s h = ⊎_elim (λ a. inl (ap trimmed_contact (cut-absent s a))) (λ u. inr (ap trimmed_contact (cut-unclosed s u))) h
 
 some : (b : ℕ) (s : Text) → (b ∷ s) ≢ []
 some b s e = cc
 
--- ---- the second half
+-- ---- the second contact
 
-both-closed : (n : ℕ) (t name email a b c : Text) → two_halves n t name email (Closed a b c) ≡ Ok (by_both name email a b)
+both-closed : (n : ℕ) (t name email a b c : Text) → two_contacts n t name email (Closed a b c) ≡ Ok (by_both name email a b)
 both-closed n t [] email a b c = refl
 both-closed n t (x ∷ name) email a b c = refl
 
-second-none : (n : ℕ) (t name email rest : Text) → NoHalf rest → (h : Half) → (h ≡ Absent) ⊎ (h ≡ Unclosed) → IsSecondRead n t name email rest (two_halves n t name email h)
+second-none : (n : ℕ) (t name email rest : Text) → NoContact rest → (h : ParsedContact) → (h ≡ Absent) ⊎ (h ≡ Unclosed) → IsSecondRead n t name email rest (two_contacts n t name email h)
 second-none n t [] email rest none Absent is = neither none refl refl
 second-none n t [] email rest none Unclosed is = neither none refl refl
 second-none n t (x ∷ name) email rest none Absent is = name_alone none (some x name) refl
 second-none n t (x ∷ name) email rest none Unclosed is = name_alone none (some x name) refl
 second-none n t name email rest none (Closed a b c) is = absurd (⊎_elim (λ e. cc) (λ e. cc) is)
 
-second-made : (n : ℕ) (t name email rest : Text) → IsSecondRead n t name email rest (two_halves n t name email (trimmed_half (cut rest)))
-second-made n t name email rest = elim (half_kind rest) [
-  | absent_half h e ↦ second-none n t name email rest (inl h) (trimmed_half (cut rest)) (inl e)
-  | unclosed_half h e ↦ second-none n t name email rest (inr h) (trimmed_half (cut rest)) (inr e)
-  | closed_half a b c h e ↦ second a b c h (ap (two_halves n t name email) e ∙ both-closed n t name email a b c)
+second-made : (n : ℕ) (t name email rest : Text) → IsSecondRead n t name email rest (two_contacts n t name email (trimmed_contact (cut rest)))
+second-made n t name email rest = elim (contact_kind rest) [
+  | absent_contact h e ↦ second-none n t name email rest (inl h) (trimmed_contact (cut rest)) (inl e)
+  | unclosed_contact h e ↦ second-none n t name email rest (inr h) (trimmed_contact (cut rest)) (inr e)
+  | closed_contact a b c h e ↦ second a b c h (ap (two_contacts n t name email) e ∙ both-closed n t name email a b c)
 ]
 
-alone-none : (n : ℕ) (t name email : Text) (h : Half) → (h ≡ Absent) ⊎ (h ≡ Unclosed) → name ≢ [] → two_halves n t name email h ≡ Ok (by_name name email)
+alone-none : (n : ℕ) (t name email : Text) (h : ParsedContact) → (h ≡ Absent) ⊎ (h ≡ Unclosed) → name ≢ [] → two_contacts n t name email h ≡ Ok (by_name name email)
 alone-none n t [] email h is other = absurd (other refl)
 alone-none n t (x ∷ name) email Absent is other = refl
 alone-none n t (x ∷ name) email Unclosed is other = refl
 alone-none n t (x ∷ name) email (Closed a b c) is other = absurd (⊎_elim (λ e. cc) (λ e. cc) is)
 
-neither-none : (n : ℕ) (t name email : Text) (h : Half) → (h ≡ Absent) ⊎ (h ≡ Unclosed) → name ≡ [] → two_halves n t name email h ≡ fault nothing_to_map n t
+neither-none : (n : ℕ) (t name email : Text) (h : ParsedContact) → (h ≡ Absent) ⊎ (h ≡ Unclosed) → name ≡ [] → two_contacts n t name email h ≡ fault nothing_to_map n t
 neither-none n t [] email Absent is same = refl
 neither-none n t [] email Unclosed is same = refl
 neither-none n t [] email (Closed a b c) is same = absurd (⊎_elim (λ e. cc) (λ e. cc) is)
 neither-none n t (x ∷ name) email h is same = absurd (some x name same)
 
-second-same : (n : ℕ) (t name email rest : Text) (r : Reading) → IsSecondRead n t name email rest r → two_halves n t name email (trimmed_half (cut rest)) ≡ r
+second-same : (n : ℕ) (t name email rest : Text) (r : Reading) → IsSecondRead n t name email rest r → two_contacts n t name email (trimmed_contact (cut rest)) ≡ r
 second-same n t name email rest r h = elim h [
-  | second a b c half is ↦ ap (two_halves n t name email) (half-cut rest a b c half) ∙ both-closed n t name email a b c ∙ sym is
-  | name_alone none other is ↦ alone-none n t name email (trimmed_half (cut rest)) (no_half rest none) other ∙ sym is
-  | neither none same is ↦ neither-none n t name email (trimmed_half (cut rest)) (no_half rest none) same ∙ sym is
+  | second a b c contact is ↦ ap (two_contacts n t name email) (contact-cut rest a b c contact) ∙ both-closed n t name email a b c ∙ sym is
+  | name_alone none other is ↦ alone-none n t name email (trimmed_contact (cut rest)) (no_contact rest none) other ∙ sym is
+  | neither none same is ↦ neither-none n t name email (trimmed_contact (cut rest)) (no_contact rest none) same ∙ sym is
 ]
 
 -- where the rest is closed or has no `<`, strict reading is the other one
-strict-other : (n : ℕ) (t name email rest : Text) (h : Half) → h ≢ Unclosed → strict_halves n t name email rest h ≡ two_halves n t name email h
+strict-other : (n : ℕ) (t name email rest : Text) (h : ParsedContact) → h ≢ Unclosed → strict_contacts n t name email rest h ≡ two_contacts n t name email h
 strict-other n t name email rest Absent other = refl
 strict-other n t name email rest Unclosed other = absurd (other refl)
 strict-other n t name email rest (Closed a b c) other = refl
 
-not_unclosed : (s : Text) → trimmed_half (cut s) ≢ Unclosed → IsUnclosed s → ⊥
-not_unclosed s other h = other (ap trimmed_half (cut-unclosed s h))
+not_unclosed : (s : Text) → trimmed_contact (cut s) ≢ Unclosed → IsUnclosed s → ⊥
+not_unclosed s other h = other (ap trimmed_contact (cut-unclosed s h))
 
-strict-second-made : (n : ℕ) (t name email rest : Text) → IsSecondReadStrictly n t name email rest (strict_halves n t name email rest (trimmed_half (cut rest)))
-strict-second-made n t name email rest = elim (half_kind rest) [
-  | absent_half h e ↦
-      let other : trimmed_half (cut rest) ≢ Unclosed = λ u. let w : Absent ≡ Unclosed = sym e ∙ u in absurd (cc) in
+strict-second-made : (n : ℕ) (t name email rest : Text) → IsSecondReadStrictly n t name email rest (strict_contacts n t name email rest (trimmed_contact (cut rest)))
+strict-second-made n t name email rest = elim (contact_kind rest) [
+  | absent_contact h e ↦
+      let other : trimmed_contact (cut rest) ≢ Unclosed = λ u. let w : Absent ≡ Unclosed = sym e ∙ u in absurd (cc) in
       as_ever (not_unclosed rest other) (subst (IsSecondRead n t name email rest) (sym (strict-other n t name email rest _ other)) (second-made n t name email rest))
-  | unclosed_half h e ↦ open_second h (ap (strict_halves n t name email rest) e)
-  | closed_half a b c h e ↦
-      let other : trimmed_half (cut rest) ≢ Unclosed = λ u. let w : Closed a b c ≡ Unclosed = sym e ∙ u in absurd (cc) in
+  | unclosed_contact h e ↦ open_second h (ap (strict_contacts n t name email rest) e)
+  | closed_contact a b c h e ↦
+      let other : trimmed_contact (cut rest) ≢ Unclosed = λ u. let w : Closed a b c ≡ Unclosed = sym e ∙ u in absurd (cc) in
       as_ever (not_unclosed rest other) (subst (IsSecondRead n t name email rest) (sym (strict-other n t name email rest _ other)) (second-made n t name email rest))
 ]
 
-strict-second-same : (n : ℕ) (t name email rest : Text) (r : Reading) → IsSecondReadStrictly n t name email rest r → strict_halves n t name email rest (trimmed_half (cut rest)) ≡ r
+strict-second-same : (n : ℕ) (t name email rest : Text) (r : Reading) → IsSecondReadStrictly n t name email rest r → strict_contacts n t name email rest (trimmed_contact (cut rest)) ≡ r
 strict-second-same n t name email rest r h = elim h [
-  | open_second u is ↦ ap (λ k. strict_halves n t name email rest (trimmed_half k)) (cut-unclosed rest u) ∙ sym is
-  | as_ever not s ↦ elim (half_kind rest) [
-    | absent_half a e ↦ ap (strict_halves n t name email rest) e ∙ sym (ap (two_halves n t name email) e) ∙ second-same n t name email rest r s
-    | unclosed_half u e ↦ absurd (not u)
-    | closed_half a b c k e ↦ ap (strict_halves n t name email rest) e ∙ sym (ap (two_halves n t name email) e) ∙ second-same n t name email rest r s
+  | open_second u is ↦ ap (λ k. strict_contacts n t name email rest (trimmed_contact k)) (cut-unclosed rest u) ∙ sym is
+  | as_ever not s ↦ elim (contact_kind rest) [
+    | absent_contact a e ↦ ap (strict_contacts n t name email rest) e ∙ sym (ap (two_contacts n t name email) e) ∙ second-same n t name email rest r s
+    | unclosed_contact u e ↦ absurd (not u)
+    | closed_contact a b c k e ↦ ap (strict_contacts n t name email rest) e ∙ sym (ap (two_contacts n t name email) e) ∙ second-same n t name email rest r s
   ]
 ]
 
--- ---- the first half
+-- ---- the first contact
 
 module _ (both : Text → Text → Text → Reading) (Second : Text → Text → Text → Reading → Type 0) (n : ℕ) (t : Text) where
-  first-closed : ((name email rest : Text) → Second name email rest (both name email rest)) → (name email rest : Text) → IsHalf t name email rest → IsFirstRead Second n t (first_half both n t (Closed name email rest))
+  first-closed : ((name email rest : Text) → Second name email rest (both name email rest)) → (name email rest : Text) → IsContact t name email rest → IsFirstRead Second n t (first_contact both n t (Closed name email rest))
   first-closed made name [] rest h = blank_email name rest h refl
   first-closed made name (x ∷ email) rest h = first name (x ∷ email) rest h (some x email) (made name (x ∷ email) rest)
 
-  first-made : ((name email rest : Text) → Second name email rest (both name email rest)) → IsFirstRead Second n t (first_half both n t (trimmed_half (cut t)))
+  first-made : ((name email rest : Text) → Second name email rest (both name email rest)) → IsFirstRead Second n t (first_contact both n t (trimmed_contact (cut t)))
   first-made made =
-      let P : Half → Type 0 = λ h. IsFirstRead Second n t (first_half both n t h) in
-      elim (half_kind t) [
-        | absent_half h e ↦ subst P (sym e) (no_bracket h refl)
-        | unclosed_half h e ↦ subst P (sym e) (open_first h refl)
-        | closed_half a b c h e ↦ subst P (sym e) (first-closed made a b c h)
+      let P : ParsedContact → Type 0 = λ h. IsFirstRead Second n t (first_contact both n t h) in
+      elim (contact_kind t) [
+        | absent_contact h e ↦ subst P (sym e) (no_bracket h refl)
+        | unclosed_contact h e ↦ subst P (sym e) (open_first h refl)
+        | closed_contact a b c h e ↦ subst P (sym e) (first-closed made a b c h)
       ]
 
-  first-email : (name email rest : Text) (r : Reading) → email ≢ [] → both name email rest ≡ r → first_half both n t (Closed name email rest) ≡ r
+  first-email : (name email rest : Text) (r : Reading) → email ≢ [] → both name email rest ≡ r → first_contact both n t (Closed name email rest) ≡ r
   first-email name [] rest r other e = absurd (other refl)
   first-email name (x ∷ email) rest r other e = e
 
-  first-same : ((name email rest : Text) (r : Reading) → Second name email rest r → both name email rest ≡ r) → (r : Reading) → IsFirstRead Second n t r → first_half both n t (trimmed_half (cut t)) ≡ r
+  first-same : ((name email rest : Text) (r : Reading) → Second name email rest r → both name email rest ≡ r) → (r : Reading) → IsFirstRead Second n t r → first_contact both n t (trimmed_contact (cut t)) ≡ r
   first-same same r h = elim h [
-    | no_bracket a is ↦ ap (λ k. first_half both n t (trimmed_half k)) (cut-absent t a) ∙ sym is
-    | open_first u is ↦ ap (λ k. first_half both n t (trimmed_half k)) (cut-unclosed t u) ∙ sym is
-    | blank_email name rest half is ↦ ap (first_half both n t) (half-cut t name [] rest half) ∙ sym is
-    | first name email rest half other s ↦ ap (first_half both n t) (half-cut t name email rest half) ∙ first-email name email rest r other (same name email rest r s)
+    | no_bracket a is ↦ ap (λ k. first_contact both n t (trimmed_contact k)) (cut-absent t a) ∙ sym is
+    | open_first u is ↦ ap (λ k. first_contact both n t (trimmed_contact k)) (cut-unclosed t u) ∙ sym is
+    | blank_email name rest contact is ↦ ap (first_contact both n t) (contact-cut t name [] rest contact) ∙ sym is
+    | first name email rest contact other s ↦ ap (first_contact both n t) (contact-cut t name email rest contact) ∙ first-email name email rest r other (same name email rest r s)
   ]
 
 -- ---- the line

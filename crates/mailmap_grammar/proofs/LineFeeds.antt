@@ -30,7 +30,7 @@ pieces-open [] h some = absurd (some refl)
 pieces-open (b ∷ []) h some = cond-false _ _ _ (ne_eqb b 10 h.0)
 pieces-open (b ∷ c ∷ l) h some = cond-false _ _ _ (ne_eqb b 10 h.0) ∙ ap (with_first b) (pieces-open (c ∷ l) h.1 (λ e. cc))
 
--- lines with their line feeds, and what stands behind them
+-- lines with their line feeds, and what is after them
 pub pieces-fed : (ls : List Text) (rest : Text) → AllByRecursion (HoldsNo 10) ls → pieces (fed ls ++ rest) ≡ ls ++ pieces rest
 pieces-fed [] rest h = refl
 pieces-fed (l ∷ ls) rest h =
@@ -42,7 +42,7 @@ pieces-nil : pieces [] ≡ []
 unfolding pieces
 pieces-nil = refl
 
--- what holds of all holds of those in front, and of those behind
+-- what holds of all holds of those in front, and of those after
 pub all_parts : (P : Text → Type 0) (xs ys : List Text) → AllByRecursion P (xs ++ ys) → AllByRecursion P xs × AllByRecursion P ys
 all_parts P [] ys all = (tt, all)
 all_parts P (x ∷ xs) ys all = let rest = all_parts P xs ys all.1 in ((all.0, rest.0), rest.1)

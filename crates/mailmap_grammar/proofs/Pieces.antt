@@ -49,8 +49,8 @@ first_piece (b ∷ c ∷ s) some = ⊎_elim
           (λ e. inl (ap (λ n. take n (b ∷ c ∷ s)) len ∙ ap (λ l. b ∷ l) e))
           (λ e.
           let size : 0 < length inner.piece = omega (arith, ap length e.0, length-take-le (line_len (c ∷ s)) (c ∷ s) bounds.1) in
-          let place : length (b ∷ inner.piece) - 1 ≡ suc (length inner.piece - 1) = omega arith in
-          inr (ap (λ n. take n (b ∷ c ∷ s)) len ∙ ap (λ l. b ∷ l) e.0, λ is. e.1 (ap (slice_index (b ∷ inner.piece)) (sym place) ∙ is)))
+          let index : length (b ∷ inner.piece) - 1 ≡ suc (length inner.piece - 1) = omega arith in
+          inr (ap (λ n. take n (b ∷ c ∷ s)) len ∙ ap (λ l. b ∷ l) e.0, λ is. e.1 (ap (slice_index (b ∷ inner.piece)) (sym index) ∙ is)))
           inner.line;
       rest = cond-false _ _ _ other ∙ ap (with_first b) inner.rest ∙ ap (λ n. (b ∷ inner.piece) ∷ pieces (drop n (b ∷ c ∷ s))) (sym len);
     })
@@ -84,10 +84,10 @@ module _ (read : ℕ → Text → Option Reading) (reading-cr : (n : ℕ) (z : T
       (λ e.
       let l = z ++ 10 ∷ [] in
       let long = length-append z (10 ∷ []) in
-      let place : length l - 1 ≡ length z = omega arith in
-      let feed : slice_index l (length l - 1) ≡ 10 = ap (slice_index l) place ∙ get_or-append_seam z 10 [] 0 in
+      let index : length l - 1 ≡ length z = omega arith in
+      let feed : slice_index l (length l - 1) ≡ 10 = ap (slice_index l) index ∙ get_or-append_seam z 10 [] 0 in
       let test : nat_lt 0 (length l) && slice_index l (length l - 1) == 10 ≡ true = and_from _ _ (grind (arith, nat_tests)) (eq-eqb _ _ feed) in
-      let cut : take (length l - 1) l ≡ z = ap (λ i. take i l) place ∙ take-append_seam z (10 ∷ []) in
+      let cut : take (length l - 1) l ≡ z = ap (λ i. take i l) index ∙ take-append_seam z (10 ∷ []) in
       ap (λ y. read n (without_terminator y)) e ∙ ap (read n) (cond-true _ _ _ test) ∙ ap (λ y. read n (no_cr y)) cut ∙ reading-no_cr n z)
       (λ e.
       let test : nat_lt 0 (length z) && slice_index z (length z - 1) == 10 ≡ false = and_right _ _ (ne_eqb _ _ e.1) in

@@ -76,9 +76,9 @@ no-end s low high h =
     let bs = encode_utf8 c in
     let some = some_bytes c in
     let long : length s ≡ length h.1 + length bs = ap length h.3 ∙ length-append h.1 bs in
-    let place : length s - 1 ≡ length h.1 + (length bs - 1) = omega arith in
+    let index : length s - 1 ≡ length h.1 + (length bs - 1) = omega arith in
     let e : get_or s (length s - 1) 0 ≡ get_or bs (length bs - 1) 0 =
-    ap (λ n. get_or s n 0) place ∙ ap (λ t. get_or t (length h.1 + (length bs - 1)) 0) h.3 ∙ get_or-append-add h.1 bs (length bs - 1) 0 in
+    ap (λ n. get_or s n 0) index ∙ ap (λ t. get_or t (length h.1 + (length bs - 1)) 0) h.3 ∙ get_or-append-add h.1 bs (length bs - 1) 0 in
     ⊎_elim
     (λ small.
     let same : get_or bs (length bs - 1) 0 ≡ c = ap (λ t. get_or t (length t - 1) 0) (encode_ascii c small) in
@@ -86,7 +86,7 @@ no-end s low high h =
     (λ big. omega (arith, high-last c big))
     (cases_lt c 128)
 
--- where both ends are of ASCII and no white space, nothing goes
+-- if both ends are of ASCII and no white space, nothing goes
 pub plain : (s : List ℕ) → IsVisibleLead (get_or s 0 0) → 32 < get_or s (length s - 1) 0 → get_or s (length s - 1) 0 < 128 → trim s ≡ s
 unfolding trim
 plain s a d e = ap (trim_end_by is_whitespace) (start-other s (no-begin s a)) ∙ end-other s (no-end s d e)

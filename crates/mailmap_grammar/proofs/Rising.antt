@@ -8,7 +8,7 @@ use Rattle.mailmap_grammar.specs.declared.lines.Strictness.{Strictness}
 use Rattle.mailmap_grammar.specs.declared.lines.Strictness.TheVariants.{Lenient, Strict}
 use Rattle.mailmap_entries.specs.Folding.{Text}
 use Rattle.mailmap_grammar.specs.Trimming.{trim}
-use Rattle.mailmap_grammar.specs.Lines.{Reading, Half, Absent, Unclosed, Closed, cut, trimmed_half, two_halves, strict_halves, first_half, line_reader, is_comment, unless_blank, reading_by, readings_from, fault_lines}
+use Rattle.mailmap_grammar.specs.Lines.{Reading, ParsedContact, Absent, Unclosed, Closed, cut, trimmed_contact, two_contacts, strict_contacts, first_contact, line_reader, is_comment, unless_blank, reading_by, readings_from, fault_lines}
 
 abbrev pub LineIs : ℕ → Reading → Type 0
 LineIs n (Ok m) = Unit {0}
@@ -18,7 +18,7 @@ abbrev pub IfLine : ℕ → Option Reading → Type 0
 IfLine n None = Unit {0}
 IfLine n (Some r) = LineIs n r
 
-two-line : (n : ℕ) (t name email : Text) (h : Half) → LineIs n (two_halves n t name email h)
+two-line : (n : ℕ) (t name email : Text) (h : ParsedContact) → LineIs n (two_contacts n t name email h)
 two-line n t [] email Absent = refl
 two-line n t [] email Unclosed = refl
 two-line n t [] email (Closed a b c) = tt
@@ -26,21 +26,21 @@ two-line n t (x ∷ name) email Absent = tt
 two-line n t (x ∷ name) email Unclosed = tt
 two-line n t (x ∷ name) email (Closed a b c) = tt
 
-strict-line : (n : ℕ) (t name email rest : Text) (h : Half) → LineIs n (strict_halves n t name email rest h)
+strict-line : (n : ℕ) (t name email rest : Text) (h : ParsedContact) → LineIs n (strict_contacts n t name email rest h)
 strict-line n t name email rest Absent = two-line n t name email Absent
 strict-line n t name email rest Unclosed = refl
 strict-line n t name email rest (Closed a b c) = two-line n t name email (Closed a b c)
 
-first-line : (both : Text → Text → Text → Reading) (n : ℕ) (t : Text) → ((name email rest : Text) → LineIs n (both name email rest)) → (h : Half) → LineIs n (first_half both n t h)
+first-line : (both : Text → Text → Text → Reading) (n : ℕ) (t : Text) → ((name email rest : Text) → LineIs n (both name email rest)) → (h : ParsedContact) → LineIs n (first_contact both n t h)
 first-line both n t is Absent = refl
 first-line both n t is Unclosed = refl
 first-line both n t is (Closed name [] rest) = refl
 first-line both n t is (Closed name (x ∷ email) rest) = is name (x ∷ email) rest
 
--- a fault stands on the line that is read, under either strictness
+-- a fault is on the line that is read, under either strictness
 line_reader-line : (s : Strictness) (n : ℕ) (t : Text) → LineIs n (line_reader s n t)
-line_reader-line Lenient n t = first-line _ n t (λ name email rest. two-line n t name email (trimmed_half (cut rest))) (trimmed_half (cut t))
-line_reader-line Strict n t = first-line _ n t (λ name email rest. strict-line n t name email rest (trimmed_half (cut rest))) (trimmed_half (cut t))
+line_reader-line Lenient n t = first-line _ n t (λ name email rest. two-line n t name email (trimmed_contact (cut rest))) (trimmed_contact (cut t))
+line_reader-line Strict n t = first-line _ n t (λ name email rest. strict-line n t name email rest (trimmed_contact (cut rest))) (trimmed_contact (cut t))
 
 blank-line : (says : ℕ → Text → Reading) (n : ℕ) (t : Text) → ((m : ℕ) (s : Text) → LineIs m (says m s)) → IfLine n (unless_blank says n t)
 blank-line says n [] is = tt
@@ -77,7 +77,7 @@ at_most_one : (o : Option Reading) (rs : List Reading) → length (option_to_lis
 at_most_one None rs = omega arith
 at_most_one (Some r) rs = omega arith
 
--- a reader whose faults stand on the line that is read
+-- a reader whose faults are on the line that is read
 module _ (read : ℕ → Text → Option Reading) (line : (n : ℕ) (l : Text) → IfLine n (read n l)) where
   above : (n : ℕ) (ls : List Text) → Above n (fault_lines (readings_from read n ls))
   unfolding readings_from fault_lines IsStrictlySortedBy

@@ -51,12 +51,12 @@ start-white c rest white =
     let first : spans_from 0 (pieces bs) ≡ (0, 0 + k, c) ∷ spans_from (0 + k) (pieces (drop k bs)) =
     spans-first bs 0 some ∙ ap (λ (p : Decoded). (0, 0 + p.size, or_replacement p.char) ∷ spans_from (0 + p.size) (pieces (drop p.size bs))) read in
     let left : drop k bs ≡ rest = drop-append_seam (encode_utf8 c) rest in
-    let place : 0 + k ≡ k + 0 = omega arith in
+    let index : 0 + k ≡ k + 0 = omega arith in
     let kept : kept_start is_whitespace (length bs) (spans_from 0 (pieces bs)) ≡ k + kept_start is_whitespace (length rest) (spans_from 0 (pieces rest)) =
     ap (kept_start is_whitespace (length bs)) first ∙ kept-skip is_whitespace (length bs) (0, 0 + k, c) (spans_from (0 + k) (pieces (drop k bs))) white
     ∙ ap (λ n. kept_start is_whitespace n (spans_from (0 + k) (pieces (drop k bs)))) long
     ∙ ap (λ r. kept_start is_whitespace (k + length rest) (spans_from (0 + k) (pieces r))) left
-    ∙ ap (λ n. kept_start is_whitespace (k + length rest) (spans_from n (pieces rest))) place
+    ∙ ap (λ n. kept_start is_whitespace (k + length rest) (spans_from n (pieces rest))) index
     ∙ kept-shift is_whitespace k (length rest) 0 (pieces rest) in
     ap (λ n. drop n bs) kept ∙ drop-append-add (encode_utf8 c) rest _
 
@@ -316,12 +316,12 @@ first-stays c s white some =
     sym whole ∙ both ∙ ap (λ l. l ++ pieces (encode_utf8 c)) part in
     (cc)
 
-start-behind : (f : ℕ) (c : ℕ) (s : List ℕ) → is_whitespace c ≡ true → length s ≤ f
+start-after : (f : ℕ) (c : ℕ) (s : List ℕ) → is_whitespace c ≡ true → length s ≤ f
     → (trim_start_by is_whitespace (s ++ encode_utf8 c) ≡ trim_start_by is_whitespace s ++ encode_utf8 c)
     ⊎ ((trim_start_by is_whitespace (s ++ encode_utf8 c) ≡ []) × (trim_start_by is_whitespace s ≡ []))
-start-behind f c [] white le = inr (ap (trim_start_by is_whitespace) (sym (append-nil (encode_utf8 c))) ∙ start-white c [] white ∙ start-nil, start-nil)
-start-behind zero c (b ∷ s) white le = absurd (omega arith)
-start-behind (suc f) c (b ∷ s) white le =
+start-after f c [] white le = inr (ap (trim_start_by is_whitespace) (sym (append-nil (encode_utf8 c))) ∙ start-white c [] white ∙ start-nil, start-nil)
+start-after zero c (b ∷ s) white le = absurd (omega arith)
+start-after (suc f) c (b ∷ s) white le =
     let bs = b ∷ s in
     ⊎_elim
     (λ h.
@@ -332,7 +332,7 @@ start-behind (suc f) c (b ∷ s) white le =
     ⊎_elim
     (λ e. inl (whole ∙ e ∙ ap (λ r. r ++ encode_utf8 c) (sym part)))
     (λ e. inr (whole ∙ e.0, part ∙ e.1))
-    (start-behind f c h.1 white shorter))
+    (start-after f c h.1 white shorter))
     (λ other.
     let stays_too : BeginsWhite (bs ++ encode_utf8 c) → ⊥ = λ h.
     other (begins bs (Some h.0) (sym (ap (λ (p : Decoded). p.char) (first-stays c bs white (omega arith))) ∙ ap (λ (p : Decoded). p.char) (ap decoded h.3 ∙ reads h.0 h.1 h.2)) h.2) in
@@ -344,4 +344,4 @@ unfolding trim
 trim-white_end c s white = ⊎_elim
     (λ e. ap (trim_end_by is_whitespace) e ∙ end-white (trim_start_by is_whitespace s) c white)
     (λ e. ap (trim_end_by is_whitespace) (e.0 ∙ sym e.1))
-    (start-behind (length s) c s white (omega arith))
+    (start-after (length s) c s white (omega arith))

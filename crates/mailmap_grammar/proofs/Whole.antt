@@ -5,7 +5,7 @@ use Rattle.mailmap_entries.specs.Folding.{Text}
 use Rattle.mailmap_grammar.specs.Trimming.{trim, IsTrimmed}
 use Rattle.mailmap_grammar.proofs.Trimmed.{trimmed-made}
 
--- no bytes before or behind a text of the same length
+-- no bytes before or after a text of the same length
 nothing_round : (a b t : Text) → length ((a ++ (t ++ b))) ≡ length t → a ++ (t ++ b) ≡ t
 nothing_round [] [] t e = append-nil t
 nothing_round [] (x ∷ b) t e = absurd (omega (arith, e, length-append t (x ∷ b)))
@@ -16,6 +16,6 @@ pub whole : (s : Text) → length (trim s) ≡ length s → s ≡ trim s
 whole s e =
     let made : IsTrimmed s (trim s) = trimmed-made s (trim s) refl in
     let before : Text = encode_utf8_all made.1.white in
-    let behind : Text = encode_utf8_all made.2.white in
-    let parts : s ≡ before ++ (trim s ++ behind) = made.1.whole ∙ ap (λ l. before ++ l) made.2.whole in
-    parts ∙ nothing_round before behind (trim s) (ap length (sym parts) ∙ sym e)
+    let after : Text = encode_utf8_all made.2.white in
+    let parts : s ≡ before ++ (trim s ++ after) = made.1.whole ∙ ap (λ l. before ++ l) made.2.whole in
+    parts ∙ nothing_round before after (trim s) (ap length (sym parts) ∙ sym e)

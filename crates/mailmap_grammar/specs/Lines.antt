@@ -5,16 +5,16 @@ use Rattle.std.specs.Prelude.{◌≡◌, ◌≢◌, ◌⊎◌, ◌+◌, ◌==◌
 use Rattle.mailmap_entries.specs.declared.entry.Entry.{Entry}
 use Rattle.mailmap_grammar.specs.declared.lines.Error.{Error}
 use Rattle.mailmap_grammar.specs.declared.lines.Error.TheVariants.{NoEmail, MissingClosingBracket, EmptyEmail, NothingToMap, UnclosedSecond}
-use Rattle.mailmap_grammar.specs.declared.halves.Half as the_half
-use Rattle.mailmap_grammar.specs.declared.halves.Half.TheVariants as variant
-use Rattle.mailmap_grammar.specs.declared.rests.WithRest.{WithRest}
+use Rattle.mailmap_grammar.specs.declared.contacts.ParsedContact as the_contact
+use Rattle.mailmap_grammar.specs.declared.contacts.ParsedContact.TheVariants as variant
+use Rattle.mailmap_grammar.specs.declared.trailing.WithTrailing.{WithTrailing}
 use Rattle.mailmap_grammar.specs.declared.lines.Strictness.{Strictness}
 use Rattle.mailmap_grammar.specs.declared.lines.Strictness.TheVariants.{Lenient, Strict}
 use Rattle.mailmap_entries.specs.Folding.{Text}
 use Rattle.mailmap_entries.specs.Entries.{Mapping, mapping_of}
 use Rattle.mailmap_grammar.specs.Trimming.{trim, IsTrimmed}
 
--- the five faults; the last one comes of strict reading alone
+-- the five faults; only strict reading gives the last one
 pub data Kind : Type 0 where
   no_email : Kind
   missing_closing_bracket : Kind
@@ -22,7 +22,7 @@ pub data Kind : Type 0 where
   nothing_to_map : Kind
   unclosed_second : Kind
 
--- a fault, the number of its line, and that line trimmed; of an unclosed second half the rest behind the first `>`
+-- a fault, the number of its line, and that line trimmed; of an unclosed second contact the rest after the first `>`
 pub record Fault : Type 0 where
   pub kind : Kind
   pub line : ℕ
@@ -46,67 +46,67 @@ reading_of (Ok e) = Ok (mapping_of e)
 reading_of (Err e) = Err (fault_of e)
 
 -- the same, of an entry with the rest of its line
-abbrev pub reading_with_rest : Result WithRest Error → Reading
-reading_with_rest (Ok w) = Ok (mapping_of w.entry)
-reading_with_rest (Err e) = Err (fault_of e)
+abbrev pub reading_with_trailing : Result WithTrailing Error → Reading
+reading_with_trailing (Ok w) = Ok (mapping_of w.entry)
+reading_with_trailing (Err e) = Err (fault_of e)
 
--- what stands before the first byte b and what after it, or None where there is no b
+-- what is before the first byte b and what after it, or None if there is no b
 unfoldable pub split_once : ℕ → Text → Option (Text × Text)
 split_once b [] = None
 split_once b (c ∷ s) = if c == b then Some ([], s) else option_map (λ p. (c ∷ p.0, p.1)) (split_once b s)
 
--- a text by its first `<` and the first `>` behind it: what stands before, between and behind
-pub data Half : Type 0 where
-  Absent : Half
-  Unclosed : Half
-  Closed : Text → Text → Text → Half
+-- a text by its first `<` and the first `>` after it: what is before, between and after
+pub data ParsedContact : Type 0 where
+  Absent : ParsedContact
+  Unclosed : ParsedContact
+  Closed : Text → Text → Text → ParsedContact
 
--- the two cuts of `cut`: at `>` behind the `<`, and at `<`
-abbrev pub closed : Text → Option (Text × Text) → Half
+-- the two cuts of `cut`: at `>` after the `<`, and at `<`
+abbrev pub closed : Text → Option (Text × Text) → ParsedContact
 closed a None = Unclosed
 closed a (Some p) = Closed a p.0 p.1
 
-abbrev pub opened : Option (Text × Text) → Half
+abbrev pub opened : Option (Text × Text) → ParsedContact
 opened None = Absent
 opened (Some p) = closed p.0 (split_once 62 p.1)
 
--- a text cut at the first `<` and the first `>` behind it; IsCut, IsUnclosed and HoldsNo say which half it is
-abbrev pub cut : Text → Half
+-- a text cut at the first `<` and the first `>` after it; IsCut, IsUnclosed and HoldsNo say which contact it is
+abbrev pub cut : Text → ParsedContact
 cut s = opened (split_once 60 s)
 
--- a text, or None where it is empty
+-- a text, or None if it is empty
 abbrev pub non_empty : Text → Option Text
 non_empty [] = None
 non_empty (b ∷ s) = Some (b ∷ s)
 
--- the half with its name and its email trimmed
-abbrev pub trimmed_half : Half → Half
-trimmed_half Absent = Absent
-trimmed_half Unclosed = Unclosed
-trimmed_half (Closed a b c) = Closed (trim a) (trim b) c
+-- the contact with its name and its email trimmed
+abbrev pub trimmed_contact : ParsedContact → ParsedContact
+trimmed_contact Absent = Absent
+trimmed_contact Unclosed = Unclosed
+trimmed_contact (Closed a b c) = Closed (trim a) (trim b) c
 
--- what stands behind the last email that counts: that of the second half, where `rest` has one
-abbrev pub behind_second : Text → Half → Text
-behind_second rest Absent = rest
-behind_second rest Unclosed = rest
-behind_second rest (Closed name email more) = more
+-- what is after the last email that counts: that of the second contact, where `rest` has one
+abbrev pub after_second : Text → ParsedContact → Text
+after_second rest Absent = rest
+after_second rest Unclosed = rest
+after_second rest (Closed name email more) = more
 
-abbrev pub behind_emails : Half → Text
-behind_emails Absent = []
-behind_emails Unclosed = []
-behind_emails (Closed name email rest) = behind_second rest (cut rest)
+abbrev pub trailing_text : ParsedContact → Text
+trailing_text Absent = []
+trailing_text Unclosed = []
+trailing_text (Closed name email rest) = after_second rest (cut rest)
 
--- the code's half
-abbrev pub half_of : the_half.Half → Half
-half_of variant.Absent = Absent
-half_of variant.Unclosed = Unclosed
-half_of (variant.Closed name email rest) = Closed name.now email.now rest.now
+-- the code's contact
+abbrev pub parsed_contact_of : the_contact.ParsedContact → ParsedContact
+parsed_contact_of variant.Absent = Absent
+parsed_contact_of variant.Unclosed = Unclosed
+parsed_contact_of (variant.Closed name email rest) = Closed name.now email.now rest.now
 
 -- the fault of this kind on this line
 abbrev pub fault : Kind → ℕ → Text → Reading
 fault kind line input = Err (record { kind = kind; line = line; input = input })
 
--- what a line with two halves maps: their names and emails, where an empty name is none
+-- what a line with two contacts maps: their names and emails, where an empty name is none
 abbrev pub by_both : Text → Text → Text → Text → Mapping
 by_both name email old_name old_email = record { new_name = non_empty name; new_email = Some email; old_name = non_empty old_name; old_email = old_email }
 
@@ -114,41 +114,41 @@ by_both name email old_name old_email = record { new_name = non_empty name; new_
 abbrev pub by_name : Text → Text → Mapping
 by_name name email = record { new_name = Some name; new_email = None; old_name = None; old_email = email }
 
--- a line whose first half is a name and an email, and what its second half is
-abbrev pub two_halves : ℕ → Text → Text → Text → Half → Reading
-two_halves n t [] email Absent = fault nothing_to_map n t
-two_halves n t [] email Unclosed = fault nothing_to_map n t
-two_halves n t (b ∷ name) email Absent = Ok (by_name (b ∷ name) email)
-two_halves n t (b ∷ name) email Unclosed = Ok (by_name (b ∷ name) email)
-two_halves n t name email (Closed old_name old_email rest) = Ok (by_both name email old_name old_email)
+-- a line whose first contact is a name and an email, and what its second contact is
+abbrev pub two_contacts : ℕ → Text → Text → Text → ParsedContact → Reading
+two_contacts n t [] email Absent = fault nothing_to_map n t
+two_contacts n t [] email Unclosed = fault nothing_to_map n t
+two_contacts n t (b ∷ name) email Absent = Ok (by_name (b ∷ name) email)
+two_contacts n t (b ∷ name) email Unclosed = Ok (by_name (b ∷ name) email)
+two_contacts n t name email (Closed old_name old_email rest) = Ok (by_both name email old_name old_email)
 
--- the same, but a second half that has its `<` and not its `>` is a fault, and the rest is shown
-abbrev pub strict_halves : ℕ → Text → Text → Text → Text → Half → Reading
-strict_halves n t name email rest Absent = two_halves n t name email Absent
-strict_halves n t name email rest Unclosed = fault unclosed_second n rest
-strict_halves n t name email rest (Closed a b c) = two_halves n t name email (Closed a b c)
+-- the same, but a second contact that has its `<` and not its `>` is a fault, and the rest is shown
+abbrev pub strict_contacts : ℕ → Text → Text → Text → Text → ParsedContact → Reading
+strict_contacts n t name email rest Absent = two_contacts n t name email Absent
+strict_contacts n t name email rest Unclosed = fault unclosed_second n rest
+strict_contacts n t name email rest (Closed a b c) = two_contacts n t name email (Closed a b c)
 
--- what a line says by its first half; where that has an email, `both` says it by name, email and rest
-abbrev pub first_half : (Text → Text → Text → Reading) → ℕ → Text → Half → Reading
-first_half both n t Absent = fault no_email n t
-first_half both n t Unclosed = fault missing_closing_bracket n t
-first_half both n t (Closed name [] rest) = fault empty_email n t
-first_half both n t (Closed name (b ∷ email) rest) = both name (b ∷ email) rest
+-- what a line says by its first contact; where that has an email, `both` says it by name, email and rest
+abbrev pub first_contact : (Text → Text → Text → Reading) → ℕ → Text → ParsedContact → Reading
+first_contact both n t Absent = fault no_email n t
+first_contact both n t Unclosed = fault missing_closing_bracket n t
+first_contact both n t (Closed name [] rest) = fault empty_email n t
+first_contact both n t (Closed name (b ∷ email) rest) = both name (b ∷ email) rest
 
 -- what the trimmed line t says, as line n
 abbrev pub line_reading : ℕ → Text → Reading
-line_reading n t = first_half (λ name email rest. two_halves n t name email (trimmed_half (cut rest))) n t (trimmed_half (cut t))
+line_reading n t = first_contact (λ name email rest. two_contacts n t name email (trimmed_contact (cut rest))) n t (trimmed_contact (cut t))
 
 -- the same, read strictly
 abbrev pub strict_line_reading : ℕ → Text → Reading
-strict_line_reading n t = first_half (λ name email rest. strict_halves n t name email rest (trimmed_half (cut rest))) n t (trimmed_half (cut t))
+strict_line_reading n t = first_contact (λ name email rest. strict_contacts n t name email rest (trimmed_contact (cut rest))) n t (trimmed_contact (cut t))
 
 -- a comment begins with `#`
 abbrev pub is_comment : Text → Bool
 is_comment [] = false
 is_comment (b ∷ s) = b == 35
 
--- what `says` says of a trimmed line, None where that is empty
+-- what `says` says of a trimmed line, None if that is empty
 abbrev pub unless_blank : (ℕ → Text → Reading) → ℕ → Text → Option Reading
 unless_blank says n [] = None
 unless_blank says n (b ∷ t) = Some (says n (b ∷ t))
@@ -185,7 +185,7 @@ unfoldable pub pieces : Text → List Text
 pieces [] = []
 pieces (b ∷ s) = if b == 10 then [] ∷ pieces s else with_first b (pieces s)
 
--- lines, each with a line feed behind it
+-- lines, each with a line feed after it
 abbrev pub fed : List Text → Text
 fed ls = flat_map (λ l. l ++ 10 ∷ []) ls
 
@@ -197,7 +197,7 @@ readings buf = readings_from reading 1 (pieces buf)
 abbrev pub strict_readings : Text → List Reading
 strict_readings buf = readings_from strict_reading 1 (pieces buf)
 
--- the mappings alone
+-- only the mappings
 unfoldable pub good_of : List Reading → List Mapping
 good_of [] = []
 good_of (r ∷ rs) = option_to_list (result_ok r) ++ good_of rs
@@ -216,55 +216,56 @@ pub record ArePieces (s : Text) (ls : List Text) : Type 0 where
   pub no_feed : AllByRecursion (HoldsNo 10) ls
   pub whole : (s ≡ fed ls) ⊎ ((front : List Text) × (last : Text) × (ls ≡ front ++ last ∷ []) × (last ≢ []) × (s ≡ fed front ++ last))
 
--- s is a, `<`, b, `>` and c, where the `<` is the first one, and the `>` the first one behind it
+-- s is a, `<`, b, `>` and c, where the `<` is the first one, and the `>` the first one after it
 pub record IsCut (s a b c : Text) : Type 0 where
   pub whole : s ≡ a ++ 60 ∷ (b ++ 62 ∷ c)
   pub no_opening : HoldsNo 60 a
   pub no_closing : HoldsNo 62 b
 
--- s has a first `<` and no `>` behind it
+-- s has a first `<` and no `>` after it
 pub record IsUnclosed (s : Text) : Type 0 where
   pub before : Text
-  pub behind : Text
-  pub whole : s ≡ before ++ 60 ∷ behind
+  pub after : Text
+  pub whole : s ≡ before ++ 60 ∷ after
   pub no_opening : HoldsNo 60 before
-  pub no_closing : HoldsNo 62 behind
+  pub no_closing : HoldsNo 62 after
 
--- s begins with a name and an email in brackets, trimmed here, and rest stands behind the `>`
-pub record IsHalf (s name email rest : Text) : Type 0 where
+-- s begins with a name and an email in brackets, trimmed here, and rest comes after the `>`
+pub record IsContact (s name email rest : Text) : Type 0 where
   pub before : Text
   pub between : Text
   pub is_cut : IsCut s before between rest
   pub is_name : IsTrimmed before name
   pub is_email : IsTrimmed between email
 
--- s has no such half: no `<`, or one with no `>` behind it
-abbrev pub NoHalf : Text → Type 0
-NoHalf s = HoldsNo 60 s ⊎ IsUnclosed s
+-- s has no such contact: no `<`, or one with no `>` after it
+abbrev pub NoContact : Text → Type 0
+NoContact s = HoldsNo 60 s ⊎ IsUnclosed s
 
--- what line n, trimmed t, says whose first half is this name and this email: a second half, a name alone, or nothing
+-- what line n, trimmed t, says whose first contact is this name and this email: a second contact, a name alone, or
+-- nothing
 pub data IsSecondRead (n : ℕ) (t name email rest : Text) (r : Reading) : Type 0 where
-  second : (old_name old_email tail : Text) → IsHalf rest old_name old_email tail → r ≡ Ok (by_both name email old_name old_email) → IsSecondRead n t name email rest r
-  name_alone : NoHalf rest → name ≢ [] → r ≡ Ok (by_name name email) → IsSecondRead n t name email rest r
-  neither : NoHalf rest → name ≡ [] → r ≡ fault nothing_to_map n t → IsSecondRead n t name email rest r
+  second : (old_name old_email tail : Text) → IsContact rest old_name old_email tail → r ≡ Ok (by_both name email old_name old_email) → IsSecondRead n t name email rest r
+  name_alone : NoContact rest → name ≢ [] → r ≡ Ok (by_name name email) → IsSecondRead n t name email rest r
+  neither : NoContact rest → name ≡ [] → r ≡ fault nothing_to_map n t → IsSecondRead n t name email rest r
 
--- the same, read strictly: a second half that isn't closed is a fault, whose input is the rest
+-- the same, read strictly: a second contact that isn't closed is a fault, whose input is the rest
 pub data IsSecondReadStrictly (n : ℕ) (t name email rest : Text) (r : Reading) : Type 0 where
   open_second : IsUnclosed rest → r ≡ fault unclosed_second n rest → IsSecondReadStrictly n t name email rest r
   as_ever : (IsUnclosed rest → ⊥) → IsSecondRead n t name email rest r → IsSecondReadStrictly n t name email rest r
 
--- what line n, trimmed t, says, where Second tells how it goes on behind a first half with an email
+-- what line n, trimmed t, says, where Second says how it goes on after a first contact with an email
 pub data IsFirstRead (Second : Text → Text → Text → Reading → Type 0) (n : ℕ) (t : Text) (r : Reading) : Type 0 where
   no_bracket : HoldsNo 60 t → r ≡ fault no_email n t → IsFirstRead Second n t r
   open_first : IsUnclosed t → r ≡ fault missing_closing_bracket n t → IsFirstRead Second n t r
-  blank_email : (name rest : Text) → IsHalf t name [] rest → r ≡ fault empty_email n t → IsFirstRead Second n t r
-  first : (name email rest : Text) → IsHalf t name email rest → email ≢ [] → Second name email rest r → IsFirstRead Second n t r
+  blank_email : (name rest : Text) → IsContact t name [] rest → r ≡ fault empty_email n t → IsFirstRead Second n t r
+  first : (name email rest : Text) → IsContact t name email rest → email ≢ [] → Second name email rest r → IsFirstRead Second n t r
 
 -- the line begins with `#`
 abbrev pub IsComment : Text → Type 0
-IsComment line = (behind : Text) × (line ≡ 35 ∷ behind)
+IsComment line = (after : Text) × (line ≡ 35 ∷ after)
 
--- what a line says, or None, where Says tells what its trimmed text says
+-- what a line says, or None, where Says gives what its trimmed text says
 pub data IsReadBy (Says : Text → Reading → Type 0) (line : Text) (o : Option Reading) : Type 0 where
   comment : IsComment line → o ≡ None → IsReadBy Says line o
   blank : (IsComment line → ⊥) → IsTrimmed line [] → o ≡ None → IsReadBy Says line o
@@ -278,7 +279,7 @@ IsRead n = IsReadBy (λ t. IsFirstRead (IsSecondRead n t) n t)
 abbrev pub IsReadStrictly : ℕ → Text → Option Reading → Type 0
 IsReadStrictly n = IsReadBy (λ t. IsFirstRead (IsSecondReadStrictly n t) n t)
 
--- the lines that faults stand on
+-- the lines that faults are on
 unfoldable pub fault_lines : List Reading → List ℕ
 fault_lines [] = []
 fault_lines (Ok m ∷ rs) = fault_lines rs

@@ -4,25 +4,26 @@ ghost use Rattle.mailmap_entries.specs.Folding.{Text};
 ghost use Rattle.mailmap_grammar.specs.Lines.{cut, Closed, Unclosed, Absent, IsCut, IsUnclosed, HoldsNo, Reading, reading, strict_reading, IsRead, IsReadStrictly, pieces, ArePieces};
 ghost use Rattle.mailmap_grammar.specs.Trimming.{IsTrimmed, trim};
 
-/// Trimming takes the longest front and then the longest end of white space away, and that is one text.
+/// Trimming removes the longest stretch of white space at the start and then the longest one at the end, and there is
+/// exactly one such text.
 pub fn law_trim()
     ensures { (s t : Text) → IsTrimmed s t ↔ (t ≡ trim s) }
 {}
 
-/// A text is cut at the first `<` and the first `>` behind it.
+/// A text is cut at the first `<` and the first `>` after it.
 pub fn law_cut()
     ensures closed { (s a b c : Text) → (cut s ≡ Closed a b c) ↔ IsCut s a b c }
     ensures unclosed { (s : Text) → (cut s ≡ Unclosed) ↔ IsUnclosed s }
     ensures absent { (s : Text) → (cut s ≡ Absent) ↔ HoldsNo 60 s }
 {}
 
-/// What a line says is told by cases of which each line meets one: a comment, a blank line, no `<`, a `<` without its
-/// `>`, a blank email, a second half, a name alone, or nothing to map.
+/// Each line is exactly one of these cases, which says what the line means: a comment, a blank line, no `<`, a `<`
+/// without its `>`, a blank email, a second contact, only a name, or nothing to map.
 pub fn law_reading()
     ensures { (n : ℕ) (line : Text) (o : Option Reading) → (reading n line ≡ o) ↔ IsRead n line o }
 {}
 
-/// Strict reading has one case more: a second half whose `<` has no `>`.
+/// Strict reading has one case more: a second contact whose `<` has no `>`.
 pub fn law_strict_reading()
     ensures { (n : ℕ) (line : Text) (o : Option Reading) → (strict_reading n line ≡ o) ↔ IsReadStrictly n line o }
 {}

@@ -2,10 +2,10 @@
 //! `gix_mailmap` passes on what users need of this.
 #![tactic(auto)]
 
-pub mod halves;
+pub mod contacts;
 pub mod laws;
 pub mod lines;
-pub mod rests;
+pub mod trailing;
 pub mod writing;
 
 pub use lines::{parse, parse_ignore_errors, parse_strict};

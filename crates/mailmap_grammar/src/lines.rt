@@ -1,17 +1,17 @@
 //! The lines of a mailmap: how a buffer is cut into lines, what each line says, and why one says nothing that can be
 //! used. The grammar is that of git's `.mailmap` files as the crate gix-mailmap reads it.
 //!
-//! A buffer is cut after each line feed. A line whose first byte is `#` is a comment, also where white space would have
-//! to go before the `#` to hide it: ` # c` is none. A line of white space alone is blank. Both give nothing, but they
+//! A buffer is cut after each line feed. A line whose first byte is `#` is a comment, even if white space would have
+//! to go before the `#` to hide it: ` # c` is none. A line of only white space is blank. Both give nothing, but they
 //! are counted: lines are numbered from 1.
 //!
-//! Any other line is trimmed of Unicode's white space and read as one half or two, each a name and an email in
+//! Any other line is trimmed of Unicode's white space and read as one contact or two, each a name and an email in
 //! brackets: `Proper <proper@x> Commit <commit@x>`.
 //!
-//! - The first `<` opens the email and the first `>` behind it closes it; name and email are trimmed, too. So a `>` may
+//! - The first `<` opens the email and the first `>` after it closes it; name and email are trimmed, too. So a `>` may
 //!   stand in a name and a `<` in an email.
-//! - Either name may be missing, and the second half as well. The second email may be empty, the first one not.
-//! - What stands behind the second half is ignored. So is a second half without its `<`, and one without its `>`,
+//! - Either name may be missing, and the second contact as well. The second email may be empty, the first one not.
+//! - What is after the second contact is ignored. So is a second contact without its `<`, and one without its `>`,
 //!   unless lines are read strictly, by [`parse_strict`].
 //! - One email alone maps nothing.
 ghost use Rattle.std.specs.Prelude.{◌≡◌, ◌≤◌, IfOk, IfSome, option_map, length};
@@ -20,13 +20,13 @@ ghost use Rattle.std.specs.Iterator.{YieldsFirstBy, item_count};
 ghost use Rattle.std.specs.List.Sorted.{IsStrictlySortedBy};
 ghost use Rattle.std.specs.Ordering.{nat_cmp};
 ghost use Rattle.mailmap_entries.specs.Entries.{mapping_of};
-ghost use Rattle.mailmap_grammar.specs.Lines.{behind_emails, cut, reading_of, reading_with_rest, reading_by, line_reader, non_empty as spec_non_empty, by_both, readings, readings_from, strict_readings, pieces, fault_lines, good};
+ghost use Rattle.mailmap_grammar.specs.Lines.{trailing_text, cut, reading_of, reading_with_trailing, reading_by, line_reader, non_empty as spec_non_empty, by_both, readings, readings_from, strict_readings, pieces, fault_lines, good};
 ghost use Rattle.mailmap_grammar.specs.Trimming.{trim as spec_trim};
 
 mod derived;
 
-use crate::halves::{Half, parse_name_and_email, trim};
-use crate::rests::WithRest;
+use crate::contacts::{ParsedContact, parse_name_and_email, trim};
+use crate::trailing::WithTrailing;
 use bstr::ByteSlice;
 use mailmap_entries::Entry;
 use std::marker::Model;
@@ -34,8 +34,8 @@ use thiserror::Error;
 
 /// Parses `buf` line by line: an item for each line that is neither blank nor a comment, in their order.
 ///
-/// A fault stands for its own line alone, and the lines behind it are read all the same; whether to stop at a fault is
-/// up to the caller. Nothing is allocated, and the entries borrow from `buf`: they outlive the iterator.
+/// A fault concerns only its own line, and the lines after it are read all the same; it is up to the caller to stop at
+/// a fault. Nothing is allocated, and the entries borrow from `buf`: they outlive the iterator.
 ///
 /// The buffer `# team\nJane <j@x>\nplain\n` gives the entry of `Jane` by `j@x`, and a fault on line 3.
 pub fn parse(buf: &[u8]) -> Lines<'_>
@@ -53,11 +53,12 @@ pub fn parse(buf: &[u8]) -> Lines<'_>
     }
 }
 
-/// Parses `buf` as [`parse`] does, but takes a second half that has its `<` and not its `>` for a fault,
+/// Parses `buf` as [`parse`] does, but takes a second contact that has its `<` and not its `>` for a fault,
 /// [`Error::UnclosedSecond`].
 ///
-/// Of `Jane <a@x> <b` this makes a fault, where [`parse`] gives the entry of `Jane` by `a@x`. Text behind a closed email,
-/// as in `Jane <a@x> tail`, is no fault here, either. A line that has another fault in its first half keeps that one.
+/// Of `Jane <a@x> <b` this makes a fault, where [`parse`] gives the entry of `Jane` by `a@x`. Text after a closed
+/// email, as in `Jane <a@x> tail`, is no fault here, either. A line that has another fault in its first contact keeps
+/// that one.
 pub fn parse_strict(buf: &[u8]) -> StrictLines<'_>
     ensures value { result ≡ strict_readings buf.now }
 
@@ -75,7 +76,7 @@ pub fn parse_strict(buf: &[u8]) -> StrictLines<'_>
 
 /// Parses `buf` as [`parse`] does and leaves out the lines that don't parse, as git does.
 ///
-/// The buffer `<a@x>\nJane <j@x>\nplain` gives the entry of `Jane` by `j@x` alone.
+/// The buffer `<a@x>\nJane <j@x>\nplain` gives only the entry of `Jane` by `j@x`.
 pub fn parse_ignore_errors(buf: &[u8]) -> GoodLines<'_>
     ensures value { result ≡ good buf.now }
 
@@ -181,24 +182,25 @@ impl<'a> Iterator for GoodLines<'a> {
 /// Why a line maps nothing.
 ///
 /// Each fault has the number of its line, from 1, and as `input` the whole line without the white space at its ends;
-/// [`Error::UnclosedSecond`] has the rest of the line. Its text names the line and the defect, and doesn't show `input`,
-/// which need not be UTF-8.
+/// [`Error::UnclosedSecond`] has the rest of the line. Its text names the line and the defect, and doesn't show
+/// `input`, which need not be UTF-8.
 #[derive(Debug, PartialEq, Eq, Drop, Error)]
 pub enum Error<'a> {
     /// The line has no `<`, as `plain`.
     #[error("Line {line} does not contain an email")]
     NoEmail { line: usize, input: &'a [u8] },
-    /// The first `<` has no `>` behind it, as in `Jane <a@x`.
+    /// The first `<` has no `>` after it, as in `Jane <a@x`.
     #[error("{line}: Missing closing bracket '>' in email")]
     MissingClosingBracket { line: usize, input: &'a [u8] },
     /// The first email is empty or white space, as in `Jane < > <b@x>`.
     #[error("{line}: Email must not be empty")]
     EmptyEmail { line: usize, input: &'a [u8] },
-    /// An email stands alone, as in `<a@x>`: there is nothing that it could be mapped to.
+    /// The line has only an email, as in `<a@x>`: there is nothing that it could be mapped to.
     #[error("{line}: Emails without a name or email to map to are invalid")]
     NothingToMap { line: usize, input: &'a [u8] },
-    /// The second `<` has no `>` behind it, as in `Jane <a@x> <b`. `input` is what stands behind the `>` that closes the
-    /// first half, with its white space. Only what is read strictly has this fault: by [`parse_strict`] or [`read_line`].
+    /// The second `<` has no `>` after it, as in `Jane <a@x> <b`. `input` is what is after the `>` that closes the
+    /// first contact, with its white space. Only what is read strictly has this fault: by [`parse_strict`] or
+    /// [`read_line`].
     #[error("{line}: Missing closing bracket '>' in second email")]
     UnclosedSecond { line: usize, input: &'a [u8] },
 }
@@ -206,7 +208,7 @@ pub enum Error<'a> {
 impl<'a> Error<'a> {
     ghost use Rattle.mailmap_grammar.specs.Lines.{fault_of};
 
-    /// The number of the line that the fault stands on. The first line of a buffer is 1.
+    /// The number of the line that the fault is on. The first line of a buffer is 1.
     pub fn line(&self) -> usize
         ensures { result ≡ (fault_of self.now).line }
     {
@@ -241,7 +243,7 @@ struct Walk<'a> {
     strictness: Strictness,
 }
 
-/// Whether a second half that has its `<` and not its `>`, as in `Jane <a@x> <b`, is a fault.
+/// Whether a second contact that has its `<` and not its `>`, as in `Jane <a@x> <b`, is a fault.
 #[derive(Clone, Copy, Debug)]
 pub enum Strictness {
     /// It is ignored, as [`parse`] does.
@@ -294,10 +296,10 @@ impl<'a> Iterator for Walk<'a> {
     }
 }
 
-/// What the line `text` says, as it stands in its buffer; `None` for a comment and for a blank line.
+/// What the line `text` says, as it is in its buffer; `None` for a comment and for a blank line.
 ///
-/// `line` is the number that a fault shows. A line feed or a carriage return at the end of `text` says nothing, as other
-/// white space there. Of `Jane <j@x>` this gives the entry of `Jane` by `j@x`.
+/// `line` is the number that a fault shows. A line feed or a carriage return at the end of `text` says nothing, as
+/// other white space there. Of `Jane <j@x>` this gives the entry of `Jane` by `j@x`.
 #[inline(always)]
 pub fn read_line(
     text: &[u8],
@@ -306,21 +308,21 @@ pub fn read_line(
 ) -> Option<Result<Entry<'_>, Error<'_>>>
     ensures { option_map reading_of result ≡ reading_by (line_reader strictness) line text.now }
 {
-    match read_with_rest(text, line, strictness)? {
+    match read_with_trailing(text, line, strictness)? {
         Ok(read) => Some(Ok(read.entry)),
         Err(error) => Some(Err(error)),
     }
 }
 
-/// What the line `text` says, and beside its entry what stands behind the last email that counts.
+/// What the line `text` says, and beside its entry what is after the last email that counts.
 #[inline(always)]
-pub(crate) fn read_with_rest(
+pub(crate) fn read_with_trailing(
     text: &[u8],
     line: usize,
     strictness: Strictness,
-) -> Option<Result<WithRest<'_>, Error<'_>>>
-    ensures reading { option_map reading_with_rest result ≡ reading_by (line_reader strictness) line text.now }
-    ensures rest { IfSome result (λ r. IfOk r (λ w. w.rest.now ≡ behind_emails (cut (spec_trim text.now)))) }
+) -> Option<Result<WithTrailing<'_>, Error<'_>>>
+    ensures reading { option_map reading_with_trailing result ≡ reading_by (line_reader strictness) line text.now }
+    ensures trailing { IfSome result (λ r. IfOk r (λ w. w.trailing.now ≡ trailing_text (cut (spec_trim text.now)))) }
 {
     if let Some(b'#') = text.first() {
         return None;
@@ -334,28 +336,32 @@ pub(crate) fn read_with_rest(
 
 /// What the trimmed line `input` says. A fault shows it as its input, under the number `line`.
 #[inline(always)]
-fn parse_line(input: &[u8], line: usize, strictness: Strictness) -> Result<WithRest<'_>, Error<'_>>
-    ensures reading { reading_with_rest result ≡ line_reader strictness line input.now }
-    ensures rest { IfOk result (λ w. w.rest.now ≡ behind_emails (cut input.now)) }
+fn parse_line(
+    input: &[u8],
+    line: usize,
+    strictness: Strictness,
+) -> Result<WithTrailing<'_>, Error<'_>>
+    ensures reading { reading_with_trailing result ≡ line_reader strictness line input.now }
+    ensures trailing { IfOk result (λ w. w.trailing.now ≡ trailing_text (cut input.now)) }
 {
     let (name, email, rest) = match parse_name_and_email(input) {
-        Half::Absent => return Err(Error::NoEmail { line, input }),
-        Half::Unclosed => return Err(Error::MissingClosingBracket { line, input }),
-        Half::Closed { name, email, rest } => (name, email, rest),
+        ParsedContact::Absent => return Err(Error::NoEmail { line, input }),
+        ParsedContact::Unclosed => return Err(Error::MissingClosingBracket { line, input }),
+        ParsedContact::Closed { name, email, rest } => (name, email, rest),
     };
     if email.is_empty() {
         return Err(Error::EmptyEmail { line, input });
     }
     let (entry, rest) = match (parse_name_and_email(rest), strictness) {
         (
-            Half::Closed {
+            ParsedContact::Closed {
                 name: old_name,
                 email: old_email,
-                rest: behind,
+                rest: after,
             },
             _,
-        ) => (change_by_both(name, email, old_name, old_email), behind),
-        (Half::Unclosed, Strictness::Strict) => {
+        ) => (change_by_both(name, email, old_name, old_email), after),
+        (ParsedContact::Unclosed, Strictness::Strict) => {
             return Err(Error::UnclosedSecond { line, input: rest });
         }
         _ => match non_empty(name) {
@@ -363,10 +369,13 @@ fn parse_line(input: &[u8], line: usize, strictness: Strictness) -> Result<WithR
             None => return Err(Error::NothingToMap { line, input }),
         },
     };
-    Ok(WithRest { entry, rest })
+    Ok(WithTrailing {
+        entry,
+        trailing: rest,
+    })
 }
 
-/// The entry of a line with two halves, where either name may be empty and then is none.
+/// The entry of a line with two contacts, where either name may be empty and then is none.
 fn change_by_both<'a>(
     name: &'a [u8],
     email: &'a [u8],
@@ -385,7 +394,7 @@ fn change_by_both<'a>(
     }
 }
 
-/// The text, or `None` where it is empty.
+/// The text, or `None` if it is empty.
 fn non_empty(text: &[u8]) -> Option<&[u8]>
     ensures { option_copied result ≡ spec_non_empty text.now }
 {

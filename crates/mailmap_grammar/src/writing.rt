@@ -1,4 +1,4 @@
-//! How an entry is written: as a line, which [reads](crate::parse()) as the same entry again where a line can hold it.
+//! How an entry is written: as a line, which [reads](crate::parse()) as the same entry again if a line can hold it.
 ghost use Rattle.std.specs.Prelude.{◌≡◌, ◌≢◌, ◌++◌, ◌∷◌, ◌+◌, ◌≤◌, ◌^◌, ◌↔◌, [], length, IsTrue, OnOk, IfSome, IfNone, MatchOption, option_map, unwrap_or};
 ghost use Rattle.std.specs.Option.{option_copied};
 ghost use Rattle.mailmap_grammar.specs.CanonicalText.{IsWritable, IsWritableName, IsWritableEmail, name_part, bracketed_email, email_part, line};
@@ -6,7 +6,7 @@ ghost use Rattle.mailmap_entries.specs.Entries.{mapping_of};
 ghost use Rattle.mailmap_grammar.specs.Lines.{HoldsNo};
 ghost use Rattle.mailmap_grammar.specs.Trimming.{trim as spec_trim};
 
-use crate::halves::trim;
+use crate::contacts::trim;
 use bstr::ByteSlice;
 use mailmap_entries::Entry;
 use std::alloc::AllocError;
@@ -34,7 +34,8 @@ fn is_writable_name(name: Option<&[u8]>) -> bool
 fn are_writable_emails(new_email: Option<&[u8]>, old_email: &[u8]) -> bool
     ensures { let new = option_copied new_email.entry in
         let old = old_email.now in
-        IsTrue result ↔ (IfSome new IsWritableEmail × IsWritableEmail old × IfSome new (λ email. email ≢ []) × IfNone new (old ≢ [])) }
+        IsTrue result ↔ (IfSome new IsWritableEmail × IsWritableEmail old
+        × IfSome new (λ email. email ≢ []) × IfNone new (old ≢ [])) }
 {
     match new_email {
         Some(new_email) => {
@@ -76,9 +77,10 @@ pub fn len_with_line(len: usize, entry: &Entry<'_>) -> Option<usize>
     len_with_part(len, Some(entry.old_email()), 4)
 }
 
-// A length and that of a text and of what stands beside it together, if there is a text.
+// A length and that of a text and of what is beside it together, if there is a text.
 fn len_with_part(len: usize, text: Option<&[u8]>, beside: usize) -> Option<usize>
-    ensures { let all = len + unwrap_or (option_map (λ t. length t + beside) (option_copied text.entry)) 0 in MatchOption result (2 ^ 64 ≤ all) (λ n. n ≡ all) }
+    ensures { let all = len + unwrap_or (option_map (λ t. length t + beside) (option_copied text.entry)) 0
+        in MatchOption result (2 ^ 64 ≤ all) (λ n. n ≡ all) }
 {
     match text {
         Some(text) => len.checked_add(text.len())?.checked_add(beside),
@@ -86,7 +88,7 @@ fn len_with_part(len: usize, text: Option<&[u8]>, beside: usize) -> Option<usize
     }
 }
 
-/// Puts the line of an entry behind what is written.
+/// Puts the line of an entry after what is written.
 pub fn push_line(out: &mut Vec<u8>, entry: &Entry<'_>) -> Result<(), AllocError>
     ensures { OnOk result (out.new.items ≡ out.old.items ++ line (mapping_of entry.now)) }
 {
@@ -94,9 +96,10 @@ pub fn push_line(out: &mut Vec<u8>, entry: &Entry<'_>) -> Result<(), AllocError>
     push_old_fields(out, entry)
 }
 
-// Puts a blank and the new fields of an entry behind what is written.
+// Puts a blank and the new fields of an entry after what is written.
 fn push_new_fields(out: &mut Vec<u8>, entry: &Entry<'_>) -> Result<(), AllocError>
-    ensures { let e = mapping_of entry.now in OnOk result (out.new.items ≡ out.old.items ++ 32 ∷ (name_part e.new_name ++ email_part e.new_email)) }
+    ensures { let e = mapping_of entry.now
+        in OnOk result (out.new.items ≡ out.old.items ++ 32 ∷ (name_part e.new_name ++ email_part e.new_email)) }
 {
     out.push(b' ')?;
     push_name(out, entry.new_name())?;
@@ -107,9 +110,11 @@ fn push_new_fields(out: &mut Vec<u8>, entry: &Entry<'_>) -> Result<(), AllocErro
     Ok(())
 }
 
-// Puts the old fields of an entry and a line feed behind what is written.
+// Puts the old fields of an entry and a line feed after what is written.
 fn push_old_fields(out: &mut Vec<u8>, entry: &Entry<'_>) -> Result<(), AllocError>
-    ensures { let e = mapping_of entry.now in OnOk result (out.new.items ≡ out.old.items ++ (name_part e.old_name ++ bracketed_email e.old_email ++ 10 ∷ [])) }
+    ensures { let e = mapping_of entry.now
+        in OnOk result (out.new.items
+        ≡ out.old.items ++ (name_part e.old_name ++ bracketed_email e.old_email ++ 10 ∷ [])) }
 {
     push_name(out, entry.old_name())?;
     push_email(out, entry.old_email())?;
@@ -117,7 +122,7 @@ fn push_old_fields(out: &mut Vec<u8>, entry: &Entry<'_>) -> Result<(), AllocErro
     Ok(())
 }
 
-// Puts a name and a blank behind what is written, if there is a name.
+// Puts a name and a blank after what is written, if there is a name.
 fn push_name(out: &mut Vec<u8>, name: Option<&[u8]>) -> Result<(), AllocError>
     ensures { OnOk result (out.new.items ≡ out.old.items ++ name_part (option_copied name.entry)) }
 {
@@ -128,7 +133,7 @@ fn push_name(out: &mut Vec<u8>, name: Option<&[u8]>) -> Result<(), AllocError>
     Ok(())
 }
 
-// Puts an email in brackets behind what is written.
+// Puts an email in brackets after what is written.
 fn push_email(out: &mut Vec<u8>, email: &[u8]) -> Result<(), AllocError>
     ensures { OnOk result (out.new.items ≡ out.old.items ++ bracketed_email email.now) }
 {

@@ -5,7 +5,7 @@ use Rattle.std.specs.Ordering.{eq_by_cmp, ordering_reverse}
 use Rattle.std.specs.List.{AllByRecursion, list_any}
 use Rattle.std.specs.List.Sorted.{IsStrictlySortedBy}
 use Rattle.std.proofs.lemmas.Bool.{or_left, or_right}
-use Rattle.mailmap_histories.proofs.Parts.{all_back}
+use Rattle.mailmap_histories.proofs.Parts.{all_tail}
 use Rattle.std.proofs.lemmas.Map.Keys.{sorted_head, sorted_tail}
 
 module _ {K : Type 0} {R : K → K → Ordering} (o : IsTotalOrder R) (exact : (x y : K) → R x y ≡ Equal → x ≡ y) where
@@ -166,11 +166,11 @@ module _ {K : Type 0} {R : K → K → Ordering} (o : IsTotalOrder R) (exact : (
   of_each P [] f = tt
   of_each P (k ∷ ks) f = (f k (has_itself k ks), of_each P ks (λ j h. f j (or_right _ _ h)))
 
-  -- in an ascending list, what stands before a key is below it, and what stands behind it above
+  -- in an ascending list, what is before a key is below it, and what is after it above
   pub before : (xs : List K) (k : K) (ys : List K) → IsStrictlySortedBy R (xs ++ k ∷ ys) → AllByRecursion (λ x. R x k ≡ Less) xs
   before [] k ys s = tt
-  before (x ∷ xs) k ys s = ((all_back (λ y. R x y ≡ Less) xs (k ∷ ys) (sorted_head R x (xs ++ k ∷ ys) s)).0, before xs k ys (sorted_tail R x (xs ++ k ∷ ys) s))
+  before (x ∷ xs) k ys s = ((all_tail (λ y. R x y ≡ Less) xs (k ∷ ys) (sorted_head R x (xs ++ k ∷ ys) s)).0, before xs k ys (sorted_tail R x (xs ++ k ∷ ys) s))
 
-  pub behind : (xs : List K) (k : K) (ys : List K) → IsStrictlySortedBy R (xs ++ k ∷ ys) → AllByRecursion (λ y. R k y ≡ Less) ys
-  behind [] k ys s = sorted_head R k ys s
-  behind (x ∷ xs) k ys s = behind xs k ys (sorted_tail R x (xs ++ k ∷ ys) s)
+  pub after : (xs : List K) (k : K) (ys : List K) → IsStrictlySortedBy R (xs ++ k ∷ ys) → AllByRecursion (λ y. R k y ≡ Less) ys
+  after [] k ys s = sorted_head R k ys s
+  after (x ∷ xs) k ys s = after xs k ys (sorted_tail R x (xs ++ k ∷ ys) s)

@@ -9,7 +9,7 @@ use Rattle.std.proofs.lemmas.List.Elements.{filter-append, filter_passes, recurs
 use Rattle.std.proofs.lemmas.Map.Lookups.{exact_bytes}
 use Rattle.mailmap_entries.specs.Entries.{Mapping}
 use Rattle.mailmap_entries.specs.Folding.{Text, folded, text_cmp}
-use Rattle.mailmap_histories.specs.Building.{IsMerged, IsBuilt, nothing, merged, refused}
+use Rattle.mailmap_histories.specs.Building.{IsMerged, IsBuilt, nothing, merged, out_of_memory}
 use Rattle.mailmap_histories.specs.Histories.{Key, Fields, has_key, key, key_cmp, last, first, new_fields, last_given, last_fields, given_fields, spelling, IsNormal, accepted, is_accepted, of_email, of_key, no_fields, unless_empty, answered, scan, fields_for}
 use Rattle.mailmap_histories.proofs.Alike.{Alike, first_name, same_normal, alike_accepted, alike_back, alike_itself, alike_joined, first_parts, last_parts, given_parts, key_parts}
 use Rattle.mailmap_histories.proofs.Exists.{normal, is_normal}
@@ -33,7 +33,7 @@ normal_accepted a xs n =
     same_normal (a ++ accepted xs) (a ++ xs) n (alike_accepted (a ++ accepted xs) (a ++ xs)
     (filter-append is_accepted a (accepted xs) ∙ ap (λ l. accepted a ++ l) (accepted_twice xs) ∙ sym (filter-append is_accepted a xs)))
 
--- where nothing is accepted nothing changes
+-- if nothing is accepted nothing changes
 pub normal_unchanged : (a xs : List Mapping) → accepted xs ≡ [] → IsNormal a a → IsNormal (a ++ xs) a
 normal_unchanged a xs none d = normal_accepted a xs a (subst (λ l. IsNormal (a ++ l) a) (sym none) (subst (λ l. IsNormal l a) (sym (append-nil a)) d))
 
@@ -48,13 +48,13 @@ is_merged old added new own d =
     record {
       normal = d;
       history = λ h is. normal_then h old added new is d;
-      idle = λ none. normal_unique (old ++ added) new old d (normal_unchanged old added none own);
+      unchanged = λ none. normal_unique (old ++ added) new old d (normal_unchanged old added none own);
     }
 
 pub built_normal : (h n : List Mapping) → IsBuilt h n → IsNormal h n
 built_normal _ _ nothing = normal_none
 built_normal _ _ (merged h n added new b d) = normal_then h n added new (built_normal h n b) d
-built_normal _ _ (refused h n new b e) = subst (IsNormal h) (sym e) (built_normal h n b)
+built_normal _ _ (out_of_memory h n new b e) = subst (IsNormal h) (sym e) (built_normal h n b)
 
 -- a stretch of the accepted entries of a history may be condensed
 pub normal_condensed : (h n a b c m : List Mapping) → IsNormal h n → accepted h ≡ a ++ b ++ c → IsNormal b m → IsNormal (a ++ m ++ c) n
@@ -113,7 +113,7 @@ alike_neighbours a b x y differ =
 
 -- ---- what an answer depends on
 
--- the accepted entries of the email alone
+-- the accepted entries of only the email
 pub scan_by_email : (h g : List Mapping) (name email : Text) → of_email h (folded email) ≡ of_email g (folded email) → scan h name email ≡ scan g name email
 scan_by_email h g name email same =
     let keyed : (o : Option Text) → of_key h (folded email, o) ≡ of_key g (folded email, o) =
@@ -141,7 +141,7 @@ one_of f None email other is = absurd (true≢false (sym is))
 one_of f (Some kept) email other is =
     one_email f.name f.email kept email _ (equal_texts kept email) ∙ sym (one_email f.name f.email kept other _ (equal_texts kept other))
 
--- signatures that differ in the case of letters alone have one email, if the history has that email
+-- signatures that differ only in the case of letters have one email, if the history has that email
 pub one_resolved : (h : List Mapping) (name other_name email other_email : Text) → folded name ≡ folded other_name → folded email ≡ folded other_email → IsSome (spelling h (folded email))
     → unwrap_or (fields_for h name email).email email ≡ unwrap_or (fields_for h other_name other_email).email other_email
 one_resolved h name other_name email other_email names emails some =

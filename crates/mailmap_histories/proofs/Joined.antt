@@ -80,7 +80,7 @@ alike_by_keys b u keyed spelled =
 abbrev pub IsApart : Mapping → Mapping → Type 0
 IsApart x y = (eq_by_cmp key_cmp (key x) (key y) ≡ false) × (eq_by_cmp text_cmp (folded x.old_email) (folded y.old_email) ≡ true → x.old_email ≡ y.old_email)
 
--- where not both pass, the two pass in either order
+-- if not both pass, the two pass in either order
 filter_swapped : {X : Type 0} (p : X → Bool) (x y : X) → (p x ≡ true → p y ≡ true → ⊥) → filter p (x ∷ y ∷ []) ≡ filter p (y ∷ x ∷ [])
 filter_swapped p x y never = by (p x) (p y) never
   where
@@ -90,7 +90,7 @@ filter_swapped p x y never = by (p x) (p y) never
     by false true h = refl
     by false false h = refl
 
--- where both give the same, so does the first that passes, in either order
+-- if both give the same, so does the first that passes, in either order
 first_swapped : {X Y : Type 0} (f : X → Y) (p : X → Bool) (x y : X) → (p x ≡ true → p y ≡ true → f x ≡ f y) → option_map f (first (filter p (x ∷ y ∷ []))) ≡ option_map f (first (filter p (y ∷ x ∷ [])))
 first_swapped f p x y same = by (p x) (p y) same
   where
@@ -120,7 +120,7 @@ pair_swapped x y apart = alike_by_keys (x ∷ y ∷ []) (y ∷ x ∷ []) (λ k. 
         (λ p q. apart.1 (sym ((eq_by_cmp_equiv nat_list_cmp_total).congr email (folded x.old_email) (folded y.old_email) ((and_parts (is_accepted x) (t x) p).1)) ∙ (and_parts (is_accepted y) (t y) q).1))
         ∙ ap (λ l. option_map (λ e. e.old_email) (first l)) (sym (filter-filter t is_accepted (y ∷ x ∷ [])))
 
--- an entry goes behind entries that are apart from it
+-- an entry goes after entries that are apart from it
 moved_behind : (x : Mapping) (ys : List Mapping) → AllByRecursion (IsApart x) ys → Alike (x ∷ ys) (ys ++ x ∷ [])
 moved_behind x [] apart = alike_itself (x ∷ [])
 moved_behind x (y ∷ ys) apart =
@@ -138,7 +138,7 @@ alike_swapped (x ∷ xs) ys apart =
 
 -- ---- what may stand as one entry
 
--- where none passes
+-- if none passes
 pub filter_none : {X : Type 0} (p : X → Bool) (xs : List X) → AllByRecursion (λ x. p x ≡ false) xs → filter p xs ≡ []
 filter_none p [] a = refl
 filter_none p (x ∷ xs) a = λ i. cond (a.0 i) (x ∷ filter p xs) (filter_none p xs a.1 i)

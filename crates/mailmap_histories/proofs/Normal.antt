@@ -122,7 +122,7 @@ normal_then h n more m d = same_normal (n ++ more) (h ++ more) m (alike_joined n
 pub all_good : (h n : List Mapping) → IsNormal h n → All (λ e. is_accepted e ≡ true) n
 all_good h n d = subst (All (λ e. is_accepted e ≡ true)) (accepted_self h n d) (filter_passes is_accepted n)
 
--- where nothing is accepted the normal list is empty
+-- if nothing is accepted the normal list is empty
 pub normal_nothing : (h n : List Mapping) → accepted h ≡ [] → IsNormal h n → n ≡ []
 normal_nothing h [] e d = refl
 normal_nothing h (x ∷ n) e d = absurd (true≢false (sym (has_itself keys_total keys_exact (key x) (map key n)) ∙ d.keys (key x) ∙ ap (λ l. has_key l (key x)) e))

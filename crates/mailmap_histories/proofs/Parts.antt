@@ -106,13 +106,13 @@ pub map_back : {X Y : Type 0} (f : X → Y) (g : Y → X) (xs : List X) → AllB
 map_back f g [] a = refl
 map_back f g (x ∷ xs) a = λ i. a.0 i ∷ map_back f g xs a.1 i
 
-pub all_front : {X : Type 0} (P : X → Type 0) (xs ys : List X) → AllByRecursion P (xs ++ ys) → AllByRecursion P xs
-all_front P [] ys a = tt
-all_front P (x ∷ xs) ys a = (a.0, all_front P xs ys a.1)
+pub all_head : {X : Type 0} (P : X → Type 0) (xs ys : List X) → AllByRecursion P (xs ++ ys) → AllByRecursion P xs
+all_head P [] ys a = tt
+all_head P (x ∷ xs) ys a = (a.0, all_head P xs ys a.1)
 
-pub all_back : {X : Type 0} (P : X → Type 0) (xs ys : List X) → AllByRecursion P (xs ++ ys) → AllByRecursion P ys
-all_back P [] ys a = a
-all_back P (x ∷ xs) ys a = all_back P xs ys a.1
+pub all_tail : {X : Type 0} (P : X → Type 0) (xs ys : List X) → AllByRecursion P (xs ++ ys) → AllByRecursion P ys
+all_tail P [] ys a = a
+all_tail P (x ∷ xs) ys a = all_tail P xs ys a.1
 
 pub all_append : {X : Type 0} (P : X → Type 0) (xs ys : List X) → AllByRecursion P xs → AllByRecursion P ys → AllByRecursion P (xs ++ ys)
 all_append P [] ys a b = b
@@ -126,7 +126,7 @@ pub all_map : {X Y : Type 0} (f : X → Y) (P : Y → Type 0) (xs : List X) → 
 all_map f P [] a = tt
 all_map f P (x ∷ xs) a = (a.0, all_map f P xs a.1)
 
--- what holds at the first place holds of the first element
+-- what holds at the first index holds of the first element
 pub first_alone : {X : Type 0} (P : X → Type 0) (xs : List X) → HoldsAt P xs 0 → AllByRecursion P (take 1 xs)
 first_alone P [] h = tt
 first_alone P (x ∷ xs) h = (h x, tt)

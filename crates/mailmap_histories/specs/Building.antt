@@ -16,19 +16,19 @@ pub record IsListing (n : List Mapping) : Type 0 where
 
 -- what a merge that is made turns the listing `old` into, where `added` is what it merges
 pub record IsMerged (old added new : List Mapping) : Type 0 where
-  -- the normal list of what was listed and what is added behind it
+  -- the normal list of what was listed and what is added after it
   pub normal : IsNormal (old ++ added) new
-  -- and of any history that the snapshot stood for, with what is added behind it
+  -- and of any history that the snapshot stood for, with what is added after it
   pub history : (h : List Mapping) → IsNormal h old → IsNormal (h ++ added) new
-  -- where no entry is accepted nothing changes
-  pub idle : accepted added ≡ [] → new ≡ old
+  -- if no entry is accepted nothing changes
+  pub unchanged : accepted added ≡ [] → new ≡ old
 
 -- What may be built, and the history that it stands for: nothing at first; then what a merge makes of it, whose entries
--- come behind the history. A merge that is refused changes neither.
+-- come after the history. A merge that runs out of memory changes neither.
 pub data IsBuilt : List Mapping → List Mapping → Type 0 where
   nothing : IsBuilt [] []
   merged : (h n added new : List Mapping) → IsBuilt h n → IsNormal (n ++ added) new → IsBuilt (h ++ added) new
-  refused : (h n new : List Mapping) → IsBuilt h n → new ≡ n → IsBuilt h new
+  out_of_memory : (h n new : List Mapping) → IsBuilt h n → new ≡ n → IsBuilt h new
 
 -- what holds of each listing n that was built, and of its history h
 pub record IsHeadline (h n : List Mapping) : Type 0 where

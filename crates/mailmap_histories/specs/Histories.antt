@@ -52,7 +52,7 @@ last (x ∷ xs) = Some (unwrap_or (last xs) x)
 abbrev pub last_given : (Mapping → Option Text) → List Mapping → Option Text
 last_given field es = last (filter_map field es)
 
--- a new name and a new email, where there are any
+-- a new name and a new email, if there are any
 pub record Fields : Type 0 where
   pub name : Option Text
   pub email : Option Text
@@ -100,7 +100,7 @@ pub record IsNormal (h n : List Mapping) : Type 0 where
 
 -- ---- what a signature is mapped to
 
--- the kept spelling, where it is not the very email
+-- the kept spelling, if it is not the very email
 abbrev pub respelled : Text → Text → Option Text
 respelled kept email = if eq_by_cmp text_cmp kept email then None else Some kept
 

@@ -28,7 +28,8 @@ pub fn law_scan()
 
 /// Histories with the same entries of each email have the same normal list.
 pub fn law_reorder()
-    ensures { (h g n : List Mapping) → ((email : Text) → of_email h email ≡ of_email g email) → IsNormal h n ↔ IsNormal g n }
+    ensures { (h g n : List Mapping) → ((email : Text) → of_email h email ≡ of_email g email) → IsNormal h n
+        ↔ IsNormal g n }
 {}
 
 /// A history has a normal list.
@@ -64,18 +65,19 @@ pub fn law_neighbours()
         → IsNormal (a ++ x ∷ y ∷ b) n ↔ IsNormal (a ++ y ∷ x ∷ b) n }
 {}
 
-/// An answer depends on the accepted entries of its email alone.
+/// An answer depends only on the accepted entries of its email.
 pub fn law_of_email()
     ensures { (h g : List Mapping) (name email : Text) → of_email h (folded email) ≡ of_email g (folded email)
         → scan h name email ≡ scan g name email }
 {}
 
-/// Signatures whose names and emails differ in the case of letters alone resolve to one email, byte for byte, where the
+/// Signatures whose names and emails differ only in the case of letters resolve to one email, byte for byte, where the
 /// history has an entry for that email.
 pub fn law_one_email()
     ensures { (h : List Mapping) (name other_name email other_email : Text)
         → folded name ≡ folded other_name → folded email ≡ folded other_email → IsSome (spelling h (folded email))
-        → unwrap_or (fields_for h name email).email email ≡ unwrap_or (fields_for h other_name other_email).email other_email }
+        → unwrap_or (fields_for h name email).email email
+        ≡ unwrap_or (fields_for h other_name other_email).email other_email }
 {}
 
 /// Texts, and keys, compare as equal exactly if they are the same. So the filters of the definitions pick entries by

@@ -4,7 +4,7 @@ use Rattle.mailmap_io.specs.declared.failure.Failure.{Failure}
 use Rattle.mailmap_io.specs.declared.outcome.Outcome.{Outcome}
 use Rattle.mailmap_io.specs.declared.outcome.Outcome.TheVariants.{Clean, Found}
 
--- 0 where nothing was found that is wrong, 1 where something was, 2 at a failure
+-- 0 if nothing was found that is wrong, 1 if something was, 2 at a failure
 abbrev pub status_of : Result Outcome Failure → ℕ
 status_of (Ok Clean) = 0
 status_of (Ok Found) = 1

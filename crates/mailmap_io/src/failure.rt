@@ -5,7 +5,7 @@ ghost use Rattle.mailmap_io.specs.declared.failure.Failure.TheVariants.{Memory};
 use std::alloc::{AllocError, AllocFailed};
 use thiserror::Error;
 
-/// Why a program ends early. A program prints it as one line on standard error, behind its own name:
+/// Why a program ends early. A program prints it as one line on standard error, after its own name:
 /// `mailmap_check: cannot read file 1`. Its exit status is then 2.
 #[derive(Clone, Copy, Debug, PartialEq, Eq, Error)]
 pub enum Failure {
@@ -21,7 +21,7 @@ pub enum Failure {
     /// Standard output, whatever kept it from being written.
     #[error("cannot write output")]
     Output,
-    /// More than one file behind `--prune`, which prints one mailmap. Nothing is read then.
+    /// More than one file after `--prune`, which prints one mailmap. Nothing is read then.
     #[error("--prune takes one FILE at most")]
     TooManyFiles,
 }

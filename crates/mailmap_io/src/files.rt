@@ -14,7 +14,7 @@ pub trait FileSystem {
     /// An open file.
     type Reader: Read + Drop;
 
-    // Whether a file that can be opened may stand at a path, and its bytes where they are known.
+    // Whether a file that can be opened may be at a path, and its bytes if they are known.
     ghost may_open: { Self → List ℕ → Type 0 };
 
     ghost bytes: { Self → List ℕ → Option (List ℕ) };
@@ -48,8 +48,8 @@ impl<F: Files> FileSystem for System<'_, F> {
 /// The bytes of the files, in order.
 ///
 /// A file that isn't there, is a folder or can't be read to its end, whatever the cause, is
-/// `Failure::File` with its place among the paths, counted from 1. The first one ends the reading.
-/// `Failure::Memory` is for the list alone.
+/// `Failure::File` with its number among the paths, counted from 1. The first one ends the reading.
+/// `Failure::Memory` is only for the list.
 pub fn read_files<F: FileSystem>(
     system: &F,
     alloc: Global,
@@ -68,7 +68,7 @@ pub fn read_files<F: FileSystem>(
     Ok(contents)
 }
 
-/// The bytes of a file. Where it can't be read, whatever the cause, it is `Failure::File` with this number.
+/// The bytes of a file. If it can't be read, whatever the cause, it is `Failure::File` with this number.
 pub fn read_file<F: FileSystem>(
     system: &F,
     alloc: Global,

@@ -1,4 +1,4 @@
-//! What a program tells whoever started it.
+//! What a program reports to whoever started it.
 ghost use Rattle.std.specs.Prelude.{◌≡◌};
 ghost use Rattle.std.specs.Process.{exit_status};
 ghost use Rattle.mailmap_io.specs.Outcome.{status_of};
@@ -15,7 +15,7 @@ pub enum Outcome {
     Found,
 }
 
-/// The exit status: 0 where nothing is wrong, 1 where something was found, and 2 at a failure.
+/// The exit status: 0 if nothing is wrong, 1 if something was found, and 2 at a failure.
 pub fn exit_code(ended: Result<Outcome, Failure>) -> ExitCode
     ensures { exit_status result ≡ status_of ended }
 {

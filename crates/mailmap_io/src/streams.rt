@@ -27,7 +27,7 @@ pub fn read_all<R: Read>(
 
 /// Writes a text to its end, and flushes.
 ///
-/// At an error what was written is a front of the text. `write_all` of std doesn't say that.
+/// At an error what was written is the beginning of the text. `write_all` of std doesn't say that.
 pub fn write_all<W: Write>(writer: &mut W, text: &[u8]) -> Result<(), Failure>
     ensures ok { OnOk result (Appends (W.contents writer.old) (W.contents writer.new) text.now) }
     ensures err { OnErr result ((count : ℕ) × Appends (W.contents writer.old) (W.contents writer.new)

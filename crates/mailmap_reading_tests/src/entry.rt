@@ -57,7 +57,7 @@ fn full(texts: &[&'static [u8]; 4]) -> Entry<'static> {
     Entry::change_name_and_email_by_name_and_email(new_name, new_email, old_name, old_email)
 }
 
-/// Entries with all four texts, each with one that comes behind it.
+/// Entries with all four texts, each with one that comes after it.
 static ASCENDING: [[[&[u8]; 4]; 2]; 5] = [
     [[b"A", b"z", b"z", b"z"], [b"B", b"a", b"a", b"a"]],
     [[b"A", b"a", b"z", b"z"], [b"A", b"b", b"a", b"a"]],

@@ -1,5 +1,4 @@
 //! Worked rows of the order, of the search and of the count.
-ghost use Rattle.std.specs.Prelude.{◌≡◌, ◌≤◌, length};
 ghost use Rattle.mailmap_entries.specs.Search.{IsPartitioned};
 
 use mailmap_entries::fold::{Probe, Steps, cmp_ignore_ascii_case, search};

@@ -81,14 +81,14 @@ fn a_fault_shows_its_line_and_the_next_line_is_read(rt: HostRuntime) {
 }
 
 #[test]
-fn a_second_half_that_is_not_closed_is_ignored(rt: HostRuntime) {
+fn a_second_contact_that_is_not_closed_is_ignored(rt: HostRuntime) {
     assert_parsed(&rt, b"Jane <a@x> <b", &[name(b"Jane", b"a@x")]);
     assert_parsed(&rt, b"a>b <a@x> <b", &[name(b"a>b", b"a@x")]);
     assert_parsed(&rt, b"<a@x> <b", &[nothing_to_map(1, b"<a@x> <b")]);
 }
 
 #[test]
-fn a_second_half_that_is_not_closed_is_a_fault_of_strict_reading(rt: HostRuntime) {
+fn a_second_contact_that_is_not_closed_is_a_fault_of_strict_reading(rt: HostRuntime) {
     assert_parsed_strictly(&rt, b"Jane <a@x> <b", &[unclosed_second(1, b" <b")]);
     assert_parsed_strictly(&rt, b"a>b <a@x> <b", &[unclosed_second(1, b" <b")]);
     assert_parsed_strictly(&rt, b"<a@x> <b", &[unclosed_second(1, b" <b")]);
@@ -128,8 +128,8 @@ fn white_space_is_that_of_unicode_and_other_bytes_stay(rt: HostRuntime) {
     let wide = b"\xe3\x80\x80Jane\xc2\xa0 <a@x\xe2\x80\x8b>";
     assert_parsed_alike(&rt, wide, &[name(b"Jane", b"a@x\xe2\x80\x8b")]);
     assert_parsed_alike(&rt, b"\xffJ <a@x>", &[name(b"\xffJ", b"a@x")]);
-    let half = b"J\xa0 <a@x\xe2\xc2\xa0>";
-    assert_parsed_alike(&rt, half, &[name(b"J\xa0", b"a@x\xe2")]);
+    let contact = b"J\xa0 <a@x\xe2\xc2\xa0>";
+    assert_parsed_alike(&rt, contact, &[name(b"J\xa0", b"a@x\xe2")]);
     let returns = b"Jane <a@x>\r\n\r\nBob <b@x>\r";
     let want = [name(b"Jane", b"a@x"), name(b"Bob", b"b@x")];
     assert_parsed_alike(&rt, returns, &want);
@@ -152,36 +152,36 @@ fn one_byte_alone_is_blank_a_comment_or_a_fault(rt: HostRuntime) {
     }
 }
 
-/// What a front of `Jane <a@x> Bob <b@x>` is read as, if it is not empty.
-fn item_of_front(front: &[u8]) -> Item<'_> {
+/// What the beginning of `Jane <a@x> Bob <b@x>` is read as, if it is not empty.
+fn item_of_start(start: &[u8]) -> Item<'_> {
     let both = Entry::change_name_and_email_by_name_and_email;
-    match front.len() {
-        0..=4 => no_email(1, front),
+    match start.len() {
+        0..=4 => no_email(1, start),
         5 => no_email(1, b"Jane"),
-        6..=9 => missing_closing_bracket(1, front),
+        6..=9 => missing_closing_bracket(1, start),
         10..=19 => name(b"Jane", b"a@x"),
         _ => Ok(both(b"Jane", b"a@x", b"Bob", b"b@x")),
     }
 }
 
-/// Wants what a front of `Jane <a@x> Bob <b@x>` is read as.
-fn assert_front(rt: &impl Abort, front: &[u8]) {
-    let item = item_of_front(front);
-    match front.len() {
-        0 => assert_parsed_alike(rt, front, &[]),
+/// Wants what the beginning of `Jane <a@x> Bob <b@x>` is read as.
+fn assert_start(rt: &impl Abort, start: &[u8]) {
+    let item = item_of_start(start);
+    match start.len() {
+        0 => assert_parsed_alike(rt, start, &[]),
         16..=19 => {
-            assert_parsed(rt, front, &[item]);
-            assert_parsed_strictly(rt, front, &[unclosed_second(1, &front[10..])]);
+            assert_parsed(rt, start, &[item]);
+            assert_parsed_strictly(rt, start, &[unclosed_second(1, &start[10..])]);
         }
-        _ => assert_parsed_alike(rt, front, &[item]),
+        _ => assert_parsed_alike(rt, start, &[item]),
     }
 }
 
 #[test]
-fn each_front_of_a_line_with_two_halves(rt: HostRuntime) {
+fn each_start_of_a_line_with_two_contacts(rt: HostRuntime) {
     let line = b"Jane <a@x> Bob <b@x>".as_slice();
     for end in 0..=20 {
-        assert_front(&rt, &line[..end]);
+        assert_start(&rt, &line[..end]);
     }
 }
 
@@ -248,7 +248,7 @@ fn each_fault_has_its_text(rt: HostRuntime) -> Result<(), AllocError> {
 }
 
 #[test]
-fn the_fault_of_an_unclosed_second_half_has_its_text(rt: HostRuntime) -> Result<(), AllocError> {
+fn the_fault_of_an_unclosed_second_contact_has_its_text(rt: HostRuntime) -> Result<(), AllocError> {
     let mut items = parse_strict(b"a>b <a@x> <b");
     let want = "1: Missing closing bracket '>' in second email";
     assert_fault(&rt, rt.alloc(), items.next(), want)

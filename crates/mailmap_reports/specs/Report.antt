@@ -4,18 +4,18 @@ use Rattle.std.specs.List.{flat_map}
 use Rattle.gix_mailmap.specs.Folding.{Text}
 use Rattle.gix_mailmap.specs.Lines.{Kind, no_email, missing_closing_bracket, empty_email, nothing_to_map, unclosed_second}
 use Rattle.gix_mailmap.specs.Contacts.{contact}
-use Rattle.gix_mailmap.specs.Findings.{Contact, Finding, Told, fault, ignored_text, no_effect, itself_mapped}
+use Rattle.gix_mailmap.specs.Findings.{Contact, Finding, Reported, fault, ignored_text, no_effect, itself_mapped}
 use Rattle.mailmap_io.specs.declared.outcome.Outcome.{Outcome}
 use Rattle.mailmap_io.specs.declared.outcome.Outcome.TheVariants.{Clean, Found}
 
--- how the file of a buffer is shown: by its path, or where no path is given as standard input
+-- how the file of a buffer is shown: by its path, or if no path is given as standard input
 abbrev pub file_name : List Text → ℕ → Text
 file_name [] buffer = codes "<stdin>"
 file_name (path ∷ paths) buffer = slice_index_or (path ∷ paths) buffer []
 
 -- FILE:LINE
-abbrev pub place_text : List Text → ℕ → ℕ → Text
-place_text paths buffer line = file_name paths buffer ++ 58 ∷ decimal line
+abbrev pub position_text : List Text → ℕ → ℕ → Text
+position_text paths buffer line = file_name paths buffer ++ 58 ∷ decimal line
 
 -- what a fault is called
 abbrev pub fault_text : Kind → Text
@@ -30,15 +30,15 @@ abbrev pub contact_text : Contact → Text
 contact_text c = contact (unwrap_or c.name []) c.email
 
 -- what was found
-abbrev pub told_text : List Text → Told → Text
-told_text paths (fault f) = codes "error: " ++ fault_text f.kind
-told_text paths (ignored_text text) = codes "warning: ignored text: " ++ text
-told_text paths (no_effect beside) = codes "warning: no effect beside " ++ place_text paths beside.buffer beside.line
-told_text paths (itself_mapped c to) = codes "warning: " ++ contact_text c ++ codes " is itself mapped, to " ++ contact_text to
+abbrev pub reported_text : List Text → Reported → Text
+reported_text paths (fault f) = codes "error: " ++ fault_text f.kind
+reported_text paths (ignored_text text) = codes "warning: ignored text: " ++ text
+reported_text paths (no_effect beside) = codes "warning: no effect beside " ++ position_text paths beside.buffer beside.line
+reported_text paths (itself_mapped c to) = codes "warning: " ++ contact_text c ++ codes " is itself mapped, to " ++ contact_text to
 
 -- the line of a finding, with its line feed
 abbrev pub finding_line : List Text → Finding → Text
-finding_line paths f = place_text paths f.place.buffer f.place.line ++ codes ": " ++ told_text paths f.told ++ 10 ∷ []
+finding_line paths f = position_text paths f.position.buffer f.position.line ++ codes ": " ++ reported_text paths f.reported ++ 10 ∷ []
 
 -- the lines of all findings, in their order
 abbrev pub report : List Text → List Finding → Text

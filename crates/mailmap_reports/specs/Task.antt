@@ -10,20 +10,20 @@ use Rattle.mailmap_reports.specs.declared.task.Mode.{Mode}
 use Rattle.mailmap_reports.specs.declared.task.Mode.TheVariants.{Help, Verify, Prune}
 use Rattle.mailmap_reports.specs.declared.task.TheConstants.{USAGE}
 
--- `--help` stands right behind the program's own name.
+-- `--help` comes right after the program's own name.
 abbrev pub AsksForHelp : List Text → Type 0
 AsksForHelp arguments = slice_get arguments 1 ≡ Some (codes "--help")
 
--- `--prune` stands right behind the program's own name.
+-- `--prune` comes right after the program's own name.
 abbrev pub AsksToPrune : List Text → Type 0
 AsksToPrune arguments = slice_get arguments 1 ≡ Some (codes "--prune")
 
--- The mailmaps are what the files at these paths hold. Where no path is given, all of the input is the one mailmap.
+-- The mailmaps are what the files at these paths hold. If no path is given, all of the input is the one mailmap.
 abbrev pub AreMailmaps : (Text → Type 0) → (Text → Option Text) → List Text → Option Text → List Text → Type 0
 AreMailmaps may_open known [] input mailmaps = (mailmap : Text) × (mailmaps ≡ mailmap ∷ []) × IfSome input (λ bytes. mailmap ≡ bytes)
 AreMailmaps may_open known (path ∷ paths) input mailmaps = AreRead may_open known (path ∷ paths) mailmaps
 
--- The text has the line of each finding in the mailmaps and nothing else, and the outcome tells whether there is one.
+-- The text has the line of each finding in the mailmaps and nothing else, and the outcome says whether there is one.
 abbrev pub IsReport : List Text → List Text → Outcome → Text → Type 0
 IsReport paths mailmaps outcome text = (findings : List Finding) × AreFindings mailmaps findings × (text ≡ report paths findings) × (outcome ≡ outcome_of findings)
 

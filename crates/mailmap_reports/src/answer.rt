@@ -25,7 +25,7 @@ pub struct Answer {
 
 /// What a task prints.
 ///
-/// Files are read in their order, and standard input only where no path is given. The first failure ends the reading.
+/// Files are read in their order, and standard input only if no path is given. The first failure ends the reading.
 pub fn answer_to<F: FileSystem, R: Read>(
     system: &F,
     alloc: Global,
@@ -92,7 +92,7 @@ fn pruned(alloc: Global, mailmap: &[u8]) -> Result<Answer, AllocError>
     })
 }
 
-// The mailmaps at the paths, or where there is none that of the input.
+// The mailmaps at the paths, or if there is none that of the input.
 fn read_mailmaps<F: FileSystem, R: Read>(
     system: &F,
     alloc: Global,
@@ -114,7 +114,7 @@ fn read_mailmaps<F: FileSystem, R: Read>(
     Ok(mailmaps)
 }
 
-// The one mailmap at the path, or where there is none that of the input.
+// The one mailmap at the path, or if there is none that of the input.
 fn read_mailmap<F: FileSystem, R: Read>(
     system: &F,
     alloc: Global,

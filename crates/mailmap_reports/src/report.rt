@@ -1,19 +1,19 @@
 //! What is found in mailmaps as text: a line for each finding.
 ghost use Rattle.std.specs.Prelude.{◌≡◌, ◌++◌, codes, map, string_bytes, IfOk, OnOk};
-ghost use Rattle.gix_mailmap.specs.Findings.{contact_of, finding_of, told_of};
+ghost use Rattle.gix_mailmap.specs.Findings.{contact_of, finding_of, reported_of};
 ghost use Rattle.gix_mailmap.specs.Lines.{fault_of};
-ghost use Rattle.mailmap_reports.specs.Report.{contact_text, told_text, fault_text, file_name, finding_line, outcome_of, place_text, report};
+ghost use Rattle.mailmap_reports.specs.Report.{contact_text, reported_text, fault_text, file_name, finding_line, outcome_of, position_text, report};
 
 use gix_mailmap::check::push_contact;
 use gix_mailmap::lines::Error;
-use gix_mailmap::verify::{Contact, Finding, Kind, Place};
+use gix_mailmap::verify::{Contact, Finding, Kind, Position};
 use itoa::Buffer;
 use mailmap_io::outcome::Outcome;
 use std::alloc::{AllocError, Global};
 
 /// The lines of the findings, each with its line feed.
 ///
-/// `paths` are those of the buffers that the findings are of; where there is none, the one buffer is standard input.
+/// `paths` are those of the buffers that the findings are of; if there is none, the one buffer is standard input.
 /// Paths, names, emails and ignored text are shown byte for byte. A finding on line 3 of the file `team` is one of these:
 ///
 /// ```text
@@ -56,22 +56,22 @@ fn push_finding(
     ensures { OnOk result (text.new.items
         ≡ text.old.items ++ finding_line (map string_bytes paths.now) (finding_of finding.now)) }
 {
-    push_place(text, paths, finding.place)?;
+    push_position(text, paths, finding.position)?;
     text.extend_from_slice(b": ")?;
     push_kind(text, paths, &finding.kind)?;
     text.push(b'\n')?;
     Ok(())
 }
 
-// Appends the file and the line of a place, with a colon between them.
-fn push_place(text: &mut Vec<u8>, paths: &[String], place: Place) -> Result<(), AllocError>
+// Appends the file and the line of a position, with a colon between them.
+fn push_position(text: &mut Vec<u8>, paths: &[String], position: Position) -> Result<(), AllocError>
     ensures { OnOk result (text.new.items
-        ≡ text.old.items ++ place_text (map string_bytes paths.now) place.buffer place.line) }
+        ≡ text.old.items ++ position_text (map string_bytes paths.now) position.buffer position.line) }
 {
     let mut digits = Buffer::new();
-    text.extend_from_slice(name_of(paths, place.buffer).as_bytes())?;
+    text.extend_from_slice(name_of(paths, position.buffer).as_bytes())?;
     text.push(b':')?;
-    text.extend_from_slice(digits.format(place.line).as_bytes())
+    text.extend_from_slice(digits.format(position.line).as_bytes())
 }
 
 // How the file of a buffer is shown.
@@ -90,7 +90,7 @@ fn name_of(paths: &[String], buffer: usize) -> &str
 // Appends what was found.
 fn push_kind(text: &mut Vec<u8>, paths: &[String], kind: &Kind<'_>) -> Result<(), AllocError>
     ensures { OnOk result (text.new.items
-        ≡ text.old.items ++ told_text (map string_bytes paths.now) (told_of kind.now)) }
+        ≡ text.old.items ++ reported_text (map string_bytes paths.now) (reported_of kind.now)) }
 {
     match kind {
         Kind::Fault(fault) => {
@@ -107,12 +107,13 @@ fn push_kind(text: &mut Vec<u8>, paths: &[String], kind: &Kind<'_>) -> Result<()
 }
 
 // Appends that a line has no effect beside another.
-fn push_no_effect(text: &mut Vec<u8>, paths: &[String], beside: Place) -> Result<(), AllocError>
+fn push_no_effect(text: &mut Vec<u8>, paths: &[String], beside: Position) -> Result<(), AllocError>
     ensures { OnOk result (text.new.items ≡ text.old.items
-        ++ (codes "warning: no effect beside " ++ place_text (map string_bytes paths.now) beside.buffer beside.line)) }
+        ++ (codes "warning: no effect beside "
+        ++ position_text (map string_bytes paths.now) beside.buffer beside.line)) }
 {
     text.extend_from_slice(b"warning: no effect beside ")?;
-    push_place(text, paths, beside)
+    push_position(text, paths, beside)
 }
 
 // Appends that a contact is itself mapped.
@@ -134,7 +135,7 @@ fn push_some_contact(text: &mut Vec<u8>, contact: Contact<'_>) -> Result<(), All
     push_contact(text, contact.name.unwrap_or(&[]), contact.email)
 }
 
-// What is wrong with a line that maps nothing, or only by its first half.
+// What is wrong with a line that maps nothing, or only by its first contact.
 fn fault_name(fault: &Error<'_>) -> &'static str
     ensures { result.now ≡ fault_text (fault_of fault.now).kind }
 {

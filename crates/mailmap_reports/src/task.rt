@@ -38,13 +38,13 @@ pub enum Mode {
 pub struct Task<'a> {
     /// What is done.
     pub mode: Mode,
-    /// The paths of the mailmaps. Where there is none, standard input has the one mailmap.
+    /// The paths of the mailmaps. If there is none, standard input has the one mailmap.
     pub paths: &'a [String],
 }
 
 /// What the arguments ask for, of which the first is the program's own name.
 ///
-/// `--help` and `--prune` count right behind that name alone; elsewhere they are paths.
+/// `--help` and `--prune` count only right after that name; elsewhere they are paths.
 pub fn task_of(arguments: &[String]) -> Task<'_>
     ensures help { (result.mode ≡ Mode.Help) ↔ AsksForHelp (map string_bytes arguments.now) }
     ensures prune { (result.mode ≡ Mode.Prune) ↔ AsksToPrune (map string_bytes arguments.now) }
@@ -71,7 +71,7 @@ pub fn task_of(arguments: &[String]) -> Task<'_>
     }
 }
 
-/// Does what is asked for, and tells whether something was found.
+/// Does what is asked for, and says whether something was found.
 ///
 /// All input is read before anything is written. The first failure ends the run.
 pub fn perform<F: FileSystem, R: Read, W: Write>(
@@ -96,12 +96,12 @@ pub fn perform<F: FileSystem, R: Read, W: Write>(
     ensures too_many { IsErrOf result Failure.TooManyFiles
         ↔ ((task.entry.mode ≡ Mode.Prune) × (1 < length task.entry.paths.now)) }
 
-    // The number of a file that can't be read is its place among the paths, from 1 on.
+    // The number of a file that can't be read is its number among the paths, from 1 on.
     ensures file { (number : ℕ) → IsErrOf result (Failure.File number) → (0 < number)
         × (number ≤ length task.entry.paths.now)
         × MayOpenBefore (F.may_open system.now) number (map string_bytes task.entry.paths.now) }
 
-    // Output that breaks off is a front of the answer; at the other failures nothing is written.
+    // Output that breaks off is the beginning of the answer; at the other failures nothing is written.
     ensures breaks_off { IsErrOf result Failure.Output → (outcome : TheOutcome) × PrintsFront
         (IsAnswer (F.may_open system.now) (F.bytes system.now) (R.remaining input.old) task.entry.mode
         (map string_bytes task.entry.paths.now) outcome)

@@ -5,18 +5,18 @@ use Rattle.gix_mailmap.specs.Contacts.{answers_by}
 use Rattle.gix_mailmap.specs.Parts.{IsSplit}
 use Rattle.gix_mailmap.specs.Writing.{IsCompacted}
 
--- the bytes of the files, where files are given
+-- the bytes of the files, if files are given
 abbrev pub bytes_of : Option (Bor (List (Bor (List ℕ)))) → Option (List (List ℕ))
 bytes_of files = option_map (λ given. map (λ file. file.now) given.now) files
 
--- The text answers the contact lines. With files all of the input holds contacts; without, they stand behind the mailmap.
+-- The text answers the contact lines. With files all of the input holds contacts; without, they come after the mailmap.
 -- Of an input that isn't known it says nothing.
 abbrev pub AnswersContacts : Option (List (List ℕ)) → Option (List ℕ) → List ℕ → Type 0
 AnswersContacts files None text = ⊤
 AnswersContacts (Some buffers) (Some input) text = text ≡ answers_by buffers input
 AnswersContacts None (Some input) text = (mailmap contacts : List ℕ) × IsSplit input mailmap contacts × (text ≡ answers_by (mailmap ∷ []) contacts)
 
--- The text is the mailmap written anew: of the files, or without files of all of the input, where that is known.
+-- The text is the mailmap written anew: of the files, or without files of all of the input, if that is known.
 abbrev pub IsMailmap : Option (List (List ℕ)) → Option (List ℕ) → List ℕ → Type 0
 IsMailmap (Some buffers) input text = IsCompacted buffers text
 IsMailmap None (Some input) text = IsCompacted (input ∷ []) text

@@ -34,7 +34,7 @@ pub fn run<R: Read, W: Write>(
     ensures reads_all { OnOk result (IsAtEnd (R.remaining input.new)) }
     ensures reads_first { IsErrOf result Failure.Output → IsAtEnd (R.remaining input.new) }
 
-    // Output that breaks off holds a front of the answers; at the other failures nothing is written.
+    // Output that breaks off holds the beginning of the answers; at the other failures nothing is written.
     ensures breaks_off { IsErrOf result Failure.Output
         → PrintsFront (AnswersContacts (bytes_of files.entry) (R.remaining input.old)) (W.contents output.old)
         (W.contents output.new) }
@@ -78,7 +78,7 @@ pub fn run_compact<R: Read, W: Write>(
     ensures reads_nothing { IsSome files.entry → input.new ≡ input.old }
     ensures input { IsErrOf result Failure.Input → IsNone files.entry }
 
-    // Output that breaks off holds a front of the mailmap; at the other failures nothing is written.
+    // Output that breaks off holds the beginning of the mailmap; at the other failures nothing is written.
     ensures breaks_off { IsErrOf result Failure.Output
         → PrintsFront (IsMailmap (bytes_of files.entry) (R.remaining input.old)) (W.contents output.old)
         (W.contents output.new) }

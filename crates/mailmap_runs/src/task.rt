@@ -25,13 +25,13 @@ pub enum Mode {
 pub struct Task<'a> {
     /// What is done with the mailmaps.
     pub mode: Mode,
-    /// The paths of their files. Where there is none, standard input has the mailmap.
+    /// The paths of their files. If there is none, standard input has the mailmap.
     pub paths: &'a [String],
 }
 
 /// What the arguments ask for, of which the first is the program's own name.
 ///
-/// `--compact` counts right behind that name alone; elsewhere it is a path.
+/// `--compact` counts only right after that name; elsewhere it is a path.
 pub fn task_of(arguments: &[String]) -> Task<'_>
     ensures compact { (result.mode ≡ Mode.Compact) ↔ AsksToCompact (map string_bytes arguments.now) }
     ensures answer_paths { result.mode ≡ Mode.Answer → result.paths.now ≡ drop 1 arguments.now }
@@ -71,7 +71,7 @@ pub fn perform<F: FileSystem, R: Read, W: Write>(
         (λ files. IsMailmap files (R.remaining input.old)))
         (W.contents output.old) (W.contents output.new)) }
 
-    // The number of a file that can't be read is its place among the paths, from 1 on.
+    // The number of a file that can't be read is its number among the paths, from 1 on.
     ensures file { (number : ℕ) → IsErrOf result (Failure.File number) → (0 < number)
         × (number ≤ length task.entry.paths.now)
         × MayOpenBefore (F.may_open system.now) number (map string_bytes task.entry.paths.now) }
@@ -79,7 +79,7 @@ pub fn perform<F: FileSystem, R: Read, W: Write>(
     // Any number of files will do.
     ensures any_number { ¬ IsErrOf result Failure.TooManyFiles }
 
-    // Output that breaks off is a front of it; at the other failures nothing is written.
+    // Output that breaks off is the beginning of it; at the other failures nothing is written.
     ensures answers_break_off { task.entry.mode ≡ Mode.Answer → IsErrOf result Failure.Output → PrintsFront
         (OfFiles (F.may_open system.now) (F.bytes system.now) (map string_bytes task.entry.paths.now)
         (λ files. AnswersContacts files (R.remaining input.old)))
@@ -99,7 +99,7 @@ pub fn perform<F: FileSystem, R: Read, W: Write>(
     }
 }
 
-// The files that are given: `None` where there are none, and standard input has the mailmap.
+// The files that are given: `None` if there are none, and standard input has the mailmap.
 fn given<'a>(buffers: &'a [&'a [u8]]) -> Option<&'a [&'a [u8]]>
     ensures { bytes_of result ≡ unless_empty (map (λ buffer. buffer.now) buffers.now) }
 {

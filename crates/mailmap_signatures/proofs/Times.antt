@@ -65,7 +65,7 @@ digits_of negative digits text seconds s form = record {
   fits = s.fits;
 }
 
--- behind a `-`
+-- after a `-`
 minus_digits : (text rest : Text) (seconds : ℤ) → text ≡ 45 ∷ rest → SpellsSeconds text seconds → IsDigitsOf rest (neg_ℤ (pos (number rest))) seconds
 minus_digits text rest seconds e s = digits_of true rest text seconds s (minus_form s.negative rest s.digits (sym e ∙ s.whole) s.are_digits.0)
 
@@ -189,9 +189,9 @@ IsTimeOf-unique text a b s t = ⊎_elim
 -- a text without a blank spells nothing
 pub Spells-no_blank : (text : Text) → Lacks 32 text → (time : Time) → ¬ Spells text time
 Spells-no_blank text lacks time s =
-    let place : get_or text (length s.front) 0 ≡ 32 = ap (λ t. get_or t (length s.front) 0) s.whole ∙ get_or-append_seam s.front 32 s.back 0 in
+    let index : get_or text (length s.front) 0 ≡ 32 = ap (λ t. get_or t (length s.front) 0) s.whole ∙ get_or-append_seam s.front 32 s.back 0 in
     let inside : length s.front < length text = omega (arith, ap length s.whole, length-append s.front (32 ∷ s.back)) in
-    lacks (length s.front) inside place
+    lacks (length s.front) inside index
 
 -- a text spells what its two sides do
 pub Spells-cut : (text front back : Text) → text ≡ front ++ 32 ∷ back → Lacks 32 front → (time : Time) → Spells text time → SpellsSeconds front time.seconds × SpellsOffset back time.offset

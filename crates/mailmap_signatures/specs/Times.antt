@@ -48,7 +48,7 @@ pub record Spells (text : Text) (time : Time) : Type 0 where
   pub seconds : SpellsSeconds front time.seconds
   pub offset : SpellsOffset back time.offset
 
--- what reading a text gives: the time that it spells, and None where it spells none
+-- what reading a text gives: the time that it spells, and None if it spells none
 abbrev pub Reads : Text → Option Time → Type 0
 Reads text read = MatchOption read ((time : Time) → ¬ Spells text time) (Spells text)
 

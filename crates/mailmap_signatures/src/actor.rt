@@ -5,7 +5,7 @@ mod derived;
 
 use crate::date::Time;
 
-/// The author or committer of a commit, as its three texts stand in the commit.
+/// The author or committer of a commit, as its three texts are in the commit.
 ///
 /// It is made by naming its three fields: cutting them out of the line of a commit is left to the caller. Two are equal
 /// where all three texts are, so two spellings of one time are different.
@@ -20,14 +20,14 @@ pub struct SignatureRef<'a> {
 }
 
 impl SignatureRef<'_> {
-    /// Reads the time, as [`Time::read`] does: `None` where the text is not as git writes it.
+    /// Reads the time, as [`Time::read`] does: `None` if the text is not as git writes it.
     pub fn time(&self) -> Option<Time>
         ensures { Reads self.now.time.now result }
     {
         Time::read(self.time)
     }
 
-    // The time, and zero in both fields where the text can't be read.
+    // The time, and zero in both fields if the text can't be read.
     pub(crate) fn time_or_default(&self) -> Time
         ensures { IsTimeOf self.now.time.now result }
     {
@@ -37,7 +37,7 @@ impl SignatureRef<'_> {
 
 /// The author or committer of a commit, with texts of its own, so that it may outlive the commit and the mailmap.
 ///
-/// Two are equal where the bytes of both texts and the times are.
+/// Two are equal if the bytes of both texts and the times are.
 #[derive(PartialEq, Eq, Debug, Drop)]
 pub struct Signature {
     /// The name.

@@ -1,4 +1,4 @@
-//! Signatures whose texts are lent where nothing was mapped, and owned where something was.
+//! Signatures whose texts are lent if nothing was mapped, and owned if something was.
 ghost use Rattle.std.specs.Prelude.{◌≡◌, ◌⊎◌, IfOk, OnErr};
 ghost use Rattle.std.specs.Cow.{cow_slice_items, IsOwnedSlice, IsBorrowedSlice};
 ghost use Rattle.mailmap_signatures.specs.SignatureFields.{owned_fields, cow_fields, empty_fields, BorrowsBoth, IsTakenFrom, IsHeldAs};
@@ -11,7 +11,7 @@ use crate::date::Time;
 use std::alloc::{AllocError, Global};
 use std::borrow::CowSlice;
 
-/// A signature like [`actor::Signature`], but each text is a copy only where it has to be: a mapped one is owned, one
+/// A signature like [`actor::Signature`], but each text is a copy only if it has to be: a mapped one is owned, one
 /// that is kept as it was is borrowed from the signature that was looked up.
 ///
 /// Signatures are ordered by name, email and time. Order, equality and hash look at the bytes of the texts, whether
@@ -38,7 +38,7 @@ impl Default for Signature<'_> {
     }
 }
 
-/// Takes the texts as they are, and reads the time: the default time where it can't be read.
+/// Takes the texts as they are, and reads the time: the default time if it can't be read.
 impl<'a> From<SignatureRef<'a>> for Signature<'a> {
     ghost from_gives = { IsTakenFrom };
 
@@ -54,12 +54,12 @@ impl<'a> From<SignatureRef<'a>> for Signature<'a> {
 impl<'a> Signature<'a> {
     /// A signature that is equal to this one, with each text owned or borrowed as it is here.
     ///
-    /// Memory is taken for owned texts alone, so that a signature with two borrowed ones is always copied.
+    /// Memory is taken only for owned texts, so that a signature with two borrowed ones is always copied.
     pub fn try_clone(&self, alloc: Global) -> Result<Signature<'a>, AllocError>
         ensures equal { IfOk result (λ copy. cow_fields copy ≡ cow_fields self.now) }
         ensures name { IfOk result (λ copy. IsHeldAs self.now.name copy.name) }
         ensures email { IfOk result (λ copy. IsHeldAs self.now.email copy.email) }
-        ensures refused { OnErr result (IsOwnedSlice self.now.name ⊎ IsOwnedSlice self.now.email) }
+        ensures out_of_memory { OnErr result (IsOwnedSlice self.now.name ⊎ IsOwnedSlice self.now.email) }
     {
         Ok(Signature {
             name: clone_text(alloc, &self.name)?,
@@ -72,11 +72,11 @@ impl<'a> Signature<'a> {
 impl actor::Signature {
     /// The same signature, with texts of its own.
     ///
-    /// Texts that are owned already are moved, and memory is taken for borrowed ones alone, so that this can't fail
-    /// where both are owned. Where memory is refused, the signature is dropped.
+    /// Texts that are owned already are moved, and memory is taken only for borrowed ones, so that this can't fail
+    /// if both are owned. If memory runs out, the signature is dropped.
     pub fn from_cow(alloc: Global, s: Signature<'_>) -> Result<actor::Signature, AllocError>
         ensures same { IfOk result (λ owned. owned_fields owned ≡ cow_fields s.entry) }
-        ensures refused { OnErr result (IsBorrowedSlice s.entry.name ⊎ IsBorrowedSlice s.entry.email) }
+        ensures out_of_memory { OnErr result (IsBorrowedSlice s.entry.name ⊎ IsBorrowedSlice s.entry.email) }
     {
         Ok(actor::Signature {
             name: s.name.into_owned(alloc)?,
@@ -90,7 +90,7 @@ impl actor::Signature {
 fn clone_text<'a>(alloc: Global, text: &CowSlice<'a, u8>) -> Result<CowSlice<'a, u8>, AllocError>
     ensures equal { IfOk result (λ copy. cow_slice_items copy ≡ cow_slice_items text.now) }
     ensures held { IfOk result (IsHeldAs text.now) }
-    ensures refused { OnErr result (IsOwnedSlice text.now) }
+    ensures out_of_memory { OnErr result (IsOwnedSlice text.now) }
 {
     match text {
         CowSlice::Borrowed(lent) => Ok(CowSlice::Borrowed(*lent)),

@@ -1,5 +1,5 @@
 //! The times of commit signatures.
-ghost use Rattle.std.specs.Prelude.{◌≡◌, ◌+◌, ◌-◌, ◌*◌, ◌∷◌, [], ℤ, pos, MatchOption};
+ghost use Rattle.std.specs.Prelude.{◌+◌, ◌-◌, ◌*◌, ◌∷◌, [], ℤ, pos, MatchOption};
 ghost use Rattle.std.specs.Option.{SomeIff};
 ghost use Rattle.std.specs.Char.{IsAsciiDigit};
 ghost use Rattle.mailmap_signatures.specs.Times.{AreDigits, number, SpellsSeconds, SpellsOffset, Reads};
@@ -7,7 +7,7 @@ ghost use Rattle.mailmap_signatures.specs.Times.{AreDigits, number, SpellsSecond
 mod order;
 /// A moment, and how far from UTC the clock was set that showed it.
 ///
-/// Times are ordered by `seconds`, and where these are equal by `offset`. The default is zero in both.
+/// Times are ordered by `seconds`, and if these are equal by `offset`. The default is zero in both.
 #[derive(Clone, Copy, Default, Debug, PartialEq, Eq, PartialOrd, Ord, Hash)]
 pub struct Time {
     /// The seconds since the beginning of 1970 in UTC, below zero before it.

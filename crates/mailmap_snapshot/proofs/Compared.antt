@@ -48,7 +48,7 @@ module _ {S T A B : Type 0} (steps : S → Option A → S → Type 0) (others : 
       let tie : true ≡ R x' y' = sym z.0 ∙ agree x y ∙ ap₂ R m.0 n.0 in
       along cs bs o p xs ys a.1.0 u b.1.0 w m.1 n.1 (a.0, a.1.2, a.2) (b.0, b.1.2, b.2) z.1 h ∙ ap (λ c. c && pointwise R xs ys) tie
 
--- `eq` of two iterators is that of their lists, place by place
+-- `eq` of two iterators is that of their lists, index by index
 pub eq_from_yields_List : {S U T A B : Type 0} {steps : S → Option A → S → Type 0} {others : T → Option A → T → Type 0} {v : A → B} {s : S} {eq : A → A → Bool} {xs ys : List B} (becomes : U → T → Type 0) (other : U) (R : B → B → Bool) (r : Bool)
     → ComparesItemsByEq steps becomes others s other eq r
     → YieldsList steps v s xs → ((it : T) → becomes other it → YieldsList others v it ys) → ((x y : A) → eq x y ≡ R (v x) (v y)) → r ≡ pointwise R xs ys

@@ -2,21 +2,21 @@
 use Rattle.std.proofs.Common.{◌≡◌, ◌+◌, ℕ, zero, suc, List, [], ◌∷◌, take, drop, Some, subst, add-one}
 use Rattle.std.specs.List.{AllByRecursion, slice_get}
 
--- the one at this place is the first of those that are left
+-- the one at this index is the first of those that are left
 pub first_left : {X : Type 0} (n : ℕ) (xs : List X) (x : X) (rest : List X) → drop n xs ≡ x ∷ rest → slice_get xs n ≡ Some x
 first_left zero [] x rest e = cc
 first_left zero (y ∷ xs) x rest e = cc
 first_left (suc n) [] x rest e = cc
 first_left (suc n) (y ∷ xs) x rest e = first_left n xs x rest e
 
--- by recursion on the place, whose next one is `suc n`
+-- by recursion on the index, whose next one is `suc n`
 next : {X : Type 0} (n : ℕ) (xs : List X) (x : X) (rest : List X) → drop n xs ≡ x ∷ rest → drop (suc n) xs ≡ rest
 next zero [] x rest e = cc
 next zero (y ∷ xs) x rest e = cc
 next (suc n) [] x rest e = cc
 next (suc n) (y ∷ xs) x rest e = next n xs x rest e
 
--- the others are left behind it
+-- the others are left after it
 pub next_left : {X : Type 0} (n : ℕ) (xs : List X) (x : X) (rest : List X) → drop n xs ≡ x ∷ rest → drop (n + 1) xs ≡ rest
 next_left n xs x rest e = rw add-one (next n xs x rest e)
 
@@ -32,14 +32,14 @@ module _ {X : Type 0} (P : X → Type 0) where
   pub one_more : (n : ℕ) (xs : List X) (x : X) (rest : List X) → drop n xs ≡ x ∷ rest → AllByRecursion P (take n xs) → P x → AllByRecursion P (take (n + 1) xs)
   one_more n xs x rest e all p = rw add-one (more n xs x rest e all p)
 
-  -- where none is left, all were seen
+  -- if none is left, all were seen
   pub none_left : (n : ℕ) (xs : List X) → drop n xs ≡ [] → AllByRecursion P (take n xs) → AllByRecursion P xs
   none_left zero [] e all = tt
   none_left zero (y ∷ xs) e all = cc
   none_left (suc n) [] e all = tt
   none_left (suc n) (y ∷ xs) e all = (all.0, none_left n xs e all.1)
 
-  -- what holds of all holds of the one at a place
+  -- what holds of all holds of the one at an index
   pub held : (n : ℕ) (xs : List X) (x : X) → slice_get xs n ≡ Some x → AllByRecursion P xs → P x
   held zero [] x e all = cc
   held zero (y ∷ xs) x e all = let h : y ≡ x = cc in subst P h all.0

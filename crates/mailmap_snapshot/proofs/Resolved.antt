@@ -1,4 +1,4 @@
--- What the places that a lookup finds say of its answer.
+-- What the indexes that a lookup finds say of its answer.
 use Rattle.std.proofs.Common.{◌≡◌, ℕ, ◌<◌, List, [], map, length, get_or, Option, Some, None, IsSome, option_map, unwrap_or, refl, sym, ap, ◌∙◌, arith}
 use Rattle.std.specs.List.{AllByRecursion, slice_get}
 use Rattle.std.specs.List.Sorted.{IsStrictlySortedBy}
@@ -7,7 +7,7 @@ use Rattle.std.proofs.lemmas.Option.{slice_get-map, slice_get-get_or, get_or_fro
 use Rattle.mailmap_entries.specs.Folding.{Text, folded, text_cmp}
 use Rattle.mailmap_tables.specs.Groups.{EmailGroup, IsGroup, AreGroups, email_key, name_key, listing}
 use Rattle.mailmap_histories.specs.Histories.{answered, scan}
-use Rattle.mailmap_tables.specs.Places.{IsFound, IsMissing}
+use Rattle.mailmap_tables.specs.KeySearch.{IsFound, IsMissing}
 use Rattle.mailmap_tables.specs.Pool.{NameLies, fields_of, spelled, name_group, group_of}
 use Rattle.mailmap_tables.specs.Texts.{email_span, old_span}
 use Rattle.mailmap_tables.specs.declared.texts.Span.{Span}
@@ -26,7 +26,7 @@ module _ (gs : List EmailGroup) (email : Text) (i : ℕ) (missing : IsMissing em
   pub no_names : name_count (listing gs) email ≡ 0
   no_names = name_count-none gs email (none_has email_key (folded email) gs i missing.below missing.above)
 
--- ---- an email that is found, with the rows that stand at its place
+-- ---- an email that is found, with the rows that are at its index
 
 module _ (gs : List EmailGroup) (are : AreGroups gs) (email : Text) (i : ℕ) (found : IsFound email_key (folded email) 0 gs i)
     (pool : Text) (r : Texts) (ns : List Texts) (read : slice_get gs i ≡ Some (group_of pool r ns)) where

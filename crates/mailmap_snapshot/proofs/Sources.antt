@@ -1,4 +1,4 @@
--- What merging an iterator says where it is known which entries it gives, and the history of sources step by step.
+-- What merging an iterator says if it is known which entries it gives, and the history of sources step by step.
 use Rattle.std.proofs.Common.{◌≡◌, ◌≢◌, ◌+◌, ◌<◌, ℕ, Bool, true, false, cond, Option, Some, List, [], ◌∷◌, ◌++◌, map, take, drop, length, get_or, Result, Ok, Err, OnOk, OnErr, is_ok, set, slice_get, Bor, ⊎_elim, append-nil, length-set, length-take-le, refl, sym, ap, ap₂, subst, ◌∙◌, arith, append_assoc, take-append-drop, take_all, ◌≤◌}
 use Rattle.std.specs.List.{AllByRecursion, flat_map}
 use Rattle.std.specs.Iterator.{Drains, Yields}
@@ -42,7 +42,7 @@ front_none : (a b : List Mapping) → a ++ b ≡ [] → a ≡ []
 front_none [] b e = refl
 front_none (x ∷ a) b e = cc
 
--- where nothing of a list is accepted, nothing of its front is
+-- if nothing of a list is accepted, nothing of its front is
 front_ignored : (n : ℕ) (l : List Mapping) → accepted l ≡ [] → accepted (take n l) ≡ []
 front_ignored n l none = front_none _ _ (sym (filter-append is_accepted (take n l) (drop n l)) ∙ ap accepted (take-append-drop n l) ∙ none)
 
@@ -55,9 +55,9 @@ module _ {S E : Type 0} {steps : S → Option Entry → S → Type 0} {s : S} {s
   merged_all (Ok u) old new m = merged_whole gives old new m
   merged_all (Err e) old new m = tt
 
-  pub refused_some : (r : Result (Unit {0}) E) → OnErr r ((xs : List Entry) × (rest : S) × Yields steps s xs rest × (accepted (map mapping_of xs) ≢ [])) → OnErr r (accepted said ≢ [])
-  refused_some (Ok u) m = tt
-  refused_some (Err e) m = λ none. m.3 (ap accepted (gives.front m.0 m.1 m.2) ∙ front_ignored (length m.0) said none)
+  pub out_of_memory_some : (r : Result (Unit {0}) E) → OnErr r ((xs : List Entry) × (rest : S) × Yields steps s xs rest × (accepted (map mapping_of xs) ≢ [])) → OnErr r (accepted said ≢ [])
+  out_of_memory_some (Ok u) m = tt
+  out_of_memory_some (Err e) m = λ none. m.3 (ap accepted (gives.front m.0 m.1 m.2) ∙ front_ignored (length m.0) said none)
 
 -- one more source, and whether it was made
 history-push : (ss : List Source) (ms : List Bool) (s : Source) (m : Bool) → length ms ≡ length ss → history (ss ++ s ∷ []) (ms ++ m ∷ []) ≡ history ss ms ++ cond m (said_by s) []
@@ -79,14 +79,14 @@ merged_next : (h n m : List Mapping) (s : Source) (r : Result (Unit {0}) AllocEr
 merged_next h n m s (Ok u) d ok err = ok.history h d
 merged_next h n m s (Err e) d ok err = subst (λ l. IsNormal l m) (sym (append-nil h)) (subst (IsNormal h) (sym err) d)
 
--- no merge of a source without an accepted entry is refused
-idle_made : (s : Source) (r : Result (Unit {0}) AllocError) → OnErr r (accepted (said_by s) ≢ []) → accepted (said_by s) ≡ [] → is_ok r ≡ true
-idle_made s (Ok u) refused none = refl
-idle_made s (Err e) refused none = absurd (refused none)
+-- no merge of a source without an accepted entry runs out of memory
+unchanged_made : (s : Source) (r : Result (Unit {0}) AllocError) → OnErr r (accepted (said_by s) ≢ []) → accepted (said_by s) ≡ [] → is_ok r ≡ true
+unchanged_made s (Ok u) out_of_memory none = refl
+unchanged_made s (Err e) out_of_memory none = absurd (out_of_memory none)
 
--- the marks up to a place tell of each source without an accepted entry that it was made
-abbrev pub MarksIdle : List Source → List Bool → ℕ → Type 0
-MarksIdle ss ms i = (k : ℕ) (s : Source) → k < i → slice_get ss k ≡ Some s → accepted (said_by s) ≡ [] → slice_get ms k ≡ Some true
+-- the marks up to an index say of each source without an accepted entry that it was made
+abbrev pub MarksUnchanged : List Source → List Bool → ℕ → Type 0
+MarksUnchanged ss ms i = (k : ℕ) (s : Source) → k < i → slice_get ss k ≡ Some s → accepted (said_by s) ≡ [] → slice_get ms k ≡ Some true
 
 module _ (ss : List Source) (ms : List Bool) (i : ℕ) (s : Source) (r : Result (Unit {0}) AllocError) (b : Bool) (is : b ≡ is_ok r) (within : i < length ss) (same : length ms ≡ length ss) (here : s ≡ get_or ss i s) where
   pub normal_more : (h n m : List Mapping) → IsNormal (h ++ history (take i ss) (take i ms)) n → OnOk r (IsMerged n (said_by s) m) → OnErr r (m ≡ n)
@@ -101,12 +101,12 @@ module _ (ss : List Source) (ms : List Bool) (i : ℕ) (s : Source) (r : Result 
       subst (λ l. IsNormal l m) (append_assoc h (history (take i ss) (take i ms)) (cond (is_ok r) (said_by s) []) ∙ ap (λ l. h ++ l) (sym step))
       (merged_next (h ++ history (take i ss) (take i ms)) n m s r d ok err)
 
-  pub marks_more : OnErr r (accepted (said_by s) ≢ []) → MarksIdle ss ms i → MarksIdle ss (set ms i b) (i + 1)
-  marks_more refused before k x below at none = ⊎_elim
+  pub marks_more : OnErr r (accepted (said_by s) ≢ []) → MarksUnchanged ss ms i → MarksUnchanged ss (set ms i b) (i + 1)
+  marks_more out_of_memory before k x below at none = ⊎_elim
       (λ (is_here : k ≡ i).
       let x_is : x ≡ s = sym (get_or_from_slice_get ss k x s at) ∙ ap (λ j. get_or ss j s) is_here ∙ sym here in
       slice_get_read (set ms i b) (length (set ms i b)) k true refl (omega (arith, same, length-set ms i b))
-      (sym (ap (λ j. get_or (set ms i b) j true) is_here ∙ get_or-set_same ms i b true (omega (arith, same)) ∙ is ∙ idle_made s r refused (ap (λ y. accepted (said_by y)) (sym x_is) ∙ none))))
+      (sym (ap (λ j. get_or (set ms i b) j true) is_here ∙ get_or-set_same ms i b true (omega (arith, same)) ∙ is ∙ unchanged_made s r out_of_memory (ap (λ y. accepted (said_by y)) (sym x_is) ∙ none))))
       (λ (other : k ≢ i).
       let low : k < i = omega arith in
       slice_get_read (set ms i b) (length (set ms i b)) k true refl (omega (arith, same, length-set ms i b))
@@ -120,7 +120,7 @@ sources_merged ss ms i old new all same own d =
     let whole : history (take i ss) (take i ms) ≡ history ss ms = ap₂ history (take_all i ss all) (take_all i ms (omega (arith, same))) in
     is_merged old (history ss ms) new own (subst (λ l. IsNormal (old ++ l) new) whole d)
 
--- where none is marked as made, nothing is said
+-- if none is marked as made, nothing is said
 pub none_said : (ss : List Source) (ms : List Bool) → AllByRecursion (λ m. m ≡ false) ms → history ss ms ≡ []
 unfolding history
 none_said [] ms none = refl

@@ -8,17 +8,17 @@ use Rattle.mailmap_signatures.specs.declared.actor.SignatureRef.{SignatureRef}
 use Rattle.mailmap_signatures.specs.declared.cow.Signature.{Signature}
 use Rattle.mailmap_histories.specs.Histories.{Fields, fields_for, scan}
 
--- what a history gives in the place of a signature's name and email, if it gives either
+-- what a history gives in place of a signature's name and email, if it gives either
 abbrev pub mapped : List Mapping → SignatureRef → Option Fields
 mapped h signature = scan h signature.name.now signature.email.now
 
--- a signature with these fields, where there are any, in the place of its own, and its time
+-- a signature with these fields, if there are any, in place of its own, and its time
 pub record IsEnriched (new : Fields) (signature : SignatureRef) (answer : SignatureFields) : Type 0 where
   pub name : answer.name ≡ unwrap_or new.name signature.name.now
   pub email : answer.email ≡ unwrap_or new.email signature.email.now
   pub time : IsTimeOf signature.time.now answer.time
 
--- a text is owned where there is a field for it, and else borrowed
+-- a text is owned if there is a field for it, and else borrowed
 pub record OwnsJust (new : Fields) (answer : Signature) : Type 0 where
   pub name : MatchOption new.name (IsBorrowedSlice answer.name) (λ _. IsOwnedSlice answer.name)
   pub email : MatchOption new.email (IsBorrowedSlice answer.email) (λ _. IsOwnedSlice answer.email)

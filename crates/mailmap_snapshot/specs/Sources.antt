@@ -5,7 +5,7 @@ use Rattle.mailmap_grammar.specs.Lines.{good}
 use Rattle.mailmap_snapshot.specs.declared.snapshot.sources.Source.{Source}
 use Rattle.mailmap_snapshot.specs.declared.snapshot.sources.Source.TheVariants.{Buffer, Entries}
 
--- the good lines of a buffer, or the entries as they stand
+-- the good lines of a buffer, or the entries as they are
 abbrev pub said_by : Source → List Mapping
 said_by (Buffer b) = good b.now
 said_by (Entries es) = map mapping_of es.now

@@ -9,16 +9,16 @@ use Rattle.mailmap_entries.specs.Folding.{Text}
 use Rattle.mailmap_histories.specs.Histories.{IsNormal}
 use Rattle.mailmap_grammar.specs.Lines.{good}
 
--- a line can hold each entry before this place, and not the one at it
-pub record IsFirstUnwritable (es : List Mapping) (place : ℕ) : Type 0 where
-  pub before : All IsWritable (take place es)
+-- a line can hold each entry before this index, and not the one at it
+pub record IsFirstUnwritable (es : List Mapping) (index : ℕ) : Type 0 where
+  pub before : All IsWritable (take index es)
   pub entry : Mapping
-  pub here : slice_get es place ≡ Some entry
+  pub here : slice_get es index ≡ Some entry
   pub unwritable : ¬ IsWritable entry
 
--- why these entries aren't written: the first that no line can hold, or out of memory where a line can hold each
+-- why these entries aren't written: the first that no line can hold, or out of memory if a line can hold each
 abbrev pub IsUnwrittenBy : List Mapping → WriteError → Type 0
-IsUnwrittenBy es (Unwritable place) = IsFirstUnwritable es place
+IsUnwrittenBy es (Unwritable index) = IsFirstUnwritable es index
 IsUnwrittenBy es (Memory error) = All IsWritable es
 
 -- the bytes are the text of the normal list of what the buffers say, one buffer after another

@@ -1,5 +1,5 @@
 -- How many bytes texts have, and how many go into the pool at most.
-use Rattle.std.proofs.Common.{◌≡◌, ◌+◌, ◌≤◌, ℕ, List, [], ◌∷◌, map, option_map, min, length, sum_by, Option, Some, None, sym, ap, ◌∙◌, arith, refl}
+use Rattle.std.proofs.Common.{◌≡◌, ◌+◌, ◌≤◌, ℕ, List, [], option_map, min, length, Option, Some, None, sym, ap, ◌∙◌, arith, refl}
 use Rattle.std.specs.Option.{ForSome, option_or}
 use Rattle.std.proofs.lemmas.List.{length-map}
 use Rattle.mailmap_entries.specs.Folding.{Text, folded}
@@ -10,7 +10,7 @@ use Rattle.mailmap_tables.specs.Texts.{byte_count, email_span, name_span, old_sp
 use Rattle.mailmap_tables.specs.declared.texts.TheConstants.{NO_TEXT}
 use Rattle.mailmap_tables.specs.declared.texts.Span.{Span}
 use Rattle.mailmap_tables.specs.declared.texts.Texts.{Texts}
-use Rattle.mailmap_tables.specs.Room.{optional_bytes, own_bytes}
+use Rattle.mailmap_tables.specs.Reserved.{optional_bytes, own_bytes}
 use Rattle.mailmap_tables.proofs.EmailPuts.{options_on}
 use Rattle.mailmap_tables.proofs.RowTexts.{email_counts, email_ends, name_counts, spelled_len}
 

@@ -7,5 +7,5 @@ pub no_groups : AreGroups []
 unfolding IsStrictlySortedBy
 no_groups = record { ascending = tt; each = tt }
 
-pub complete_empty : IsComplete (record { pool = []; groups = []; loose = [] })
-complete_empty = record { groups = no_groups; no_loose = refl }
+pub complete_empty : IsComplete (record { pool = []; groups = []; pending = [] })
+complete_empty = record { groups = no_groups; none_pending = refl }

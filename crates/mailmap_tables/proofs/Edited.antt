@@ -1,12 +1,12 @@
--- What tables denote where a row is put between others, or in the place of one.
+-- What tables denote where a row is put between others, or in place of one.
 use Rattle.std.proofs.Common.{◌≡◌, ◌+◌, ◌-◌, ◌≤◌, ◌<◌, get_or, ℕ, zero, suc, List, [], ◌∷◌, ◌++◌, map, take, drop, length, set, length-drop, option_map, refl, sym, ap, ◌∙◌, arith, subst}
 use Rattle.std.specs.List.{AllByRecursion, insert}
 use Rattle.std.proofs.Math.Seq.{take-set-lt}
 use Rattle.std.proofs.lemmas.List.{drop-set-lt, take-set-le, drop-set-add, map-set}
 use Rattle.mailmap_entries.specs.Folding.{Text}
 use Rattle.mailmap_tables.specs.Merging.{bare}
-use Rattle.mailmap_tables.specs.Pool.{spelled, names_of, name_group, email_group, EmailLies, Follow, end_of, front_of}
-use Rattle.mailmap_tables.specs.Room.{one_later}
+use Rattle.mailmap_tables.specs.Pool.{spelled, names_of, name_group, email_group, EmailLies, Follow, end_of, prefix_of}
+use Rattle.mailmap_tables.specs.Reserved.{one_later}
 use Rattle.mailmap_tables.specs.Texts.{IsBare}
 use Rattle.mailmap_tables.specs.declared.texts.Span.{Span}
 use Rattle.mailmap_tables.specs.declared.texts.Texts.{Texts}
@@ -30,7 +30,7 @@ all_set P [] i x all p = tt
 all_set P (y ∷ xs) zero x all p = (p, all.1)
 all_set P (y ∷ xs) (suc i) x all p = (all.0, all_set P xs i x all.1 p)
 
--- what begins before the new one has it d behind
+-- what begins before the new one has it d after
 drop-insert_below : {X : Type 0} (xs : List X) (s p d : ℕ) (x : X) → p ≡ s + d → p ≤ length xs → drop s (insert xs p x) ≡ insert (drop s xs) d x
 drop-insert_below xs zero p d x is le = ap (λ k. insert xs k x) (omega (arith, is))
 drop-insert_below [] (suc s) p d x is le = absurd (omega (arith, is, le))
@@ -44,10 +44,10 @@ drop-insert_above (y ∷ xs) zero (suc p) x above le = absurd (omega (arith, abo
 drop-insert_above (y ∷ xs) (suc s) (suc p) x above le = drop-insert_above xs s p x (omega (arith, above)) (omega (arith, le))
 
 take-insert_in : {X : Type 0} (xs : List X) (n d : ℕ) (x : X) → d ≤ n → d ≤ length xs → take (suc n) (insert xs d x) ≡ insert (take n xs) d x
-take-insert_in xs n zero x in_front le = refl
-take-insert_in [] n (suc d) x in_front le = absurd (omega (arith, le))
-take-insert_in (y ∷ xs) zero (suc d) x in_front le = absurd (omega (arith, in_front))
-take-insert_in (y ∷ xs) (suc n) (suc d) x in_front le = ap (λ l. y ∷ l) (take-insert_in xs n d x (omega (arith, in_front)) (omega (arith, le)))
+take-insert_in xs n zero x in_head le = refl
+take-insert_in [] n (suc d) x in_head le = absurd (omega (arith, le))
+take-insert_in (y ∷ xs) zero (suc d) x in_head le = absurd (omega (arith, in_head))
+take-insert_in (y ∷ xs) (suc n) (suc d) x in_head le = ap (λ l. y ∷ l) (take-insert_in xs n d x (omega (arith, in_head)) (omega (arith, le)))
 
 take-insert_before : {X : Type 0} (xs : List X) (n d : ℕ) (x : X) → n ≤ d → d ≤ length xs → take n (insert xs d x) ≡ take n xs
 take-insert_before xs zero d x before le = refl
@@ -55,9 +55,9 @@ take-insert_before xs (suc n) zero x before le = absurd (omega (arith, before))
 take-insert_before [] (suc n) (suc d) x before le = absurd (omega (arith, le))
 take-insert_before (y ∷ xs) (suc n) (suc d) x before le = ap (λ l. y ∷ l) (take-insert_before xs n d x (omega (arith, before)) (omega (arith, le)))
 
--- ---- rows behind which a name more stands
+-- ---- rows after which a name more stands
 
--- the range of an email is one longer, and those behind it begin one later
+-- the range of an email is one longer, and those after it begin one later
 abbrev pub lengthen : ℕ → List EmailRow → List EmailRow
 lengthen i [] = []
 lengthen zero (r ∷ rs) = record r { names_end = r.names_end + 1 } ∷ map one_later rs
@@ -95,16 +95,16 @@ lengthen_lie n i [] all = tt
 lengthen_lie n zero (r ∷ rs) all = (all.0, later_lie n rs all.1)
 lengthen_lie n (suc i) (r ∷ rs) all = (all.0, lengthen_lie n i rs all.1)
 
-fronts_later : (pool : Text) (es : List EmailRow) → map (front_of pool) (map one_later es) ≡ map (front_of pool) es
-fronts_later pool [] = refl
-fronts_later pool (r ∷ rs) = ap (λ l. front_of pool r ∷ l) (fronts_later pool rs)
+prefixes_later : (pool : Text) (es : List EmailRow) → map (prefix_of pool) (map one_later es) ≡ map (prefix_of pool) es
+prefixes_later pool [] = refl
+prefixes_later pool (r ∷ rs) = ap (λ l. prefix_of pool r ∷ l) (prefixes_later pool rs)
 
-pub fronts_lengthen : (pool : Text) (i : ℕ) (es : List EmailRow) → map (front_of pool) (lengthen i es) ≡ map (front_of pool) es
-fronts_lengthen pool i [] = refl
-fronts_lengthen pool zero (r ∷ rs) = ap (λ l. front_of pool r ∷ l) (fronts_later pool rs)
-fronts_lengthen pool (suc i) (r ∷ rs) = ap (λ l. front_of pool r ∷ l) (fronts_lengthen pool i rs)
+pub prefixes_lengthen : (pool : Text) (i : ℕ) (es : List EmailRow) → map (prefix_of pool) (lengthen i es) ≡ map (prefix_of pool) es
+prefixes_lengthen pool i [] = refl
+prefixes_lengthen pool zero (r ∷ rs) = ap (λ l. prefix_of pool r ∷ l) (prefixes_later pool rs)
+prefixes_lengthen pool (suc i) (r ∷ rs) = ap (λ l. prefix_of pool r ∷ l) (prefixes_lengthen pool i rs)
 
--- ---- the names of emails, where there is one more, or another
+-- ---- the names of emails, if there is one more, or another
 
 start_above : (k n i : ℕ) (es : List EmailRow) (d : EmailRow) → Follow k n es → i < length es → k ≤ (get_or es i d).names_start
 start_above k n i [] d h lt = absurd (omega (arith, lt))
@@ -118,7 +118,7 @@ module _ (pool : Text) (names : List Texts) (p : ℕ) (row : Texts) where
   abbrev other : List Texts
   other = set names p row
 
-  -- an email whose names end before the place
+  -- an email whose names end before the index
   before_insert : (e : EmailRow) → e.names_start ≤ e.names_end → e.names_end ≤ p → p ≤ length names → email_group pool more e ≡ email_group pool names e
   before_insert e up before le =
       let d = p - e.names_start in
@@ -137,29 +137,29 @@ module _ (pool : Text) (names : List Texts) (p : ℕ) (row : Texts) where
       ∙ take-set-le (e.names_end - e.names_start) (drop e.names_start names) d row (omega arith) in
       λ i. record (email_group pool names e) { names = map (name_group pool) (same i) }
 
-  -- an email whose names begin behind it
-  behind_insert : (e : EmailRow) → p ≤ e.names_start → p ≤ length names → email_group pool more (one_later e) ≡ email_group pool names e
-  behind_insert e behind le =
+  -- an email whose names begin after it
+  after_insert : (e : EmailRow) → p ≤ e.names_start → p ≤ length names → email_group pool more (one_later e) ≡ email_group pool names e
+  after_insert e after le =
       let count : e.names_end + 1 - (e.names_start + 1) ≡ e.names_end - e.names_start = omega arith in
       let next : e.names_start + 1 ≡ suc e.names_start = omega arith in
       let same : names_of more (one_later e) ≡ names_of names e = (λ i. take (count i) (drop (next i) more))
-      ∙ ap (take (e.names_end - e.names_start)) (drop-insert_above names e.names_start p row behind le) in
+      ∙ ap (take (e.names_end - e.names_start)) (drop-insert_above names e.names_start p row after le) in
       λ i. record (email_group pool names e) { names = map (name_group pool) (same i) }
 
-  behind_set : (e : EmailRow) → p < e.names_start → email_group pool other e ≡ email_group pool names e
-  behind_set e behind =
-      let same : names_of other e ≡ names_of names e = ap (take (e.names_end - e.names_start)) (drop-set-lt e.names_start names p row behind) in
+  after_set : (e : EmailRow) → p < e.names_start → email_group pool other e ≡ email_group pool names e
+  after_set e after =
+      let same : names_of other e ≡ names_of names e = ap (take (e.names_end - e.names_start)) (drop-set-lt e.names_start names p row after) in
       λ i. record (email_group pool names e) { names = map (name_group pool) (same i) }
 
-  behind_inserts : (k n : ℕ) (es : List EmailRow) → Follow k n es → p ≤ k → p ≤ length names → map (email_group pool more) (map one_later es) ≡ map (email_group pool names) es
-  behind_inserts k n [] h behind le = refl
-  behind_inserts k n (r ∷ rs) h behind le = λ i. behind_insert r (omega (arith, h.0, behind)) le i ∷ behind_inserts r.names_end n rs h.2 (omega (arith, h.1, behind)) le i
+  after_inserts : (k n : ℕ) (es : List EmailRow) → Follow k n es → p ≤ k → p ≤ length names → map (email_group pool more) (map one_later es) ≡ map (email_group pool names) es
+  after_inserts k n [] h after le = refl
+  after_inserts k n (r ∷ rs) h after le = λ i. after_insert r (omega (arith, h.0, after)) le i ∷ after_inserts r.names_end n rs h.2 (omega (arith, h.1, after)) le i
 
-  behind_sets : (k n : ℕ) (es : List EmailRow) → Follow k n es → p < k → map (email_group pool other) es ≡ map (email_group pool names) es
-  behind_sets k n [] h behind = refl
-  behind_sets k n (r ∷ rs) h behind = λ i. behind_set r (omega (arith, h.0, behind)) i ∷ behind_sets r.names_end n rs h.2 (omega (arith, h.1, behind)) i
+  after_sets : (k n : ℕ) (es : List EmailRow) → Follow k n es → p < k → map (email_group pool other) es ≡ map (email_group pool names) es
+  after_sets k n [] h after = refl
+  after_sets k n (r ∷ rs) h after = λ i. after_set r (omega (arith, h.0, after)) i ∷ after_sets r.names_end n rs h.2 (omega (arith, h.1, after)) i
 
-  -- the email itself, d of whose names stand in front
+  -- the email itself, d of whose names come first
   at_insert : (e : EmailRow) (d : ℕ) → p ≡ e.names_start + d → e.names_start ≤ e.names_end → d ≤ e.names_end - e.names_start → p ≤ length names
       → email_group pool more (record e { names_end = e.names_end + 1 }) ≡ record (email_group pool names e) { names = insert (email_group pool names e).names d (name_group pool row) }
   at_insert e d at up within le =
@@ -179,36 +179,36 @@ module _ (pool : Text) (names : List Texts) (p : ℕ) (row : Texts) where
       λ i. record (email_group pool names e) { names = (ap (map (name_group pool)) same ∙ map-set (name_group pool) (names_of names e) d row) i }
 
   -- all emails, where a name more is put among those of one
-  pub groups_insert : (k : ℕ) (es : List EmailRow) (place d : ℕ) (e : EmailRow) → Follow k (length names) es → place < length es → e ≡ get_or es place e → p ≡ e.names_start + d → d ≤ e.names_end - e.names_start → p ≤ length names
-      → map (email_group pool more) (lengthen place es)
-      ≡ take place (map (email_group pool names) es) ++ record (email_group pool names e) { names = insert (email_group pool names e).names d (name_group pool row) } ∷ drop (suc place) (map (email_group pool names) es)
-  groups_insert k [] place d e h lt read at within le = absurd (omega (arith, lt))
+  pub groups_insert : (k : ℕ) (es : List EmailRow) (index d : ℕ) (e : EmailRow) → Follow k (length names) es → index < length es → e ≡ get_or es index e → p ≡ e.names_start + d → d ≤ e.names_end - e.names_start → p ≤ length names
+      → map (email_group pool more) (lengthen index es)
+      ≡ take index (map (email_group pool names) es) ++ record (email_group pool names e) { names = insert (email_group pool names e).names d (name_group pool row) } ∷ drop (suc index) (map (email_group pool names) es)
+  groups_insert k [] index d e h lt read at within le = absurd (omega (arith, lt))
   groups_insert k (r ∷ rs) zero d e h lt read at within le =
       let start : e.names_start ≡ k = ap (λ (x : EmailRow). x.names_start) read ∙ h.0 in
       let end : e.names_end ≡ r.names_end = ap (λ (x : EmailRow). x.names_end) read in
       let up : e.names_start ≤ e.names_end = omega (arith, h.1, start, end) in
-      let behind : p ≤ r.names_end = omega (arith, at, within, end, up) in
-      λ i. (ap (λ (x : EmailRow). email_group pool more (record x { names_end = x.names_end + 1 })) (sym read) ∙ at_insert e d at up within le) i ∷ behind_inserts r.names_end (length names) rs h.2 behind le i
-  groups_insert k (r ∷ rs) (suc place) d e h lt read at within le =
-      let lt_rest : place < length rs = omega (arith, lt) in
-      let high : r.names_end ≤ e.names_start = subst (λ (x : EmailRow). r.names_end ≤ x.names_start) (sym read) (start_above r.names_end (length names) place rs e h.2 lt_rest) in
-      λ i. before_insert r (omega (arith, h.0, h.1)) (omega (arith, high, at)) le i ∷ groups_insert r.names_end rs place d e h.2 lt_rest read at within le i
+      let after : p ≤ r.names_end = omega (arith, at, within, end, up) in
+      λ i. (ap (λ (x : EmailRow). email_group pool more (record x { names_end = x.names_end + 1 })) (sym read) ∙ at_insert e d at up within le) i ∷ after_inserts r.names_end (length names) rs h.2 after le i
+  groups_insert k (r ∷ rs) (suc index) d e h lt read at within le =
+      let lt_tail : index < length rs = omega (arith, lt) in
+      let high : r.names_end ≤ e.names_start = subst (λ (x : EmailRow). r.names_end ≤ x.names_start) (sym read) (start_above r.names_end (length names) index rs e h.2 lt_tail) in
+      λ i. before_insert r (omega (arith, h.0, h.1)) (omega (arith, high, at)) le i ∷ groups_insert r.names_end rs index d e h.2 lt_tail read at within le i
 
   -- all emails, where another name is put among those of one
-  pub groups_set : (k n : ℕ) (es : List EmailRow) (place d : ℕ) (e : EmailRow) → Follow k n es → place < length es → e ≡ get_or es place e → p ≡ e.names_start + d → d < e.names_end - e.names_start
+  pub groups_set : (k n : ℕ) (es : List EmailRow) (index d : ℕ) (e : EmailRow) → Follow k n es → index < length es → e ≡ get_or es index e → p ≡ e.names_start + d → d < e.names_end - e.names_start
       → map (email_group pool other) es
-      ≡ take place (map (email_group pool names) es) ++ record (email_group pool names e) { names = set (email_group pool names e).names d (name_group pool row) } ∷ drop (suc place) (map (email_group pool names) es)
-  groups_set k n [] place d e h lt read at within = absurd (omega (arith, lt))
+      ≡ take index (map (email_group pool names) es) ++ record (email_group pool names e) { names = set (email_group pool names e).names d (name_group pool row) } ∷ drop (suc index) (map (email_group pool names) es)
+  groups_set k n [] index d e h lt read at within = absurd (omega (arith, lt))
   groups_set k n (r ∷ rs) zero d e h lt read at within =
       let end : e.names_end ≡ r.names_end = ap (λ (x : EmailRow). x.names_end) read in
-      let behind : p < r.names_end = omega (arith, at, within, end) in
-      λ i. (ap (email_group pool other) (sym read) ∙ at_set e d at within) i ∷ behind_sets r.names_end n rs h.2 behind i
-  groups_set k n (r ∷ rs) (suc place) d e h lt read at within =
-      let lt_rest : place < length rs = omega (arith, lt) in
-      let high : r.names_end ≤ e.names_start = subst (λ (x : EmailRow). r.names_end ≤ x.names_start) (sym read) (start_above r.names_end n place rs e h.2 lt_rest) in
-      λ i. before_set r (omega (arith, h.0, h.1)) (omega (arith, high, at)) i ∷ groups_set r.names_end n rs place d e h.2 lt_rest read at within i
+      let after : p < r.names_end = omega (arith, at, within, end) in
+      λ i. (ap (email_group pool other) (sym read) ∙ at_set e d at within) i ∷ after_sets r.names_end n rs h.2 after i
+  groups_set k n (r ∷ rs) (suc index) d e h lt read at within =
+      let lt_tail : index < length rs = omega (arith, lt) in
+      let high : r.names_end ≤ e.names_start = subst (λ (x : EmailRow). r.names_end ≤ x.names_start) (sym read) (start_above r.names_end n index rs e h.2 lt_tail) in
+      λ i. before_set r (omega (arith, h.0, h.1)) (omega (arith, high, at)) i ∷ groups_set r.names_end n rs index d e h.2 lt_tail read at within i
 
--- where the names of an email stand among all
+-- where the names of an email are among all
 pub range_ends : (k n : ℕ) (es : List EmailRow) (i : ℕ) (d : EmailRow) → Follow k n es → i < length es → (get_or es i d).names_end ≤ end_of k es
 range_ends k n [] i d h lt = absurd (omega (arith, lt))
 range_ends k n (r ∷ rs) zero d h lt = end_above r.names_end n rs h.2
@@ -259,23 +259,23 @@ bare_group pool names t s at is =
     }
 
 -- the names that no email has, where one more is put before them
-pub loose_insert : (pool : Text) (names : List Texts) (p end : ℕ) (row : Texts) → p ≤ end → p ≤ length names → map (name_group pool) (drop (end + 1) (insert names p row)) ≡ map (name_group pool) (drop end names)
-loose_insert pool names p end row le within =
+pub pending_insert : (pool : Text) (names : List Texts) (p end : ℕ) (row : Texts) → p ≤ end → p ≤ length names → map (name_group pool) (drop (end + 1) (insert names p row)) ≡ map (name_group pool) (drop end names)
+pending_insert pool names p end row le within =
     let next : end + 1 ≡ suc end = omega arith in
     (λ i. map (name_group pool) (drop (next i) (insert names p row))) ∙ ap (map (name_group pool)) (drop-insert_above names end p row le within)
 
--- those of the rows behind one that is written again
-pub ranges_behind : (m k n : ℕ) (es : List EmailRow) (i j : ℕ) (e : EmailRow) (written : List EmailRow) → n < m → Follow k n es → written ≡ set es i e → AllByRecursion (λ (r : EmailRow). (r.names_start < m) × (r.names_end < m)) (take j (drop (i + 1) written))
-ranges_behind m k n es i j e written lt h is =
+-- those of the rows after one that is written again
+pub ranges_after : (m k n : ℕ) (es : List EmailRow) (i j : ℕ) (e : EmailRow) (written : List EmailRow) → n < m → Follow k n es → written ≡ set es i e → AllByRecursion (λ (r : EmailRow). (r.names_start < m) × (r.names_end < m)) (take j (drop (i + 1) written))
+ranges_after m k n es i j e written lt h is =
     let next : i + 1 ≡ suc i = omega arith in
     let P : EmailRow → Type 0 = λ r. (r.names_start < m) × (r.names_end < m) in
     let same : drop (i + 1) written ≡ drop (suc i) es = (λ k. drop (next k) (is k)) ∙ drop-set-lt (suc i) es i e (omega arith) in
-    all_part P j (drop (i + 1) written) (subst (AllByRecursion P) (sym same) (all_behind P (suc i) es (ranges_below m k n es lt h)))
+    all_part P j (drop (i + 1) written) (subst (AllByRecursion P) (sym same) (all_after P (suc i) es (ranges_below m k n es lt h)))
   where
-    all_behind : (P : EmailRow → Type 0) (k : ℕ) (xs : List EmailRow) → AllByRecursion P xs → AllByRecursion P (drop k xs)
-    all_behind P zero xs all = all
-    all_behind P (suc k) [] all = tt
-    all_behind P (suc k) (x ∷ xs) all = all_behind P k xs all.1
+    all_after : (P : EmailRow → Type 0) (k : ℕ) (xs : List EmailRow) → AllByRecursion P xs → AllByRecursion P (drop k xs)
+    all_after P zero xs all = all
+    all_after P (suc k) [] all = tt
+    all_after P (suc k) (x ∷ xs) all = all_after P k xs all.1
 
     all_part : (P : EmailRow → Type 0) (k : ℕ) (xs : List EmailRow) → AllByRecursion P xs → AllByRecursion P (take k xs)
     all_part P zero xs all = tt

@@ -13,7 +13,7 @@ use Rattle.mailmap_histories.specs.Histories.{is_accepted}
 use Rattle.mailmap_batches.specs.Batches.{IsAscending, mapping_at, name_text}
 use Rattle.mailmap_tables.specs.Merging.{Extends, NamesJoined, EmailJoined, with_email}
 use Rattle.mailmap_tables.specs.Pool.{spelled, LiesIn}
-use Rattle.mailmap_batches.specs.declared.indexed.Placed.{Placed}
+use Rattle.mailmap_batches.specs.declared.indexed.IndexedEntry.{IndexedEntry}
 use Rattle.mailmap_tables.specs.declared.texts.Span.{Span}
 use Rattle.mailmap_tables.proofs.Given.{fold-give-with_email}
 use Rattle.mailmap_tables.proofs.Merging.{own_of, IsOwn, own_joined, group_joined}
@@ -33,7 +33,7 @@ lies_on a b e s lies = omega (arith, lies, length-append a e.0, ap length e.1)
 pub options_lie_on : (a b : Text) → Extends a b → (o : Option Span) → ForSome o (LiesIn (length a)) → ForSome o (LiesIn (length b))
 options_lie_on a b e o lies = λ s is. lies_on a b e s (lies s is)
 
--- ---- the named entries of a run
+-- ---- the named entries of a group
 
 abbrev pub name_of : Mapping → Option Text
 name_of m = option_map folded m.old_name
@@ -46,7 +46,7 @@ some_copied : (o : Option (Bor Text)) → option_copied o ≢ None → IsSome o
 some_copied None n = absurd (n refl)
 some_copied (Some x) n = refl
 
-is_named : (p : Placed) → (mapping_at p).old_name ≢ None → IsNamed (mapping_at p)
+is_named : (p : IndexedEntry) → (mapping_at p).old_name ≢ None → IsNamed (mapping_at p)
 is_named p n =
     let some = some_copied p.entry.now.old_name n in
     record { old_name = copied_some p.entry.now.old_name some; new_email = copied_some p.entry.now.new_email (p.entry.now.paired some) }
@@ -57,15 +57,15 @@ named_above None None e n = n
 named_above None (Some y) e n = λ _. cc
 named_above (Some x) b e n = λ is. cc
 
-all_named_above : (p : Placed) → (mapping_at p).old_name ≢ None → (ps : List Placed) → AllByRecursion (λ y. is_lt (option_cmp text_cmp y (name_of (mapping_at p))) ≡ false) (map name_of (map mapping_at ps)) → AllByRecursion (λ q. IsNamed (mapping_at q)) ps
+all_named_above : (p : IndexedEntry) → (mapping_at p).old_name ≢ None → (ps : List IndexedEntry) → AllByRecursion (λ y. is_lt (option_cmp text_cmp y (name_of (mapping_at p))) ≡ false) (map name_of (map mapping_at ps)) → AllByRecursion (λ q. IsNamed (mapping_at q)) ps
 all_named_above p n [] a = tt
 all_named_above p n (q ∷ ps) a = (is_named q (named_above (mapping_at q).old_name (mapping_at p).old_name a.0 n), all_named_above p n ps a.1)
 
-pub named_behind : (xs : List Placed) (i : ℕ) → IsAscending (option_cmp text_cmp) (map name_of (map mapping_at xs)) → (i < length xs → HoldsAt (λ p. (mapping_at p).old_name ≢ None) xs i) → AllByRecursion (λ p. IsNamed (mapping_at p)) (drop i xs)
-named_behind [] zero up other = tt
-named_behind [] (suc i) up other = tt
-named_behind (x ∷ xs) zero up other = let n = other (omega arith) x in (is_named x n, all_named_above x n xs up.0)
-named_behind (x ∷ xs) (suc i) up other = named_behind xs i up.1 (λ lt d. other (omega arith) d)
+pub named_after : (xs : List IndexedEntry) (i : ℕ) → IsAscending (option_cmp text_cmp) (map name_of (map mapping_at xs)) → (i < length xs → HoldsAt (λ p. (mapping_at p).old_name ≢ None) xs i) → AllByRecursion (λ p. IsNamed (mapping_at p)) (drop i xs)
+named_after [] zero up other = tt
+named_after [] (suc i) up other = tt
+named_after (x ∷ xs) zero up other = let n = other (omega arith) x in (is_named x n, all_named_above x n xs up.0)
+named_after (x ∷ xs) (suc i) up other = named_after xs i up.1 (λ lt d. other (omega arith) d)
 
 -- named entries ascend by their names
 lt_names : (a b : Mapping) → IsNamed a → IsNamed b → is_lt (option_cmp text_cmp (name_of a) (name_of b)) ≡ false → is_lt (text_cmp (name_text a) (name_text b)) ≡ false

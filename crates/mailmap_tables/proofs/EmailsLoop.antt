@@ -14,14 +14,14 @@ use Rattle.mailmap_entries.specs.Folding.{Text, folded, text_cmp}
 use Rattle.mailmap_tables.specs.Groups.{EmailGroup, IsGroup, AreGroups, Contents, email_key, rows, listing}
 use Rattle.mailmap_histories.specs.Histories.{key, key_cmp, is_accepted, accepted, first, of_email, spelling}
 use Rattle.mailmap_batches.specs.Batches.{IsAscending, email_text}
-use Rattle.mailmap_tables.specs.Merging.{AreBelowAll, InOrder, Extends, known, unknown, RunPut, IsSpelling, AllJoined, bare, spelled_by, with_email}
+use Rattle.mailmap_tables.specs.Merging.{AreBelowAll, InOrder, Extends, known, unknown, GroupPut, IsSpelling, AllJoined, bare, spelled_by, with_email}
 use Rattle.mailmap_batches.specs.Given.{IsEarliest, StartsOther}
 use Rattle.mailmap_histories.proofs.Alike.{alike_itself, first_parts}
 use Rattle.mailmap_tables.proofs.Merging.{AreBelow, step_copied, step_joined, step_made}
-use Rattle.mailmap_tables.proofs.NamePlaces.{extends_itself, extends_through}
-use Rattle.mailmap_tables.proofs.NamesLoop.{behind_run}
-use Rattle.mailmap_histories.proofs.Parts.{all_front, all_back, all_append}
-use Rattle.mailmap_tables.proofs.Runs.{order_start, order_missing, order_found, order_end, turned}
+use Rattle.mailmap_tables.proofs.NameLookups.{extends_itself, extends_through}
+use Rattle.mailmap_tables.proofs.NamesLoop.{after_group}
+use Rattle.mailmap_histories.proofs.Parts.{all_head, all_tail, all_append}
+use Rattle.mailmap_tables.proofs.PrefixGroups.{order_start, order_missing, order_found, order_end, turned}
 
 abbrev pub Item : Type 0
 Item = ℕ × Mapping
@@ -58,13 +58,13 @@ pub record EmailsState (gs0 : List EmailGroup) (ps0 : List Item) (pool0 : Text) 
   pub standing_is : gs0 ≡ done ++ gs
   pub batch_is : ps0 ≡ taken ++ ps
   pub pool : Extends pool0 c.pool
-  pub no_loose : c.loose ≡ []
+  pub none_pending : c.pending ≡ []
   pub order : InOrder (map email_key c.groups) (map email_key gs) (map by ps) (map by taken)
   pub done_below : AreBelowAll (map email_key done) (map by ps)
   pub each : AllByRecursion IsGroup c.groups
   pub alike : (s : Text → Text) → IsSpelling gs0 ps0 s → Alike (listing done ++ spelt s taken) (listing c.groups)
 
-pub emails_start : (gs : List EmailGroup) (ps : List Item) (c : Contents) (pool0 : Text) → AreGroups gs → IsAscending text_cmp (map by ps) → c ≡ record { pool = pool0; groups = []; loose = [] } → EmailsState gs ps pool0 gs ps c
+pub emails_start : (gs : List EmailGroup) (ps : List Item) (c : Contents) (pool0 : Text) → AreGroups gs → IsAscending text_cmp (map by ps) → c ≡ record { pool = pool0; groups = []; pending = [] } → EmailsState gs ps pool0 gs ps c
 emails_start gs ps c pool0 are up is =
     subst (EmailsState gs ps pool0 gs ps) (sym is) (record {
       done = [];
@@ -72,7 +72,7 @@ emails_start gs ps c pool0 are up is =
       standing_is = refl;
       batch_is = refl;
       pool = extends_itself pool0 pool0 refl;
-      no_loose = refl;
+      none_pending = refl;
       order = order_start (map email_key gs) (map by ps) are.ascending up;
       done_below = tt;
       each = tt;
@@ -83,11 +83,11 @@ emails_start gs ps c pool0 are up is =
 
 each_back : (xs ys zs : List Text) → AreBelowAll xs (ys ++ zs) → AreBelowAll xs zs
 each_back [] ys zs a = tt
-each_back (x ∷ xs) ys zs a = (all_back _ ys zs a.0, each_back xs ys zs a.1)
+each_back (x ∷ xs) ys zs a = (all_tail _ ys zs a.0, each_back xs ys zs a.1)
 
-each_front : (xs ys zs : List Text) → AreBelowAll xs (ys ++ zs) → AreBelowAll xs ys
-each_front [] ys zs a = tt
-each_front (x ∷ xs) ys zs a = (all_front _ ys zs a.0, each_front xs ys zs a.1)
+each_head : (xs ys zs : List Text) → AreBelowAll xs (ys ++ zs) → AreBelowAll xs ys
+each_head [] ys zs a = tt
+each_head (x ∷ xs) ys zs a = (all_head _ ys zs a.0, each_head xs ys zs a.1)
 
 below_through : (x f : Text) → text_cmp x f ≡ Less → (ys : List Text) → AllByRecursion (λ y. text_cmp f y ≡ Less) ys → AllByRecursion (λ y. text_cmp x y ≡ Less) ys
 below_through x f p [] a = tt
@@ -121,41 +121,41 @@ module _ (s : Text → Text) where
   below_groups [] js same a = tt
   below_groups (g ∷ gs) js same a = (below_group g js same a.0, below_groups gs js same a.1)
 
-  same_front : (xs ys : List Item) → AllByRecursion (λ p. folded (s (email_text p.1)) ≡ email_text p.1) (xs ++ ys) → AreSame xs
-  same_front xs ys a = all_front _ xs ys a
+  same_head : (xs ys : List Item) → AllByRecursion (λ p. folded (s (email_text p.1)) ≡ email_text p.1) (xs ++ ys) → AreSame xs
+  same_head xs ys a = all_head _ xs ys a
 
--- a run that is spelled in one way
-spelt_run : (s : Text → Text) (f e : Text) → s f ≡ e → (ps : List Item) → AllByRecursion (λ p. by p ≡ f) ps → map (with_email e) (map (λ p. p.1) ps) ≡ spelt s ps
-spelt_run s f e is [] a = refl
-spelt_run s f e is (p ∷ ps) a = λ i. with_email ((sym is ∙ ap s (sym a.0)) i) p.1 ∷ spelt_run s f e is ps a.1 i
+-- a group that is spelled in one way
+spelt_group : (s : Text → Text) (f e : Text) → s f ≡ e → (ps : List Item) → AllByRecursion (λ p. by p ≡ f) ps → map (with_email e) (map (λ p. p.1) ps) ≡ spelt s ps
+spelt_group s f e is [] a = refl
+spelt_group s f e is (p ∷ ps) a = λ i. with_email ((sym is ∙ ap s (sym a.0)) i) p.1 ∷ spelt_group s f e is ps a.1 i
 
-stood_at : (s : Text → Text) (gs0 done passed left : List EmailGroup) (g : EmailGroup) → gs0 ≡ done ++ (passed ++ g ∷ left) → AllByRecursion (λ g. s (email_key g) ≡ g.old_email) gs0 → s (email_key g) ≡ g.old_email
-stood_at s gs0 done passed left g is a = (all_back _ passed (g ∷ left) (all_back _ done (passed ++ g ∷ left) (subst (AllByRecursion (λ g. s (email_key g) ≡ g.old_email)) is a))).0
+existing_at : (s : Text → Text) (gs0 done passed left : List EmailGroup) (g : EmailGroup) → gs0 ≡ done ++ (passed ++ g ∷ left) → AllByRecursion (λ g. s (email_key g) ≡ g.old_email) gs0 → s (email_key g) ≡ g.old_email
+existing_at s gs0 done passed left g is a = (all_tail _ passed (g ∷ left) (all_tail _ done (passed ++ g ∷ left) (subst (AllByRecursion (λ g. s (email_key g) ≡ g.old_email)) is a))).0
 
 module _ (gs0 : List EmailGroup) (ps0 : List Item) (pool0 : Text) (are : AreGroups gs0) (good0 : AllByRecursion (λ p. is_accepted p.1 ≡ true) ps0) (gs left : List EmailGroup) (ps : List Item) (p1 : Item) (more later : List Item) (c out : Contents)
-    (st : EmailsState gs0 ps0 pool0 gs ps c) (whole : ps ≡ p1 ∷ more ++ later) (same_run : AllByRecursion (λ p. by p ≡ by p1) more) (other : StartsOther (λ p. by p ≡ by p1) later)
-    (put : RunPut gs left (p1 ∷ more) (by p1) c out) where
+    (st : EmailsState gs0 ps0 pool0 gs ps c) (whole : ps ≡ p1 ∷ more ++ later) (same_group : AllByRecursion (λ p. by p ≡ by p1) more) (other : StartsOther (λ p. by p ≡ by p1) later)
+    (put : GroupPut gs left (p1 ∷ more) (by p1) c out) where
   abbrev f : Text
   f = by p1
 
-  abbrev run : List Item
-  run = p1 ∷ more
+  abbrev members : List Item
+  members = p1 ∷ more
 
   same_keys : (xs : List Item) → AllByRecursion (λ p. by p ≡ f) xs → AllByRecursion (λ x. x ≡ f) (map by xs)
   same_keys [] a = tt
   same_keys (x ∷ xs) a = (a.0, same_keys xs a.1)
 
   batch_keys : map by ps ≡ f ∷ map by more ++ map by later
-  batch_keys = ap (map by) whole ∙ map-append by run later
+  batch_keys = ap (map by) whole ∙ map-append by members later
 
   order1 : InOrder (map email_key c.groups) (map email_key gs) (f ∷ map by more ++ map by later) (map by st.taken)
   order1 = subst (λ b. InOrder (map email_key c.groups) (map email_key gs) b (map by st.taken)) batch_keys st.order
 
   above : AllByRecursion (λ y. text_cmp f y ≡ Less) (map by later)
-  above = behind_run by f (map by more) later order1.batch_ascends other
+  above = after_group by f (map by more) later order1.batch_ascends other
 
-  taken_keys : map by (st.taken ++ run) ≡ map by st.taken ++ f ∷ map by more
-  taken_keys = map-append by st.taken run
+  taken_keys : map by (st.taken ++ members) ≡ map by st.taken ++ f ∷ map by more
+  taken_keys = map-append by st.taken members
 
   abbrev passed : List EmailGroup
   passed = put.passed
@@ -167,73 +167,73 @@ module _ (gs0 : List EmailGroup) (ps0 : List Item) (pool0 : Text) (are : AreGrou
   out_keys e = map-append email_key c.groups (passed ++ group ∷ []) ∙ ap (λ l. map email_key c.groups ++ l) (map-append email_key passed (group ∷ []) ∙ ap (λ t. map email_key passed ++ t ∷ []) e)
       ∙ sym (append_assoc (map email_key c.groups) (map email_key passed) (f ∷ []))
 
-  good_run : AllByRecursion (λ p. is_accepted p.1 ≡ true) run
-  good_run = all_front _ run later (subst (AllByRecursion (λ p. is_accepted p.1 ≡ true)) whole (all_back _ st.taken ps (subst (AllByRecursion (λ p. is_accepted p.1 ≡ true)) st.batch_is good0)))
+  good_group : AllByRecursion (λ p. is_accepted p.1 ≡ true) members
+  good_group = all_head _ members later (subst (AllByRecursion (λ p. is_accepted p.1 ≡ true)) whole (all_tail _ st.taken ps (subst (AllByRecursion (λ p. is_accepted p.1 ≡ true)) st.batch_is good0)))
 
   group_is : IsGroup group
-  group_is = record { ascending = put.joined.ascending; says = says_something (rows put.stood) (with_email put.stood.old_email p1.1) (map (with_email put.stood.old_email) (map (λ p. p.1) more)) (rows group) good_run.0 put.joined.alike }
+  group_is = record { ascending = put.joined.ascending; says = says_something (rows put.existing) (with_email put.existing.old_email p1.1) (map (with_email put.existing.old_email) (map (λ p. p.1) more)) (rows group) good_group.0 put.joined.alike }
 
-  -- the entries of the run, spelled as their email is kept
-  run_alike : (s : Text → Text) → s f ≡ put.stood.old_email → Alike (rows put.stood ++ spelt s run) (rows group)
-  run_alike s is = subst (λ l. Alike (rows put.stood ++ l) (rows group)) (spelt_run s f put.stood.old_email is run (refl, same_run)) put.joined.alike
+  -- the entries of the group, spelled as their email is kept
+  group_alike : (s : Text → Text) → s f ≡ put.existing.old_email → Alike (rows put.existing ++ spelt s members) (rows group)
+  group_alike s is = subst (λ l. Alike (rows put.existing ++ l) (rows group)) (spelt_group s f put.existing.old_email is members (refl, same_group)) put.joined.alike
 
   same_taken : (s : Text → Text) → IsSpelling gs0 ps0 s → AreSame s st.taken
-  same_taken s sp = same_front s st.taken ps (subst (AreSame s) st.batch_is sp.same)
+  same_taken s sp = same_head s st.taken ps (subst (AreSame s) st.batch_is sp.same)
 
   module _ (rest : List EmailGroup) (parted : gs ≡ passed ++ rest) where
     below_all : AreBelowAll (map by st.taken) (map email_key passed ++ map email_key rest)
     below_all = subst (AreBelowAll (map by st.taken)) (ap (map email_key) parted ∙ map-append email_key passed rest) st.order.taken_standing
 
-    behind_passed : (s : Text → Text) → IsSpelling gs0 ps0 s → Alike (listing (st.done ++ passed) ++ spelt s st.taken) (listing (c.groups ++ passed))
-    behind_passed s sp = step_copied st.done passed c.groups (spelt s st.taken) (st.alike s sp)
-        (below_groups s passed st.taken (same_taken s sp) (turned (map by st.taken) (map email_key passed) (each_front (map by st.taken) (map email_key passed) (map email_key rest) below_all)))
+    after_passed : (s : Text → Text) → IsSpelling gs0 ps0 s → Alike (listing (st.done ++ passed) ++ spelt s st.taken) (listing (c.groups ++ passed))
+    after_passed s sp = step_copied st.done passed c.groups (spelt s st.taken) (st.alike s sp)
+        (below_groups s passed st.taken (same_taken s sp) (turned (map by st.taken) (map email_key passed) (each_head (map by st.taken) (map email_key passed) (map email_key rest) below_all)))
 
     passed_groups : AllByRecursion IsGroup passed
-    passed_groups = all_front IsGroup passed rest (subst (AllByRecursion IsGroup) parted (all_back IsGroup st.done gs (subst (AllByRecursion IsGroup) st.standing_is are.each)))
+    passed_groups = all_head IsGroup passed rest (subst (AllByRecursion IsGroup) parted (all_tail IsGroup st.done gs (subst (AllByRecursion IsGroup) st.standing_is are.each)))
 
-  spelt-append : (s : Text → Text) → spelt s (st.taken ++ run) ≡ spelt s st.taken ++ spelt s run
-  spelt-append s = map-append (λ p. spelled_by s p.1) st.taken run
+  spelt-append : (s : Text → Text) → spelt s (st.taken ++ members) ≡ spelt s st.taken ++ spelt s members
+  spelt-append s = map-append (λ p. spelled_by s p.1) st.taken members
 
   -- the state that follows
   next : (fresh : List EmailGroup) → gs ≡ fresh ++ left → email_key group ≡ f → InOrder ((map email_key c.groups ++ map email_key passed) ++ f ∷ []) (map email_key left) (map by later) (map by st.taken ++ f ∷ map by more)
       → AreBelowAll (map email_key fresh) (map by later) → AllByRecursion IsGroup passed
-      → ((s : Text → Text) → IsSpelling gs0 ps0 s → Alike (listing (st.done ++ fresh) ++ spelt s (st.taken ++ run)) (listing (c.groups ++ (passed ++ group ∷ []))))
+      → ((s : Text → Text) → IsSpelling gs0 ps0 s → Alike (listing (st.done ++ fresh) ++ spelt s (st.taken ++ members)) (listing (c.groups ++ (passed ++ group ∷ []))))
       → EmailsState gs0 ps0 pool0 left later out
   next fresh parted key_is order fresh_below each alike =
       record {
         done = st.done ++ fresh;
-        taken = st.taken ++ run;
+        taken = st.taken ++ members;
         standing_is = st.standing_is ∙ ap (λ l. st.done ++ l) parted ∙ sym (append_assoc st.done fresh left);
-        batch_is = st.batch_is ∙ ap (λ l. st.taken ++ l) whole ∙ sym (append_assoc st.taken run later);
+        batch_is = st.batch_is ∙ ap (λ l. st.taken ++ l) whole ∙ sym (append_assoc st.taken members later);
         pool = extends_through pool0 c.pool out.pool st.pool put.pool;
-        no_loose = put.no_loose;
-        order = subst (λ o. InOrder o (map email_key left) (map by later) (map by (st.taken ++ run))) (sym (ap (map email_key) put.groups ∙ out_keys key_is))
+        none_pending = put.none_pending;
+        order = subst (λ o. InOrder o (map email_key left) (map by later) (map by (st.taken ++ members))) (sym (ap (map email_key) put.groups ∙ out_keys key_is))
             (subst (λ t. InOrder ((map email_key c.groups ++ map email_key passed) ++ f ∷ []) (map email_key left) (map by later) t) (sym taken_keys) order);
         done_below = subst (λ l. AreBelowAll l (map by later)) (sym (map-append email_key st.done fresh))
             (all_append _ (map email_key st.done) (map email_key fresh) (each_back (map email_key st.done) (f ∷ map by more) (map by later) (subst (AreBelowAll (map email_key st.done)) batch_keys st.done_below)) fresh_below);
         each = subst (AllByRecursion IsGroup) (sym put.groups) (all_append IsGroup c.groups (passed ++ group ∷ []) st.each (all_append IsGroup passed (group ∷ []) each (group_is, tt)));
-        alike = λ s sp. subst (λ o. Alike (listing (st.done ++ fresh) ++ spelt s (st.taken ++ run)) (listing o)) (sym put.groups) (alike s sp);
+        alike = λ s sp. subst (λ o. Alike (listing (st.done ++ fresh) ++ spelt s (st.taken ++ members)) (listing o)) (sym put.groups) (alike s sp);
       }
 
-  known_step : gs ≡ passed ++ put.stood ∷ left → email_key put.stood ≡ f → EmailsState gs0 ps0 pool0 left later out
+  known_step : gs ≡ passed ++ put.existing ∷ left → email_key put.existing ≡ f → EmailsState gs0 ps0 pool0 left later out
   known_step parted key_is =
-      let stood = put.stood in
-      let keys : map email_key gs ≡ map email_key passed ++ f ∷ map email_key left = ap (map email_key) parted ∙ map-append email_key passed (stood ∷ left) ∙ ap (λ t. map email_key passed ++ t ∷ map email_key left) key_is in
+      let existing = put.existing in
+      let keys : map email_key gs ≡ map email_key passed ++ f ∷ map email_key left = ap (map email_key) parted ∙ map-append email_key passed (existing ∷ left) ∙ ap (λ t. map email_key passed ++ t ∷ map email_key left) key_is in
       let order2 = subst (λ g. InOrder (map email_key c.groups) g (f ∷ map by more ++ map by later) (map by st.taken)) keys order1 in
-      let order3 = order_found (map email_key c.groups) (map email_key passed) (map email_key left) (map by more) (map by later) (map by st.taken) f order2 (same_keys more same_run) above in
-      let fresh_below : AreBelowAll (map email_key (passed ++ stood ∷ [])) (map by later) = subst (λ l. AreBelowAll l (map by later)) (sym (map-append email_key passed (stood ∷ []) ∙ ap (λ t. map email_key passed ++ t ∷ []) key_is))
-      (all_back _ (map email_key c.groups) (map email_key passed ++ f ∷ []) (subst (λ l. AreBelowAll l (map by later)) (append_assoc (map email_key c.groups) (map email_key passed) (f ∷ [])) order3.out_batch)) in
-      next (passed ++ stood ∷ []) (parted ∙ sym (append_assoc passed (stood ∷ []) left)) (ap folded put.joined.old_email ∙ key_is) order3 fresh_below (passed_groups (stood ∷ left) parted)
+      let order3 = order_found (map email_key c.groups) (map email_key passed) (map email_key left) (map by more) (map by later) (map by st.taken) f order2 (same_keys more same_group) above in
+      let fresh_below : AreBelowAll (map email_key (passed ++ existing ∷ [])) (map by later) = subst (λ l. AreBelowAll l (map by later)) (sym (map-append email_key passed (existing ∷ []) ∙ ap (λ t. map email_key passed ++ t ∷ []) key_is))
+      (all_tail _ (map email_key c.groups) (map email_key passed ++ f ∷ []) (subst (λ l. AreBelowAll l (map by later)) (append_assoc (map email_key c.groups) (map email_key passed) (f ∷ [])) order3.out_batch)) in
+      next (passed ++ existing ∷ []) (parted ∙ sym (append_assoc passed (existing ∷ []) left)) (ap folded put.joined.old_email ∙ key_is) order3 fresh_below (passed_groups (existing ∷ left) parted)
       (λ s sp.
-      let at : s f ≡ stood.old_email = ap s (sym key_is) ∙ stood_at s gs0 st.done passed left stood (st.standing_is ∙ ap (λ l. st.done ++ l) parted) sp.stood in
-      let below = below_group s stood st.taken (same_taken s sp) (turned (map by st.taken) (email_key stood ∷ map email_key left) (each_back (map by st.taken) (map email_key passed) (email_key stood ∷ map email_key left) (below_all (stood ∷ left) parted))).0 in
-      let joined = step_joined (st.done ++ passed) (c.groups ++ passed) stood group (spelt s st.taken) (spelt s run) (behind_passed (stood ∷ left) parted s sp) below (run_alike s at) in
-      shaped s (passed ++ stood ∷ []) ((st.done ++ passed) ++ stood ∷ []) (append_assoc st.done passed (stood ∷ [])) joined)
+      let at : s f ≡ existing.old_email = ap s (sym key_is) ∙ existing_at s gs0 st.done passed left existing (st.standing_is ∙ ap (λ l. st.done ++ l) parted) sp.existing in
+      let below = below_group s existing st.taken (same_taken s sp) (turned (map by st.taken) (email_key existing ∷ map email_key left) (each_back (map by st.taken) (map email_key passed) (email_key existing ∷ map email_key left) (below_all (existing ∷ left) parted))).0 in
+      let joined = step_joined (st.done ++ passed) (c.groups ++ passed) existing group (spelt s st.taken) (spelt s members) (after_passed (existing ∷ left) parted s sp) below (group_alike s at) in
+      shaped s (passed ++ existing ∷ []) ((st.done ++ passed) ++ existing ∷ []) (append_assoc st.done passed (existing ∷ [])) joined)
     where
-      shaped : (s : Text → Text) (fresh ds : List EmailGroup) → ds ≡ st.done ++ fresh → Alike (listing ds ++ (spelt s st.taken ++ spelt s run)) (listing ((c.groups ++ passed) ++ group ∷ [])) → Alike (listing (st.done ++ fresh) ++ spelt s (st.taken ++ run)) (listing (c.groups ++ (passed ++ group ∷ [])))
-      shaped s fresh ds e a = subst (λ o. Alike (listing (st.done ++ fresh) ++ spelt s (st.taken ++ run)) (listing o)) (append_assoc c.groups passed (group ∷ []))
+      shaped : (s : Text → Text) (fresh ds : List EmailGroup) → ds ≡ st.done ++ fresh → Alike (listing ds ++ (spelt s st.taken ++ spelt s members)) (listing ((c.groups ++ passed) ++ group ∷ [])) → Alike (listing (st.done ++ fresh) ++ spelt s (st.taken ++ members)) (listing (c.groups ++ (passed ++ group ∷ [])))
+      shaped s fresh ds e a = subst (λ o. Alike (listing (st.done ++ fresh) ++ spelt s (st.taken ++ members)) (listing o)) (append_assoc c.groups passed (group ∷ []))
           (subst (λ js. Alike (listing (st.done ++ fresh) ++ js) (listing ((c.groups ++ passed) ++ group ∷ []))) (sym (spelt-append s))
-          (subst (λ d. Alike (listing d ++ (spelt s st.taken ++ spelt s run)) (listing ((c.groups ++ passed) ++ group ∷ []))) e a))
+          (subst (λ d. Alike (listing d ++ (spelt s st.taken ++ spelt s members)) (listing ((c.groups ++ passed) ++ group ∷ []))) e a))
 
   -- a new email: no standing one has it, and its earliest entry is the earliest of the batch
   nowhere : gs ≡ passed ++ left → AllByRecursion (λ k. text_cmp (email_key k) f ≡ Less) passed → AllByRecursion (λ k. text_cmp f (email_key k) ≡ Less) left → (t : Text) → t ≡ f → AllByRecursion (λ g. email_key g ≡ t → ⊥) gs0
@@ -256,10 +256,10 @@ module _ (gs0 : List EmailGroup) (ps0 : List Item) (pool0 : Text) (are : AreGrou
       done_low : AllByRecursion (λ k. text_cmp (email_key k) f ≡ Less) st.done
       done_low = of_keys st.done (λ x. text_cmp x f ≡ Less) (firsts (map email_key st.done) (map by more ++ map by later) (subst (AreBelowAll (map email_key st.done)) batch_keys st.done_below))
 
-  earliest_of_all : (p : Item) → IsEarliest run p → by p ≡ f → All (λ q. email_text q.1 ≡ email_text p.1 → p.0 ≤ q.0) ps0
+  earliest_of_all : (p : Item) → IsEarliest members p → by p ≡ f → All (λ q. email_text q.1 ≡ email_text p.1 → p.0 ≤ q.0) ps0
   earliest_of_all p e key_is =
       All-from_recursion _ ps0 (subst (AllByRecursion (λ q. by q ≡ by p → p.0 ≤ q.0)) (sym (st.batch_is ∙ ap (λ l. st.taken ++ l) whole))
-      (all_append _ st.taken (run ++ later) (lower st.taken (turned_low st.taken st.order.taken_batch)) (all_append _ run later (least run (recursion_from_All _ run e.least)) (higher later above))))
+      (all_append _ st.taken (members ++ later) (lower st.taken (turned_low st.taken st.order.taken_batch)) (all_append _ members later (least members (recursion_from_All _ members e.least)) (higher later above))))
     where
       least : (xs : List Item) → AllByRecursion (λ q. p.0 ≤ q.0) xs → AllByRecursion (λ q. by q ≡ by p → p.0 ≤ q.0) xs
       least [] a = tt
@@ -280,29 +280,29 @@ module _ (gs0 : List EmailGroup) (ps0 : List Item) (pool0 : Text) (are : AreGrou
           firsts [] a = tt
           firsts (u ∷ us) a = (a.0.0, firsts us a.1)
 
-  run_by_f : (p : Item) → Contains run p → by p ≡ f
-  run_by_f p among = All-contains (λ q. by q ≡ f) run p (All-from_recursion _ run (refl, same_run)) among
+  group_by_f : (p : Item) → Contains members p → by p ≡ f
+  group_by_f p among = All-contains (λ q. by q ≡ f) members p (All-from_recursion _ members (refl, same_group)) among
 
-  unknown_step : (p : Item) → gs ≡ passed ++ left → AllByRecursion (λ k. text_cmp (email_key k) f ≡ Less) passed → AllByRecursion (λ k. text_cmp f (email_key k) ≡ Less) left → IsEarliest run p → put.stood ≡ bare p.1.old_email
+  unknown_step : (p : Item) → gs ≡ passed ++ left → AllByRecursion (λ k. text_cmp (email_key k) f ≡ Less) passed → AllByRecursion (λ k. text_cmp f (email_key k) ≡ Less) left → IsEarliest members p → put.existing ≡ bare p.1.old_email
       → EmailsState gs0 ps0 pool0 left later out
   unknown_step p parted low high earliest is =
-      let key_p : by p ≡ f = run_by_f p earliest.among in
+      let key_p : by p ≡ f = group_by_f p earliest.among in
       let spelled : group.old_email ≡ p.1.old_email = put.joined.old_email ∙ ap (λ (g : EmailGroup). g.old_email) is in
       let keys : map email_key gs ≡ map email_key passed ++ map email_key left = ap (map email_key) parted ∙ map-append email_key passed left in
       let order2 = subst (λ g. InOrder (map email_key c.groups) g (f ∷ map by more ++ map by later) (map by st.taken)) keys order1 in
-      let order3 = order_missing (map email_key c.groups) (map email_key passed) (map email_key left) (map by more) (map by later) (map by st.taken) f order2 (same_keys more same_run) above
+      let order3 = order_missing (map email_key c.groups) (map email_key passed) (map email_key left) (map by more) (map by later) (map by st.taken) f order2 (same_keys more same_group) above
       (keys_of passed (λ x. text_cmp x f ≡ Less) low) (keys_of left (λ x. text_cmp f x ≡ Less) high) in
       next passed parted (ap folded spelled ∙ key_p) order3 (all_through passed f low (map by later) above) (passed_groups left parted)
       (λ s sp.
-      let among : Contains ps0 p = subst (λ l. Contains l p) (sym (st.batch_is ∙ ap (λ l. st.taken ++ l) whole)) (Contains-append_right st.taken (run ++ later) p (Contains-append_left run later p earliest.among)) in
-      let at : s f ≡ put.stood.old_email = ap s (sym key_p) ∙ sp.new p (nowhere parted low high (by p) key_p) among (earliest_of_all p earliest key_p) ∙ sym (ap (λ (g : EmailGroup). g.old_email) is) in
-      let alone : Alike (spelt s run) (rows group) = subst (λ (g : EmailGroup). Alike (rows g ++ spelt s run) (rows group)) is (run_alike s at) in
-      let made = step_made (st.done ++ passed) (c.groups ++ passed) group (spelt s st.taken) (spelt s run) (behind_passed left parted s sp) alone in
-      subst (λ o. Alike (listing (st.done ++ passed) ++ spelt s (st.taken ++ run)) (listing o)) (append_assoc c.groups passed (group ∷ []))
+      let among : Contains ps0 p = subst (λ l. Contains l p) (sym (st.batch_is ∙ ap (λ l. st.taken ++ l) whole)) (Contains-append_right st.taken (members ++ later) p (Contains-append_left members later p earliest.among)) in
+      let at : s f ≡ put.existing.old_email = ap s (sym key_p) ∙ sp.new p (nowhere parted low high (by p) key_p) among (earliest_of_all p earliest key_p) ∙ sym (ap (λ (g : EmailGroup). g.old_email) is) in
+      let alone : Alike (spelt s members) (rows group) = subst (λ (g : EmailGroup). Alike (rows g ++ spelt s members) (rows group)) is (group_alike s at) in
+      let made = step_made (st.done ++ passed) (c.groups ++ passed) group (spelt s st.taken) (spelt s members) (after_passed left parted s sp) alone in
+      subst (λ o. Alike (listing (st.done ++ passed) ++ spelt s (st.taken ++ members)) (listing o)) (append_assoc c.groups passed (group ∷ []))
       (subst (λ js. Alike (listing (st.done ++ passed) ++ js) (listing ((c.groups ++ passed) ++ group ∷ []))) (sym (spelt-append s)) made))
 
   pub emails_step : EmailsState gs0 ps0 pool0 left later out
-  emails_step = elim put.placed [
+  emails_step = elim put.lookup [
     | known parted key_is ↦ known_step parted key_is
     | unknown parted low high p earliest is ↦ unknown_step p parted low high earliest is
   ]
@@ -314,7 +314,7 @@ pub emails_are : (gs0 : List EmailGroup) (ps0 : List Item) (pool0 : Text) → Ar
 emails_are gs0 ps0 pool0 are gs ps c st =
     record {
       ascending = subst (IsStrictlySortedBy text_cmp) (sym (map-append email_key c.groups gs)) (order_end (map email_key c.groups) (map email_key gs) (map by ps) (map by st.taken) st.order);
-      each = all_append IsGroup c.groups gs st.each (all_back IsGroup st.done gs (subst (AllByRecursion IsGroup) st.standing_is are.each));
+      each = all_append IsGroup c.groups gs st.each (all_tail IsGroup st.done gs (subst (AllByRecursion IsGroup) st.standing_is are.each));
     }
 
 pub emails_end : (gs0 : List EmailGroup) (ps0 : List Item) (pool0 : Text) (are : AreGroups gs0) (gs : List EmailGroup) (c out : Contents) → EmailsState gs0 ps0 pool0 gs [] c → out ≡ record c { groups = c.groups ++ gs } → AllJoined gs0 ps0 out.groups
@@ -329,7 +329,7 @@ emails_end gs0 ps0 pool0 are gs c out st is =
           (subst (λ ds. Alike (listing ds ++ spelt s st.taken) (listing (c.groups ++ gs))) (sym st.standing_is) a);
     })
 
--- ---- a run at the front of a batch
+-- ---- a group at the start of a batch
 
 not_lt_emails : (a b : Mapping) → is_lt (key_cmp (key a) (key b)) ≡ false → is_lt (text_cmp (email_text a) (email_text b)) ≡ false
 not_lt_emails a b e = at (text_cmp (email_text a) (email_text b)) (option_cmp text_cmp (key a).1 (key b).1) e
@@ -350,14 +350,14 @@ emails_ascend (m ∷ ms) up = (all ms up.0, emails_ascend ms up.1)
     all [] a = tt
     all (x ∷ xs) a = (not_lt_emails x m a.0, all xs a.1)
 
-pub run_ascends : (f : Text) (ms : List Mapping) → AllByRecursion (λ m. email_text m ≡ f) ms → IsAscending key_cmp (map key ms) → IsAscending (option_cmp text_cmp) (map (λ m. option_map folded m.old_name) ms)
-run_ascends f [] same up = tt
-run_ascends f (m ∷ ms) same up = (all ms same.1 up.0, run_ascends f ms same.1 up.1)
+pub group_ascends : (f : Text) (ms : List Mapping) → AllByRecursion (λ m. email_text m ≡ f) ms → IsAscending key_cmp (map key ms) → IsAscending (option_cmp text_cmp) (map (λ m. option_map folded m.old_name) ms)
+group_ascends f [] same up = tt
+group_ascends f (m ∷ ms) same up = (all ms same.1 up.0, group_ascends f ms same.1 up.1)
   where
     all : (xs : List Mapping) → AllByRecursion (λ m. email_text m ≡ f) xs → AllByRecursion (λ k. is_lt (key_cmp k (key m)) ≡ false) (map key xs) → AllByRecursion (λ t. is_lt (option_cmp text_cmp t (option_map folded m.old_name)) ≡ false) (map (λ m. option_map folded m.old_name) xs)
     all [] s a = tt
     all (x ∷ xs) s a = (not_lt_names x m (s.0 ∙ sym same.0) a.0, all xs s.1 a.1)
 
-pub ascending_front : {K : Type 0} (R : K → K → Ordering) (xs ys : List K) → IsAscending R (xs ++ ys) → IsAscending R xs
-ascending_front R [] ys up = tt
-ascending_front R (x ∷ xs) ys up = (all_front _ xs ys up.0, ascending_front R xs ys up.1)
+pub ascending_head : {K : Type 0} (R : K → K → Ordering) (xs ys : List K) → IsAscending R (xs ++ ys) → IsAscending R xs
+ascending_head R [] ys up = tt
+ascending_head R (x ∷ xs) ys up = (all_head _ xs ys up.0, ascending_head R xs ys up.1)

@@ -20,10 +20,10 @@ use Rattle.mailmap_tables.specs.Groups.{EmailGroup, IsGroup, AreGroups, email_ke
 use Rattle.mailmap_histories.specs.Building.{IsListing, IsPaired}
 use Rattle.mailmap_histories.specs.Histories.{Fields, key, key_cmp, first, last, last_given, is_accepted, accepted, of_key, has_key, given_fields, last_fields, new_fields, no_fields, mapping_with, spelling, value, answered, scan, IsNormal}
 use Rattle.mailmap_histories.proofs.Alike.{Alike, alike_back, same_normal, picked-append}
-use Rattle.mailmap_histories.proofs.Ascending.{before, behind}
+use Rattle.mailmap_histories.proofs.Ascending.{before, after}
 use Rattle.mailmap_histories.proofs.Joined.{filter_none, never}
 use Rattle.mailmap_histories.proofs.Keys.{keys_total}
-use Rattle.mailmap_histories.proofs.Parts.{all_append, all_back, all_map, all_apply, filter_all, last_of_one, all_weaker, all_mapped}
+use Rattle.mailmap_histories.proofs.Parts.{all_append, all_tail, all_map, all_apply, filter_all, last_of_one, all_weaker, all_mapped}
 
 -- ---- what holds of each row
 
@@ -103,7 +103,7 @@ unfolding IsStrictlySortedBy
 sorted_entries [] ys s t a = t
 sorted_entries (x ∷ xs) ys s t a = (all_mapped key (λ k. key_cmp (key x) k ≡ Less) (xs ++ ys) (all_append _ xs ys (all_map key _ xs s.0) a.0), sorted_entries xs ys s.1 t a.1)
 
--- below by the name where the email is the same
+-- below by the name if the email is the same
 by_name : (email : Text) (a b : Option Text) → option_cmp text_cmp a b ≡ Less → key_cmp (email, a) (email, b) ≡ Less
 by_name email a b less = ap (λ o. ordering_then o (option_cmp text_cmp a b)) (tied_itself nat_list_cmp_total email) ∙ less
 
@@ -152,24 +152,24 @@ not_first Less r e = refl
 not_first Equal r e = absurd (true≢false e)
 not_first Greater r e = refl
 
-module _ (gs : List EmailGroup) (are : AreGroups gs) (front : List EmailGroup) (g : EmailGroup) (back : List EmailGroup) (parted : gs ≡ front ++ g ∷ back) where
+module _ (gs : List EmailGroup) (are : AreGroups gs) (head : List EmailGroup) (g : EmailGroup) (back : List EmailGroup) (parted : gs ≡ head ++ g ∷ back) where
   is_group : IsGroup g
-  is_group = (all_back IsGroup front (g ∷ back) (subst (AllByRecursion IsGroup) parted are.each)).0
+  is_group = (all_tail IsGroup head (g ∷ back) (subst (AllByRecursion IsGroup) parted are.each)).0
 
-  keys_parted : IsStrictlySortedBy text_cmp (map email_key front ++ email_key g ∷ map email_key back)
-  keys_parted = subst (IsStrictlySortedBy text_cmp) (ap (map email_key) parted ∙ map-append email_key front (g ∷ back)) are.ascending
+  keys_parted : IsStrictlySortedBy text_cmp (map email_key head ++ email_key g ∷ map email_key back)
+  keys_parted = subst (IsStrictlySortedBy text_cmp) (ap (map email_key) parted ∙ map-append email_key head (g ∷ back)) are.ascending
 
   -- what a test of this email lets through
   picked_at : (p : Mapping → Bool) → ((x : Mapping) → eq_by_cmp text_cmp (email_key g) (folded x.old_email) ≡ false → p x ≡ false) → filter p (accepted (listing gs)) ≡ filter p (rows g)
   picked_at p other =
-      let low : AllByRecursion (λ x. eq_by_cmp text_cmp (email_key g) (email_key x) ≡ false) front =
-      all_weaker front (λ x less. ap is_eq (nat_list_cmp_total.antisymm (email_key g) (email_key x) ∙ ap ordering_reverse less)) (all_map email_key (λ k. text_cmp k (email_key g) ≡ Less) front (before nat_list_cmp_total exact_bytes (map email_key front) (email_key g) (map email_key back) keys_parted)) in
+      let low : AllByRecursion (λ x. eq_by_cmp text_cmp (email_key g) (email_key x) ≡ false) head =
+      all_weaker head (λ x less. ap is_eq (nat_list_cmp_total.antisymm (email_key g) (email_key x) ∙ ap ordering_reverse less)) (all_map email_key (λ k. text_cmp k (email_key g) ≡ Less) head (before nat_list_cmp_total exact_bytes (map email_key head) (email_key g) (map email_key back) keys_parted)) in
       let high : AllByRecursion (λ x. eq_by_cmp text_cmp (email_key g) (email_key x) ≡ false) back =
-      all_weaker back (λ x less. ap is_eq less) (all_map email_key (λ k. text_cmp (email_key g) k ≡ Less) back (behind nat_list_cmp_total exact_bytes (map email_key front) (email_key g) (map email_key back) keys_parted)) in
+      all_weaker back (λ x less. ap is_eq less) (all_map email_key (λ k. text_cmp (email_key g) k ≡ Less) back (after nat_list_cmp_total exact_bytes (map email_key head) (email_key g) (map email_key back) keys_parted)) in
       ap (λ l. filter p (accepted (listing l))) parted
-      ∙ ap (λ l. filter p (accepted l)) (listing-append front (g ∷ back))
-      ∙ picked-append p (listing front) (rows g ++ listing back)
-      ∙ ap (λ l. l ++ filter p (accepted (rows g ++ listing back))) (picked_none p (listing front) (all_weaker (listing front) other (not_mailed (email_key g) front low)))
+      ∙ ap (λ l. filter p (accepted l)) (listing-append head (g ∷ back))
+      ∙ picked-append p (listing head) (rows g ++ listing back)
+      ∙ ap (λ l. l ++ filter p (accepted (rows g ++ listing back))) (picked_none p (listing head) (all_weaker (listing head) other (not_mailed (email_key g) head low)))
       ∙ picked-append p (rows g) (listing back)
       ∙ ap (λ l. filter p (accepted (rows g)) ++ l) (picked_none p (listing back) (all_weaker (listing back) other (not_mailed (email_key g) back high)))
       ∙ append-nil (filter p (accepted (rows g)))
@@ -225,23 +225,23 @@ module _ (gs : List EmailGroup) (are : AreGroups gs) (front : List EmailGroup) (
           (never (text_cmp (email_key g) (email_key g)) (text_cmp k (name_key n)) (false_from_ne_true (eq_by_cmp text_cmp k (name_key n)) (λ same. a.0 (sym (exact_bytes k (name_key n) ((Equal-is (text_cmp k (name_key n))).0 same))))), each ns a.1)
 
   -- the one entry of a name
-  named_at : (before : List NameGroup) (n : NameGroup) (behind : List NameGroup) → g.names ≡ before ++ n ∷ behind → of_key (listing gs) (email_key g, Some (name_key n)) ≡ name_row g.old_email n ∷ []
-  named_at before n behind names_parted =
-      let rest : List Mapping = map (name_row g.old_email) behind in
+  named_at : (before : List NameGroup) (n : NameGroup) (after : List NameGroup) → g.names ≡ before ++ n ∷ after → of_key (listing gs) (email_key g, Some (name_key n)) ≡ name_row g.old_email n ∷ []
+  named_at before n after names_parted =
+      let rest : List Mapping = map (name_row g.old_email) after in
       of_key_at (Some (name_key n))
-      ∙ (all_back _ (map (name_row g.old_email) before) (name_row g.old_email n ∷ rest)
-      (subst (AllByRecursion (λ e. filter (λ x. eq_by_cmp key_cmp (key e) (key x)) (rows g) ≡ e ∷ [])) (ap (map (name_row g.old_email)) names_parted ∙ map-append (name_row g.old_email) before (n ∷ behind))
-      (all_back _ (own_rows g) (map (name_row g.old_email) g.names) (alone (rows g) (rows_sorted g is_group.ascending))))).0
+      ∙ (all_tail _ (map (name_row g.old_email) before) (name_row g.old_email n ∷ rest)
+      (subst (AllByRecursion (λ e. filter (λ x. eq_by_cmp key_cmp (key e) (key x)) (rows g) ≡ e ∷ [])) (ap (map (name_row g.old_email)) names_parted ∙ map-append (name_row g.old_email) before (n ∷ after))
+      (all_tail _ (own_rows g) (map (name_row g.old_email) g.names) (alone (rows g) (rows_sorted g is_group.ascending))))).0
 
 listing_spelled : (gs : List EmailGroup) → AreGroups gs → AllByRecursion (λ e. spelling (listing gs) (folded e.old_email) ≡ Some e.old_email) (listing gs)
 listing_spelled gs are = go [] gs refl
   where
-    go : (front back : List EmailGroup) → gs ≡ front ++ back → AllByRecursion (λ e. spelling (listing gs) (folded e.old_email) ≡ Some e.old_email) (listing back)
-    go front [] p = tt
-    go front (g ∷ back) p =
+    go : (head back : List EmailGroup) → gs ≡ head ++ back → AllByRecursion (λ e. spelling (listing gs) (folded e.old_email) ≡ Some e.old_email) (listing back)
+    go head [] p = tt
+    go head (g ∷ back) p =
         all_append _ (rows g) (listing back)
-        (all_weaker (rows g) (λ r same. ap (λ t. spelling (listing gs) (folded t)) same ∙ spelled_at gs are front g back p ∙ ap (λ t. Some t) (sym same)) (rows_spelled g))
-        (go (front ++ g ∷ []) back (p ∙ sym (append_assoc front (g ∷ []) back)))
+        (all_weaker (rows g) (λ r same. ap (λ t. spelling (listing gs) (folded t)) same ∙ spelled_at gs are head g back p ∙ ap (λ t. Some t) (sym same)) (rows_spelled g))
+        (go (head ++ g ∷ []) back (p ∙ sym (append_assoc head (g ∷ []) back)))
 
 -- the entries of groups are normal for themselves
 pub groups_normal : (gs : List EmailGroup) → AreGroups gs → IsNormal (listing gs) (listing gs)
@@ -262,22 +262,22 @@ normal_of_groups h gs are alike = same_normal (listing gs) h (listing gs) (alike
 -- ---- what a signature finds
 
 -- an email and a name that stand
-pub scan_found_name : (gs : List EmailGroup) → AreGroups gs → (name email : Text) (front : List EmailGroup) (g : EmailGroup) (back : List EmailGroup) → gs ≡ front ++ g ∷ back → folded g.old_email ≡ folded email
-    → (before : List NameGroup) (n : NameGroup) (behind : List NameGroup) → g.names ≡ before ++ n ∷ behind → folded n.old_name ≡ folded name
+pub scan_found_name : (gs : List EmailGroup) → AreGroups gs → (name email : Text) (head : List EmailGroup) (g : EmailGroup) (back : List EmailGroup) → gs ≡ head ++ g ∷ back → folded g.old_email ≡ folded email
+    → (before : List NameGroup) (n : NameGroup) (after : List NameGroup) → g.names ≡ before ++ n ∷ after → folded n.old_name ≡ folded name
     → scan (listing gs) name email ≡ answered email (name_fields n) (Some g.old_email)
-scan_found_name gs are name email front g back parted same before n behind names_parted same_name =
+scan_found_name gs are name email head g back parted same before n after names_parted same_name =
     let h : List Mapping = listing gs in
-    let named : last_fields h (folded email, Some (folded name)) ≡ Some (name_fields n) = (λ i. last_fields h (sym same i, Some (sym same_name i))) ∙ ap (λ l. option_map new_fields (last l)) (named_at gs are front g back parted before n behind names_parted) in
-    ap₂ (λ o s. answered email (unwrap_or o (given_fields h (folded email))) s) named (ap (spelling h) (sym same) ∙ spelled_at gs are front g back parted)
+    let named : last_fields h (folded email, Some (folded name)) ≡ Some (name_fields n) = (λ i. last_fields h (sym same i, Some (sym same_name i))) ∙ ap (λ l. option_map new_fields (last l)) (named_at gs are head g back parted before n after names_parted) in
+    ap₂ (λ o s. answered email (unwrap_or o (given_fields h (folded email))) s) named (ap (spelling h) (sym same) ∙ spelled_at gs are head g back parted)
 
 -- an email that stands without the name
-pub scan_found_own : (gs : List EmailGroup) → AreGroups gs → (name email : Text) (front : List EmailGroup) (g : EmailGroup) (back : List EmailGroup) → gs ≡ front ++ g ∷ back → folded g.old_email ≡ folded email
+pub scan_found_own : (gs : List EmailGroup) → AreGroups gs → (name email : Text) (head : List EmailGroup) (g : EmailGroup) (back : List EmailGroup) → gs ≡ head ++ g ∷ back → folded g.old_email ≡ folded email
     → AllByRecursion (λ n. name_key n ≡ folded name → ⊥) g.names → scan (listing gs) name email ≡ answered email g.own (Some g.old_email)
-scan_found_own gs are name email front g back parted same other =
+scan_found_own gs are name email head g back parted same other =
     let h : List Mapping = listing gs in
-    let unnamed : last_fields h (folded email, Some (folded name)) ≡ None = (λ i. last_fields h (sym same i, Some (folded name))) ∙ ap (λ l. option_map new_fields (last l)) (unnamed_at gs are front g back parted (folded name) other) in
-    let given : given_fields h (folded email) ≡ g.own = ap (given_fields h) (sym same) ∙ given_at gs are front g back parted in
-    let spelled : spelling h (folded email) ≡ Some g.old_email = ap (spelling h) (sym same) ∙ spelled_at gs are front g back parted in
+    let unnamed : last_fields h (folded email, Some (folded name)) ≡ None = (λ i. last_fields h (sym same i, Some (folded name))) ∙ ap (λ l. option_map new_fields (last l)) (unnamed_at gs are head g back parted (folded name) other) in
+    let given : given_fields h (folded email) ≡ g.own = ap (given_fields h) (sym same) ∙ given_at gs are head g back parted in
+    let spelled : spelling h (folded email) ≡ Some g.old_email = ap (spelling h) (sym same) ∙ spelled_at gs are head g back parted in
     λ i. answered email (unwrap_or (unnamed i) (given i)) (spelled i)
 
 -- an email that does not stand
@@ -296,7 +296,7 @@ split_at xs i x lt read = sym (take-append-drop i xs) ∙ ap (λ l. take i xs ++
 pub not_below_itself : (k : Text) → text_cmp k k ≡ Less → ⊥
 not_below_itself k below = true≢false (sym (ap is_eq (tied_itself nat_list_cmp_total k)) ∙ ap is_eq below)
 
--- where a search finds its key at no place, none has it
+-- where a search finds its key at no index, none has it
 pub none_has : {X : Type 0} (f : X → Text) (k : Text) (xs : List X) (i : ℕ) → AllWithin (λ x. text_cmp (f x) k ≡ Less) xs 0 i → AllWithin (λ x. text_cmp (f x) k ≡ Greater) xs i (length xs) → AllByRecursion (λ x. f x ≡ k → ⊥) xs
 none_has f k xs i low high = recursion_from_All _ xs (λ j d lt same. ⊎_elim
     (λ before. wrong Less (low j d (omega arith) before) refl (ap (λ t. text_cmp t k) same))

@@ -1,5 +1,5 @@
 -- One entry that is put in place.
-use Rattle.std.proofs.Common.{◌≡◌, ◌+◌, ◌*◌, ◌≤◌, ◌<◌, get_or, ℕ, zero, suc, true, List, [], ◌∷◌, ◌++◌, map, take, drop, length, min, set, sum_by, Contains, IsSome, rules, Some, None, append-nil, append_assoc, refl, sym, ap, subst, ◌∙◌, arith}
+use Rattle.std.proofs.Common.{◌≡◌, ◌+◌, ◌*◌, ◌≤◌, ◌<◌, get_or, ℕ, zero, suc, true, List, [], ◌∷◌, ◌++◌, map, take, drop, length, min, set, sum_by, Contains, IsSome, rules, None, append-nil, append_assoc, refl, sym, ap, subst, ◌∙◌, arith}
 use Rattle.std.specs.List.{AllByRecursion, insert}
 use Rattle.std.specs.List.Sorted.{IsStrictlySortedBy}
 use Rattle.std.proofs.Math.Nat.{suc-mul, zero-mul}
@@ -12,16 +12,16 @@ use Rattle.mailmap_histories.specs.Histories.{IsNormal, is_accepted, new_fields}
 use Rattle.mailmap_histories.proofs.Alike.{alike_itself}
 use Rattle.mailmap_tables.specs.Groups.{AreGroups, Contents, EmailGroup, IsComplete, IsGroup, email_key, listing, name_key, name_row}
 use Rattle.mailmap_batches.specs.Given.{NameGroup}
-use Rattle.mailmap_tables.specs.Merging.{AllJoined, EmailJoined, EmailPlaced, NamePlaced, NamePut, NamesJoined, RunPut, bare, known, unknown}
-use Rattle.mailmap_batches.specs.Given.{IsEarliest, IsNamed, NameRun, give}
+use Rattle.mailmap_tables.specs.Merging.{AllJoined, EmailJoined, EmailLookup, NameLookup, NamePut, NamesJoined, GroupPut, bare, known, unknown}
+use Rattle.mailmap_batches.specs.Given.{IsEarliest, IsNamed, NameEntries}
 use Rattle.mailmap_batches.specs.Batches.{IsSorted, email_text}
 use Rattle.mailmap_tables.specs.Named.{given_or}
-use Rattle.mailmap_tables.specs.Room.{EmailChanged, EmailReady, Fits, OwnWithin, Room, Says, entry_bytes, entry_room, field_bytes, own_bytes, with_email_at}
+use Rattle.mailmap_tables.specs.Reserved.{EmailChanged, EmailReady, Fits, OwnWithin, Reserved, Says, entry_bytes, entry_reserved, field_bytes, own_bytes, with_email_at}
 use Rattle.mailmap_tables.proofs.Bytes.{alike_length}
 use Rattle.mailmap_tables.proofs.EmailPuts.{email_joined}
 use Rattle.mailmap_tables.proofs.EmailsLoop.{emails_end, emails_start, emails_step}
 use Rattle.mailmap_tables.proofs.NamesLoop.{names_end, names_start, names_step}
-use Rattle.mailmap_tables.proofs.Runs.{none_sorted}
+use Rattle.mailmap_tables.proofs.PrefixGroups.{none_sorted}
 use Rattle.mailmap_tables.proofs.WholeMerge.{joined_normal}
 
 -- ---- lists
@@ -56,24 +56,24 @@ module _ {X : Type 0} where
       go [] = refl
       go (b ∷ bs) = ap (λ l. b ∷ l) (go bs)
 
-  pub length_front : (xs : List X) (i : ℕ) → i ≤ length xs → length (take i xs) ≡ i
-  length_front xs zero le = refl
-  length_front [] (suc i) le = absurd (omega (arith, le))
-  length_front (x ∷ xs) (suc i) le = ap (λ n. suc n) (length_front xs i (omega (arith, le)))
+  pub length_prefix : (xs : List X) (i : ℕ) → i ≤ length xs → length (take i xs) ≡ i
+  length_prefix xs zero le = refl
+  length_prefix [] (suc i) le = absurd (omega (arith, le))
+  length_prefix (x ∷ xs) (suc i) le = ap (λ n. suc n) (length_prefix xs i (omega (arith, le)))
 
 -- ---- one email changed
 
-pub changed_from : (index : ℕ) (g : EmailGroup) (old mid new : Contents) → mid.groups ≡ old.groups → mid.loose ≡ old.loose → new ≡ with_email_at mid index g → EmailChanged index g old new
-changed_from index g old mid new groups loose is =
+pub changed_from : (index : ℕ) (g : EmailGroup) (old mid new : Contents) → mid.groups ≡ old.groups → mid.pending ≡ old.pending → new ≡ with_email_at mid index g → EmailChanged index g old new
+changed_from index g old mid new groups pending is =
     record {
       groups = ap (λ (v : Contents). v.groups) is ∙ ap (λ l. take index l ++ g ∷ drop (index + 1) l) groups;
-      loose = ap (λ (v : Contents). v.loose) is ∙ loose;
+      pending = ap (λ (v : Contents). v.pending) is ∙ pending;
     }
 
 -- ---- an entry with an old name
 
 abbrev nothing : List EmailGroup → List NameGroup → Contents
-nothing gs ns = record { pool = []; groups = gs; loose = ns }
+nothing gs ns = record { pool = []; groups = gs; pending = ns }
 
 module _ (ks before after : List NameGroup) (kept : Text) (n : NameGroup) (m : Mapping) (says : Says m n) where
   abbrev one : NameGroup
@@ -82,17 +82,17 @@ module _ (ks before after : List NameGroup) (kept : Text) (n : NameGroup) (m : M
   named : IsNamed m
   named = record { old_name = subst IsSome (sym says.old_name) refl; new_email = subst IsSome (sym says.new_email) refl }
 
-  put : NamePlaced ks before n.old_name kept after → NamePut ks after n (nothing [] []) (nothing [] (before ++ one ∷ []))
-  put placed = record { passed = before; kept = kept; pool = ([], refl); groups = refl; loose = refl; placed = placed }
+  put : NameLookup ks before n.old_name kept after → NamePut ks after n (nothing [] []) (nothing [] (before ++ one ∷ []))
+  put indexed = record { passed = before; kept = kept; pool = ([], refl); groups = refl; pending = refl; indexed = indexed }
 
-  run : NameRun (m ∷ []) n []
-  run = record { front = m; more = []; whole = refl; named = says.old_name; same = tt; new_name = says.new_name; new_email = says.new_email; other = tt }
+  group : NameEntries (m ∷ []) n []
+  group = record { head = m; more = []; whole = refl; named = says.old_name; same = tt; new_name = says.new_name; new_email = says.new_email; other = tt }
 
-  pub name_joined : IsStrictlySortedBy text_cmp (map name_key ks) → NamePlaced ks before n.old_name kept after → NamesJoined ks (m ∷ []) (before ++ one ∷ after)
-  name_joined up placed =
-      let state = names_step ks (m ∷ []) (nothing [] []) (named, tt) ks after (m ∷ []) [] n (nothing [] []) (nothing [] (before ++ one ∷ [])) (names_start ks (m ∷ []) (nothing [] []) up (tt, tt)) (put placed) run in
+  pub name_joined : IsStrictlySortedBy text_cmp (map name_key ks) → NameLookup ks before n.old_name kept after → NamesJoined ks (m ∷ []) (before ++ one ∷ after)
+  name_joined up indexed =
+      let state = names_step ks (m ∷ []) (nothing [] []) (named, tt) ks after (m ∷ []) [] n (nothing [] []) (nothing [] (before ++ one ∷ [])) (names_start ks (m ∷ []) (nothing [] []) up (tt, tt)) (put indexed) group in
       let done = names_end ks (m ∷ []) (nothing [] []) (named, tt) after (nothing [] (before ++ one ∷ [])) (nothing [] ((before ++ one ∷ []) ++ after)) state refl in
-      subst (NamesJoined ks (m ∷ [])) (sym done.loose ∙ append_assoc before (one ∷ []) after) done.joined
+      subst (NamesJoined ks (m ∷ [])) (sym done.pending ∙ append_assoc before (one ∷ []) after) done.joined
 
 pub group_named : (g : EmailGroup) (m : Mapping) (names : List NameGroup) → NamesJoined g.names (m ∷ []) names → EmailJoined g (m ∷ []) (record g { names = names })
 group_named g m names joined = email_joined g [] (m ∷ []) names tt tt joined
@@ -106,17 +106,17 @@ group_given g m plain good up =
 
 -- ---- the whole
 
-module _ (gs before after : List EmailGroup) (stood group : EmailGroup) (m : Mapping) (are : AreGroups gs) (good : is_accepted m ≡ true)
-    (placed : EmailPlaced gs before ((0, m) ∷ []) (email_text m) stood after) (joined : EmailJoined stood (m ∷ []) group) where
+module _ (gs before after : List EmailGroup) (existing group : EmailGroup) (m : Mapping) (are : AreGroups gs) (good : is_accepted m ≡ true)
+    (indexed : EmailLookup gs before ((0, m) ∷ []) (email_text m) existing after) (joined : EmailJoined existing (m ∷ []) group) where
   abbrev items : List (ℕ × Mapping)
   items = (0, m) ∷ []
 
-  put_run : RunPut gs after items (email_text m) (nothing [] []) (nothing (before ++ group ∷ []) [])
-  put_run = record { passed = before; stood = stood; group = group; pool = ([], refl); groups = refl; no_loose = refl; placed = placed; joined = joined }
+  put_group : GroupPut gs after items (email_text m) (nothing [] []) (nothing (before ++ group ∷ []) [])
+  put_group = record { passed = before; existing = existing; group = group; pool = ([], refl); groups = refl; none_pending = refl; indexed = indexed; joined = joined }
 
   all_joined : AllJoined gs items (before ++ group ∷ after)
   all_joined =
-      let state = emails_step gs items [] are (good, tt) gs after items (0, m) [] [] (nothing [] []) (nothing (before ++ group ∷ []) []) (emails_start gs items (nothing [] []) [] are (tt, tt) refl) refl tt tt put_run in
+      let state = emails_step gs items [] are (good, tt) gs after items (0, m) [] [] (nothing [] []) (nothing (before ++ group ∷ []) []) (emails_start gs items (nothing [] []) [] are (tt, tt) refl) refl tt tt put_group in
       subst (AllJoined gs items) (append_assoc before (group ∷ []) after)
       (emails_end gs items [] are after (nothing (before ++ group ∷ []) []) (nothing ((before ++ group ∷ []) ++ after) []) state refl)
 
@@ -154,7 +154,7 @@ at_one n k (b ∷ before) after g same all = at_one n k before after g same all.
 pub earliest_itself : (m : Mapping) → IsEarliest ((0, m) ∷ []) (0, m)
 earliest_itself m = record { among = search rules; least = search rules }
 
-module _ (gs before after : List EmailGroup) (stood : EmailGroup) (m : Mapping) where
+module _ (gs before after : List EmailGroup) (existing : EmailGroup) (m : Mapping) where
   earliest_is : (p : ℕ × Mapping) → IsEarliest ((0, m) ∷ []) p → p ≡ (0, m)
   earliest_is p first = only first.among
     where
@@ -162,36 +162,36 @@ module _ (gs before after : List EmailGroup) (stood : EmailGroup) (m : Mapping) 
       only among = search rules
 
   -- the email of the entry has no more
-  pub stood_room : (n : ℕ) → EmailPlaced gs before ((0, m) ∷ []) (email_text m) stood after → Within n (email_text m) gs → (own_bytes stood ≤ n) × (length stood.old_email ≡ length m.old_email)
-  stood_room n (known is key) all = (at_one n (email_text m) before after stood key (subst (Within n (email_text m)) is all), alike_length stood.old_email m.old_email key)
-  stood_room n (unknown is low high p first g) all =
+  pub existing_reserved : (n : ℕ) → EmailLookup gs before ((0, m) ∷ []) (email_text m) existing after → Within n (email_text m) gs → (own_bytes existing ≤ n) × (length existing.old_email ≡ length m.old_email)
+  existing_reserved n (known is key) all = (at_one n (email_text m) before after existing key (subst (Within n (email_text m)) is all), alike_length existing.old_email m.old_email key)
+  existing_reserved n (unknown is low high p first g) all =
       let e : p ≡ (0, m) = earliest_is p first in
-      let made : stood ≡ bare m.old_email = g ∙ ap (λ (q : ℕ × Mapping). bare q.1.old_email) e in
+      let made : existing ≡ bare m.old_email = g ∙ ap (λ (q : ℕ × Mapping). bare q.1.old_email) e in
       (omega (arith, ap own_bytes made), ap (λ (h : EmailGroup). length h.old_email) made)
 
-  after_one : (n more : ℕ) (k : Text) (group : EmailGroup) → EmailPlaced gs before ((0, m) ∷ []) (email_text m) stood after → group.old_email ≡ stood.old_email → own_bytes group ≤ own_bytes stood + more → Within n k gs → Within (n + more) k (before ++ group ∷ after)
-  after_one n more k group (known is key) same le all = replaced n more k before after stood group same le (subst (Within n k) is all)
+  after_one : (n more : ℕ) (k : Text) (group : EmailGroup) → EmailLookup gs before ((0, m) ∷ []) (email_text m) existing after → group.old_email ≡ existing.old_email → own_bytes group ≤ own_bytes existing + more → Within n k gs → Within (n + more) k (before ++ group ∷ after)
+  after_one n more k group (known is key) same le all = replaced n more k before after existing group same le (subst (Within n k) is all)
   after_one n more k group (unknown is low high p first g) same le all = inserted n more k before after group (omega (arith, le, ap own_bytes g)) (subst (Within n k) is all)
 
-  pub own_after : (n more : ℕ) (ms : List Mapping) (group : EmailGroup) → EmailPlaced gs before ((0, m) ∷ []) (email_text m) stood after → group.old_email ≡ stood.old_email → own_bytes group ≤ own_bytes stood + more → OwnWithin n gs ms → OwnWithin (n + more) (before ++ group ∷ after) ms
-  own_after n more [] group placed same le all = tt
-  own_after n more (x ∷ ms) group placed same le all = (after_one n more (email_text x) group placed same le all.0, own_after n more ms group placed same le all.1)
+  pub own_after : (n more : ℕ) (ms : List Mapping) (group : EmailGroup) → EmailLookup gs before ((0, m) ∷ []) (email_text m) existing after → group.old_email ≡ existing.old_email → own_bytes group ≤ own_bytes existing + more → OwnWithin n gs ms → OwnWithin (n + more) (before ++ group ∷ after) ms
+  own_after n more [] group indexed same le all = tt
+  own_after n more (x ∷ ms) group indexed same le all = (after_one n more (email_text x) group indexed same le all.0, own_after n more ms group indexed same le all.1)
 
 -- with more room for each entry
-more_room : (a b : ℕ) (ms : List Mapping) → a ≤ b → sum_by (entry_room a) ms ≤ sum_by (entry_room b) ms
-more_room a b [] le = omega arith
-more_room a b (m ∷ ms) le = omega (arith, le, more_room a b ms le, sum_by-cons (entry_room a) m ms, sum_by-cons (entry_room b) m ms)
+more_reserved : (a b : ℕ) (ms : List Mapping) → a ≤ b → sum_by (entry_reserved a) ms ≤ sum_by (entry_reserved b) ms
+more_reserved a b [] le = omega arith
+more_reserved a b (m ∷ ms) le = omega (arith, le, more_reserved a b ms le, sum_by-cons (entry_reserved a) m ms, sum_by-cons (entry_reserved b) m ms)
 
 -- the room that an entry takes at most
-pub first_room : (own : ℕ) (m : Mapping) (ms : List Mapping) (bytes : ℕ) → sum_by (entry_room (own + sum_by entry_bytes (m ∷ ms))) (m ∷ ms) ≤ bytes → entry_room own m ≤ bytes
-first_room own m ms bytes le = omega (arith, le, sum_by-cons (entry_room (own + sum_by entry_bytes (m ∷ ms))) m ms)
+pub first_reserved : (own : ℕ) (m : Mapping) (ms : List Mapping) (bytes : ℕ) → sum_by (entry_reserved (own + sum_by entry_bytes (m ∷ ms))) (m ∷ ms) ≤ bytes → entry_reserved own m ≤ bytes
+first_reserved own m ms bytes le = omega (arith, le, sum_by-cons (entry_reserved (own + sum_by entry_bytes (m ∷ ms))) m ms)
 
 -- and what is left for the others
-pub rest_room : (own : ℕ) (m : Mapping) (ms : List Mapping) (bytes left : ℕ) → sum_by (entry_room (own + sum_by entry_bytes (m ∷ ms))) (m ∷ ms) ≤ bytes → bytes ≤ left + entry_room own m
-    → sum_by (entry_room (own + field_bytes m + sum_by entry_bytes ms)) ms ≤ left
-rest_room own m ms bytes left le took =
+pub rest_reserved : (own : ℕ) (m : Mapping) (ms : List Mapping) (bytes left : ℕ) → sum_by (entry_reserved (own + sum_by entry_bytes (m ∷ ms))) (m ∷ ms) ≤ bytes → bytes ≤ left + entry_reserved own m
+    → sum_by (entry_reserved (own + field_bytes m + sum_by entry_bytes ms)) ms ≤ left
+rest_reserved own m ms bytes left le took =
     let less : own + field_bytes m + sum_by entry_bytes ms ≤ own + sum_by entry_bytes (m ∷ ms) = omega (arith, sum_by-cons entry_bytes m ms) in
-    omega (arith, le, took, sum_by-cons (entry_room (own + sum_by entry_bytes (m ∷ ms))) m ms, more_room _ _ ms less)
+    omega (arith, le, took, sum_by-cons (entry_reserved (own + sum_by entry_bytes (m ∷ ms))) m ms, more_reserved _ _ ms less)
 
 -- ---- the steps of one entry
 
@@ -206,42 +206,42 @@ module _ (m : Mapping) (index : ℕ) (old mid : List EmailGroup) (ready : EmailR
   ready_changed h = (λ i. take (sym ready.index_is i) (ready.groups i) ++ h ∷ drop (sym ready.index_is i + 1) (ready.groups i)) ∙ other_there ready.before ready.after ready.group h
 
   pub ready_ascends : AreGroups old → IsStrictlySortedBy text_cmp (map name_key ready.group.names)
-  ready_ascends are = at ready.placed
+  ready_ascends are = at ready.indexed
     where
       one_of : (before after : List EmailGroup) (g : EmailGroup) → AllByRecursion IsGroup (before ++ g ∷ after) → IsStrictlySortedBy text_cmp (map name_key g.names)
       one_of [] after g all = all.0.ascending
       one_of (b ∷ before) after g all = one_of before after g all.1
 
-      at : EmailPlaced old ready.before ((0, m) ∷ []) (email_text m) ready.group ready.after → IsStrictlySortedBy text_cmp (map name_key ready.group.names)
+      at : EmailLookup old ready.before ((0, m) ∷ []) (email_text m) ready.group ready.after → IsStrictlySortedBy text_cmp (map name_key ready.group.names)
       at (known is key) = one_of ready.before ready.after ready.group (subst (AllByRecursion IsGroup) is are.each)
       at (unknown is low high p first g) = subst (λ (h : EmailGroup). IsStrictlySortedBy text_cmp (map name_key h.names)) (sym g) none_sorted
 
 -- the entry has joined the tables
-pub put_done : (m : Mapping) (index : ℕ) (old mid new : Contents) (ready : EmailReady m index old.groups mid.groups) (h : EmailGroup) → IsComplete old → is_accepted m ≡ true → mid.loose ≡ []
+pub put_done : (m : Mapping) (index : ℕ) (old mid new : Contents) (ready : EmailReady m index old.groups mid.groups) (h : EmailGroup) → IsComplete old → is_accepted m ≡ true → mid.pending ≡ []
     → EmailChanged index h mid new → EmailJoined ready.group (m ∷ []) h → IsComplete new × IsNormal (listing old.groups ++ m ∷ []) (listing new.groups)
-put_done m index old mid new ready h complete good loose changed joined =
+put_done m index old mid new ready h complete good pending changed joined =
     let is : new.groups ≡ ready.before ++ h ∷ ready.after = changed.groups ∙ ready_changed m index old.groups mid.groups ready h in (
-      record { groups = subst AreGroups (sym is) (put_groups old.groups ready.before ready.after ready.group h m complete.groups good ready.placed joined); no_loose = changed.loose ∙ loose },
-      subst (λ gs. IsNormal (listing old.groups ++ m ∷ []) (listing gs)) (sym is) (put_normal old.groups ready.before ready.after ready.group h m complete.groups good ready.placed joined),
+      record { groups = subst AreGroups (sym is) (put_groups old.groups ready.before ready.after ready.group h m complete.groups good ready.indexed joined); none_pending = changed.pending ∙ pending },
+      subst (λ gs. IsNormal (listing old.groups ++ m ∷ []) (listing gs)) (sym is) (put_normal old.groups ready.before ready.after ready.group h m complete.groups good ready.indexed joined),
     )
 
 -- and there is room for those after it
-pub put_fits : (m : Mapping) (ms : List Mapping) (index : ℕ) (old new : Room) (mid : Contents) (ready : EmailReady m index old.held.groups mid.groups) (h : EmailGroup) → EmailChanged index h mid new.held
-    → h.old_email ≡ ready.group.old_email → own_bytes h ≤ own_bytes ready.group + field_bytes m → (f : Fits old (m ∷ ms)) → old.bytes ≤ new.bytes + entry_room f.bytes.0 m → old.emails ≤ new.emails + 1 → old.names ≤ new.names + 1 → Fits new ms
+pub put_fits : (m : Mapping) (ms : List Mapping) (index : ℕ) (old new : Reserved) (mid : Contents) (ready : EmailReady m index old.held.groups mid.groups) (h : EmailGroup) → EmailChanged index h mid new.held
+    → h.old_email ≡ ready.group.old_email → own_bytes h ≤ own_bytes ready.group + field_bytes m → (f : Fits old (m ∷ ms)) → old.bytes ≤ new.bytes + entry_reserved f.bytes.0 m → old.emails ≤ new.emails + 1 → old.names ≤ new.names + 1 → Fits new ms
 put_fits m ms index old new mid ready h changed same le f bytes emails names =
     let own = f.bytes.0 in
     let is : new.held.groups ≡ ready.before ++ h ∷ ready.after = changed.groups ∙ ready_changed m index old.held.groups mid.groups ready h in
-    let within : OwnWithin (own + field_bytes m) (ready.before ++ h ∷ ready.after) ms = own_after old.held.groups ready.before ready.after ready.group m own (field_bytes m) ms h ready.placed same le f.bytes.1.0.1 in
+    let within : OwnWithin (own + field_bytes m) (ready.before ++ h ∷ ready.after) ms = own_after old.held.groups ready.before ready.after ready.group m own (field_bytes m) ms h ready.indexed same le f.bytes.1.0.1 in
     record {
-      bytes = (own + field_bytes m, (subst (λ gs. OwnWithin (own + field_bytes m) gs ms) (sym is) within, rest_room own m ms old.bytes new.bytes f.bytes.1.1 bytes));
+      bytes = (own + field_bytes m, (subst (λ gs. OwnWithin (own + field_bytes m) gs ms) (sym is) within, rest_reserved own m ms old.bytes new.bytes f.bytes.1.1 bytes));
       emails = omega (arith, f.emails, emails);
       names = omega (arith, f.names, names);
     }
 
 -- all that entries take
-pub room_sum : (own : ℕ) (ms : List Mapping) → sum_by (entry_room own) ms ≡ sum_by entry_bytes ms + sum_by entry_bytes ms + length ms * own
-room_sum own [] = omega (arith, zero-mul own)
-room_sum own (m ∷ ms) = omega (arith, room_sum own ms, sum_by-cons (entry_room own) m ms, sum_by-cons entry_bytes m ms, suc-mul (length ms) own)
+pub reserved_sum : (own : ℕ) (ms : List Mapping) → sum_by (entry_reserved own) ms ≡ sum_by entry_bytes ms + sum_by entry_bytes ms + length ms * own
+reserved_sum own [] = omega (arith, zero-mul own)
+reserved_sum own (m ∷ ms) = omega (arith, reserved_sum own ms, sum_by-cons (entry_reserved own) m ms, sum_by-cons entry_bytes m ms, suc-mul (length ms) own)
 
 -- a product that did not reach the bound M was not cut off
 pub product_whole : (M n own t b copied : ℕ) → b ≡ min (own + t) M → copied ≡ min (n * b) M → copied < M → n * (own + t) ≤ copied

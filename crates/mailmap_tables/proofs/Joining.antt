@@ -13,56 +13,56 @@ use Rattle.mailmap_tables.proofs.Grouped.{groups_normal}
 -- no entry yet
 pub collected_none : (s : Contents) → IsComplete s → IsCollected s [] None []
 collected_none s is =
-    let stood = listing s.groups in
-    record { front = []; parts = refl; complete = is; normal = subst (λ l. IsNormal l stood) (sym (append-nil stood)) (groups_normal s.groups is.groups) }
+    let existing = listing s.groups in
+    record { head = []; parts = refl; complete = is; normal = subst (λ l. IsNormal l existing) (sym (append-nil existing)) (groups_normal s.groups is.groups) }
 
-all_behind : {X : Type 0} (P : X → Type 0) (xs ys : List X) → AllByRecursion P (xs ++ ys) → AllByRecursion P ys
-all_behind P [] ys a = a
-all_behind P (x ∷ xs) ys a = all_behind P xs ys a.1
+all_after : {X : Type 0} (P : X → Type 0) (xs ys : List X) → AllByRecursion P (xs ++ ys) → AllByRecursion P ys
+all_after P [] ys a = a
+all_after P (x ∷ xs) ys a = all_after P xs ys a.1
 
 module _ (s : Contents) (h : List Mapping) (made : Option Contents) (batch : List Mapping) (c : IsCollected s h made batch) where
-  -- the batch has accepted entries alone
+  -- the batch has only accepted entries
   pub collected_good : AllByRecursion (λ m. is_accepted m ≡ true) batch
-  collected_good = all_behind _ c.front batch (subst (AllByRecursion (λ m. is_accepted m ≡ true)) c.parts (accepted_good h))
+  collected_good = all_after _ c.head batch (subst (AllByRecursion (λ m. is_accepted m ≡ true)) c.parts (accepted_good h))
 
   -- an accepted entry more
   pub collected_push : (m : Mapping) → is_accepted m ≡ true → IsCollected s (h ++ m ∷ []) made (batch ++ m ∷ [])
   collected_push m good =
       record {
-        front = c.front;
-        parts = accepted-taken h m good ∙ ap (λ l. l ++ m ∷ []) c.parts ∙ append_assoc c.front batch (m ∷ []);
+        head = c.head;
+        parts = accepted-taken h m good ∙ ap (λ l. l ++ m ∷ []) c.parts ∙ append_assoc c.head batch (m ∷ []);
         complete = c.complete;
         normal = c.normal;
       }
 
   -- an entry that isn't accepted
   pub collected_same : (m : Mapping) → accepted (h ++ m ∷ []) ≡ accepted h → IsCollected s (h ++ m ∷ []) made batch
-  collected_same m e = record { front = c.front; parts = e ∙ c.parts; complete = c.complete; normal = c.normal }
+  collected_same m e = record { head = c.head; parts = e ∙ c.parts; complete = c.complete; normal = c.normal }
 
   -- the batch has joined the tables before it
   pub collected_joined : (t : Contents) → IsComplete t → IsNormal (listing (unwrap_or made s).groups ++ batch) (listing t.groups) → IsCollected s h (Some t) []
   collected_joined t is d =
-      let stood = listing s.groups in
-      let all = normal_then (stood ++ c.front) (listing (unwrap_or made s).groups) batch (listing t.groups) c.normal d in
+      let existing = listing s.groups in
+      let all = normal_then (existing ++ c.head) (listing (unwrap_or made s).groups) batch (listing t.groups) c.normal d in
       record {
-        front = accepted h;
+        head = accepted h;
         parts = sym (append-nil (accepted h));
         complete = is;
-        normal = subst (λ l. IsNormal l (listing t.groups)) (append_assoc stood c.front batch ∙ ap (λ l. stood ++ l) (sym c.parts)) all;
+        normal = subst (λ l. IsNormal l (listing t.groups)) (append_assoc existing c.head batch ∙ ap (λ l. existing ++ l) (sym c.parts)) all;
       }
 
 -- all entries have joined the tables
 pub collected_all : (s : Contents) (h : List Mapping) (made : Option Contents) → IsCollected s h made [] → IsNormal (listing s.groups ++ h) (listing (unwrap_or made s).groups)
 collected_all s h made c =
-    let stood = listing s.groups in
+    let existing = listing s.groups in
     let all = listing (unwrap_or made s).groups in
-    normal_accepted stood h all (subst (λ l. IsNormal (stood ++ l) all) (sym (c.parts ∙ append-nil c.front)) c.normal)
+    normal_accepted existing h all (subst (λ l. IsNormal (existing ++ l) all) (sym (c.parts ∙ append-nil c.head)) c.normal)
 
 -- with an entry in the batch an entry is accepted
 pub collected_some : {X : Type 0} (f : X → Mapping) (s : Contents) (h : List Mapping) (made : Option Contents) (xs : List X) → IsCollected s h made (map f xs) → xs ≢ [] → accepted h ≢ []
-collected_some f s h made xs c some none = some (nothing_behind c.front xs (sym c.parts ∙ none))
+collected_some f s h made xs c some none = some (nothing_after c.head xs (sym c.parts ∙ none))
   where
-    nothing_behind : (front : List Mapping) (xs : List _) → front ++ map f xs ≡ [] → xs ≡ []
-    nothing_behind front [] e = refl
-    nothing_behind [] (x ∷ xs) e = cc
-    nothing_behind (m ∷ front) (x ∷ xs) e = cc
+    nothing_after : (head : List Mapping) (xs : List _) → head ++ map f xs ≡ [] → xs ≡ []
+    nothing_after head [] e = refl
+    nothing_after [] (x ∷ xs) e = cc
+    nothing_after (m ∷ head) (x ∷ xs) e = cc

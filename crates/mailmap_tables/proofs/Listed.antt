@@ -13,7 +13,7 @@ use Rattle.mailmap_tables.specs.Texts.{old_span}
 use Rattle.mailmap_tables.specs.declared.texts.Texts.{Texts}
 
 module _ (t : Contents) (email : Text) (ns : List Texts) (i : ℕ) (none : ns ≡ []) where
-  -- where no name is left, the next email begins
+  -- if no name is left, the next email begins
   pub next_email : (r : Texts) (rest : List Texts) → slice_get t.groups i ≡ Some (group_of t.pool r rest)
       → left_to_list t email ns i ≡ own_rows (group_of t.pool r []) ++ left_to_list t (spelled t.pool (old_span r)) rest (i + 1)
   next_email r rest read =

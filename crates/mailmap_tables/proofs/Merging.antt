@@ -20,26 +20,27 @@ pub use Rattle.mailmap_batches.specs.Given.{give}
 -- ---- what is put on a batch and what it is joined with
 
 module _ (a b c : List Mapping) (apart : AllByRecursion (λ x. AllByRecursion (λ y. IsApart x y) c) b) where
-  -- what is apart from a batch goes behind it
-  put_behind : Alike ((a ++ b) ++ c) ((a ++ c) ++ b)
-  put_behind =
+  -- what is apart from a batch goes after it
+  put_after : Alike ((a ++ b) ++ c) ((a ++ c) ++ b)
+  put_after =
       subst (λ l. Alike l ((a ++ c) ++ b)) (sym (append_assoc a b c))
       (subst (Alike (a ++ (b ++ c))) (sym (append_assoc a c b)) (alike_joined a (b ++ c) a (c ++ b) (alike_itself a) (alike_swapped b c apart)))
 
   put_alone : (o : List Mapping) → Alike (a ++ c) o → Alike ((a ++ b) ++ c) (o ++ b)
-  put_alone o done = alike_trans ((a ++ b) ++ c) ((a ++ c) ++ b) (o ++ b) put_behind (alike_joined (a ++ c) b o b done (alike_itself b))
+  put_alone o done = alike_trans ((a ++ b) ++ c) ((a ++ c) ++ b) (o ++ b) put_after (alike_joined (a ++ c) b o b done (alike_itself b))
 
   put_joined : (d o m : List Mapping) → Alike (a ++ c) o → Alike (b ++ d) m → Alike ((a ++ b) ++ (c ++ d)) (o ++ m)
   put_joined d o m done joined =
       alike_trans ((a ++ b) ++ (c ++ d)) (((a ++ c) ++ b) ++ d) (o ++ m)
-      (subst (λ l. Alike l (((a ++ c) ++ b) ++ d)) (append_assoc (a ++ b) c d) (alike_joined ((a ++ b) ++ c) d ((a ++ c) ++ b) d put_behind (alike_itself d)))
+      (subst (λ l. Alike l (((a ++ c) ++ b) ++ d)) (append_assoc (a ++ b) c d) (alike_joined ((a ++ b) ++ c) d ((a ++ c) ++ b) d put_after (alike_itself d)))
       (subst (λ l. Alike l (o ++ m)) (sym (append_assoc (a ++ c) b d)) (alike_joined (a ++ c) (b ++ d) o m done joined))
 
 -- more of the batch
 put_more : (a c d o m : List Mapping) → Alike (a ++ c) o → Alike d m → Alike (a ++ (c ++ d)) (o ++ m)
 put_more a c d o m done more = subst (λ l. Alike l (o ++ m)) (append_assoc a c d) (alike_joined (a ++ c) d o m done more)
 
--- ---- email by email: ds are the standing groups that are done, js is the front of the batch, os are the groups that come out
+-- ---- email by email: ds are the standing groups that are done, js is the head of the batch, os are the groups that
+-- come out
 
 -- the emails of js are below that of g
 abbrev pub AreBelow : List Mapping → EmailGroup → Type 0
@@ -58,11 +59,11 @@ rows_apart : (g : EmailGroup) (js : List Mapping) → AreBelow js g → AllByRec
 rows_apart g js below = all_weaker (rows g) (λ x same. all_weaker js (λ y less. apart_below x y (ap (λ t. text_cmp (folded y.old_email) (folded t)) same ∙ less)) below) (rows_spelled g)
 
 -- standing groups above the batch so far go over as they are
-pub step_copied : (ds run os : List EmailGroup) (js : List Mapping) → Alike (listing ds ++ js) (listing os) → AllByRecursion (AreBelow js) run → Alike (listing (ds ++ run) ++ js) (listing (os ++ run))
-step_copied ds run os js done below =
-    subst (λ l. Alike (l ++ js) (listing (os ++ run))) (sym (listing-append ds run))
-    (subst (Alike ((listing ds ++ listing run) ++ js)) (sym (listing-append os run))
-    (put_alone (listing ds) (listing run) js (listing_all _ run (all_weaker run (λ g low. rows_apart g js low) below)) (listing os) done))
+pub step_copied : (ds group os : List EmailGroup) (js : List Mapping) → Alike (listing ds ++ js) (listing os) → AllByRecursion (AreBelow js) group → Alike (listing (ds ++ group) ++ js) (listing (os ++ group))
+step_copied ds group os js done below =
+    subst (λ l. Alike (l ++ js) (listing (os ++ group))) (sym (listing-append ds group))
+    (subst (Alike ((listing ds ++ listing group) ++ js)) (sym (listing-append os group))
+    (put_alone (listing ds) (listing group) js (listing_all _ group (all_weaker group (λ g low. rows_apart g js low) below)) (listing os) done))
 
 -- a standing group with the entries of its email in the batch
 pub step_joined : (ds os : List EmailGroup) (g c : EmailGroup) (js more : List Mapping) → Alike (listing ds ++ js) (listing os) → AreBelow js g → Alike (rows g ++ more) (rows c)
@@ -75,7 +76,8 @@ step_joined ds os g c js more done below joined =
 pub step_made : (ds os : List EmailGroup) (c : EmailGroup) (js more : List Mapping) → Alike (listing ds ++ js) (listing os) → Alike more (rows c) → Alike (listing ds ++ (js ++ more)) (listing (os ++ c ∷ []))
 step_made ds os c js more done new = subst (Alike (listing ds ++ (js ++ more))) (sym (listing-push os c)) (put_more (listing ds) js more (listing os) (rows c) done new)
 
--- ---- the names of one email e: ds are the standing names that are done, js is the front of its named batch entries, os are the names that come out
+-- ---- the names of one email e: ds are the standing names that are done, js is the head of its named batch entries, os
+-- are the names that come out
 
 abbrev pub name_rows : Text → List NameGroup → List Mapping
 name_rows e ns = map (name_row e) ns
@@ -102,19 +104,19 @@ name_apart e n y same less = (
 names_apart : (e : Text) (n : NameGroup) (js : List Mapping) → AllByRecursion (λ y. y.old_email ≡ e) js → AreNamedBelow js n → AllByRecursion (λ y. IsApart (name_row e n) y) js
 names_apart e n js mailed below = all_apply _ _ _ (name_apart e n) js mailed below
 
--- an entry in the place of one with its name
+-- an entry in place of one with its name
 name_combined : (e : Text) (n : NameGroup) (m : Mapping) (y : Text) → m.old_email ≡ e → (key m).1 ≡ Some (name_key n) → m.new_email ≡ Some y → Alike (name_row e n ∷ m ∷ []) (name_row e (renewed n.old_name m y) ∷ [])
 name_combined e n m y same_email same_name given =
     subst (λ o. Alike (name_row e n ∷ m ∷ []) (mapping_with (record { name = m.new_name; email = o }) (Some n.old_name) e ∷ [])) given
     (alike_combined (name_row e n) m (λ i. (folded (sym same_email i), sym same_name i)) (sym same_email) (or_right (is_some n.new_name) true refl) (or_right (is_some m.new_name) (is_some m.new_email) (ap is_some given)))
 
 -- standing names above those so far go over as they are
-pub names_copied : (e : Text) (ds run os : List NameGroup) (js : List Mapping) → AllByRecursion (λ y. y.old_email ≡ e) js → Alike (name_rows e ds ++ js) (name_rows e os)
-    → AllByRecursion (AreNamedBelow js) run → Alike (name_rows e (ds ++ run) ++ js) (name_rows e (os ++ run))
-names_copied e ds run os js mailed done below =
-    subst (λ l. Alike (l ++ js) (name_rows e (os ++ run))) (sym (map-append (name_row e) ds run))
-    (subst (Alike ((name_rows e ds ++ name_rows e run) ++ js)) (sym (map-append (name_row e) os run))
-    (put_alone (name_rows e ds) (name_rows e run) js (each run below) (name_rows e os) done))
+pub names_copied : (e : Text) (ds group os : List NameGroup) (js : List Mapping) → AllByRecursion (λ y. y.old_email ≡ e) js → Alike (name_rows e ds ++ js) (name_rows e os)
+    → AllByRecursion (AreNamedBelow js) group → Alike (name_rows e (ds ++ group) ++ js) (name_rows e (os ++ group))
+names_copied e ds group os js mailed done below =
+    subst (λ l. Alike (l ++ js) (name_rows e (os ++ group))) (sym (map-append (name_row e) ds group))
+    (subst (Alike ((name_rows e ds ++ name_rows e group) ++ js)) (sym (map-append (name_row e) os group))
+    (put_alone (name_rows e ds) (name_rows e group) js (each group below) (name_rows e os) done))
   where
     each : (ns : List NameGroup) → AllByRecursion (AreNamedBelow js) ns → AllByRecursion (λ x. AllByRecursion (λ y. IsApart x y) js) (name_rows e ns)
     each [] a = tt

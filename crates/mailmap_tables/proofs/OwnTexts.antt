@@ -11,7 +11,7 @@ use Rattle.mailmap_tables.specs.Texts.{email_span, name_span, old_span}
 use Rattle.mailmap_tables.specs.declared.texts.Span.{Span}
 use Rattle.mailmap_tables.specs.declared.texts.Texts.{Texts}
 use Rattle.mailmap_tables.proofs.EmailPuts.{options_on, spelled_on}
-use Rattle.mailmap_tables.proofs.NamePlaces.{extends_through}
+use Rattle.mailmap_tables.proofs.NameLookups.{extends_through}
 use Rattle.mailmap_tables.proofs.Passing.{group_on}
 
 -- the name is put out over a pool first, and then the email

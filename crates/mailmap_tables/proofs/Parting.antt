@@ -1,4 +1,4 @@
--- A list round the place where a search ends.
+-- A list round the index where a search ends.
 use Rattle.std.proofs.Common.{◌≡◌, ◌+◌, ◌-◌, ◌<◌, ◌≤◌, ℕ, zero, suc, List, [], ◌∷◌, ◌++◌, take, drop, get_or, length, Some, Less, Greater, refl, sym, ap, subst, ◌∙◌, arith, take-append-drop, length-drop, drop-cons}
 use Rattle.std.proofs.Math.Seq.{take-length}
 use Rattle.std.proofs.lemmas.List.{drop-drop}
@@ -6,10 +6,10 @@ use Rattle.std.specs.Cmp.Lexicographic.{nat_list_cmp_total}
 use Rattle.std.specs.Ordering.{ordering_reverse}
 use Rattle.std.specs.List.{AllByRecursion, AllWithin}
 use Rattle.mailmap_entries.specs.Folding.{Text, text_cmp}
-use Rattle.mailmap_tables.specs.Places.{IsFound, IsMissing}
+use Rattle.mailmap_tables.specs.KeySearch.{IsFound, IsMissing}
 use Rattle.mailmap_tables.proofs.Pooled.{slice_get-map_at}
 
--- what holds at each place from a up to b holds of that part
+-- what holds at each index from a up to b holds of that part
 pub within_part : {X : Type 0} (P : X → Type 0) (a b : ℕ) (xs : List X) → a ≤ b → b ≤ length xs → AllWithin P xs a b → AllByRecursion P (take (b - a) (drop a xs))
 within_part P a b xs le in_list h = subst (λ n. AllByRecursion P (take n (drop a xs))) (omega-is a b le) (from a (b - a) xs (omega arith) (λ k d low high. h k d low (omega arith)))
   where
@@ -23,26 +23,26 @@ within_part P a b xs le in_list h = subst (λ n. AllByRecursion P (take n (drop 
     from (suc a) n [] le h = absurd (omega arith)
     from (suc a) n (y ∷ ys) le h = from a n ys (omega arith) (λ k d low high. h (suc k) d (omega arith) (omega arith))
 
--- the list from a on, around the place i
-pub part_behind : {X : Type 0} (xs : List X) (a i : ℕ) → a ≤ i → drop a xs ≡ take (i - a) (drop a xs) ++ drop i xs
-part_behind xs a i le =
-    let place : a + (i - a) ≡ i = omega arith in
-    sym (take-append-drop (i - a) (drop a xs)) ∙ ap (λ l. take (i - a) (drop a xs) ++ l) (drop-drop (i - a) a xs ∙ ap (λ k. drop k xs) place)
+-- the list from a on, around the index i
+pub part_after : {X : Type 0} (xs : List X) (a i : ℕ) → a ≤ i → drop a xs ≡ take (i - a) (drop a xs) ++ drop i xs
+part_after xs a i le =
+    let index : a + (i - a) ≡ i = omega arith in
+    sym (take-append-drop (i - a) (drop a xs)) ∙ ap (λ l. take (i - a) (drop a xs) ++ l) (drop-drop (i - a) a xs ∙ ap (λ k. drop k xs) index)
 
--- the same, with what stands there
-pub split_behind : {X : Type 0} (xs : List X) (a i : ℕ) (x : X) → a ≤ i → i < length xs → x ≡ get_or xs i x → drop a xs ≡ take (i - a) (drop a xs) ++ x ∷ drop (i + 1) xs
-split_behind xs a i x le lt read =
+-- the same, with what is there
+pub split_after : {X : Type 0} (xs : List X) (a i : ℕ) (x : X) → a ≤ i → i < length xs → x ≡ get_or xs i x → drop a xs ≡ take (i - a) (drop a xs) ++ x ∷ drop (i + 1) xs
+split_after xs a i x le lt read =
     let next : suc i ≡ i + 1 = omega arith in
-    part_behind xs a i le ∙ ap (λ l. take (i - a) (drop a xs) ++ l) (drop-cons xs i x lt ∙ (λ j. sym read j ∷ drop (next j) xs))
+    part_after xs a i le ∙ ap (λ l. take (i - a) (drop a xs) ++ l) (drop-cons xs i x lt ∙ (λ j. sym read j ∷ drop (next j) xs))
 
--- the same from the front
-pub part_front : {X : Type 0} (xs : List X) (i : ℕ) → xs ≡ take i xs ++ drop i xs
-part_front xs i = sym (take-append-drop i xs)
+-- the same from the start
+pub part_head : {X : Type 0} (xs : List X) (i : ℕ) → xs ≡ take i xs ++ drop i xs
+part_head xs i = sym (take-append-drop i xs)
 
-pub split_front : {X : Type 0} (xs : List X) (i : ℕ) (x : X) → i < length xs → x ≡ get_or xs i x → xs ≡ take i xs ++ x ∷ drop (i + 1) xs
-split_front xs i x lt read =
+pub split_head : {X : Type 0} (xs : List X) (i : ℕ) (x : X) → i < length xs → x ≡ get_or xs i x → xs ≡ take i xs ++ x ∷ drop (i + 1) xs
+split_head xs i x lt read =
     let next : suc i ≡ i + 1 = omega arith in
-    part_front xs i ∙ ap (λ l. take i xs ++ l) (drop-cons xs i x lt ∙ (λ j. sym read j ∷ drop (next j) xs))
+    part_head xs i ∙ ap (λ l. take i xs ++ l) (drop-cons xs i x lt ∙ (λ j. sym read j ∷ drop (next j) xs))
 
 less_back : (x k : Text) → text_cmp x k ≡ Greater → text_cmp k x ≡ Less
 less_back x k e = nat_list_cmp_total.antisymm k x ∙ ap ordering_reverse e
@@ -59,10 +59,10 @@ module _ {X : Type 0} (f : X → Text) (k : Text) (start : ℕ) (xs : List X) (i
       ap f read ∙ same
 
   pub missing_below : IsMissing f k start xs i → AllByRecursion (λ x. text_cmp (f x) k ≡ Less) (take (i - start) (drop start xs))
-  missing_below h = within_part _ start i xs h.behind_start h.within h.below
+  missing_below h = within_part _ start i xs h.after_start h.within h.below
 
-  pub missing_front : start ≡ 0 → IsMissing f k start xs i → AllByRecursion (λ x. text_cmp (f x) k ≡ Less) (take i xs)
-  missing_front zero_start h =
+  pub missing_head : start ≡ 0 → IsMissing f k start xs i → AllByRecursion (λ x. text_cmp (f x) k ≡ Less) (take i xs)
+  missing_head zero_start h =
       let whole : i - start ≡ i = omega arith in
       subst (λ n. AllByRecursion (λ x. text_cmp (f x) k ≡ Less) (take n xs)) whole (subst (λ a. AllByRecursion (λ x. text_cmp (f x) k ≡ Less) (take (i - start) (drop a xs))) zero_start (missing_below h))
 

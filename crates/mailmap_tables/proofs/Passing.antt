@@ -5,7 +5,7 @@ use Rattle.std.proofs.Math.Seq.{drop-cons, take-append_seam, drop-append_seam}
 use Rattle.std.proofs.lemmas.List.{take_more, get_or-drop, length-map}
 use Rattle.std.proofs.lemmas.Option.{slice_get_within, get_or_from_slice_get}
 use Rattle.mailmap_entries.specs.Folding.{Text, folded}
-use Rattle.mailmap_entries.specs.Fronts.{IsFront}
+use Rattle.mailmap_entries.specs.Prefixes.{IsKeyPrefix}
 use Rattle.mailmap_tables.specs.Groups.{EmailGroup}
 use Rattle.mailmap_batches.specs.Given.{NameGroup}
 use Rattle.mailmap_tables.specs.Merging.{Extends}
@@ -23,23 +23,23 @@ group_on a b e row names lie = ap (λ p. group_of p row names) e.1 ∙ (λ i. re
 })
 
 -- one more of a part
-pub passed_more : (gs : List EmailGroup) (from place : ℕ) (g : EmailGroup) → from ≤ place → slice_get gs place ≡ Some g → take (place + 1 - from) (drop from gs) ≡ take (place - from) (drop from gs) ++ g ∷ []
-passed_more gs from place g le read =
-    let within : place < length gs = slice_get_within gs place g read in
-    let n : place + 1 - from ≡ place - from + 1 = omega arith in
-    let at : from + (place - from) ≡ place = omega arith in
-    let there : get_or (drop from gs) (place - from) g ≡ g = get_or-drop from gs (place - from) g ∙ ap (λ k. get_or gs k g) at ∙ get_or_from_slice_get gs place g g read in
-    ap (λ k. take k (drop from gs)) n ∙ take_more (drop from gs) (place - from) g (omega (arith, length-drop from gs)) ∙ ap (λ x. take (place - from) (drop from gs) ++ x ∷ []) there
+pub passed_more : (gs : List EmailGroup) (from index : ℕ) (g : EmailGroup) → from ≤ index → slice_get gs index ≡ Some g → take (index + 1 - from) (drop from gs) ≡ take (index - from) (drop from gs) ++ g ∷ []
+passed_more gs from index g le read =
+    let within : index < length gs = slice_get_within gs index g read in
+    let n : index + 1 - from ≡ index - from + 1 = omega arith in
+    let at : from + (index - from) ≡ index = omega arith in
+    let there : get_or (drop from gs) (index - from) g ≡ g = get_or-drop from gs (index - from) g ∙ ap (λ k. get_or gs k g) at ∙ get_or_from_slice_get gs index g g read in
+    ap (λ k. take k (drop from gs)) n ∙ take_more (drop from gs) (index - from) g (omega (arith, length-drop from gs)) ∙ ap (λ x. take (index - from) (drop from gs) ++ x ∷ []) there
 
 -- the names of several emails
 abbrev pub names_of_all : List EmailGroup → List NameGroup
 names_of_all gs = flat_map (λ g. g.names) gs
 
--- the names of the next email lie in front of the others'
-pub names_ahead : (gs : List EmailGroup) (place to : ℕ) (g : EmailGroup) → place < to → slice_get gs place ≡ Some g → names_of_all (take (to - place) (drop place gs)) ≡ g.names ++ names_of_all (take (to - (place + 1)) (drop (place + 1) gs))
-names_ahead gs place to g lt read =
-    let count : to - place ≡ suc (to - (place + 1)) = omega (arith, lt) in
-    ap names_of_all (ap (λ k. take k (drop place gs)) count ∙ ap (take (suc (to - (place + 1)))) (drop_at_some gs place g read))
+-- the names of the next email come before the others'
+pub names_ahead : (gs : List EmailGroup) (index to : ℕ) (g : EmailGroup) → index < to → slice_get gs index ≡ Some g → names_of_all (take (to - index) (drop index gs)) ≡ g.names ++ names_of_all (take (to - (index + 1)) (drop (index + 1) gs))
+names_ahead gs index to g lt read =
+    let count : to - index ≡ suc (to - (index + 1)) = omega (arith, lt) in
+    ap names_of_all (ap (λ k. take k (drop index gs)) count ∙ ap (take (suc (to - (index + 1)))) (drop_at_some gs index g read))
   where
     drop_at_some : (xs : List EmailGroup) (k : ℕ) (x : EmailGroup) → slice_get xs k ≡ Some x → drop k xs ≡ x ∷ drop (k + 1) xs
     drop_at_some xs k x e =
@@ -55,21 +55,21 @@ passed_group a b e row names more count lie is =
     (λ i. record (group_of b row []) { names = (ap (λ k. take k (gs ++ more)) same ∙ take-append_seam gs more) i })
     ∙ (λ i. record (group_on a b e row names lie i) { names = gs })
 
-pub left_behind : (a : Text) (row : Texts) (names : List Texts) (more : List NameGroup) (count : ℕ) → count ≡ length names → drop count ((group_of a row names).names ++ more) ≡ more
-left_behind a row names more count is =
+pub left_after : (a : Text) (row : Texts) (names : List Texts) (more : List NameGroup) (count : ℕ) → count ≡ length names → drop count ((group_of a row names).names ++ more) ≡ more
+left_after a row names more count is =
     let gs = map (name_group a) names in
     ap (λ k. drop k (gs ++ more)) (is ∙ sym (length-map names (name_group a))) ∙ drop-append_seam gs more
 
 pub texts_lie_on : (a b : Text) → Extends a b → (t : Texts) → TextsLie (length a) t → TextsLie (length b) t
 texts_lie_on a b e t lies = subst (λ p. TextsLie (length p) t) (sym e.1) (texts_lie_more a e.0 t lies)
 
--- and its own front
-pub front_on : (a b : Text) → Extends a b → (gs : List EmailGroup) (place front : ℕ) (text : Text) (row : Texts) (names : List Texts) → TextsLie (length a) row
-    → slice_get gs place ≡ Some (group_of a row names) → slice_get (map (λ (g : EmailGroup). g.old_email) gs) place ≡ Some text → IsFront front (folded text) → IsFront front (folded (spelled b (old_span row)))
-front_on a b e gs place front text row names lies group there is =
+-- and its own prefix
+pub prefix_on : (a b : Text) → Extends a b → (gs : List EmailGroup) (index prefix : ℕ) (text : Text) (row : Texts) (names : List Texts) → TextsLie (length a) row
+    → slice_get gs index ≡ Some (group_of a row names) → slice_get (map (λ (g : EmailGroup). g.old_email) gs) index ≡ Some text → IsKeyPrefix prefix (folded text) → IsKeyPrefix prefix (folded (spelled b (old_span row)))
+prefix_on a b e gs index prefix text row names lies group there is =
     let g = group_of a row names in
-    let at : slice_get (map (λ (g : EmailGroup). g.old_email) gs) place ≡ Some (get_or gs place g).old_email = slice_get-map_at (λ (g : EmailGroup). g.old_email) gs place g (slice_get_within gs place g group) in
-    let here : text ≡ (get_or gs place g).old_email = ap (λ o. unwrap_or o text) (sym there ∙ at) in
-    let same : text ≡ spelled a (old_span row) = here ∙ ap (λ (h : EmailGroup). h.old_email) (get_or_from_slice_get gs place g g group) in
+    let at : slice_get (map (λ (g : EmailGroup). g.old_email) gs) index ≡ Some (get_or gs index g).old_email = slice_get-map_at (λ (g : EmailGroup). g.old_email) gs index g (slice_get_within gs index g group) in
+    let here : text ≡ (get_or gs index g).old_email = ap (λ o. unwrap_or o text) (sym there ∙ at) in
+    let same : text ≡ spelled a (old_span row) = here ∙ ap (λ (h : EmailGroup). h.old_email) (get_or_from_slice_get gs index g g group) in
     let grown : spelled b (old_span row) ≡ spelled a (old_span row) = ap (λ p. spelled p (old_span row)) e.1 ∙ spelled-append a e.0 (old_span row) lies.old in
-    subst (λ t. IsFront front (folded t)) (same ∙ sym grown) is
+    subst (λ t. IsKeyPrefix prefix (folded t)) (same ∙ sym grown) is

@@ -4,8 +4,8 @@ use Rattle.std.specs.Option.{ForSome, option_map_or}
 use Rattle.std.specs.List.{slice_get, AllByRecursion}
 use Rattle.std.proofs.lemmas.List.{take-append-le, drop-append-le, map-append, take-map, drop-map, drop-drop, length-map, map_push}
 use Rattle.mailmap_entries.specs.Folding.{Text, folded}
-use Rattle.mailmap_entries.specs.Fronts.{front_number}
-use Rattle.mailmap_tables.specs.Pool.{RowsLie, TextsLie, fields_of, names_of, spelled, LiesIn, name_group, email_group, NameLies, EmailLies, Follow, end_of, front_of, AreTables, contents}
+use Rattle.mailmap_entries.specs.Prefixes.{key_prefix}
+use Rattle.mailmap_tables.specs.Pool.{RowsLie, TextsLie, fields_of, names_of, spelled, LiesIn, name_group, email_group, NameLies, EmailLies, Follow, end_of, prefix_of, AreTables, contents}
 use Rattle.mailmap_tables.specs.Texts.{email_span, name_span, old_span}
 use Rattle.mailmap_tables.specs.declared.texts.Span.{Span}
 use Rattle.mailmap_tables.specs.declared.texts.Texts.{Texts}
@@ -60,9 +60,9 @@ module _ (pool more : Text) where
   emails_lie_more [] all = tt
   emails_lie_more (r ∷ rs) all = (texts_lie_more r.texts all.0, emails_lie_more rs all.1)
 
-  fronts-append : (rs : List EmailRow) → AllByRecursion (EmailLies (length pool)) rs → map (front_of (pool ++ more)) rs ≡ map (front_of pool) rs
-  fronts-append [] all = refl
-  fronts-append (r ∷ rs) all = λ i. front_number 16 (folded (spelled-append (old_span r.texts) all.0.old i)) ∷ fronts-append rs all.1 i
+  prefixes-append : (rs : List EmailRow) → AllByRecursion (EmailLies (length pool)) rs → map (prefix_of (pool ++ more)) rs ≡ map (prefix_of pool) rs
+  prefixes-append [] all = refl
+  prefixes-append (r ∷ rs) all = λ i. key_prefix 16 (folded (spelled-append (old_span r.texts) all.0.old i)) ∷ prefixes-append rs all.1 i
 
 -- ---- parts of a table of names
 
@@ -96,7 +96,7 @@ end_of-push : (k : ℕ) (es : List EmailRow) (r : EmailRow) → end_of k (es ++ 
 end_of-push k [] r = refl
 end_of-push k (e ∷ es) r = end_of-push e.names_end es r
 
--- an email's group does not see names behind its range
+-- an email's group does not see names after its range
 email_group-names : (pool : Text) (names more : List Texts) (r : EmailRow) → r.names_start ≤ r.names_end → r.names_end ≤ length names → email_group pool (names ++ more) r ≡ email_group pool names r
 email_group-names pool names more r low high =
     let rest = length-drop r.names_start names in
@@ -125,14 +125,14 @@ groups-append pool more names (r ∷ es) all lie = λ i. email_group-append pool
 
 -- ---- what the tables hold then
 
-module _ (pool : Text) (names : List Texts) (emails : List EmailRow) {fronts : List ℕ} (h : AreTables pool names emails fronts) where
-  pub tables-text : (more : Text) → AreTables (pool ++ more) names emails fronts
+module _ (pool : Text) (names : List Texts) (emails : List EmailRow) {prefixes : List ℕ} (h : AreTables pool names emails prefixes) where
+  pub tables-text : (more : Text) → AreTables (pool ++ more) names emails prefixes
   tables-text more =
       record {
         names_lie = names_lie_more pool more names h.names_lie;
         emails_lie = emails_lie_more pool more emails h.emails_lie;
         ranges = h.ranges;
-        front_each = h.front_each ∙ sym (fronts-append pool more emails h.emails_lie);
+        prefix_each = h.prefix_each ∙ sym (prefixes-append pool more emails h.emails_lie);
       }
 
   pub contents-text : (more : Text) → contents (pool ++ more) names emails ≡ record (contents pool names emails) { pool = pool ++ more }
@@ -140,47 +140,47 @@ module _ (pool : Text) (names : List Texts) (emails : List EmailRow) {fronts : L
       record {
         pool = pool ++ more;
         groups = groups-append pool more names emails h.names_lie h.emails_lie i;
-        loose = name_groups-append pool more (drop (end_of 0 emails) names) (all_drop _ (end_of 0 emails) names h.names_lie) i;
+        pending = name_groups-append pool more (drop (end_of 0 emails) names) (all_drop _ (end_of 0 emails) names h.names_lie) i;
       }
 
   end : end_of 0 emails ≤ length names
   end = end_within 0 (length names) emails h.ranges
 
-  pub contents-names : (more : List Texts) → contents pool (names ++ more) emails ≡ record (contents pool names emails) { loose = (contents pool names emails).loose ++ map (name_group pool) more }
+  pub contents-names : (more : List Texts) → contents pool (names ++ more) emails ≡ record (contents pool names emails) { pending = (contents pool names emails).pending ++ map (name_group pool) more }
   contents-names more i =
       record {
         pool = pool;
         groups = groups-names pool names more 0 emails h.ranges i;
-        loose = (ap (map (name_group pool)) (drop-append-le (end_of 0 emails) names more end) ∙ map-append (name_group pool) (drop (end_of 0 emails) names) more) i;
+        pending = (ap (map (name_group pool)) (drop-append-le (end_of 0 emails) names more end) ∙ map-append (name_group pool) (drop (end_of 0 emails) names) more) i;
       }
 
-  pub tables-names : (more : List Texts) → AllByRecursion (NameLies (length pool)) more → AreTables pool (names ++ more) emails fronts
+  pub tables-names : (more : List Texts) → AllByRecursion (NameLies (length pool)) more → AreTables pool (names ++ more) emails prefixes
   tables-names more all =
       record {
         names_lie = all_append _ names more h.names_lie all;
         emails_lie = h.emails_lie;
         ranges = follow_more 0 (length names) (length (names ++ more)) emails (omega (arith, length-append names more)) h.ranges;
-        front_each = h.front_each;
+        prefix_each = h.prefix_each;
       }
 
   module _ (r : EmailRow) (from : r.names_start ≡ end_of 0 emails) (up : r.names_start ≤ r.names_end) where
-    pub tables-email : r.names_end ≤ length names → EmailLies (length pool) r → (front : ℕ) → front ≡ front_of pool r → AreTables pool names (emails ++ r ∷ []) (fronts ++ front ∷ [])
-    tables-email to lies front is =
+    pub tables-email : r.names_end ≤ length names → EmailLies (length pool) r → (prefix : ℕ) → prefix ≡ prefix_of pool r → AreTables pool names (emails ++ r ∷ []) (prefixes ++ prefix ∷ [])
+    tables-email to lies prefix is =
         record {
           names_lie = h.names_lie;
           emails_lie = all_append _ emails (r ∷ []) h.emails_lie (lies, tt);
           ranges = follow_push 0 (length names) emails r h.ranges from up to;
-          front_each = (λ i. h.front_each i ++ is i ∷ []) ∙ sym (map_push (front_of pool) emails r);
+          prefix_each = (λ i. h.prefix_each i ++ is i ∷ []) ∙ sym (map_push (prefix_of pool) emails r);
         }
 
     abbrev count : ℕ
     count = r.names_end - r.names_start
 
     -- the names of an email that takes so many of those that were left
-    taken : map (name_group pool) (names_of names r) ≡ take count (contents pool names emails).loose
+    taken : map (name_group pool) (names_of names r) ≡ take count (contents pool names emails).pending
     taken = ap (λ k. map (name_group pool) (take count (drop k names))) from ∙ sym (take-map (name_group pool) count (drop (end_of 0 emails) names))
 
-    left : map (name_group pool) (drop (end_of 0 (emails ++ r ∷ [])) names) ≡ drop count (contents pool names emails).loose
+    left : map (name_group pool) (drop (end_of 0 (emails ++ r ∷ [])) names) ≡ drop count (contents pool names emails).pending
     left =
         let there : r.names_end ≡ end_of 0 emails + count = omega (arith, from, up) in
         ap (λ k. map (name_group pool) (drop k names)) (end_of-push 0 emails r ∙ there)
@@ -192,9 +192,9 @@ module _ (pool : Text) (names : List Texts) (emails : List EmailRow) {fronts : L
       groups = (contents pool names emails).groups ++ record {
         old_email = spelled pool (old_span r.texts);
         own = fields_of pool r.texts;
-        names = take count (contents pool names emails).loose;
+        names = take count (contents pool names emails).pending;
       } ∷ [];
-      loose = drop count (contents pool names emails).loose;
+      pending = drop count (contents pool names emails).pending;
     }
     contents-email i =
         record {
@@ -204,11 +204,11 @@ module _ (pool : Text) (names : List Texts) (emails : List EmailRow) {fronts : L
             own = fields_of pool r.texts;
             names = ns;
           } ∷ []) taken) i;
-          loose = left i;
+          pending = left i;
         }
 
     -- none are left where the email takes all
-    pub takes_all : r.names_end ≡ length names → length (contents pool names emails).loose ≤ count
+    pub takes_all : r.names_end ≡ length names → length (contents pool names emails).pending ≤ count
     takes_all to = omega (arith, to, from, end, length-map (drop (end_of 0 emails) names) (name_group pool), length-drop (end_of 0 emails) names)
 
 -- the last row of a table
@@ -216,10 +216,10 @@ pub end_of-last : (k : ℕ) (es : List EmailRow) (r : EmailRow) → slice_get es
 end_of-last k [] r e = absurd (cc)
 end_of-last k (x ∷ []) r e = ap (λ o. option_map_or (λ y. y.names_end) o k) e
 end_of-last k (x ∷ y ∷ es) r e =
-    let place : length (x ∷ y ∷ es) - 1 ≡ suc (length (y ∷ es) - 1) = omega arith in
-    end_of-last x.names_end (y ∷ es) r (ap (slice_get (x ∷ y ∷ es)) (sym place) ∙ e)
+    let index : length (x ∷ y ∷ es) - 1 ≡ suc (length (y ∷ es) - 1) = omega arith in
+    end_of-last x.names_end (y ∷ es) r (ap (slice_get (x ∷ y ∷ es)) (sym index) ∙ e)
 
--- ---- a place in the table of emails
+-- ---- an index in the table of emails
 
 -- the range of an email's names lies in the table of names
 pub range_at : (k n : ℕ) (es : List EmailRow) (i : ℕ) (d : EmailRow) → Follow k n es → i < length es → ((get_or es i d).names_start ≤ (get_or es i d).names_end) × ((get_or es i d).names_end ≤ n)
@@ -237,7 +237,7 @@ slice_get-map_at f [] i d lt = absurd (omega arith)
 slice_get-map_at f (x ∷ xs) zero d lt = refl
 slice_get-map_at f (x ∷ xs) (suc i) d lt = slice_get-map_at f xs i d (omega arith)
 
-pub rows_lie_at : (pool : Text) (names : List Texts) (emails : List EmailRow) {fronts : List ℕ} → AreTables pool names emails fronts → (i : ℕ) (r : EmailRow) → i < length emails → r ≡ get_or emails i r → RowsLie pool r.texts (names_of names r)
+pub rows_lie_at : (pool : Text) (names : List Texts) (emails : List EmailRow) {prefixes : List ℕ} → AreTables pool names emails prefixes → (i : ℕ) (r : EmailRow) → i < length emails → r ≡ get_or emails i r → RowsLie pool r.texts (names_of names r)
 rows_lie_at pool names emails h i r lt read =
     record {
       email_lies = subst (EmailLies (length pool)) (sym read) (all_at (EmailLies (length pool)) emails i r h.emails_lie lt);

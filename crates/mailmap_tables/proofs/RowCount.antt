@@ -9,7 +9,7 @@ use Rattle.mailmap_tables.specs.Pool.{names_of, name_group, email_group, Follow}
 use Rattle.mailmap_tables.specs.declared.texts.Texts.{Texts}
 use Rattle.mailmap_tables.specs.declared.tables.EmailRow.{EmailRow}
 
--- one, where there is any
+-- one, if there is any
 one : (b : Bool) (m : Mapping) → length (if b then m ∷ [] else []) ≤ 1
 one true m = omega arith
 one false m = omega arith

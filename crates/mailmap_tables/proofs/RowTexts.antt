@@ -86,7 +86,7 @@ module _ (n : ℕ) (few : n < NO_TEXT) where
     unfolding email_span
     row_email = ap (λ k. span_of (start + old.len + k) (len_of email)) (counted name name_lies) ∙ moved (start + old.len + span_bytes name) email email_lies
 
-  -- a row of texts that stand one behind another
+  -- a row of texts that are one after another
   there : (start : ℕ) (o : Option Span) → ForSome o (λ s. s.start ≡ start) → option_map (λ (s : Span). record { start = start; len = s.len }) o ≡ o
   there start None at = refl
   there start (Some s) at = λ i. Some (record { start = sym (at s refl) i; len = s.len })
@@ -113,9 +113,9 @@ pub bytes_len : (pool : Text) (o : Option Span) → ForSome o (LiesIn (length po
 bytes_len pool None lie = refl
 bytes_len pool (Some s) lie = spelled_len pool s (lie s refl)
 
--- bytes that were put behind a pool
-behind_pool : (pool bytes more : Text) (start len : ℕ) → start ≡ length pool → len ≡ length bytes → spelled (pool ++ bytes ++ more) (record { start = start; len = len }) ≡ bytes
-behind_pool pool bytes more start len at count =
+-- bytes that were put after a pool
+after_pool : (pool bytes more : Text) (start len : ℕ) → start ≡ length pool → len ≡ length bytes → spelled (pool ++ bytes ++ more) (record { start = start; len = len }) ≡ bytes
+after_pool pool bytes more start len at count =
     let within : start ≤ length (pool ++ bytes) = omega (arith, at, length-append pool bytes) in
     let there : start ≤ length pool = omega (arith, at) in
     let none : drop start pool ≡ [] = drop_all start pool (omega (arith, at)) in
@@ -156,9 +156,9 @@ module _ (pool : Text) (few : length pool < NO_TEXT) (old : Span) (name email : 
       let same : copy ≡ s = cc e in
       subst (LiesIn (length copied)) same le
 
-  copies : (front more : Text) (o : Option Span) → copied ≡ front ++ bytes_of pool o ++ more → ForSome o (LiesIn (length pool)) → option_map (spelled copied) (at (length front) o) ≡ option_map (spelled pool) o
-  copies front more None is lie = refl
-  copies front more (Some s) is lie = ap (λ t. Some t) (ap (λ p. spelled p (record { start = length front; len = s.len })) is ∙ behind_pool front (spelled pool s) more (length front) s.len refl (sym (spelled_len pool s (lie s refl))))
+  copies : (head more : Text) (o : Option Span) → copied ≡ head ++ bytes_of pool o ++ more → ForSome o (LiesIn (length pool)) → option_map (spelled copied) (at (length head) o) ≡ option_map (spelled pool) o
+  copies head more None is lie = refl
+  copies head more (Some s) is lie = ap (λ t. Some t) (ap (λ p. spelled p (record { start = length head; len = s.len })) is ∙ after_pool head (spelled pool s) more (length head) s.len refl (sym (spelled_len pool s (lie s refl))))
 
   name_there : name_span made ≡ at (length one) name
   name_there = row_name (length pool) few (length pool) old name email name_lies email_lies ∙ ap (λ k. at k name) (sym one_len)
@@ -179,19 +179,19 @@ module _ (pool : Text) (few : length pool < NO_TEXT) (old : Span) (name email : 
   copied_so p q r first second third =
       let bytes = λ (o : Option Text). unwrap_or o [] in
       let q_is : q ≡ two = second ∙ (λ i. first i ++ bytes_of (first i) name) ∙ ap (λ b. one ++ bytes b) (options-append pool (spelled pool old) name name_lies) in
-      let front : two ≡ pool ++ (spelled pool old ++ bytes_of pool name) = append_assoc pool (spelled pool old) (bytes_of pool name) in
-      let email_is : bytes_of two email ≡ bytes_of pool email = ap (λ (t : Text). bytes_of t email) front ∙ ap bytes (options-append pool (spelled pool old ++ bytes_of pool name) email email_lies) in
+      let head : two ≡ pool ++ (spelled pool old ++ bytes_of pool name) = append_assoc pool (spelled pool old) (bytes_of pool name) in
+      let email_is : bytes_of two email ≡ bytes_of pool email = ap (λ (t : Text). bytes_of t email) head ∙ ap bytes (options-append pool (spelled pool old ++ bytes_of pool name) email email_lies) in
       third ∙ (λ i. q_is i ++ bytes_of (q_is i) email) ∙ ap (λ b. two ++ b) email_is
 
   pub copies_spell : RowSpells pool copied old name email made
   copies_spell =
-      let behind : copied ≡ pool ++ spelled pool old ++ (bytes_of pool name ++ bytes_of pool email) = append_assoc one (bytes_of pool name) (bytes_of pool email) in
-      let email_behind : copied ≡ two ++ bytes_of pool email ++ [] = sym (append-nil copied) in
+      let after : copied ≡ pool ++ spelled pool old ++ (bytes_of pool name ++ bytes_of pool email) = append_assoc one (bytes_of pool name) (bytes_of pool email) in
+      let email_after : copied ≡ two ++ bytes_of pool email ++ [] = sym (append-nil copied) in
       record {
-        old_same = ap (λ p. spelled p (old_span made)) behind ∙ behind_pool pool (spelled pool old) (bytes_of pool name ++ bytes_of pool email) (length pool) old.len refl (sym (spelled_len pool old lies));
+        old_same = ap (λ p. spelled p (old_span made)) after ∙ after_pool pool (spelled pool old) (bytes_of pool name ++ bytes_of pool email) (length pool) old.len refl (sym (spelled_len pool old lies));
         fields = λ i. record {
           name = (ap (option_map (spelled copied)) name_there ∙ copies one (bytes_of pool email) name refl name_lies) i;
-          email = (ap (option_map (spelled copied)) email_there ∙ copies two [] email email_behind email_lies) i;
+          email = (ap (option_map (spelled copied)) email_there ∙ copies two [] email email_after email_lies) i;
         };
       }
 

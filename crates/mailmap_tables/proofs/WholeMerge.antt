@@ -13,9 +13,9 @@ use Rattle.mailmap_entries.specs.Entries.{Mapping}
 use Rattle.mailmap_entries.specs.Folding.{Text, folded, text_cmp}
 use Rattle.mailmap_tables.specs.Groups.{EmailGroup, AreGroups, email_key, listing}
 use Rattle.mailmap_histories.specs.Histories.{Key, key, first, is_accepted, accepted, has_key, spelling, value, IsNormal}
-use Rattle.mailmap_batches.specs.Batches.{IsSorted, email_text, mapping_at, placed_at}
+use Rattle.mailmap_batches.specs.Batches.{IsSorted, email_text, mapping_at, indexed_mapping}
 use Rattle.mailmap_tables.specs.Merging.{IsSpelling, AllJoined, spelled_by}
-use Rattle.mailmap_batches.specs.declared.indexed.Placed.{Placed}
+use Rattle.mailmap_batches.specs.declared.indexed.IndexedEntry.{IndexedEntry}
 use Rattle.mailmap_histories.proofs.Alike.{first_parts, key_parts}
 use Rattle.mailmap_histories.proofs.Ascending.{each_key}
 use Rattle.mailmap_tables.proofs.Batches.{respelled, alike_respelled, least_spells}
@@ -38,9 +38,9 @@ unspelled gs f other =
 spelled_group : (gs : List EmailGroup) → AreGroups gs → AllByRecursion (λ g. spelling (listing gs) (email_key g) ≡ Some g.old_email) gs
 spelled_group gs are = go [] gs refl
   where
-    go : (front back : List EmailGroup) → gs ≡ front ++ back → AllByRecursion (λ g. spelling (listing gs) (email_key g) ≡ Some g.old_email) back
-    go front [] is = tt
-    go front (g ∷ back) is = (spelled_at gs are front g back is, go (front ++ g ∷ []) back (is ∙ sym (append_assoc front (g ∷ []) back)))
+    go : (head back : List EmailGroup) → gs ≡ head ++ back → AllByRecursion (λ g. spelling (listing gs) (email_key g) ≡ Some g.old_email) back
+    go head [] is = tt
+    go head (g ∷ back) is = (spelled_at gs are head g back is, go (head ++ g ∷ []) back (is ∙ sym (append_assoc head (g ∷ []) back)))
 
 numbered_all : (P : Mapping → Type 0) (n : ℕ) (xs : List Mapping) → AllByRecursion P xs → AllByRecursion (λ p. P p.1) (enumerate_from n xs)
 numbered_all P n [] a = tt
@@ -89,7 +89,7 @@ module _ (gs : List EmailGroup) (are : AreGroups gs) (xs : List Mapping) (good :
   is_spelling =
       record {
         same = of_seconds (λ m. folded (spell (email_text m)) ≡ email_text m) ps spelled_same;
-        stood = all_weaker gs (λ g is. ap (λ o. unwrap_or o []) (parts (email_key g) ∙ ap (λ o. option_or o (spelling xs (email_key g))) is)) (spelled_group gs are);
+        existing = all_weaker gs (λ g is. ap (λ o. unwrap_or o []) (parts (email_key g) ∙ ap (λ o. option_or o (spelling xs (email_key g))) is)) (spelled_group gs are);
         new = λ p other among least. ap (λ o. unwrap_or o []) (parts (email_text p.1) ∙ ap (λ o. option_or o (spelling xs (email_text p.1))) (unspelled gs (email_text p.1) other) ∙ least_spells xs ps p good sorted.moved among least);
       }
 
@@ -102,6 +102,6 @@ module _ (gs : List EmailGroup) (are : AreGroups gs) (xs : List Mapping) (good :
       let a : Alike (listing gs ++ xs) (listing gs ++ map (λ p. spelled_by spell p.1) ps) = subst (λ l. Alike (listing gs ++ xs) (listing gs ++ l)) (respelled_items ps) (alike_respelled (listing gs) xs us sorted.keyed) in
       normal_of_groups (listing gs ++ xs) cs j.groups (alike_trans _ _ _ a (j.alike spell is_spelling))
 
-pub of_placed : (P : Mapping → Type 0) (xs : List Placed) → AllByRecursion (λ p. P p.1) (map placed_at xs) → AllByRecursion P (map mapping_at xs)
-of_placed P [] a = tt
-of_placed P (x ∷ xs) a = (a.0, of_placed P xs a.1)
+pub of_indexed : (P : Mapping → Type 0) (xs : List IndexedEntry) → AllByRecursion (λ p. P p.1) (map indexed_mapping xs) → AllByRecursion P (map mapping_at xs)
+of_indexed P [] a = tt
+of_indexed P (x ∷ xs) a = (a.0, of_indexed P xs a.1)

@@ -1,13 +1,13 @@
--- Entries on their way into tables, of which those in front may be joined already.
+-- Entries on their way into tables, of which the first may be joined already.
 use Rattle.std.specs.Prelude.{◌≡◌, ◌++◌, List, Option, unwrap_or}
 use Rattle.mailmap_entries.specs.Entries.{Mapping}
 use Rattle.mailmap_histories.specs.Histories.{IsNormal, accepted}
 use Rattle.mailmap_tables.specs.Groups.{Contents, IsComplete, listing}
 
--- Of the accepted entries of a history behind tables, those in front are joined with these, if tables were made of them,
+-- Of the accepted entries of a history after tables, the first are joined with these, if tables were made of them,
 -- and the others are in the batch.
 pub record IsCollected (standing : Contents) (h : List Mapping) (made : Option Contents) (batch : List Mapping) : Type 0 where
-  pub front : List Mapping
-  pub parts : accepted h ≡ front ++ batch
+  pub head : List Mapping
+  pub parts : accepted h ≡ head ++ batch
   pub complete : IsComplete (unwrap_or made standing)
-  pub normal : IsNormal (listing standing.groups ++ front) (listing (unwrap_or made standing).groups)
+  pub normal : IsNormal (listing standing.groups ++ head) (listing (unwrap_or made standing).groups)

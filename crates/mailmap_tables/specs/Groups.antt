@@ -50,9 +50,9 @@ pub record AreGroups (gs : List EmailGroup) : Type 0 where
 pub record Contents : Type 0 where
   pub pool : Text
   pub groups : List EmailGroup
-  pub loose : List NameGroup
+  pub pending : List NameGroup
 
 -- the tables of a snapshot: each name has been taken by an email, and the emails are groups
 pub record IsComplete (t : Contents) : Type 0 where
   pub groups : AreGroups t.groups
-  pub no_loose : t.loose ≡ []
+  pub none_pending : t.pending ≡ []

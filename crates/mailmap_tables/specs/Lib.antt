@@ -1,14 +1,14 @@
 pub use Rattle.mailmap_entries.specs.Folding
 pub use Rattle.mailmap_entries.specs.Entries
 pub use Rattle.mailmap_entries.specs.Search
-pub use Rattle.mailmap_entries.specs.Fronts
+pub use Rattle.mailmap_entries.specs.Prefixes
 pub use Rattle.mailmap_batches.specs.Given
 pub mod Groups
 pub mod Texts
 pub mod Pool
-pub mod Places
+pub mod KeySearch
 pub mod Merging
 pub mod Named
 pub mod Remaining
-pub mod Room
+pub mod Reserved
 pub mod Collecting

@@ -37,31 +37,31 @@ with_email e m = record m { old_email = e }
 abbrev pub Extends : Text → Text → Type 0
 Extends old new = (more : Text) × (new ≡ old ++ more)
 
--- how a name comes out: as it stands, or as it comes first, in its place among the names that stand
-pub data NamePlaced (ks : List NameGroup) (passed : List NameGroup) (name : Text) (kept : Text) (left : List NameGroup) : Type 0 where
-  known : (k : NameGroup) → ks ≡ passed ++ k ∷ left → name_key k ≡ folded name → kept ≡ k.old_name → NamePlaced ks passed name kept left
-  unknown : ks ≡ passed ++ left → AllByRecursion (λ k. text_cmp (name_key k) (folded name) ≡ Less) passed → AllByRecursion (λ k. text_cmp (folded name) (name_key k) ≡ Less) left → kept ≡ name → NamePlaced ks passed name kept left
+-- how a name comes out: as it is, or as it comes first, at its index among the names that stand
+pub data NameLookup (ks : List NameGroup) (passed : List NameGroup) (name : Text) (kept : Text) (left : List NameGroup) : Type 0 where
+  known : (k : NameGroup) → ks ≡ passed ++ k ∷ left → name_key k ≡ folded name → kept ≡ k.old_name → NameLookup ks passed name kept left
+  unknown : ks ≡ passed ++ left → AllByRecursion (λ k. text_cmp (name_key k) (folded name) ≡ Less) passed → AllByRecursion (λ k. text_cmp (folded name) (name_key k) ≡ Less) left → kept ≡ name → NameLookup ks passed name kept left
 
--- one name came out, behind those that stand before it
+-- one name came out, after those that come before it
 pub record NamePut (ks left : List NameGroup) (n : NameGroup) (old new : Contents) : Type 0 where
   pub passed : List NameGroup
   pub kept : Text
   pub pool : Extends old.pool new.pool
   pub groups : new.groups ≡ old.groups
-  pub loose : new.loose ≡ old.loose ++ (passed ++ record n { old_name = kept } ∷ [])
-  pub placed : NamePlaced ks passed n.old_name kept left
+  pub pending : new.pending ≡ old.pending ++ (passed ++ record n { old_name = kept } ∷ [])
+  pub lookup : NameLookup ks passed n.old_name kept left
 
 -- the names that come out stand for the names that stood and the named entries of the batch
 pub record NamesJoined (ks : List NameGroup) (ms : List Mapping) (ns : List NameGroup) : Type 0 where
   pub ascending : IsStrictlySortedBy text_cmp (map name_key ns)
   pub alike : (e : Text) → Alike (map (name_row e) ks ++ map (with_email e) ms) (map (name_row e) ns)
 
--- the names that came out behind those that were loose
+-- the names that came out after those that were pending
 pub record NamesPut (ks : List NameGroup) (ms : List Mapping) (old new : Contents) : Type 0 where
   pub names : List NameGroup
   pub pool : Extends old.pool new.pool
   pub groups : new.groups ≡ old.groups
-  pub loose : new.loose ≡ old.loose ++ names
+  pub pending : new.pending ≡ old.pending ++ names
   pub joined : NamesJoined ks ms names
 
 -- ---- emails
@@ -72,16 +72,16 @@ pub record EmailJoined (g : EmailGroup) (ms : List Mapping) (c : EmailGroup) : T
   pub ascending : IsStrictlySortedBy text_cmp (map name_key c.names)
   pub alike : Alike (rows g ++ map (with_email g.old_email) ms) (rows c)
 
--- an email that came out, with no name left loose
+-- an email that came out, with no name left pending
 pub record EmailPut (g : EmailGroup) (ms : List Mapping) (old new : Contents) : Type 0 where
   pub group : EmailGroup
   pub pool : Extends old.pool new.pool
   pub groups : new.groups ≡ old.groups ++ group ∷ []
-  pub no_loose : new.loose ≡ []
+  pub none_pending : new.pending ≡ []
   pub joined : EmailJoined g ms group
 
--- the accepted entries of one email, those without an old name in front, the others ascending by it
-pub record EmailRun (ms : List Mapping) : Type 0 where
+-- the accepted entries of one email, those without an old name first, the others ascending by it
+pub record EmailEntries (ms : List Mapping) : Type 0 where
   pub accepted : AllByRecursion (λ m. is_accepted m ≡ true) ms
   pub ascending : IsAscending (option_cmp text_cmp) (map (λ m. option_map folded m.old_name) ms)
 
@@ -89,29 +89,29 @@ pub record EmailRun (ms : List Mapping) : Type 0 where
 abbrev pub bare : Text → EmailGroup
 bare email = record { old_email = email; own = no_fields; names = [] }
 
--- how an email comes out: as it stands, or as its earliest entry spells it
-pub data EmailPlaced (gs : List EmailGroup) (passed : List EmailGroup) (ps : List (ℕ × Mapping)) (email : Text) (g : EmailGroup) (left : List EmailGroup) : Type 0 where
-  known : gs ≡ passed ++ g ∷ left → email_key g ≡ email → EmailPlaced gs passed ps email g left
+-- how an email comes out: as it is, or as its earliest entry spells it
+pub data EmailLookup (gs : List EmailGroup) (passed : List EmailGroup) (ps : List (ℕ × Mapping)) (email : Text) (g : EmailGroup) (left : List EmailGroup) : Type 0 where
+  known : gs ≡ passed ++ g ∷ left → email_key g ≡ email → EmailLookup gs passed ps email g left
   unknown : gs ≡ passed ++ left → AllByRecursion (λ k. text_cmp (email_key k) email ≡ Less) passed → AllByRecursion (λ k. text_cmp email (email_key k) ≡ Less) left
-      → (p : ℕ × Mapping) → IsEarliest ps p → g ≡ bare p.1.old_email → EmailPlaced gs passed ps email g left
+      → (p : ℕ × Mapping) → IsEarliest ps p → g ≡ bare p.1.old_email → EmailLookup gs passed ps email g left
 
--- one email came out for a run of the batch, behind those that stand before it
-pub record RunPut (gs left : List EmailGroup) (ps : List (ℕ × Mapping)) (email : Text) (old new : Contents) : Type 0 where
+-- one email came out for a group of the batch, after those that come before it
+pub record GroupPut (gs left : List EmailGroup) (ps : List (ℕ × Mapping)) (email : Text) (old new : Contents) : Type 0 where
   pub passed : List EmailGroup
-  pub stood : EmailGroup
+  pub existing : EmailGroup
   pub group : EmailGroup
   pub pool : Extends old.pool new.pool
   pub groups : new.groups ≡ old.groups ++ (passed ++ group ∷ [])
-  pub no_loose : new.loose ≡ []
-  pub placed : EmailPlaced gs passed ps email stood left
-  pub joined : EmailJoined stood (map (λ p. p.1) ps) group
+  pub none_pending : new.pending ≡ []
+  pub lookup : EmailLookup gs passed ps email existing left
+  pub joined : EmailJoined existing (map (λ p. p.1) ps) group
 
 -- ---- the whole
 
 -- s spells each email as the groups do, and any other as its earliest entry
 pub record IsSpelling (gs : List EmailGroup) (ps : List (ℕ × Mapping)) (s : Text → Text) : Type 0 where
   pub same : AllByRecursion (λ p. folded (s (email_text p.1)) ≡ email_text p.1) ps
-  pub stood : AllByRecursion (λ g. s (email_key g) ≡ g.old_email) gs
+  pub existing : AllByRecursion (λ g. s (email_key g) ≡ g.old_email) gs
   pub new : (p : ℕ × Mapping) → AllByRecursion (λ g. email_key g ≡ email_text p.1 → ⊥) gs → Contains ps p → All (λ q. email_text q.1 ≡ email_text p.1 → p.0 ≤ q.0) ps → s (email_text p.1) ≡ p.1.old_email
 
 abbrev pub spelled_by : (Text → Text) → Mapping → Mapping

@@ -1,9 +1,9 @@
--- Texts in a pool of bytes, and tables whose rows say where their texts stand in it.
+-- Texts in a pool of bytes, and tables whose rows say where their texts are in it.
 use Rattle.std.specs.Prelude.{◌≡◌, ◌≤◌, ◌+◌, ◌-◌, ℕ, List, [], ◌∷◌, Option, map, take, drop, length, unwrap_or, IsSome}
 use Rattle.std.specs.Option.{option_map, ForSome}
 use Rattle.std.specs.List.{AllByRecursion}
 use Rattle.mailmap_entries.specs.Folding.{Text, folded}
-use Rattle.mailmap_entries.specs.Fronts.{front_number}
+use Rattle.mailmap_entries.specs.Prefixes.{key_prefix}
 use Rattle.mailmap_histories.specs.Histories.{Fields}
 use Rattle.mailmap_batches.specs.Given.{NameGroup}
 use Rattle.mailmap_tables.specs.Groups.{EmailGroup, Contents}
@@ -72,21 +72,21 @@ end_of k [] = k
 end_of k (r ∷ rs) = end_of r.names_end rs
 
 -- the number of the first sixteen bytes of an email
-abbrev pub front_of : Text → EmailRow → ℕ
-front_of pool r = front_number 16 (folded (spelled pool (old_span r.texts)))
+abbrev pub prefix_of : Text → EmailRow → ℕ
+prefix_of pool r = key_prefix 16 (folded (spelled pool (old_span r.texts)))
 
-pub record AreTables (pool : Text) (names : List Texts) (emails : List EmailRow) (fronts : List ℕ) : Type 0 where
+pub record AreTables (pool : Text) (names : List Texts) (emails : List EmailRow) (prefixes : List ℕ) : Type 0 where
   pub names_lie : AllByRecursion (NameLies (length pool)) names
   pub emails_lie : AllByRecursion (EmailLies (length pool)) emails
   pub ranges : Follow 0 (length names) emails
-  pub front_each : fronts ≡ map (front_of pool) emails
+  pub prefix_each : prefixes ≡ map (prefix_of pool) emails
 
 abbrev pub contents : Text → List Texts → List EmailRow → Contents
 contents pool names emails =
     record {
       pool = pool;
       groups = map (email_group pool names) emails;
-      loose = map (name_group pool) (drop (end_of 0 emails) names);
+      pending = map (name_group pool) (drop (end_of 0 emails) names);
     }
 
 -- the texts of an email's row and of its names lie in the pool

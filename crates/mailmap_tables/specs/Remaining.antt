@@ -6,6 +6,6 @@ use Rattle.mailmap_tables.specs.Groups.{Contents, name_row, listing}
 use Rattle.mailmap_tables.specs.Pool.{name_group}
 use Rattle.mailmap_tables.specs.declared.texts.Texts.{Texts}
 
--- some names of an email, and then all from a place in the table of emails on
+-- some names of an email, and then all from an index in the table of emails on
 abbrev pub left_to_list : Contents → Text → List Texts → ℕ → List Mapping
-left_to_list t email names place = map (name_row email) (map (name_group t.pool) names) ++ listing (drop place t.groups)
+left_to_list t email names index = map (name_row email) (map (name_group t.pool) names) ++ listing (drop index t.groups)

@@ -1,4 +1,4 @@
--- The texts of a row, one behind another in the pool, as spans.
+-- The texts of a row, one after another in the pool, as spans.
 use Rattle.std.specs.Prelude.{◌≡◌, ◌==◌, ◌+◌, ℕ, Option, Some, None, if◌then◌else◌}
 use Rattle.std.specs.Option.{ForSome}
 use Rattle.mailmap_tables.specs.declared.texts.TheConstants.{NO_TEXT}
@@ -42,7 +42,7 @@ span_bytes (Some s) = s.len
 abbrev pub row_of : ℕ → Span → Option Span → Option Span → Texts
 row_of start old name email = record { start = start; old_len = old.len; new_name_len = len_of name; new_email_len = len_of email }
 
--- the texts stand one behind another
+-- the texts are one after another
 pub record AreTogether (old : Span) (name email : Option Span) : Type 0 where
   pub new_name : ForSome name (λ s. s.start ≡ old.start + old.len)
   pub new_email : ForSome email (λ s. s.start ≡ old.start + old.len + span_bytes name)

@@ -1,5 +1,5 @@
 //! Whether a batch is so small beside the tables that it is to be put in place, and the room that this takes.
-ghost use Rattle.std.specs.Prelude.{◌≡◌, ◌≤◌, ◌<◌, ◌+◌, length, map};
+ghost use Rattle.std.specs.Prelude.{◌≡◌, ◌≤◌, ◌<◌, length, map};
 ghost use Rattle.std.specs.Option.{ForSome};
 ghost use Rattle.std.specs.List.{AllByRecursion};
 ghost use Rattle.std.specs.List.Sorted.{IsStrictlySortedBy};
@@ -8,10 +8,10 @@ ghost use Rattle.mailmap_entries.specs.Folding.{text_cmp};
 ghost use Rattle.mailmap_tables.specs.Groups.{AreGroups, EmailGroup, email_key, name_key};
 ghost use Rattle.mailmap_batches.specs.Batches.{email_text};
 ghost use Rattle.mailmap_tables.specs.Pool.{NameLies, name_group};
-ghost use Rattle.mailmap_tables.specs.Room.{HasRoom, OwnWithin, own_bytes};
+ghost use Rattle.mailmap_tables.specs.Reserved.{HasReserved, OwnWithin, own_bytes};
 
 use crate::lengths::texts_len;
-use crate::search::{place_email, place_name};
+use crate::search::{find_email, find_name};
 use crate::tables::{NameRow, Tables};
 use crate::texts::Texts;
 use crate::view::View;
@@ -22,7 +22,7 @@ const MOST_IN_PLACE: usize = 16;
 
 // What tables have for the keys of entries.
 #[derive(Clone, Copy)]
-struct Present {
+struct Existing {
     // how many bytes the entries replace, or more
     replaced: usize,
     // how many bytes the fields of one of their emails have at most
@@ -33,19 +33,19 @@ struct Present {
 /// tables that this moves less than a copy. After it, less than half of the pool may be unused.
 pub(crate) fn fits_in_place(tables: &Tables, entries: &[Entry<'_>]) -> Option<usize>
     requires { AreGroups tables.now.groups }
-    ensures { ForSome result (HasRoom tables.now.groups (map mapping_of entries.now)) }
+    ensures { ForSome result (HasReserved tables.now.groups (map mapping_of entries.now)) }
 {
     if MOST_IN_PLACE < entries.len() || tables.view().row_count() <= entries.len() {
         return None;
     }
-    let present = present_of(&tables.view(), entries);
+    let existing = existing_of(&tables.view(), entries);
     let len = texts_len(entries);
     // each entry may copy the fields that its email has by then: its own ones and those that the entries give
     let copied = entries
         .len()
-        .saturating_mul(present.own_len.saturating_add(len));
+        .saturating_mul(existing.own_len.saturating_add(len));
     let bytes = len.saturating_add(len).saturating_add(copied);
-    let unused = present.replaced.saturating_add(bytes);
+    let unused = existing.replaced.saturating_add(bytes);
     if !tables.pool.stays_in_use(unused) {
         return None;
     }
@@ -53,35 +53,35 @@ pub(crate) fn fits_in_place(tables: &Tables, entries: &[Entry<'_>]) -> Option<us
 }
 
 // What tables have for the keys of entries.
-fn present_of(tables: &View<'_>, entries: &[Entry<'_>]) -> Present
+fn existing_of(tables: &View<'_>, entries: &[Entry<'_>]) -> Existing
     requires { AreGroups tables.now.groups }
     ensures { OwnWithin result.own_len tables.now.groups (map mapping_of entries.now) }
 {
     let mut replaced: usize = 0;
     let mut own_len: usize = 0;
     for entry in entries {
-        let one = present_for(tables, entry);
+        let one = existing_for(tables, entry);
         replaced = replaced.saturating_add(one.replaced);
         own_len = own_len.max(one.own_len);
     }
-    Present { replaced, own_len }
+    Existing { replaced, own_len }
 }
 
 // What tables have for the key of an entry.
-fn present_for(tables: &View<'_>, entry: &Entry<'_>) -> Present
+fn existing_for(tables: &View<'_>, entry: &Entry<'_>) -> Existing
     requires { AreGroups tables.now.groups }
     ensures { AllByRecursion (λ (g : EmailGroup). email_key g ≡ email_text (mapping_of entry.now)
         → own_bytes g ≤ result.own_len) tables.now.groups }
 {
-    match place_email(tables, 0, entry.old_email()) {
-        Ok(place) => {
-            let (texts, names) = tables.email(place);
-            Present {
+    match find_email(tables, 0, entry.old_email()) {
+        Ok(index) => {
+            let (texts, names) = tables.email(index);
+            Existing {
                 replaced: replaced_len(tables, texts, names, entry.old_name()),
                 own_len: tables.fields_len(texts),
             }
         }
-        Err(_) => Present {
+        Err(_) => Existing {
             replaced: 0,
             own_len: 0,
         },
@@ -100,8 +100,8 @@ fn replaced_len(
 {
     match old_name {
         None => texts.len(),
-        Some(name) => match place_name(tables, names, name) {
-            Ok(place) => names[place].len(),
+        Some(name) => match find_name(tables, names, name) {
+            Ok(index) => names[index].len(),
             Err(_) => 0,
         },
     }

@@ -9,11 +9,11 @@ ghost use Rattle.mailmap_tables.specs.Groups.{EmailGroup, IsComplete, listing, n
 ghost use Rattle.mailmap_tables.specs.Named.{given_or};
 ghost use Rattle.mailmap_batches.specs.Given.{fields_given, named_group};
 ghost use Rattle.mailmap_tables.specs.Pool.{NameLies, name_group};
-ghost use Rattle.mailmap_tables.specs.Places.{IsFound, IsMissing};
-ghost use Rattle.mailmap_tables.specs.Room.{EmailChanged, EmailReady, Fits, HasRoom, NameAdded, Says, TookRoom, name_room, own_room};
+ghost use Rattle.mailmap_tables.specs.KeySearch.{IsFound, IsMissing};
+ghost use Rattle.mailmap_tables.specs.Reserved.{EmailChanged, EmailReady, Fits, HasReserved, NameAdded, Says, TookReserved, name_reserved, own_reserved};
 
 use crate::reserved::ReservedTables;
-use crate::search::{place_email, place_name};
+use crate::search::{find_email, find_name};
 use crate::tables::{NameRow, Tables};
 use mailmap_batches::groups::{Given, Named};
 use mailmap_entries::Entry;
@@ -30,7 +30,7 @@ pub(crate) fn merge_in_place(
 ) -> Result<(), AllocError>
     requires complete { IsComplete tables.old }
     requires accepted { AllByRecursion (λ m. is_accepted m ≡ true) (map mapping_of entries.now) }
-    requires bytes { HasRoom tables.old.groups (map mapping_of entries.now) bytes }
+    requires bytes { HasReserved tables.old.groups (map mapping_of entries.now) bytes }
     ensures ok { OnOk result (IsComplete tables.new
         × IsNormal (listing tables.old.groups ++ map mapping_of entries.now) (listing tables.new.groups)) }
     ensures err { OnErr result (tables.new ≡ tables.old) }
@@ -53,9 +53,10 @@ pub(crate) fn merge_in_place(
 fn put_each(tables: &mut ReservedTables, entries: &[Entry<'_>])
     requires complete { IsComplete tables.old.held }
     requires accepted { AllByRecursion (λ m. is_accepted m ≡ true) (map mapping_of entries.now) }
-    requires room { Fits tables.old (map mapping_of entries.now) }
+    requires reserved { Fits tables.old (map mapping_of entries.now) }
     ensures complete { IsComplete tables.new.held }
-    ensures normal { IsNormal (listing tables.old.held.groups ++ map mapping_of entries.now) (listing tables.new.held.groups) }
+    ensures normal { IsNormal (listing tables.old.held.groups ++ map mapping_of entries.now)
+        (listing tables.new.held.groups) }
 {
     for entry in entries {
         put(tables, entry);
@@ -63,14 +64,15 @@ fn put_each(tables: &mut ReservedTables, entries: &[Entry<'_>])
 }
 
 // Puts an entry after those that the tables have: without an old name it gives its email new fields, each for itself;
-// with one it takes the place of what the name had.
+// with one it takes the index of what the name had.
 fn put(tables: &mut ReservedTables, entry: &Entry<'_>)
     requires complete { IsComplete tables.old.held }
     requires accepted { is_accepted (mapping_of entry.now) ≡ true }
-    requires room { (ms : List Mapping) × Fits tables.old (mapping_of entry.now ∷ ms) }
+    requires reserved { (ms : List Mapping) × Fits tables.old (mapping_of entry.now ∷ ms) }
     ensures complete { IsComplete tables.new.held }
-    ensures normal { IsNormal (listing tables.old.held.groups ++ mapping_of entry.now ∷ []) (listing tables.new.held.groups) }
-    ensures room { (ms : List Mapping) → Fits tables.old (mapping_of entry.now ∷ ms) → Fits tables.new ms }
+    ensures normal { IsNormal (listing tables.old.held.groups ++ mapping_of entry.now ∷ [])
+        (listing tables.new.held.groups) }
+    ensures reserved { (ms : List Mapping) → Fits tables.old (mapping_of entry.now ∷ ms) → Fits tables.new ms }
 {
     let email = email_index(tables, entry);
     match entry.old_name() {
@@ -110,11 +112,11 @@ fn email_index(tables: &mut ReservedTables, entry: &Entry<'_>) -> usize
     requires bytes { length (mapping_of entry.now).old_email ≤ tables.old.bytes }
     requires emails { 0 < tables.old.emails }
     ensures ready { EmailReady (mapping_of entry.now) result tables.old.held.groups tables.new.held.groups }
-    ensures no_loose { tables.new.held.loose ≡ [] }
-    ensures room { TookRoom (length (mapping_of entry.now).old_email) 1 0 tables.old tables.new }
+    ensures none_pending { tables.new.held.pending ≡ [] }
+    ensures reserved { TookReserved (length (mapping_of entry.now).old_email) 1 0 tables.old tables.new }
 {
     let old_email = entry.old_email();
-    match place_email(&tables.view(), 0, old_email) {
+    match find_email(&tables.view(), 0, old_email) {
         Ok(index) => index,
         Err(index) => {
             let text = tables.push_text(old_email, 0);
@@ -127,10 +129,13 @@ fn email_index(tables: &mut ReservedTables, entry: &Entry<'_>) -> usize
 // Gives an email new fields, each if there is one.
 fn put_fields(tables: &mut ReservedTables, email: usize, given: Given<'_>)
     requires within { email < length tables.old.held.groups }
-    requires bytes { HoldsAt (λ (g : EmailGroup). own_room g (fields_given given) ≤ tables.old.bytes) tables.old.held.groups email }
-    ensures changed { HoldsAt (λ (g : EmailGroup). EmailChanged email (record g { own = given_or (fields_given given.entry) g.own })
+    requires bytes { HoldsAt (λ (g : EmailGroup). own_reserved g (fields_given given) ≤ tables.old.bytes)
+        tables.old.held.groups email }
+    ensures changed { HoldsAt
+        (λ (g : EmailGroup). EmailChanged email (record g { own = given_or (fields_given given.entry) g.own })
         tables.old.held tables.new.held) tables.old.held.groups email }
-    ensures room { HoldsAt (λ (g : EmailGroup). TookRoom (own_room g (fields_given given.entry)) 0 0 tables.old tables.new)
+    ensures reserved { HoldsAt
+        (λ (g : EmailGroup). TookReserved (own_reserved g (fields_given given.entry)) 0 0 tables.old tables.new)
         tables.old.held.groups email }
 {
     let (texts, _) = tables.view().email(email);
@@ -138,19 +143,21 @@ fn put_fields(tables: &mut ReservedTables, email: usize, given: Given<'_>)
     tables.replace_texts(email, own);
 }
 
-// Puts a name among those of an email, or new fields in the place of those that it has.
+// Puts a name among those of an email, or new fields in place of those that it has.
 fn put_name(tables: &mut ReservedTables, email: usize, named: Named<'_>)
     requires within { email < length tables.old.held.groups }
-    requires ascending { HoldsAt (λ (g : EmailGroup). IsStrictlySortedBy text_cmp (map name_key g.names)) tables.old.held.groups email }
-    requires bytes { name_room (named_group named) ≤ tables.old.bytes }
-    requires names { 0 < tables.old.names }
-    ensures put { HoldsAt (λ (g : EmailGroup). NameAdded email g (named_group named.entry) tables.old.held tables.new.held)
+    requires ascending { HoldsAt (λ (g : EmailGroup). IsStrictlySortedBy text_cmp (map name_key g.names))
         tables.old.held.groups email }
-    ensures room { TookRoom (name_room (named_group named.entry)) 0 1 tables.old tables.new }
+    requires bytes { name_reserved (named_group named) ≤ tables.old.bytes }
+    requires names { 0 < tables.old.names }
+    ensures put { HoldsAt
+        (λ (g : EmailGroup). NameAdded email g (named_group named.entry) tables.old.held tables.new.held)
+        tables.old.held.groups email }
+    ensures reserved { TookReserved (name_reserved (named_group named.entry)) 0 1 tables.old tables.new }
 {
     match name_index(tables, email, named.old_name) {
-        Ok((index, present)) => {
-            let row = tables.name_row(present.old(), named, present.fields_len());
+        Ok((index, existing)) => {
+            let row = tables.name_row(existing.old(), named, existing.fields_len());
             tables.replace_name(email, index, row);
         }
         Err(index) => {
@@ -164,19 +171,22 @@ fn put_name(tables: &mut ReservedTables, email: usize, named: Named<'_>)
 // The index of a name among those of an email, and its row, or where it would be.
 fn name_index(tables: &ReservedTables, email: usize, name: &[u8]) -> Result<(usize, NameRow), usize>
     requires within { email < length tables.now.held.groups }
-    requires ascending { HoldsAt (λ (g : EmailGroup). IsStrictlySortedBy text_cmp (map name_key g.names)) tables.now.held.groups email }
+    requires ascending { HoldsAt (λ (g : EmailGroup). IsStrictlySortedBy text_cmp (map name_key g.names))
+        tables.now.held.groups email }
     ensures found { IfOk result (λ f. HoldsAt (λ (g : EmailGroup). IsFound name_key (folded name.now) 0 g.names f.0)
         tables.now.held.groups email) }
-    ensures present { IfOk result (λ f. HoldsAt (λ (g : EmailGroup). slice_get g.names f.0 ≡ Some (name_group tables.now.held.pool f.1))
+    ensures existing { IfOk result
+        (λ f. HoldsAt (λ (g : EmailGroup). slice_get g.names f.0 ≡ Some (name_group tables.now.held.pool f.1))
         tables.now.held.groups email) }
     ensures lies { IfOk result (λ f. NameLies (length tables.now.held.pool) f.1) }
     ensures len { IfOk result (λ f. f.1.old_len ≡ length name.now) }
-    ensures missing { IfErr result (λ index. HoldsAt (λ (g : EmailGroup). IsMissing name_key (folded name.now) 0 g.names index)
+    ensures missing { IfErr result
+        (λ index. HoldsAt (λ (g : EmailGroup). IsMissing name_key (folded name.now) 0 g.names index)
         tables.now.held.groups email) }
 {
     let view = tables.view();
     let (_, names) = view.email(email);
-    match place_name(&view, names, name) {
+    match find_name(&view, names, name) {
         Ok(index) => Ok((index, names[index])),
         Err(index) => Err(index),
     }

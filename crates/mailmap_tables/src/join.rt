@@ -1,37 +1,33 @@
 //! Joining a sorted batch with the standing tables: email by email, and within an email name by name. The standing rows
 //! between two emails of the batch are passed on without a look at their texts.
-ghost use Rattle.std.specs.Prelude.{◌≡◌, ◌≢◌, ◌+◌, ◌-◌, ◌<◌, ◌≤◌, [], ◌++◌, ◌∷◌, List, true, OnOk, OnErr, IfOk, take, drop, map, length, ℕ};
-ghost use Rattle.std.specs.Option.{option_copied, option_map, option_or, ForSome};
+ghost use Rattle.std.specs.Prelude.{◌≡◌, ◌+◌, ◌-◌, ◌<◌, ◌≤◌, [], ◌++◌, ◌∷◌, true, OnOk, IfOk, take, drop, map, length};
+ghost use Rattle.std.specs.Option.{option_copied};
 ghost use Rattle.std.specs.List.{AllByRecursion};
 ghost use Rattle.std.specs.List.Sorted.{IsStrictlySortedBy};
 ghost use Rattle.mailmap_entries.specs.Entries.{mapping_of};
 ghost use Rattle.mailmap_entries.specs.Folding.{text_cmp};
 ghost use Rattle.mailmap_tables.specs.Groups.{AreGroups, IsComplete, name_key, listing};
-ghost use Rattle.std.specs.Iterator.{IsFinite, Drains, Yields};
 ghost use Rattle.mailmap_histories.specs.Histories.{IsNormal, accepted, is_accepted, key, key_cmp};
-ghost use Rattle.mailmap_entries.specs.declared.entry.Entry.{Entry as Item};
-ghost use Rattle.mailmap_batches.specs.Batches.{IsAscending, first_email, mapping_at, placed_at, name_text};
-ghost use Rattle.mailmap_batches.specs.Given.{IsNamed, named_group, fields_given};
-ghost use Rattle.mailmap_tables.specs.Merging.{Extends, NamePut, NamesPut, EmailRun, EmailPut, RunPut, AllJoined};
-ghost use Rattle.mailmap_tables.specs.Pool.{spelled, LiesIn, NameLies, RowsLie, TextsLie, name_group, group_of};
-ghost use Rattle.mailmap_tables.specs.Named.{OwnSpells};
-ghost use Rattle.mailmap_tables.specs.Room.{optional_bytes};
+ghost use Rattle.mailmap_batches.specs.Batches.{IsAscending, first_email, mapping_at, indexed_mapping, name_text};
+ghost use Rattle.mailmap_batches.specs.Given.{IsNamed, named_group};
+ghost use Rattle.mailmap_tables.specs.Merging.{Extends, NamePut, NamesPut, EmailEntries, EmailPut, GroupPut, AllJoined};
+ghost use Rattle.mailmap_tables.specs.Pool.{spelled, LiesIn, NameLies, RowsLie, name_group, group_of};
 
 use crate::lengths::texts_len;
 use crate::listing::Iter;
-use crate::search::{place_email, place_name};
+use crate::search::{find_email, find_name};
 use crate::tables::{NameRow, Tables};
 use crate::texts::{Span, Texts};
 use crate::view::View;
 use mailmap_batches::batch::sorted;
 use mailmap_batches::groups::{
-    Given, Named, before, behind, earliest, email_run, front_name, last_given, unnamed_run,
+    Given, Named, after, before, earliest, email_group_len, last_given, leading_name, unnamed_len,
 };
-use mailmap_batches::indexed::Placed;
+use mailmap_batches::indexed::IndexedEntry;
 use mailmap_entries::Entry;
 use std::alloc::{AllocError, Global};
 
-// Puts a name out, its old name as `old_name` spells it, in the place of fields of so many bytes.
+// Puts a name out, its old name as `old_name` spells it, in place of fields of so many bytes.
 fn push_named(
     out: &mut Tables,
     old_name: Span,
@@ -41,7 +37,7 @@ fn push_named(
     requires { LiesIn (length out.old.pool) old_name }
     ensures grown { OnOk result (Extends out.old.pool out.new.pool) }
     ensures groups { OnOk result (out.new.groups ≡ out.old.groups) }
-    ensures loose { OnOk result (out.new.loose ≡ out.old.loose ++ record {
+    ensures pending { OnOk result (out.new.pending ≡ out.old.pending ++ record {
       old_name = spelled out.old.pool old_name;
       new_name = option_copied named.entry.new_name;
       new_email = named.entry.new_email.now;
@@ -51,7 +47,7 @@ fn push_named(
     out.push_name(row)
 }
 
-// Puts a name out, behind the kept names that stand before it, and gives those that are left.
+// Puts a name out, after the kept names that come before it, and gives those that are left.
 fn put_name<'k>(
     out: &mut Tables,
     kept: &'k [NameRow],
@@ -60,83 +56,87 @@ fn put_name<'k>(
     requires lie { AllByRecursion (NameLies (length out.old.pool)) kept.now }
     requires ascending { IsStrictlySortedBy text_cmp (map name_key (map (name_group out.old.pool) kept.now)) }
     ensures lie { IfOk result (λ left. AllByRecursion (NameLies (length out.new.pool)) left.now) }
-    ensures put { IfOk result (λ left. NamePut (map (name_group out.old.pool) kept.entry.now) (map (name_group out.new.pool) left.now) (named_group named.entry) out.old out.new) }
+    ensures put { IfOk result
+        (λ left. NamePut (map (name_group out.old.pool) kept.entry.now) (map (name_group out.new.pool) left.now)
+        (named_group named.entry) out.old out.new) }
 {
-    match place_name(&out.view(), kept, named.old_name) {
-        Ok(place) => {
-            let row = kept[place];
-            out.push_names(front(kept, place))?;
+    match find_name(&out.view(), kept, named.old_name) {
+        Ok(index) => {
+            let row = kept[index];
+            out.push_names(prefix(kept, index))?;
             push_named(out, row.old(), named, row.fields_len())?;
-            Ok(rest(kept, place + 1))
+            Ok(tail(kept, index + 1))
         }
-        Err(place) => {
-            out.push_names(front(kept, place))?;
+        Err(index) => {
+            out.push_names(prefix(kept, index))?;
             let old_name = out.push_text(named.old_name, 0)?;
             push_named(out, old_name, named, 0)?;
-            Ok(rest(kept, place))
+            Ok(tail(kept, index))
         }
     }
 }
 
-// The rows before a place.
-fn front(rows: &[NameRow], place: usize) -> &[NameRow]
-    requires { place ≤ length rows.now }
-    ensures { result.now ≡ take place rows.now }
+// The rows before an index.
+fn prefix(rows: &[NameRow], index: usize) -> &[NameRow]
+    requires { index ≤ length rows.now }
+    ensures { result.now ≡ take index rows.now }
 {
-    &rows[..place]
+    &rows[..index]
 }
 
-// The rows from a place on.
-pub(crate) fn rest(rows: &[NameRow], place: usize) -> &[NameRow]
-    requires { place ≤ length rows.now }
-    ensures { result.now ≡ drop place rows.now }
+// The rows from an index on.
+pub(crate) fn tail(rows: &[NameRow], index: usize) -> &[NameRow]
+    requires { index ≤ length rows.now }
+    ensures { result.now ≡ drop index rows.now }
 {
-    &rows[place..]
+    &rows[index..]
 }
 
 // Puts out the kept names of an email and the named entries of a batch for it.
 fn join_names(
     out: &mut Tables,
     kept: &[NameRow],
-    named: &[Placed<'_, '_>],
+    named: &[IndexedEntry<'_, '_>],
 ) -> Result<(), AllocError>
     requires lie { AllByRecursion (NameLies (length out.old.pool)) kept.now }
     requires kept_ascend { IsStrictlySortedBy text_cmp (map name_key (map (name_group out.old.pool) kept.now)) }
     requires named { AllByRecursion (λ p. IsNamed (mapping_at p)) named.now }
     requires named_ascend { IsAscending text_cmp (map name_text (map mapping_at named.now)) }
-    ensures { OnOk result (NamesPut (map (name_group out.old.pool) kept.now) (map mapping_at named.now) out.old out.new) }
+    ensures { OnOk result
+        (NamesPut (map (name_group out.old.pool) kept.now) (map mapping_at named.now) out.old out.new) }
 {
     let mut standing = kept;
     let mut left = named;
     while !left.is_empty() {
-        let (name, len) = front_name(left);
+        let (name, len) = leading_name(left);
         standing = put_name(out, standing, name)?;
-        left = behind(left, len);
+        left = after(left, len);
     }
     out.push_names(standing)
 }
 
-// Puts an email out: what stood of it, and the entries of a batch for it. Its own texts come first, for those of a new
-// email to stand right behind it.
+// Puts an email out: what was known of it, and the entries of a batch for it. Its own texts come first, for those of a
+// new email to follow it directly.
 fn join_email(
     out: &mut Tables,
     texts: Texts,
     names: &[NameRow],
-    batch: &[Placed<'_, '_>],
+    batch: &[IndexedEntry<'_, '_>],
 ) -> Result<(), AllocError>
     requires lie { RowsLie out.old.pool texts names.now }
     requires ascending { IsStrictlySortedBy text_cmp (map name_key (map (name_group out.old.pool) names.now)) }
-    requires no_loose { out.old.loose ≡ [] }
-    requires run { EmailRun (map mapping_at batch.now) }
-    ensures { OnOk result (EmailPut (group_of out.old.pool texts names.now) (map mapping_at batch.now) out.old out.new) }
+    requires none_pending { out.old.pending ≡ [] }
+    requires group { EmailEntries (map mapping_at batch.now) }
+    ensures { OnOk result
+        (EmailPut (group_of out.old.pool texts names.now) (map mapping_at batch.now) out.old out.new) }
 {
-    let len = unnamed_run(batch);
+    let len = unnamed_len(batch);
     let own = out.own_row(texts, last_given(before(batch, len)))?;
-    join_names(out, names, behind(batch, len))?;
+    join_names(out, names, after(batch, len))?;
     out.push_email(own)
 }
 
-// Passes standing emails on, from one place up to another.
+// Passes standing emails on, from one index up to another.
 fn pass_emails(
     out: &mut Tables,
     standing: &View<'_>,
@@ -146,77 +146,80 @@ fn pass_emails(
     requires up { from ≤ to }
     requires within { to ≤ length standing.now.groups }
     requires pool { Extends standing.now.pool out.old.pool }
-    requires no_loose { out.old.loose ≡ [] }
-    ensures { OnOk result (out.new ≡ record out.old { groups = out.old.groups ++ take (to - from) (drop from standing.now.groups) }) }
+    requires none_pending { out.old.pending ≡ [] }
+    ensures { OnOk result
+        (out.new ≡ record out.old { groups = out.old.groups ++ take (to - from) (drop from standing.now.groups) }) }
 {
     out.push_names(standing.names_between(from, to))?;
-    for place in from..to {
-        let (texts, names) = standing.email(place);
-        out.pass_email(texts, names.len(), standing.email_text(place).front)?;
+    for index in from..to {
+        let (texts, names) = standing.email(index);
+        out.pass_email(texts, names.len(), standing.email_text(index).prefix)?;
     }
     Ok(())
 }
 
-// Puts the email of a run of the batch out, behind the standing emails before it, and gives the place of the next
+// Puts the email of a group of the batch out, after the standing emails before it, and gives the index of the next
 // standing email.
-fn join_run(
+fn join_group(
     out: &mut Tables,
     standing: &View<'_>,
     from: usize,
-    run: &[Placed<'_, '_>],
+    group: &[IndexedEntry<'_, '_>],
 ) -> Result<usize, AllocError>
     requires within { from ≤ length standing.now.groups }
     requires standing { AreGroups standing.now.groups }
     requires pool { Extends standing.now.pool out.old.pool }
-    requires no_loose { out.old.loose ≡ [] }
-    requires some { 0 < length run.now }
-    requires run { EmailRun (map mapping_at run.now) }
+    requires none_pending { out.old.pending ≡ [] }
+    requires some { 0 < length group.now }
+    requires group { EmailEntries (map mapping_at group.now) }
     ensures within { IfOk result (λ next. next ≤ length standing.now.groups) }
-    ensures put { IfOk result (λ next. RunPut (drop from standing.now.groups) (drop next standing.now.groups) (map placed_at run.now) (first_email (map mapping_at run.now)) out.old out.new) }
+    ensures put { IfOk result
+        (λ next. GroupPut (drop from standing.now.groups) (drop next standing.now.groups)
+        (map indexed_mapping group.now) (first_email (map mapping_at group.now)) out.old out.new) }
 {
-    match place_email(standing, from, run[0].entry.old_email()) {
-        Ok(place) => {
-            pass_emails(out, standing, from, place)?;
-            let (texts, names) = standing.email(place);
-            join_email(out, texts, names, run)?;
+    match find_email(standing, from, group[0].entry.old_email()) {
+        Ok(index) => {
+            pass_emails(out, standing, from, index)?;
+            let (texts, names) = standing.email(index);
+            join_email(out, texts, names, group)?;
             let count = standing.len();
-            prove!(place < count);
-            Ok(place + 1)
+            prove!(index < count);
+            Ok(index + 1)
         }
-        Err(place) => {
-            pass_emails(out, standing, from, place)?;
-            let old_email = out.push_text(earliest(run).entry.old_email(), 0)?;
-            join_email(out, Texts::bare(old_email), &[], run)?;
-            Ok(place)
+        Err(index) => {
+            pass_emails(out, standing, from, index)?;
+            let old_email = out.push_text(earliest(group).entry.old_email(), 0)?;
+            join_email(out, Texts::bare(old_email), &[], group)?;
+            Ok(index)
         }
     }
 }
 
-// The standing tables with a sorted batch behind them, put into `out`, which has their pool already.
+// The standing tables with a sorted batch after them, put into `out`, which has their pool already.
 fn join_sorted(
     mut out: Tables,
     standing: &View<'_>,
-    batch: &[Placed<'_, '_>],
+    batch: &[IndexedEntry<'_, '_>],
 ) -> Result<Tables, AllocError>
-    requires out { out ≡ record { pool = standing.now.pool; groups = []; loose = [] } }
+    requires out { out ≡ record { pool = standing.now.pool; groups = []; pending = [] } }
     requires standing { AreGroups standing.now.groups }
     requires accepted { AllByRecursion (λ m. is_accepted m ≡ true) (map mapping_at batch.now) }
     requires ascending { IsAscending key_cmp (map key (map mapping_at batch.now)) }
-    ensures joined { IfOk result (λ made. AllJoined standing.now.groups (map placed_at batch.now) made.groups) }
-    ensures no_loose { IfOk result (λ made. made.loose ≡ []) }
+    ensures joined { IfOk result (λ made. AllJoined standing.now.groups (map indexed_mapping batch.now) made.groups) }
+    ensures none_pending { IfOk result (λ made. made.pending ≡ []) }
 {
     let mut from = 0;
     let mut left = batch;
     while !left.is_empty() {
-        let len = email_run(left, left[0].entry.old_email());
-        from = join_run(&mut out, standing, from, before(left, len))?;
-        left = behind(left, len);
+        let len = email_group_len(left, left[0].entry.old_email());
+        from = join_group(&mut out, standing, from, before(left, len))?;
+        left = after(left, len);
     }
     pass_emails(&mut out, standing, from, standing.len())?;
     Ok(out)
 }
 
-// The standing tables with entries behind them.
+// The standing tables with entries after them.
 pub(crate) fn joined(
     alloc: Global,
     standing: &Tables,
@@ -224,16 +227,18 @@ pub(crate) fn joined(
 ) -> Result<Tables, AllocError>
     requires standing { AreGroups standing.now.groups }
     requires accepted { AllByRecursion (λ m. is_accepted m ≡ true) (map mapping_of entries.now) }
-    ensures { IfOk result (λ made. IsComplete made × IsNormal (listing standing.now.groups ++ map mapping_of entries.now) (listing made.groups)) }
+    ensures { IfOk result
+        (λ made. IsComplete made
+        × IsNormal (listing standing.now.groups ++ map mapping_of entries.now) (listing made.groups)) }
 {
     let batch = sorted(alloc, entries)?;
     let out = Tables::over_pool(alloc, standing, batch.len(), texts_len(entries))?;
     join_sorted(out, &standing.view(), &batch)
 }
 
-// Written anew where no more than half of the pool is in use, so that merges which replace don't make it grow without
+// Written anew if no more than half of the pool is in use, so that merges which replace don't make it grow without
 // end.
-pub(crate) fn thinned(tables: Tables) -> Result<Tables, AllocError>
+pub(crate) fn without_unused_texts(tables: Tables) -> Result<Tables, AllocError>
     requires { IsComplete tables }
     ensures { IfOk result (λ made. IsComplete made × (listing made.groups ≡ listing tables.groups)) }
 {
@@ -243,7 +248,7 @@ pub(crate) fn thinned(tables: Tables) -> Result<Tables, AllocError>
     Ok(tables)
 }
 
-// Tables that list the same, whose pool has the texts in use alone.
+// Tables that list the same, whose pool has only the texts in use.
 fn rewritten(tables: &Tables) -> Result<Tables, AllocError>
     requires { IsComplete tables.now }
     ensures { IfOk result (λ made. IsComplete made × (listing made.groups ≡ listing tables.now.groups)) }

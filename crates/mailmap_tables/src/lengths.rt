@@ -2,7 +2,7 @@
 ghost use Rattle.std.specs.Prelude.{◌≡◌, map, min, sum_by};
 ghost use Rattle.std.specs.Option.{option_copied};
 ghost use Rattle.mailmap_entries.specs.Entries.{mapping_of};
-ghost use Rattle.mailmap_tables.specs.Room.{entry_bytes, optional_bytes};
+ghost use Rattle.mailmap_tables.specs.Reserved.{entry_bytes, optional_bytes};
 
 use mailmap_entries::Entry;
 

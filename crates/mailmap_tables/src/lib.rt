@@ -1,5 +1,5 @@
-//! The tables of a snapshot, and how a batch of entries joins them. The crate `gix_mailmap` stands on these; they are no
-//! part of what it gives to users.
+//! The tables of a snapshot, and how a batch of entries joins them. The crate `gix_mailmap` builds on these, and
+//! doesn't show them to users.
 #![tactic(auto)]
 
 mod fits;

@@ -1,5 +1,5 @@
 //! The entries that tables list.
-ghost use Rattle.std.specs.Prelude.{◌≡◌, List, [], length, map, option_map};
+ghost use Rattle.std.specs.Prelude.{◌≡◌, List, [], length, option_map};
 ghost use Rattle.std.specs.Iterator.{YieldsFirstBy, item_count};
 ghost use Rattle.std.specs.List.{AllByRecursion};
 ghost use Rattle.std.specs.Option.{option_to_list};

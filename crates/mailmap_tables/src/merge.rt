@@ -6,7 +6,7 @@ ghost use Rattle.mailmap_entries.specs.Entries.{mapping_of};
 ghost use Rattle.mailmap_entries.specs.declared.entry.Entry.{Entry as Item};
 ghost use Rattle.mailmap_histories.specs.Histories.{IsNormal, accepted};
 ghost use Rattle.mailmap_tables.specs.Groups.{AreGroups, IsComplete, listing};
-ghost use Rattle.mailmap_tables.specs.Room.{HasRoom};
+ghost use Rattle.mailmap_tables.specs.Reserved.{HasReserved};
 
 use crate::fits::fits_in_place;
 use crate::in_place::merge_in_place;
@@ -17,8 +17,8 @@ use std::alloc::AllocError;
 
 impl Tables {
     /// Puts the accepted entries that an iterator gives after those that the tables have. A few are put in place, once all
-    /// memory is taken. For any others new tables are built aside, which replace these at the end. So when memory runs
-    /// out, the tables stay as they were.
+    /// memory is taken. For any others new tables are built aside, which replace these at the end. So when memory
+    /// groups out, the tables stay as they were.
     pub fn merge<'a, I: Iterator<Item = Entry<'a>> + Drop>(
         &mut self,
         entries: I,
@@ -31,7 +31,9 @@ impl Tables {
         ensures err { OnErr result (self.new ≡ self.old) }
 
         // Memory is asked for only once an entry is accepted.
-        ensures refused { OnErr result ((xs : List Item) × (rest : I) × Yields I.next_gives entries xs rest × (accepted (map mapping_of xs) ≢ [])) }
+        ensures out_of_memory { OnErr result
+            ((xs : List Item) × (rest : I) × Yields I.next_gives entries xs rest
+            × (accepted (map mapping_of xs) ≢ [])) }
     {
         let alloc = self.allocator();
         let collected = accepted_of(alloc, self, entries)?;
@@ -51,7 +53,7 @@ impl Tables {
 fn room_in_place(collected: &Collected<'_>, tables: &Tables) -> Option<usize>
     requires { AreGroups tables.now.groups }
     ensures none { ForSome result (λ bytes. collected.now.made ≡ None) }
-    ensures room { ForSome result (HasRoom tables.now.groups (map mapping_of collected.now.batch.items)) }
+    ensures reserved { ForSome result (HasReserved tables.now.groups (map mapping_of collected.now.batch.items)) }
 {
     if collected.made.is_some() {
         return None;

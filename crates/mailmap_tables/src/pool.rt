@@ -1,5 +1,5 @@
 //! The pool: the bytes of all texts, one after another, and how many of them no row uses any more.
-ghost use Rattle.std.specs.Prelude.{◌≡◌, ◌≤◌, ◌<◌, ◌+◌, ◌++◌, [], List, ℕ, IfOk, IsOk, IsTrue, OnOk, length, vec_len, vec_capacity};
+ghost use Rattle.std.specs.Prelude.{◌≡◌, ◌≤◌, ◌<◌, ◌+◌, ◌++◌, [], IfOk, IsOk, IsTrue, OnOk, length, vec_len, vec_capacity};
 ghost use Rattle.std.specs.Option.{ForSome, option_copied, option_map, option_or};
 
 use crate::texts::{Span, Texts, fields, span_len, together};
@@ -18,7 +18,7 @@ impl Pool {
     ghost use Rattle.mailmap_tables.specs.Named.{OwnSpells};
     ghost use Rattle.mailmap_batches.specs.Given.{fields_given, named_group};
     ghost use Rattle.mailmap_tables.specs.Pool.{LiesIn, NameLies, RowSpells, TextsLie, group_of, name_group, spelled};
-    ghost use Rattle.mailmap_tables.specs.Room.{fields_room, optional_bytes, own_room};
+    ghost use Rattle.mailmap_tables.specs.Reserved.{fields_reserved, optional_bytes, own_reserved};
     ghost use Rattle.mailmap_tables.specs.Texts.{span_bytes};
 
     /// No bytes, and no memory taken.
@@ -44,7 +44,7 @@ impl Pool {
         })
     }
 
-    /// Puts a text at the end, in the place of one of so many bytes.
+    /// Puts a text at the end, in place of one of so many bytes.
     pub(crate) fn push_text(&mut self, text: &[u8], replaced: usize) -> Result<Span, AllocError>
         ensures grown { Extends self.old.bytes.items self.new.bytes.items }
         ensures text { OnOk result (self.new.bytes.items ≡ self.old.bytes.items ++ text.now) }
@@ -64,25 +64,27 @@ impl Pool {
         })
     }
 
-    // Puts a text at the end if one is given, in the place of the present one, and else keeps that.
+    // Puts a text at the end if one is given, in place of the present one, and else keeps that.
     fn push_given(
         &mut self,
         given: Option<&[u8]>,
-        present: Option<Span>,
+        existing: Option<Span>,
     ) -> Result<Option<Span>, AllocError>
-        requires { ForSome present (LiesIn (length self.old.bytes.items)) }
+        requires { ForSome existing (LiesIn (length self.old.bytes.items)) }
         ensures grown { Extends self.old.bytes.items self.new.bytes.items }
         ensures lies { IfOk result (λ span. ForSome span (LiesIn (length self.new.bytes.items))) }
         ensures spells { IfOk result (λ span. option_map (spelled self.new.bytes.items) span
-            ≡ option_or (option_copied given.entry) (option_map (spelled self.old.bytes.items) present)) }
-        ensures bytes { length self.new.bytes.items ≤ length self.old.bytes.items + optional_bytes (option_copied given.entry) }
+            ≡ option_or (option_copied given.entry) (option_map (spelled self.old.bytes.items) existing)) }
+        ensures bytes { length self.new.bytes.items ≤ length self.old.bytes.items + optional_bytes
+            (option_copied given.entry) }
         ensures capacity { vec_capacity self.old.bytes ≤ vec_capacity self.new.bytes }
-        ensures succeeds { vec_len self.old.bytes + optional_bytes (option_copied given.entry) ≤ vec_capacity self.old.bytes
+        ensures succeeds { vec_len self.old.bytes + optional_bytes (option_copied given.entry) ≤ vec_capacity
+            self.old.bytes
             → IsOk result }
     {
         match given {
-            Some(text) => Ok(Some(self.push_text(text, span_len(present))?)),
-            None => Ok(present),
+            Some(text) => Ok(Some(self.push_text(text, span_len(existing))?)),
+            None => Ok(existing),
         }
     }
 
@@ -114,7 +116,7 @@ impl Pool {
         Ok(texts)
     }
 
-    /// The row of a name with the fields that are given for it, in the place of fields of so many bytes.
+    /// The row of a name with the fields that are given for it, in place of fields of so many bytes.
     pub(crate) fn name_row(
         &mut self,
         old_name: Span,
@@ -127,9 +129,9 @@ impl Pool {
         ensures spells { IfOk result (λ row. name_group self.new.bytes.items row
             ≡ record (named_group named.entry) { old_name = spelled self.old.bytes.items old_name }) }
         ensures bytes { length self.new.bytes.items
-            ≤ length self.old.bytes.items + (old_name.len + fields_room (named_group named.entry)) }
+            ≤ length self.old.bytes.items + (old_name.len + fields_reserved (named_group named.entry)) }
         ensures capacity { vec_capacity self.old.bytes ≤ vec_capacity self.new.bytes }
-        ensures succeeds { vec_len self.old.bytes + (old_name.len + fields_room (named_group named.entry))
+        ensures succeeds { vec_len self.old.bytes + (old_name.len + fields_reserved (named_group named.entry))
             ≤ vec_capacity self.old.bytes → IsOk result }
     {
         let new_name = self.push_given(named.new_name, None)?;
@@ -143,16 +145,19 @@ impl Pool {
         requires { TextsLie (length self.old.bytes.items) texts }
         ensures grown { Extends self.old.bytes.items self.new.bytes.items }
         ensures lies { IfOk result (TextsLie (length self.new.bytes.items)) }
-        ensures spells { IfOk result (OwnSpells self.old.bytes.items self.new.bytes.items texts (fields_given given.entry)) }
+        ensures spells { IfOk result
+            (OwnSpells self.old.bytes.items self.new.bytes.items texts (fields_given given.entry)) }
         ensures bytes { length self.new.bytes.items
-            ≤ length self.old.bytes.items + own_room (group_of self.old.bytes.items texts []) (fields_given given.entry) }
+            ≤ length self.old.bytes.items + own_reserved (group_of self.old.bytes.items texts [])
+            (fields_given given.entry) }
         ensures capacity { vec_capacity self.old.bytes ≤ vec_capacity self.new.bytes }
-        ensures succeeds { vec_len self.old.bytes + own_room (group_of self.old.bytes.items texts []) (fields_given given.entry)
+        ensures succeeds { vec_len self.old.bytes + own_reserved (group_of self.old.bytes.items texts [])
+            (fields_given given.entry)
             ≤ vec_capacity self.old.bytes → IsOk result }
     {
-        let (present_name, present_email) = fields(&self.bytes, texts);
-        let new_name = self.push_given(given.new_name, present_name)?;
-        let new_email = self.push_given(given.new_email, present_email)?;
+        let (existing_name, existing_email) = fields(&self.bytes, texts);
+        let new_name = self.push_given(given.new_name, existing_name)?;
+        let new_email = self.push_given(given.new_email, existing_email)?;
         self.together(texts.old(), new_name, new_email)
     }
 

@@ -1,4 +1,4 @@
-//! The accepted entries of an iterator on their way into tables. Where few keys come again and again, they are joined in
+//! The accepted entries of an iterator on their way into tables. If few keys come again and again, they are joined in
 //! portions, so that they take the memory of their keys and of one portion, however many they are.
 ghost use Rattle.std.specs.Prelude.{◌≡◌, ◌≢◌, ◌<◌, [], ◌++◌, ◌∷◌, List, IfOk, None, OnErr, OnOk, Some, false, true, map, unwrap_or};
 ghost use Rattle.std.specs.Iterator.{IsFinite, Drains, Yields};
@@ -8,10 +8,10 @@ ghost use Rattle.mailmap_histories.specs.Histories.{accepted, is_accepted};
 ghost use Rattle.mailmap_tables.specs.Groups.{IsComplete};
 ghost use Rattle.mailmap_tables.specs.Collecting.{IsCollected};
 
-use crate::join::{joined, thinned};
+use crate::join::{joined, without_unused_texts};
 use crate::tables::Tables;
 use mailmap_entries::Entry;
-use mailmap_entries::fold::front::front_number;
+use mailmap_entries::fold::prefix::key_prefix;
 use std::alloc::{AllocError, Global};
 
 // So many entries are collected before the first look at how often their keys come.
@@ -20,21 +20,24 @@ const PORTION: usize = 16_384;
 // So many of them are looked at.
 const SAMPLE: usize = 4_096;
 
-// A prime number, so that keys with like beginnings or endings go to different places.
-const PLACES: usize = 8_191;
+// So many bytes of the pool are copied in less time than it takes to join an entry.
+const BYTES_AN_ENTRY: usize = 256;
 
-/// Entries behind tables that stand.
+// A prime number, so that keys with like beginnings or endings go to different slots.
+const SLOTS: usize = 8_191;
+
+/// Entries after existing tables.
 #[derive(Drop)]
 pub(crate) struct Collected<'a> {
-    // the standing tables with all portions behind them, once there is one
+    // the standing tables with all portions after them, once there is one
     pub(crate) made: Option<Tables>,
-    // the accepted entries behind those
+    // the accepted entries after those
     pub(crate) batch: Vec<Entry<'a>>,
     // when the batch has so many entries it is a portion
     portion: usize,
 }
 
-/// The accepted entries that an iterator gives, to be put behind the standing tables.
+/// The accepted entries that an iterator gives, to be put after the standing tables.
 pub(crate) fn accepted_of<'a, I: Iterator<Item = Entry<'a>> + Drop>(
     alloc: Global,
     standing: &Tables,
@@ -43,10 +46,13 @@ pub(crate) fn accepted_of<'a, I: Iterator<Item = Entry<'a>> + Drop>(
     requires can { I.can_next entries }
     requires finite { IsFinite (I.remaining entries) }
     requires complete { IsComplete standing.now }
-    ensures ok { IfOk result (λ c. (xs : List Item) × Drains I.next_gives entries xs × IsCollected standing.now (map mapping_of xs) c.made (map mapping_of c.batch.items)) }
+    ensures ok { IfOk result
+        (λ c. (xs : List Item) × Drains I.next_gives entries xs
+        × IsCollected standing.now (map mapping_of xs) c.made (map mapping_of c.batch.items)) }
 
     // Memory is asked for only once an entry is accepted.
-    ensures refused { OnErr result ((xs : List Item) × (rest : I) × Yields I.next_gives entries xs rest × (accepted (map mapping_of xs) ≢ [])) }
+    ensures out_of_memory { OnErr result
+        ((xs : List Item) × (rest : I) × Yields I.next_gives entries xs rest × (accepted (map mapping_of xs) ≢ [])) }
 {
     let mut collected = Collected::none(alloc, standing);
     for entry in entries {
@@ -73,17 +79,20 @@ impl<'a> Collected<'a> {
         Collected {
             made: None,
             batch: Vec::new(alloc),
-            portion: portion_behind(standing),
+            portion: portion_after(standing),
         }
     }
 
-    // Puts an accepted entry behind the others.
+    // Puts an accepted entry after the others.
     #[inline(always)]
     fn push(&mut self, standing: &Tables, entry: Entry<'a>) -> Result<(), AllocError>
         requires accepted { is_accepted (mapping_of entry) ≡ true }
-        requires collected { (h : List Mapping) × IsCollected standing.now h self.old.made (map mapping_of self.old.batch.items) }
-        ensures { OnOk result ((h : List Mapping) → IsCollected standing.now h self.old.made (map mapping_of self.old.batch.items)
-            → IsCollected standing.now (h ++ mapping_of entry.entry ∷ []) self.new.made (map mapping_of self.new.batch.items)) }
+        requires collected { (h : List Mapping)
+            × IsCollected standing.now h self.old.made (map mapping_of self.old.batch.items) }
+        ensures { OnOk result
+            ((h : List Mapping) → IsCollected standing.now h self.old.made (map mapping_of self.old.batch.items)
+            → IsCollected standing.now (h ++ mapping_of entry.entry ∷ []) self.new.made
+            (map mapping_of self.new.batch.items)) }
     {
         self.batch.push(entry)?;
         if self.batch.len() < self.portion {
@@ -95,7 +104,8 @@ impl<'a> Collected<'a> {
     // Joins the batch with the tables, if its keys come again and again. Else the batch goes on without an end.
     fn end_portion(&mut self, standing: &Tables) -> Result<(), AllocError>
         requires { (h : List Mapping) × IsCollected standing.now h self.old.made (map mapping_of self.old.batch.items) }
-        ensures { OnOk result ((h : List Mapping) → IsCollected standing.now h self.old.made (map mapping_of self.old.batch.items)
+        ensures { OnOk result
+            ((h : List Mapping) → IsCollected standing.now h self.old.made (map mapping_of self.old.batch.items)
             → IsCollected standing.now h self.new.made (map mapping_of self.new.batch.items)) }
     {
         self.portion = usize::MAX;
@@ -103,13 +113,13 @@ impl<'a> Collected<'a> {
             return Ok(());
         }
         let made = self.tables(standing)?;
-        self.portion = portion_behind(&made);
+        self.portion = portion_after(&made);
         self.made = Some(made);
         self.batch.clear();
         Ok(())
     }
 
-    /// Whether there is no entry behind the tables.
+    /// Whether there is no entry after the tables.
     pub(crate) fn is_joined(&self) -> bool
         ensures all { result ≡ true → self.now.batch.items ≡ [] }
         ensures some { result ≡ false → self.now.batch.items ≢ [] }
@@ -117,7 +127,7 @@ impl<'a> Collected<'a> {
         self.batch.is_empty()
     }
 
-    /// Puts the tables that were made in the place of those that stand.
+    /// Puts the tables that were made in place of the existing ones.
     pub(crate) fn put_into(self, standing: &mut Tables)
         ensures { standing.new ≡ unwrap_or self.entry.made standing.old }
     {
@@ -127,17 +137,18 @@ impl<'a> Collected<'a> {
         }
     }
 
-    /// The standing tables with all entries behind them.
+    /// The standing tables with all entries after them.
     pub(crate) fn tables(&self, standing: &Tables) -> Result<Tables, AllocError>
         requires { (h : List Mapping) × IsCollected standing.now h self.now.made (map mapping_of self.now.batch.items) }
-        ensures { IfOk result (λ t. (h : List Mapping) → IsCollected standing.now h self.now.made (map mapping_of self.now.batch.items)
+        ensures { IfOk result
+            (λ t. (h : List Mapping) → IsCollected standing.now h self.now.made (map mapping_of self.now.batch.items)
             → IsCollected standing.now h (Some t) []) }
     {
         let alloc = *self.batch.allocator();
-        thinned(joined(alloc, self.base(standing), &self.batch)?)
+        without_unused_texts(joined(alloc, self.base(standing), &self.batch)?)
     }
 
-    // The tables that the batch goes behind.
+    // The tables that the batch goes after.
     fn base<'t>(&'t self, standing: &'t Tables) -> &'t Tables
         ensures { result.now ≡ unwrap_or self.now.made standing.now }
     {
@@ -148,30 +159,32 @@ impl<'a> Collected<'a> {
     }
 }
 
-// How many entries are to be joined at once behind tables: more than these have rows, so that passing those on costs less
-// than joining.
-fn portion_behind(tables: &Tables) -> usize {
-    PORTION.max(tables.view().row_count().saturating_mul(4))
+// How many entries are to be joined at once after tables. A portion passes on all their rows and copies their pool, so it
+// has so many entries that joining them costs more.
+fn portion_after(tables: &Tables) -> usize {
+    let view = tables.view();
+    let rows = view.row_count().saturating_mul(4);
+    PORTION.max(rows).max(view.pool.len() / BYTES_AN_ENTRY)
 }
 
 // Whether the keys of entries come again and again, as far as a look at the first ones can tell.
 fn come_again(alloc: Global, entries: &[Entry<'_>]) -> Result<bool, AllocError> {
     let sample = &entries[..entries.len().min(SAMPLE)];
     let mut known: usize = 0;
-    let mut seen = vec![in alloc; 0u128; PLACES]?;
+    let mut seen = vec![in alloc; 0u128; SLOTS]?;
     for entry in sample {
         let number = key_number(entry);
-        let place = (number % PLACES as u128) as usize;
-        if seen[place] == number {
+        let index = (number % SLOTS as u128) as usize;
+        if seen[index] == number {
             known = known.saturating_add(1);
         }
-        seen[place] = number;
+        seen[index] = number;
     }
     Ok(known >= sample.len() / 2)
 }
 
 // A number that entries of one key share, and few others.
 fn key_number(entry: &Entry<'_>) -> u128 {
-    let name = front_number(entry.old_name().unwrap_or(&[]));
-    front_number(entry.old_email()) ^ (name >> 3)
+    let name = key_prefix(entry.old_name().unwrap_or(&[]));
+    key_prefix(entry.old_email()) ^ (name >> 3)
 }

@@ -1,84 +1,81 @@
-//! Tables with room taken beforehand: texts and rows go in where they belong, and no step can fail.
-ghost use Rattle.std.specs.Prelude.{List, ℕ, ◌≡◌, ◌≤◌, ◌<◌, ◌+◌, ◌-◌, ◌++◌, [], ◌∷◌, length, IfOk, IfErr, OnOk, map, take, drop, Some, None, slice_get, slice_set, vec_len, vec_capacity};
-ghost use Rattle.std.specs.Option.{ForSome, option_map};
+//! Tables with memory reserved beforehand: texts and rows go in where they belong, and no step can fail.
+ghost use Rattle.std.specs.Prelude.{List, ℕ, ◌≡◌, ◌≤◌, ◌<◌, ◌+◌, ◌-◌, ◌++◌, [], length, IfOk, IfErr, OnOk, map, slice_set, vec_len, vec_capacity};
 ghost use Rattle.std.specs.List.{AllByRecursion, HoldsAt, insert};
-ghost use Rattle.mailmap_entries.specs.Folding.{folded};
-ghost use Rattle.mailmap_tables.specs.Room.{one_later};
+ghost use Rattle.mailmap_tables.specs.Reserved.{one_later};
 
 use crate::pool::Pool;
 use crate::tables::{EmailRow, NameRow, Tables};
 use crate::texts::{Span, Texts};
 use crate::view::{View, last_end};
 use mailmap_batches::groups::{Given, Named};
-use mailmap_entries::fold::front::front_number;
+use mailmap_entries::fold::prefix::key_prefix;
 use std::alloc::AllocError;
 use std::marker::Model;
 
-/// Tables with room for more. Contracts see how much.
+/// Tables with memory reserved for more. Contracts see how much.
 #[derive(Drop)]
 pub(crate) struct ReservedTables {
     pool: Pool,
     emails: Vec<EmailRow>,
     names: Vec<NameRow>,
-    fronts: Vec<u128>,
+    prefixes: Vec<u128>,
 }
 
 impl Model for ReservedTables {
     ghost use Rattle.std.specs.Prelude.{◌-◌, min, vec_len, vec_capacity};
-    ghost use Rattle.mailmap_tables.specs.Room.{Room};
+    ghost use Rattle.mailmap_tables.specs.Reserved.{Reserved};
 
-    ghost Value = { Room };
+    ghost Value = { Reserved };
 
     ghost use Rattle.mailmap_tables.specs.Pool.{AreTables, contents};
 
     ghost view = { λ t. record {
       held = contents t.pool.bytes.items t.names.items t.emails.items;
       bytes = vec_capacity t.pool.bytes - vec_len t.pool.bytes;
-      emails = min (vec_capacity t.emails - vec_len t.emails) (vec_capacity t.fronts - vec_len t.fronts);
+      emails = min (vec_capacity t.emails - vec_len t.emails) (vec_capacity t.prefixes - vec_len t.prefixes);
       names = vec_capacity t.names - vec_len t.names;
     } };
 
-    ghost invariant = { λ t. AreTables t.pool.bytes.items t.names.items t.emails.items t.fronts.items };
+    ghost invariant = { λ t. AreTables t.pool.bytes.items t.names.items t.emails.items t.prefixes.items };
 }
 
 impl ReservedTables {
     ghost use Rattle.mailmap_tables.specs.Groups.{EmailGroup};
-    ghost use Rattle.mailmap_batches.specs.Given.{NameGroup};
     ghost use Rattle.mailmap_tables.specs.Merging.{bare};
     ghost use Rattle.mailmap_tables.specs.Named.{OwnSpells};
     ghost use Rattle.mailmap_batches.specs.Given.{fields_given, named_group};
     ghost use Rattle.mailmap_tables.specs.Pool.{spelled, LiesIn, NameLies, TextsLie, fields_of, group_of, name_group};
     ghost use Rattle.mailmap_tables.specs.Texts.{old_span};
-    ghost use Rattle.mailmap_tables.specs.Room.{Room, TookRoom, fields_room, own_room, with_email_at};
+    ghost use Rattle.mailmap_tables.specs.Reserved.{Reserved, TookReserved, fields_reserved, own_reserved, with_email_at};
 
-    /// Takes room for so many more rows of each table, and for so many bytes. Where it is refused the tables come back
-    /// as they were.
+    /// Reserves memory for so many more rows of each table, and for so many bytes. If memory runs out, the tables come
+    /// back as they were.
     pub(crate) fn new(tables: Tables, rows: usize, bytes: usize) -> Result<ReservedTables, Tables>
-        ensures held { IfOk result (λ room. room.held ≡ tables) }
-        ensures bytes { IfOk result (λ room. bytes ≤ room.bytes) }
-        ensures emails { IfOk result (λ room. rows ≤ room.emails) }
-        ensures names { IfOk result (λ room. rows ≤ room.names) }
+        ensures held { IfOk result (λ reserved. reserved.held ≡ tables) }
+        ensures bytes { IfOk result (λ reserved. bytes ≤ reserved.bytes) }
+        ensures emails { IfOk result (λ reserved. rows ≤ reserved.emails) }
+        ensures names { IfOk result (λ reserved. rows ≤ reserved.names) }
         ensures err { IfErr result (λ back. back ≡ tables) }
     {
         let Tables {
             pool,
             emails,
             names,
-            fronts,
+            prefixes,
         } = tables;
-        let mut room = ReservedTables {
+        let mut reserved = ReservedTables {
             pool,
             emails,
             names,
-            fronts,
+            prefixes,
         };
-        match room.reserve(rows, bytes) {
-            Ok(()) => Ok(room),
-            Err(_) => Err(room.into_tables()),
+        match reserved.reserve(rows, bytes) {
+            Ok(()) => Ok(reserved),
+            Err(_) => Err(reserved.into_tables()),
         }
     }
 
-    // Takes the room of all four vectors.
+    // Reserves memory in all four vectors.
     fn reserve(&mut self, rows: usize, bytes: usize) -> Result<(), AllocError>
         ensures held { self.new.held ≡ self.old.held }
         ensures bytes { OnOk result (bytes ≤ self.new.bytes) }
@@ -87,11 +84,11 @@ impl ReservedTables {
     {
         self.pool.bytes.reserve(bytes)?;
         self.emails.reserve(rows)?;
-        self.fronts.reserve(rows)?;
+        self.prefixes.reserve(rows)?;
         self.names.reserve(rows)
     }
 
-    /// The tables without a word on their room.
+    /// The tables, whatever memory they have reserved.
     pub(crate) fn into_tables(self) -> Tables
         ensures { result ≡ self.held }
     {
@@ -99,13 +96,13 @@ impl ReservedTables {
             pool,
             emails,
             names,
-            fronts,
+            prefixes,
         } = self;
         Tables {
             pool,
             emails,
             names,
-            fronts,
+            prefixes,
         }
     }
 
@@ -116,31 +113,32 @@ impl ReservedTables {
         View {
             pool: &self.pool.bytes,
             emails: &self.emails,
-            fronts: &self.fronts,
+            prefixes: &self.prefixes,
             names: &self.names,
         }
     }
 
-    /// Puts a text at the end of the pool. So many bytes that stood there are out of use then.
+    /// Puts a text at the end of the pool. So many bytes that were there are out of use then.
     pub(crate) fn push_text(&mut self, text: &[u8], replaced: usize) -> Span
-        requires room { length text.now ≤ self.old.bytes }
+        requires reserved { length text.now ≤ self.old.bytes }
         ensures held { self.new.held ≡ record self.old.held { pool = self.old.held.pool ++ text.now } }
-        ensures room { TookRoom (length text.now) 0 0 self.old self.new }
+        ensures reserved { TookReserved (length text.now) 0 0 self.old self.new }
         ensures lies { LiesIn (length self.new.held.pool) result }
         ensures spells { spelled self.new.held.pool result ≡ text.now }
     {
         self.pool.push_text(text, replaced).unwrap()
     }
 
-    /// The row of a name with the fields that are given for it, in the place of fields of so many bytes.
+    /// The row of a name with the fields that are given for it, in place of fields of so many bytes.
     pub(crate) fn name_row(&mut self, old_name: Span, named: Named<'_>, replaced: usize) -> NameRow
         requires lies { LiesIn (length self.old.held.pool) old_name }
-        requires room { old_name.len + fields_room (named_group named) ≤ self.old.bytes }
+        requires reserved { old_name.len + fields_reserved (named_group named) ≤ self.old.bytes }
         ensures grown { (more : List ℕ) × (self.new.held ≡ record self.old.held { pool = self.old.held.pool ++ more }) }
         ensures lies { NameLies (length self.new.held.pool) result }
         ensures spells { name_group self.new.held.pool result
             ≡ record (named_group named.entry) { old_name = spelled self.old.held.pool old_name } }
-        ensures room { TookRoom (old_name.len + fields_room (named_group named.entry)) 0 0 self.old self.new }
+        ensures reserved { TookReserved (old_name.len + fields_reserved (named_group named.entry)) 0 0 self.old
+            self.new }
     {
         self.pool.name_row(old_name, named, replaced).unwrap()
     }
@@ -148,76 +146,93 @@ impl ReservedTables {
     /// The row of an email with the fields that are given for it, and else its own.
     pub(crate) fn own_row(&mut self, texts: Texts, given: Given<'_>) -> Texts
         requires lies { TextsLie (length self.old.held.pool) texts }
-        requires room { own_room (group_of self.old.held.pool texts []) (fields_given given) ≤ self.old.bytes }
+        requires reserved { own_reserved (group_of self.old.held.pool texts []) (fields_given given) ≤ self.old.bytes }
         ensures grown { (more : List ℕ) × (self.new.held ≡ record self.old.held { pool = self.old.held.pool ++ more }) }
         ensures lies { TextsLie (length self.new.held.pool) result }
         ensures spells { OwnSpells self.old.held.pool self.new.held.pool texts (fields_given given.entry) result }
-        ensures room { TookRoom (own_room (group_of self.old.held.pool texts []) (fields_given given.entry)) 0 0 self.old self.new }
+        ensures reserved { TookReserved
+            (own_reserved (group_of self.old.held.pool texts []) (fields_given given.entry)) 0 0 self.old self.new }
     {
         self.pool.own_row(texts, given).unwrap()
     }
 
-    /// Puts an email of which nothing is known yet before the one at a place.
-    pub(crate) fn insert_email(&mut self, place: usize, old_email: Span)
-        requires place { place ≤ length self.old.held.groups }
+    /// Puts an email of which nothing is known yet before the one at an index.
+    pub(crate) fn insert_email(&mut self, index: usize, old_email: Span)
+        requires index { index ≤ length self.old.held.groups }
         requires lies { LiesIn (length self.old.held.pool) old_email }
-        requires room { 0 < self.old.emails }
-        ensures held { self.new.held ≡ record self.old.held { groups = insert self.old.held.groups place (bare (spelled self.old.held.pool old_email)) } }
-        ensures room { TookRoom 0 1 0 self.old self.new }
+        requires reserved { 0 < self.old.emails }
+        ensures held { self.new.held
+            ≡ record self.old.held {
+              groups = insert self.old.held.groups
+                  index (bare (spelled self.old.held.pool old_email));
+            } }
+        ensures reserved { TookReserved 0 1 0 self.old self.new }
     {
-        let front = front_number(self.view().text(old_email));
-        let end = last_end(&self.emails[..place]);
+        let prefix = key_prefix(self.view().text(old_email));
+        let end = last_end(&self.emails[..index]);
         let row = EmailRow {
             texts: Texts::bare(old_email),
             names_start: end,
             names_end: end,
         };
-        self.emails.insert(place, row).unwrap();
-        self.fronts.insert(place, front).unwrap();
+        self.emails.insert(index, row).unwrap();
+        self.prefixes.insert(index, prefix).unwrap();
     }
 
     /// Inserts a name among those of an email. The names of later emails are moved by one.
-    pub(crate) fn insert_name(&mut self, email: usize, place: usize, row: NameRow)
+    pub(crate) fn insert_name(&mut self, email: usize, index: usize, row: NameRow)
         requires email { email < length self.old.held.groups }
-        requires place { HoldsAt (λ (g : EmailGroup). place ≤ length g.names) self.old.held.groups email }
+        requires index { HoldsAt (λ (g : EmailGroup). index ≤ length g.names) self.old.held.groups email }
         requires lies { NameLies (length self.old.held.pool) row }
-        requires room { 0 < self.old.names }
-        ensures held { HoldsAt (λ (g : EmailGroup). self.new.held ≡ with_email_at self.old.held email (record g { names = insert g.names place (name_group self.old.held.pool row) })) self.old.held.groups email }
-        ensures room { TookRoom 0 0 1 self.old self.new }
+        requires reserved { 0 < self.old.names }
+        ensures held { HoldsAt
+            (λ (g : EmailGroup). self.new.held
+            ≡ with_email_at self.old.held email
+            (record g { names = insert g.names index (name_group self.old.held.pool row) })) self.old.held.groups
+            email }
+        ensures reserved { TookReserved 0 0 1 self.old self.new }
     {
         prove!(self.names.len() < self.names.capacity());
         let start = self.emails[email].names_start;
-        self.names.insert(start + place, row).unwrap();
+        self.names.insert(start + index, row).unwrap();
         self.emails[email].names_end += 1;
         stand_later(&mut self.emails[email + 1..]);
     }
 
     /// Replaces a name of an email.
-    pub(crate) fn replace_name(&mut self, email: usize, place: usize, row: NameRow)
+    pub(crate) fn replace_name(&mut self, email: usize, index: usize, row: NameRow)
         requires email { email < length self.old.held.groups }
-        requires place { HoldsAt (λ (g : EmailGroup). place < length g.names) self.old.held.groups email }
+        requires index { HoldsAt (λ (g : EmailGroup). index < length g.names) self.old.held.groups email }
         requires lies { NameLies (length self.old.held.pool) row }
-        ensures held { HoldsAt (λ (g : EmailGroup). self.new.held ≡ with_email_at self.old.held email (record g { names = slice_set g.names place (name_group self.old.held.pool row) })) self.old.held.groups email }
-        ensures room { TookRoom 0 0 0 self.old self.new }
+        ensures held { HoldsAt
+            (λ (g : EmailGroup). self.new.held
+            ≡ with_email_at self.old.held email
+            (record g { names = slice_set g.names index (name_group self.old.held.pool row) })) self.old.held.groups
+            email }
+        ensures reserved { TookReserved 0 0 0 self.old self.new }
     {
         let start = self.emails[email].names_start;
-        prove!(place < self.names.len());
-        self.names[start + place] = row;
+        prove!(index < self.names.len());
+        self.names[start + index] = row;
     }
 
-    /// Gives an email these texts in the place of its own. Its old email is spelled as before.
+    /// Gives an email these texts in place of its own. Its old email is spelled as before.
     pub(crate) fn replace_texts(&mut self, email: usize, texts: Texts)
         requires email { email < length self.old.held.groups }
         requires lies { TextsLie (length self.old.held.pool) texts }
-        requires same { HoldsAt (λ (g : EmailGroup). spelled self.old.held.pool (old_span texts) ≡ g.old_email) self.old.held.groups email }
-        ensures held { HoldsAt (λ (g : EmailGroup). self.new.held ≡ with_email_at self.old.held email (record g { own = fields_of self.old.held.pool texts })) self.old.held.groups email }
-        ensures room { TookRoom 0 0 0 self.old self.new }
+        requires same { HoldsAt (λ (g : EmailGroup). spelled self.old.held.pool (old_span texts) ≡ g.old_email)
+            self.old.held.groups email }
+        ensures held { HoldsAt
+            (λ (g : EmailGroup). self.new.held
+            ≡ with_email_at self.old.held email (record g { own = fields_of self.old.held.pool texts }))
+            self.old.held.groups email }
+        ensures reserved { TookReserved 0 0 0 self.old self.new }
     {
         self.emails[email].texts = texts;
     }
 }
 
-// Moves the names of emails one place on.
+// Moves the names of emails one index on.
 fn stand_later(rows: &mut [EmailRow])
     requires { AllByRecursion (λ (r : EmailRow). (r.names_start < usize.MAX) × (r.names_end < usize.MAX)) rows.old }
     ensures { rows.new ≡ map one_later rows.old }

@@ -1,44 +1,44 @@
-//! Where emails and names stand in tables, or where they would stand: each is a search that compares keys by [`Steps`]
-//! alone.
-ghost use Rattle.std.specs.Prelude.{◌≡◌, ◌<◌, ◌≤◌, ◌+◌, ◌-◌, ◌^◌, All, length, map, drop, min, IfOk, IfErr};
+//! Searches for emails and names in tables. They compare keys only by [`Steps`], which counts the comparisons.
+ghost use Rattle.std.specs.Prelude.{◌<◌, ◌≤◌, ◌+◌, ◌-◌, ◌^◌, All, length, map, drop, min, IfOk, IfErr};
 ghost use Rattle.std.specs.List.{AllByRecursion};
 ghost use Rattle.std.specs.List.Sorted.{IsStrictlySortedBy};
 ghost use Rattle.mailmap_entries.specs.Folding.{folded, text_cmp};
 ghost use Rattle.mailmap_entries.specs.Search.{digits};
 ghost use Rattle.mailmap_tables.specs.Groups.{email_key, name_key};
-ghost use Rattle.mailmap_tables.specs.Places.{IsFound, IsMissing};
+ghost use Rattle.mailmap_tables.specs.KeySearch.{IsFound, IsMissing};
 ghost use Rattle.mailmap_tables.specs.Pool.{LiesIn, NameLies, name_group};
 ghost use Rattle.mailmap_tables.specs.Texts.{old_span};
 
 use crate::tables::NameRow;
 use crate::view::View;
-use mailmap_entries::fold::front::Fronted;
+use mailmap_entries::fold::prefix::Prefixed;
 use mailmap_entries::fold::{Probe, Steps, search};
 use std::cmp::Ordering;
 use std::mem;
 
-// How the emails of tables, from one place on, compare to an email.
+// The emails of tables from one index on, as a list of how each compares to one email.
 #[derive(Drop)]
 struct EmailProbe<'a> {
     tables: &'a View<'a>,
     start: usize,
-    email: Fronted<'a>,
+    email: Prefixed<'a>,
     steps: Steps,
     ghost few: { length tables.now.groups < 2 ^ 64 },
 }
 
 impl Probe for EmailProbe<'_> {
-    ghost answers = { λ p. map (λ g. text_cmp (email_key g) (folded p.email.text.now)) (drop p.start p.tables.now.groups) };
+    ghost answers = { λ p. map (λ g. text_cmp (email_key g) (folded p.email.text.now))
+        (drop p.start p.tables.now.groups) };
 
     ghost asked = { λ p. p.steps };
 
-    fn ask(&mut self, place: usize) -> Ordering {
-        let known = self.tables.email_text(self.start + place);
-        self.steps.compare_fronted(known, self.email)
+    fn ask(&mut self, index: usize) -> Ordering {
+        let known = self.tables.email_text(self.start + index);
+        self.steps.compare_prefixed(known, self.email)
     }
 }
 
-// How the names of an email compare to a name.
+// The names of an email, as a list of how each compares to one name.
 #[derive(Drop)]
 struct NameProbe<'a> {
     tables: &'a View<'a>,
@@ -49,18 +49,19 @@ struct NameProbe<'a> {
 }
 
 impl Probe for NameProbe<'_> {
-    ghost answers = { λ p. map (λ n. text_cmp (name_key n) (folded p.name.now)) (map (name_group p.tables.now.pool) p.names.now) };
+    ghost answers = { λ p. map (λ n. text_cmp (name_key n) (folded p.name.now))
+        (map (name_group p.tables.now.pool) p.names.now) };
 
     ghost asked = { λ p. p.steps };
 
-    fn ask(&mut self, place: usize) -> Ordering {
-        let row = self.names[place];
+    fn ask(&mut self, index: usize) -> Ordering {
+        let row = self.names[index];
         self.steps.compare(self.tables.text(row.old()), self.name)
     }
 }
 
-/// Where an email stands among those of the tables from `start` on, or where it would stand.
-pub(crate) fn place_email(tables: &View<'_>, start: usize, email: &[u8]) -> Result<usize, usize>
+/// The index of an email among those of the tables from `start` on, or the index where it would be.
+pub(crate) fn find_email(tables: &View<'_>, start: usize, email: &[u8]) -> Result<usize, usize>
     requires start { start ≤ length tables.now.groups }
     requires ascending { IsStrictlySortedBy text_cmp (map email_key tables.now.groups) }
     ensures found { IfOk result (IsFound email_key (folded email.now) start tables.now.groups) }
@@ -69,8 +70,8 @@ pub(crate) fn place_email(tables: &View<'_>, start: usize, email: &[u8]) -> Resu
     search_email(tables, start, email, &mut Steps::new())
 }
 
-/// Where a name stands among the names of an email, or where it would stand.
-pub(crate) fn place_name(tables: &View<'_>, names: &[NameRow], name: &[u8]) -> Result<usize, usize>
+/// The index of a name among the names of an email, or the index where it would be.
+pub(crate) fn find_name(tables: &View<'_>, names: &[NameRow], name: &[u8]) -> Result<usize, usize>
     requires lie { AllByRecursion (NameLies (length tables.now.pool)) names.now }
     requires ascending { IsStrictlySortedBy text_cmp
         (map name_key (map (name_group tables.now.pool) names.now)) }
@@ -82,7 +83,7 @@ pub(crate) fn place_name(tables: &View<'_>, names: &[NameRow], name: &[u8]) -> R
     search_name(tables, names, name, &mut Steps::new())
 }
 
-/// As [`place_email`], and counts the comparisons: at most as many as the emails that are searched have digits.
+/// As [`find_email`], and counts the comparisons: at most as many as the emails that are searched have digits.
 pub fn search_email(
     tables: &View<'_>,
     start: usize,
@@ -102,7 +103,7 @@ pub fn search_email(
     let mut probe = EmailProbe {
         tables,
         start,
-        email: Fronted::new(email),
+        email: Prefixed::new(email),
         steps: mem::replace(steps, Steps::new()),
     };
     let found = search(len - start, &mut probe);
@@ -113,7 +114,7 @@ pub fn search_email(
     }
 }
 
-/// As [`place_name`], and counts the comparisons: at most as many as the number of the names has digits.
+/// As [`find_name`], and counts the comparisons: at most as many as the number of the names has digits.
 pub fn search_name(
     tables: &View<'_>,
     names: &[NameRow],

@@ -1,17 +1,15 @@
 //! The tables of a snapshot: one pool of bytes that holds each text, a flat table of emails and a flat table of names,
-//! whose rows say where their texts stand in the pool.
-ghost use Rattle.std.specs.Prelude.{◌≡◌, ◌≤◌, ◌<◌, ◌++◌, [], ◌∷◌, length, ◌-◌, List, ℕ, OnOk, OnErr, IfOk, map, Some, slice_get, take, drop};
-ghost use Rattle.std.specs.Option.{option_map, option_copied, ForSome};
-ghost use Rattle.std.specs.List.{AllByRecursion, HoldsAt, flat_map};
+//! whose rows say where their texts are in the pool.
+ghost use Rattle.std.specs.Prelude.{◌≡◌, ◌≤◌, ◌<◌, ◌++◌, [], ◌∷◌, length, ◌-◌, List, ℕ, OnOk, OnErr, IfOk, map, take, drop};
+ghost use Rattle.std.specs.List.{AllByRecursion};
 ghost use Rattle.mailmap_entries.specs.Folding.{folded};
-ghost use Rattle.mailmap_entries.specs.Fronts.{IsFront};
-ghost use Rattle.mailmap_tables.specs.Pool.{end_of};
+ghost use Rattle.mailmap_entries.specs.Prefixes.{IsKeyPrefix};
 
 use crate::pool::Pool;
 use crate::texts::{Span, Texts};
 use crate::view::{View, last_end};
 use mailmap_batches::groups::{Given, Named};
-use mailmap_entries::fold::front::front_number;
+use mailmap_entries::fold::prefix::key_prefix;
 use std::alloc::{AllocError, Global};
 use std::marker::Model;
 
@@ -34,7 +32,7 @@ pub struct Tables {
     pub(crate) emails: Vec<EmailRow>,
     pub(crate) names: Vec<NameRow>,
     // the first bytes of each email as a number, side by side: a search seldom reads more
-    pub(crate) fronts: Vec<u128>,
+    pub(crate) prefixes: Vec<u128>,
 }
 
 impl Model for Tables {
@@ -46,12 +44,11 @@ impl Model for Tables {
 
     ghost view = { λ t. contents t.pool.bytes.items t.names.items t.emails.items };
 
-    ghost invariant = { λ t. AreTables t.pool.bytes.items t.names.items t.emails.items t.fronts.items };
+    ghost invariant = { λ t. AreTables t.pool.bytes.items t.names.items t.emails.items t.prefixes.items };
 }
 
 impl Tables {
-    ghost use Rattle.mailmap_tables.specs.Groups.{Contents, EmailGroup};
-    ghost use Rattle.mailmap_batches.specs.Given.{NameGroup};
+    ghost use Rattle.mailmap_tables.specs.Groups.{Contents};
     ghost use Rattle.mailmap_tables.specs.Named.{OwnSpells};
     ghost use Rattle.mailmap_batches.specs.Given.{fields_given, named_group};
     ghost use Rattle.mailmap_tables.specs.Pool.{spelled, LiesIn, NameLies, TextsLie, name_group, group_of};
@@ -59,13 +56,13 @@ impl Tables {
 
     /// No email and no name, and no memory taken.
     pub fn new(alloc: Global) -> Tables
-        ensures { result ≡ record { pool = []; groups = []; loose = [] } }
+        ensures { result ≡ record { pool = []; groups = []; pending = [] } }
     {
         Tables {
             pool: Pool::new(alloc),
             emails: Vec::new(alloc),
             names: Vec::new(alloc),
-            fronts: Vec::new(alloc),
+            prefixes: Vec::new(alloc),
         }
     }
 
@@ -77,17 +74,17 @@ impl Tables {
         rows: usize,
         bytes: usize,
     ) -> Result<Tables, AllocError>
-        ensures { IfOk result (λ made. made ≡ record { pool = standing.now.pool; groups = []; loose = [] }) }
+        ensures { IfOk result (λ made. made ≡ record { pool = standing.now.pool; groups = []; pending = [] }) }
     {
         Ok(Tables {
             pool: standing.pool.try_clone(alloc, bytes)?,
             emails: Vec::with_capacity(alloc, with_more(standing.emails.len(), rows))?,
             names: Vec::with_capacity(alloc, with_more(standing.names.len(), rows))?,
-            fronts: Vec::with_capacity(alloc, with_more(standing.emails.len(), rows))?,
+            prefixes: Vec::with_capacity(alloc, with_more(standing.emails.len(), rows))?,
         })
     }
 
-    /// Puts a text at the end of the pool. So many bytes that stood there are out of use then.
+    /// Puts a text at the end of the pool. So many bytes that were there are out of use then.
     pub fn push_text(&mut self, text: &[u8], replaced: usize) -> Result<Span, AllocError>
         ensures grown { OnOk result (self.new ≡ record self.old { pool = self.old.pool ++ text.now }) }
         ensures lies { IfOk result (LiesIn (length self.new.pool)) }
@@ -96,7 +93,7 @@ impl Tables {
         self.pool.push_text(text, replaced)
     }
 
-    /// The row of a name with the fields that are given for it, in the place of fields of so many bytes.
+    /// The row of a name with the fields that are given for it, in place of fields of so many bytes.
     pub(crate) fn name_row(
         &mut self,
         old_name: Span,
@@ -122,32 +119,34 @@ impl Tables {
         self.pool.own_row(texts, given)
     }
 
-    /// Puts a name behind those that no email has taken.
+    /// Puts a name after those that no email has taken.
     pub fn push_name(&mut self, row: NameRow) -> Result<(), AllocError>
         requires { NameLies (length self.old.pool) row }
-        ensures { OnOk result (self.new ≡ record self.old { loose = self.old.loose ++ name_group self.old.pool row ∷ [] }) }
+        ensures { OnOk result
+            (self.new ≡ record self.old { pending = self.old.pending ++ name_group self.old.pool row ∷ [] }) }
     {
         self.names.push(row)?;
         Ok(())
     }
 
-    /// Puts names behind those that no email has taken.
+    /// Puts names after those that no email has taken.
     pub fn push_names(&mut self, rows: &[NameRow]) -> Result<(), AllocError>
         requires { AllByRecursion (NameLies (length self.old.pool)) rows.now }
-        ensures { OnOk result (self.new ≡ record self.old { loose = self.old.loose ++ map (name_group self.old.pool) rows.now }) }
+        ensures { OnOk result
+            (self.new ≡ record self.old { pending = self.old.pending ++ map (name_group self.old.pool) rows.now }) }
     {
         self.names.extend_from_slice(rows)?;
         Ok(())
     }
 
-    /// Puts an email behind the others, which takes the names that no email has taken yet.
+    /// Puts an email after the others, which takes the names that no email has taken yet.
     #[inline(always)]
     pub fn push_email(&mut self, texts: Texts) -> Result<(), AllocError>
         requires { TextsLie (length self.old.pool) texts }
         ensures { OnOk result (self.new ≡ record {
           pool = self.old.pool;
-          groups = self.old.groups ++ record (group_of self.old.pool texts []) { names = self.old.loose } ∷ [];
-          loose = [];
+          groups = self.old.groups ++ record (group_of self.old.pool texts []) { names = self.old.pending } ∷ [];
+          pending = [];
         }) }
     {
         let row = EmailRow {
@@ -155,20 +154,21 @@ impl Tables {
             names_start: last_end(&self.emails),
             names_end: self.names.len(),
         };
-        let front = front_number(self.view().text(texts.old()));
-        push_row(&mut self.emails, &mut self.fronts, row, front)?;
+        let prefix = key_prefix(self.view().text(texts.old()));
+        push_row(&mut self.emails, &mut self.prefixes, row, prefix)?;
         Ok(())
     }
 
-    /// Puts an email with its front behind the others, which takes so many of the names that no email has taken yet.
-    pub fn pass_email(&mut self, texts: Texts, count: usize, front: u128) -> Result<(), AllocError>
+    /// Puts an email with its prefix after the others, which takes so many of the names that no email has taken yet.
+    pub fn pass_email(&mut self, texts: Texts, count: usize, prefix: u128) -> Result<(), AllocError>
         requires lies { TextsLie (length self.old.pool) texts }
-        requires front { IsFront front (folded (spelled self.old.pool (old_span texts))) }
-        requires loose { count ≤ length self.old.loose }
+        requires prefix { IsKeyPrefix prefix (folded (spelled self.old.pool (old_span texts))) }
+        requires pending { count ≤ length self.old.pending }
         ensures { OnOk result (self.new ≡ record {
           pool = self.old.pool;
-          groups = self.old.groups ++ record (group_of self.old.pool texts []) { names = take count self.old.loose } ∷ [];
-          loose = drop count self.old.loose;
+          groups = self.old.groups
+              ++ record (group_of self.old.pool texts []) { names = take count self.old.pending } ∷ [];
+          pending = drop count self.old.pending;
         }) }
     {
         let names_start = last_end(&self.emails);
@@ -177,24 +177,24 @@ impl Tables {
             names_start,
             names_end: names_start + count,
         };
-        push_row(&mut self.emails, &mut self.fronts, row, front)?;
+        push_row(&mut self.emails, &mut self.prefixes, row, prefix)?;
         Ok(())
     }
 }
 
-// Puts a row and its front behind the others, or neither.
+// Puts a row and its prefix after the others, or neither.
 fn push_row(
     emails: &mut Vec<EmailRow>,
-    fronts: &mut Vec<u128>,
+    prefixes: &mut Vec<u128>,
     row: EmailRow,
-    front: u128,
+    prefix: u128,
 ) -> Result<(), AllocError>
     ensures emails { OnOk result (emails.new.items ≡ emails.old.items ++ row ∷ []) }
-    ensures fronts { OnOk result (fronts.new.items ≡ fronts.old.items ++ front ∷ []) }
-    ensures neither { OnErr result ((emails.new.items ≡ emails.old.items) × (fronts.new.items ≡ fronts.old.items)) }
+    ensures prefixes { OnOk result (prefixes.new.items ≡ prefixes.old.items ++ prefix ∷ []) }
+    ensures neither { OnErr result ((emails.new.items ≡ emails.old.items) × (prefixes.new.items ≡ prefixes.old.items)) }
 {
     emails.reserve(1)?;
-    fronts.push(front)?;
+    prefixes.push(prefix)?;
     emails.push(row)?;
     Ok(())
 }
@@ -214,7 +214,7 @@ impl Tables {
         View {
             pool: &self.pool.bytes,
             emails: &self.emails,
-            fronts: &self.fronts,
+            prefixes: &self.prefixes,
             names: &self.names,
         }
     }
@@ -227,7 +227,7 @@ impl Tables {
             pool: self.pool.try_clone(alloc, 0)?,
             emails: Vec::from_slice(alloc, &self.emails)?,
             names: Vec::from_slice(alloc, &self.names)?,
-            fronts: Vec::from_slice(alloc, &self.fronts)?,
+            prefixes: Vec::from_slice(alloc, &self.prefixes)?,
         })
     }
 }

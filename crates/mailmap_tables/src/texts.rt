@@ -1,4 +1,4 @@
-//! The texts of a row: an old one, and the new name and the new email that stand for it, one behind another in the pool.
+//! The texts of a row: an old one, and the new name and the new email that stand for it, one after another in the pool.
 ghost use Rattle.std.specs.Prelude.{◌≡◌, ◌≤◌, ◌<◌, ◌+◌, ◌++◌, None, Some, ◌-◌, min, IfOk, IsOk, IsSome, IsTrue, OnOk, OnErr, length, vec_len, vec_capacity};
 ghost use Rattle.std.specs.Option.{ForSome};
 ghost use Rattle.mailmap_tables.specs.Merging.{Extends};
@@ -7,17 +7,17 @@ ghost use Rattle.mailmap_tables.specs.Texts.{AreTogether, IsBare, byte_count, em
 
 use std::alloc::AllocError;
 
-/// Where a text stands in the pool.
+/// Where a text is in the pool.
 #[derive(Clone, Copy)]
 pub struct Span {
     pub start: usize,
     pub len: usize,
 }
 
-/// A length that no text has. It says that there is no text.
+/// A length that no text has: there is no text.
 pub const NO_TEXT: usize = usize::MAX;
 
-/// Where the texts of a row stand in the pool: the old one starts there, and behind it come the new name and the new
+/// Where the texts of a row are in the pool: the old one starts there, and after it come the new name and the new
 /// email, each with a length of its own or [`NO_TEXT`].
 #[derive(Clone, Copy)]
 pub struct Texts {
@@ -28,7 +28,7 @@ pub struct Texts {
 }
 
 impl Texts {
-    /// An old text for which nothing stands yet.
+    /// An old text without a new name or a new email.
     #[tactic(auto, unfolding(crate::specs::Texts::span_of, crate::specs::Texts::name_span, crate::specs::Texts::email_span, crate::specs::Texts::byte_count))]
     pub(crate) fn bare(old: Span) -> Texts
         ensures { IsBare result old }
@@ -114,7 +114,7 @@ fn span_of(start: usize, len: usize) -> Option<Span>
     }
 }
 
-// How many bytes a length stands for.
+// The number of bytes of a text with this length, 0 if there is no text.
 #[tactic(auto, unfolding(crate::specs::Texts::byte_count))]
 fn byte_count(len: usize) -> usize
     ensures { result ≡ byte_count len }
@@ -133,7 +133,7 @@ fn len_of(span: Option<Span>) -> usize
     }
 }
 
-/// The row of texts that stand in the pool. Where they stand one behind another, it is just that; else they are copied
+/// The row of texts that are in the pool. If they are one after another, it is just that; else they are copied
 /// to the end of the pool.
 #[inline(always)]
 pub(crate) fn together(
@@ -148,9 +148,11 @@ pub(crate) fn together(
     ensures grown { Extends pool.old.items pool.new.items }
     ensures lies { IfOk result (TextsLie (length pool.new.items)) }
     ensures spells { IfOk result (RowSpells pool.old.items pool.new.items old new_name new_email) }
-    ensures bytes { length pool.new.items ≤ length pool.old.items + (old.len + (span_bytes new_name + span_bytes new_email)) }
+    ensures bytes { length pool.new.items ≤ length
+        pool.old.items + (old.len + (span_bytes new_name + span_bytes new_email)) }
     ensures capacity { vec_capacity pool.old ≤ vec_capacity pool.new }
-    ensures succeeds { vec_len pool.old + (old.len + (span_bytes new_name + span_bytes new_email)) ≤ vec_capacity pool.old → IsOk result }
+    ensures succeeds { vec_len pool.old + (old.len + (span_bytes new_name + span_bytes new_email)) ≤ vec_capacity
+        pool.old → IsOk result }
 {
     let len = pool.len();
     if are_together(old, new_name, new_email) {
@@ -162,7 +164,7 @@ pub(crate) fn together(
     Ok(row(len, old, new_name, new_email))
 }
 
-// The row of texts that stand one behind another from there on.
+// The row of texts that are one after another from there on.
 #[inline(always)]
 fn row(start: usize, old: Span, new_name: Option<Span>, new_email: Option<Span>) -> Texts
     ensures { result ≡ row_of start old new_name new_email }
@@ -175,7 +177,7 @@ fn row(start: usize, old: Span, new_name: Option<Span>, new_email: Option<Span>)
     }
 }
 
-// Whether texts stand one behind another.
+// Whether texts are one after another.
 #[inline(always)]
 fn are_together(old: Span, new_name: Option<Span>, new_email: Option<Span>) -> bool
     requires old { LiesIn (usize.MAX - 1) old }
@@ -183,15 +185,15 @@ fn are_together(old: Span, new_name: Option<Span>, new_email: Option<Span>) -> b
     requires new_email { ForSome new_email (LiesIn (usize.MAX - 1)) }
     ensures { IsTrue result → AreTogether old new_name new_email }
 {
-    let Some(end) = end_behind(new_name, old.start + old.len) else {
+    let Some(end) = end_after(new_name, old.start + old.len) else {
         return false;
     };
-    end_behind(new_email, end).is_some()
+    end_after(new_email, end).is_some()
 }
 
-// Where a text that stands there ends, if it does stand there; there itself for no text.
+// Where a text that is there ends, if it is there; there itself for no text.
 #[inline(always)]
-fn end_behind(span: Option<Span>, start: usize) -> Option<usize>
+fn end_after(span: Option<Span>, start: usize) -> Option<usize>
     requires { ForSome span (LiesIn (usize.MAX - 1)) }
     ensures stands { IsSome result → ForSome span (λ s. s.start ≡ start) }
     ensures end { ForSome result (λ end. end ≡ start + span_bytes span) }

@@ -6,16 +6,16 @@ ghost use Rattle.mailmap_tables.specs.Pool.{end_of};
 
 use crate::tables::{EmailRow, NameRow};
 use crate::texts::{Span, Texts, fields};
-use mailmap_entries::fold::front::Fronted;
+use mailmap_entries::fold::prefix::Prefixed;
 use std::marker::Model;
 
-/// The pool and the tables, to be read: slices alone. There is no allocator in it, so what is handed a view and nothing
+/// The pool and the tables, to be read: only slices. There is no allocator in it, so what is handed a view and nothing
 /// else that has one can't take memory.
 #[derive(Drop)]
 pub struct View<'a> {
     pub(crate) pool: &'a [u8],
     pub(crate) emails: &'a [EmailRow],
-    pub(crate) fronts: &'a [u128],
+    pub(crate) prefixes: &'a [u128],
     pub(crate) names: &'a [NameRow],
 }
 
@@ -28,15 +28,14 @@ impl<'a> Model for View<'a> {
 
     ghost view = { λ t. contents t.pool.now t.names.now t.emails.now };
 
-    ghost invariant = { λ t. AreTables t.pool.now t.names.now t.emails.now t.fronts.now };
+    ghost invariant = { λ t. AreTables t.pool.now t.names.now t.emails.now t.prefixes.now };
 }
 
 impl<'a> View<'a> {
     ghost use Rattle.mailmap_tables.specs.Groups.{Contents, EmailGroup, listing};
-    ghost use Rattle.mailmap_batches.specs.Given.{NameGroup};
     ghost use Rattle.mailmap_tables.specs.Pool.{spelled, LiesIn, NameLies, TextsLie, name_group, group_of, RowsLie};
     ghost use Rattle.mailmap_tables.specs.Texts.{email_span, name_span};
-    ghost use Rattle.mailmap_tables.specs.Room.{own_bytes};
+    ghost use Rattle.mailmap_tables.specs.Reserved.{own_bytes};
 
     /// The number of emails.
     pub fn len(&self) -> usize
@@ -71,14 +70,14 @@ impl<'a> View<'a> {
         }
     }
 
-    /// The text of the email at a place, with its front.
+    /// The text of the email at an index, with its prefix.
     #[inline(always)]
-    pub fn email_text(&self, place: usize) -> Fronted<'a>
-        requires { place < length self.now.groups }
-        ensures { slice_get (map (λ (g : EmailGroup). g.old_email) self.now.groups) place ≡ Some result.text.now }
+    pub fn email_text(&self, index: usize) -> Prefixed<'a>
+        requires { index < length self.now.groups }
+        ensures { slice_get (map (λ (g : EmailGroup). g.old_email) self.now.groups) index ≡ Some result.text.now }
     {
-        let row = at(self.emails, place);
-        Fronted::with_front(self.text(row.texts.old()), at(self.fronts, place))
+        let row = at(self.emails, index);
+        Prefixed::with_prefix(self.text(row.texts.old()), at(self.prefixes, index))
     }
 
     /// The new name and the new email of a row, if there are any.
@@ -100,21 +99,22 @@ impl<'a> View<'a> {
         texts.fields_len()
     }
 
-    /// The texts of the email at a place, and its names.
-    pub fn email(&self, place: usize) -> (Texts, &'a [NameRow])
-        requires { place < length self.now.groups }
-        ensures group { slice_get self.now.groups place ≡ Some (group_of self.now.pool result.0 result.1.now) }
+    /// The texts of the email at an index, and its names.
+    pub fn email(&self, index: usize) -> (Texts, &'a [NameRow])
+        requires { index < length self.now.groups }
+        ensures group { slice_get self.now.groups index ≡ Some (group_of self.now.pool result.0 result.1.now) }
         ensures lie { RowsLie self.now.pool result.0 result.1.now }
     {
-        let row = at(self.emails, place);
+        let row = at(self.emails, index);
         (row.texts, part(self.names, row.names_start, row.names_end))
     }
 
-    /// The names of the emails from one place up to another.
+    /// The names of the emails from one index up to another.
     pub fn names_between(&self, from: usize, to: usize) -> &'a [NameRow]
         requires up { from ≤ to }
         requires within { to ≤ length self.now.groups }
-        ensures names { map (name_group self.now.pool) result.now ≡ flat_map (λ (g : EmailGroup). g.names) (take (to - from) (drop from self.now.groups)) }
+        ensures names { map (name_group self.now.pool) result.now
+            ≡ flat_map (λ (g : EmailGroup). g.names) (take (to - from) (drop from self.now.groups)) }
         ensures lie { AllByRecursion (NameLies (length self.now.pool)) result.now }
     {
         part(
@@ -125,12 +125,12 @@ impl<'a> View<'a> {
     }
 }
 
-// The one at a place.
-fn at<T: Copy>(rows: &[T], place: usize) -> T
-    requires { place < length rows.now }
-    ensures { result ≡ get_or rows.now place result }
+// The one at an index.
+fn at<T: Copy>(rows: &[T], index: usize) -> T
+    requires { index < length rows.now }
+    ensures { result ≡ get_or rows.now index result }
 {
-    rows[place]
+    rows[index]
 }
 
 // Where the range of the last email's names ends.
@@ -143,7 +143,7 @@ pub(crate) fn last_end(emails: &[EmailRow]) -> usize
     }
 }
 
-// The rows from one place up to another.
+// The rows from one index up to another.
 fn part(names: &[NameRow], from: usize, to: usize) -> &[NameRow]
     requires up { from ≤ to }
     requires within { to ≤ length names.now }

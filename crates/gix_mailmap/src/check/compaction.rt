@@ -8,7 +8,7 @@ use std::alloc::{AllocError, Global};
 /// The mailmap that maps as the buffers do, one after another: each key has one line, and the lines are in the order of
 /// [`Snapshot::iter`](crate::snapshot::Snapshot::iter()).
 ///
-/// Lines that can't be read are left out, comments too. `Err` where memory is refused.
+/// Lines that can't be read are left out, comments too. `Err` if memory runs out.
 ///
 /// The buffers `N <a@x>` and `M <A@x>` give ` M <a@x>`.
 pub fn compact(alloc: Global, buffers: &[&[u8]]) -> Result<Vec<u8>, AllocError>

@@ -1,5 +1,5 @@
 //! Laws of the text that a snapshot is written as. It has a line for each entry: a blank, the new name, the new email
-//! in `<` and `>`, the old name, the old email in `<` and `>`, and a line feed, with a blank behind each part but the
+//! in `<` and `>`, the old name, the old email in `<` and `>`, and a line feed, with a blank after each part but the
 //! last. By the blank in front a name may begin with `#` and the line is still no comment.
 ghost use Rattle.std.specs.Prelude.{◌≡◌, List, map, Ok};
 ghost use Rattle.std.specs.List.{All, flat_map};

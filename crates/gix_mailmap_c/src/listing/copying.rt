@@ -1,15 +1,16 @@
-//! Entries told, and their texts copied, one behind another.
+//! Entries listed, and their texts copied, one after another.
 ghost use Rattle.std.specs.Prelude.{◌≡◌, ◌≤◌, ◌<◌, ◌+◌, ◌^◌, length, MatchOption};
 ghost use Rattle.std.specs.Option.{option_copied};
 ghost use Rattle.mailmap_entries.specs.Entries.{mapping_of};
-ghost use Rattle.gix_mailmap_c.specs.Listed.{all_text, entry_text, given, AreTold, IsAllWritten, IsBehind};
+ghost use Rattle.gix_mailmap_c.specs.Listed.{all_text, entry_text, given, AreListed, IsAllWritten, IsBehind};
 
 use crate::listing::Listed;
 use gix_mailmap::{Entry, Snapshot};
 
 /// A length and that of an entry's texts together, if a length can be that large.
 pub(crate) fn len_with_texts(len: usize, entry: &Entry<'_>) -> Option<usize>
-    ensures { let all = len + length (entry_text (mapping_of entry.now)) in MatchOption result (2 ^ 64 ≤ all) (λ n. n ≡ all) }
+    ensures { let all = len + length (entry_text (mapping_of entry.now))
+        in MatchOption result (2 ^ 64 ≤ all) (λ n. n ≡ all) }
 {
     let len = len_with_text(len, entry.new_name())?;
     let len = len_with_text(len, entry.new_email())?;
@@ -19,7 +20,8 @@ pub(crate) fn len_with_texts(len: usize, entry: &Entry<'_>) -> Option<usize>
 
 // A length and that of a text together, if there is a text.
 fn len_with_text(len: usize, text: Option<&[u8]>) -> Option<usize>
-    ensures { let all = len + length (given (option_copied text.entry)) in MatchOption result (2 ^ 64 ≤ all) (λ n. n ≡ all) }
+    ensures { let all = len + length (given (option_copied text.entry))
+        in MatchOption result (2 ^ 64 ≤ all) (λ n. n ≡ all) }
 {
     match text {
         Some(text) => len.checked_add(text.len()),
@@ -27,18 +29,18 @@ fn len_with_text(len: usize, text: Option<&[u8]>) -> Option<usize>
     }
 }
 
-/// Tells each entry of a snapshot.
-pub(crate) fn tell(snapshot: &Snapshot, told: &mut [Listed])
-    requires room { length snapshot.now ≤ length told.old }
+/// Lists each entry of a snapshot.
+pub(crate) fn list(snapshot: &Snapshot, listed: &mut [Listed])
+    requires room { length snapshot.now ≤ length listed.old }
     requires countable { length (all_text snapshot.now) < 2 ^ 64 }
-    ensures { AreTold snapshot.now told.old told.new }
+    ensures { AreListed snapshot.now listed.old listed.new }
 {
-    let mut place = 0;
+    let mut index = 0;
     let mut start = 0;
     for entry in snapshot.iter() {
         let one = Listed::of(start, &entry);
-        told[place] = one;
-        place += 1;
+        listed[index] = one;
+        index += 1;
         start += texts_len(&entry);
     }
 }
@@ -65,7 +67,7 @@ pub(crate) fn copy_texts(snapshot: &Snapshot, out: &mut [u8])
     }
 }
 
-/// Copies the texts of an entry to a place of a buffer, and gives the place behind them.
+/// Copies the texts of an entry to an offset in a buffer, and gives the offset after them.
 pub(crate) fn copy_entry(entry: &Entry<'_>, out: &mut [u8], start: usize) -> usize
     requires { start + length (entry_text (mapping_of entry.now)) ≤ length out.old }
     ensures { IsBehind (entry_text (mapping_of entry.now)) start out.old out.new result }

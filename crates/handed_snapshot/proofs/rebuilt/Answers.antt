@@ -1,10 +1,9 @@
-use Rattle.std.proofs.Common.{◌≡◌, List, Result, Ok, Err, map, sym, ap, subst, ◌∙◌}
-use Rattle.std.specs.Iterator.{Drains}
+use Rattle.std.proofs.Common.{◌≡◌, Result, Ok, Err, map, sym, ap, subst, ◌∙◌}
 use Rattle.std.specs.Result.{IfOk}
-use Rattle.std.proofs.lemmas.Iterator.{YieldsList, YieldsList-from_slice, items_from_drains}
+use Rattle.std.proofs.lemmas.Iterator.{YieldsList-from_slice, items_from_drains}
 use Rattle.std.proofs.lemmas.Iterator.Consumers.{YieldsList-from_copied}
 use Rattle.std.proofs.lemmas.List.{map-id}
-use Rattle.gix_mailmap.specs.Entries.{Mapping, mapping_of}
+use Rattle.gix_mailmap.specs.Entries.{mapping_of}
 use Rattle.gix_mailmap.specs.Histories.{IsNormal}
 use Rattle.handed_snapshot.proofs.rebuilt.Goals as goal
 

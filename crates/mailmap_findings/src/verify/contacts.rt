@@ -1,37 +1,37 @@
-//! What is told of a line by what its entry does.
+//! What is reported of a line because of what its entry does.
 ghost use Rattle.std.specs.Prelude.{◌≡◌, [], unwrap_or};
 ghost use Rattle.std.specs.Option.{option_map};
 ghost use Rattle.mailmap_entries.specs.Entries.{mapping_of};
-ghost use Rattle.mailmap_sifting.specs.Numbers.{fields_of};
-ghost use Rattle.mailmap_sifting.specs.Sifting.{entries};
-ghost use Rattle.mailmap_findings.specs.Findings.{contact as spec_contact, contact_of, mapped as spec_mapped, replaced as spec_replaced, told_of, told_of_contact as spec_told_of_contact, told_of_entry as spec_told};
+ghost use Rattle.mailmap_redundancy.specs.Numbers.{fields_of};
+ghost use Rattle.mailmap_redundancy.specs.Redundancy.{entries};
+ghost use Rattle.mailmap_findings.specs.Findings.{contact as spec_contact, contact_of, mapped as spec_mapped, replaced as spec_replaced, reported_of, reported_of_contact as spec_reported_of_contact, reported_of_entry as spec_reported};
 
 use crate::verify::{Contact, Kind};
 use mailmap_entries::Entry;
-use mailmap_sifting::{Fields, Sifted};
+use mailmap_redundancy::{Fields, Reduced};
 
-/// That the entry has no effect, if it does not stay, or else that its contact is mapped on.
-pub(crate) fn told_of_entry<'a>(
-    sifted: &Sifted<'_, 'a>,
+/// That the entry has no effect, if it does not stay; else that its contact is itself mapped, if it is.
+pub(crate) fn reported_of_entry<'a>(
+    reduced: &Reduced<'_, 'a>,
     entry: &Entry<'a>,
     stays: bool,
 ) -> Option<Kind<'a>>
-    ensures { option_map told_of result
-        ≡ spec_told (entries sifted.now.history) sifted.now.kept stays (mapping_of entry.now) }
+    ensures { option_map reported_of result
+        ≡ spec_reported (entries reduced.now.history) reduced.now.kept stays (mapping_of entry.now) }
 {
     if stays {
-        return told_of_contact(sifted, proper_contact(entry));
+        return reported_of_contact(reduced, proper_contact(entry));
     }
-    let beside = sifted.beside(entry)?;
+    let beside = reduced.beside(entry)?;
     Some(Kind::NoEffect { beside })
 }
 
-// That the contact is mapped to another one.
-fn told_of_contact<'a>(sifted: &Sifted<'_, 'a>, contact: Contact<'a>) -> Option<Kind<'a>>
-    ensures { option_map told_of result ≡ spec_told_of_contact (contact_of contact.entry)
-        (spec_mapped (entries sifted.now.history) (contact_of contact.entry)) }
+// That the contact is mapped to another one, if it is.
+fn reported_of_contact<'a>(reduced: &Reduced<'_, 'a>, contact: Contact<'a>) -> Option<Kind<'a>>
+    ensures { option_map reported_of result ≡ spec_reported_of_contact (contact_of contact.entry)
+        (spec_mapped (entries reduced.now.history) (contact_of contact.entry)) }
 {
-    let to = mapped(sifted, contact);
+    let to = mapped(reduced, contact);
     if contact == to {
         return None;
     }
@@ -49,10 +49,10 @@ fn proper_contact<'a>(entry: &Entry<'a>) -> Contact<'a>
 }
 
 // What the whole history makes of a contact.
-fn mapped<'a>(sifted: &Sifted<'_, 'a>, contact: Contact<'a>) -> Contact<'a>
-    ensures { contact_of result ≡ spec_mapped (entries sifted.now.history) (contact_of contact.entry) }
+fn mapped<'a>(reduced: &Reduced<'_, 'a>, contact: Contact<'a>) -> Contact<'a>
+    ensures { contact_of result ≡ spec_mapped (entries reduced.now.history) (contact_of contact.entry) }
 {
-    match sifted.scan(name_or_empty(&contact), contact.email) {
+    match reduced.scan(name_or_empty(&contact), contact.email) {
         None => contact,
         Some(found) => replaced(contact, found),
     }
@@ -67,7 +67,7 @@ fn name_or_empty<'a>(contact: &Contact<'a>) -> &'a [u8]
     }
 }
 
-// The contact with these fields, where there are any, in the place of its own.
+// The contact with these fields, if there are any, in place of its own.
 fn replaced<'a>(contact: Contact<'a>, fields: Fields<'a>) -> Contact<'a>
     ensures { contact_of result ≡ spec_replaced (fields_of fields.entry) (contact_of contact.entry) }
 {

@@ -1,20 +1,20 @@
-//! The lines of buffers with their places.
+//! The lines of buffers with their positions.
 ghost use Rattle.std.specs.Prelude.{◌≡◌, ◌++◌, map, option_to_list, IfOk, OnOk};
 ghost use Rattle.std.specs.Option.{option_map};
 ghost use Rattle.mailmap_entries.specs.Entries.{mapping_of};
-ghost use Rattle.mailmap_sifting.specs.Sifting.{placed_of};
-ghost use Rattle.mailmap_findings.specs.Places.{buffer_lines, entry as spec_entry, line_of, lines, placed};
+ghost use Rattle.mailmap_redundancy.specs.Redundancy.{located_of};
+ghost use Rattle.mailmap_findings.specs.Positions.{buffer_lines, entry as spec_entry, line_of, lines, located};
 
 use bstr::ByteSlice;
 use mailmap_entries::Entry;
 use mailmap_grammar::lines::{Strictness, read_line};
-use mailmap_sifting::{Place, PlacedEntry};
+use mailmap_redundancy::{LocatedEntry, Position};
 use std::alloc::{AllocError, Global};
 
-/// A line as it stands, with its line feed.
+/// A line of a buffer, with its line feed.
 #[derive(Clone, Copy)]
 pub(crate) struct Line<'a> {
-    pub(crate) place: Place,
+    pub(crate) position: Position,
     pub(crate) text: &'a [u8],
 }
 
@@ -32,7 +32,7 @@ pub(crate) fn read_lines<'a>(
     Ok(found)
 }
 
-// Appends the lines of one buffer, which are numbered from 1.
+// Appends the lines of one buffer, numbered from 1.
 fn push_lines<'a>(
     found: &mut Vec<Line<'a>>,
     number: usize,
@@ -44,42 +44,43 @@ fn push_lines<'a>(
     let mut line = 0;
     for text in buffer.lines_with_terminator() {
         line += 1;
-        let place = Place {
+        let position = Position {
             buffer: number,
             line,
         };
-        found.push(Line { place, text })?;
+        found.push(Line { position, text })?;
     }
     Ok(())
 }
 
 /// The entries of the lines that give one.
-pub(crate) fn placed_entries<'a>(
+pub(crate) fn located_entries<'a>(
     alloc: Global,
     lines: &[Line<'a>],
-) -> Result<Vec<PlacedEntry<'a>>, AllocError>
-    ensures { IfOk result (λ found. map placed_of found.items ≡ placed (map line_of lines.now)) }
+) -> Result<Vec<LocatedEntry<'a>>, AllocError>
+    ensures { IfOk result (λ found. map located_of found.items ≡ located (map line_of lines.now)) }
 {
     let mut found = Vec::with_capacity(alloc, lines.len())?;
     for line in lines {
-        push_entry(&mut found, line.place, entry_of(line))?;
+        push_entry(&mut found, line.position, entry_of(line))?;
     }
     Ok(found)
 }
 
-/// Appends the entry of the line at this place, if it gives one.
+/// Appends the entry of the line at this position, if it gives one.
 #[inline]
 pub(crate) fn push_entry<'a>(
-    found: &mut Vec<PlacedEntry<'a>>,
-    place: Place,
+    found: &mut Vec<LocatedEntry<'a>>,
+    position: Position,
     given: Option<Entry<'a>>,
 ) -> Result<(), AllocError>
-    ensures { OnOk result (map placed_of found.new.items
-        ≡ map placed_of found.old.items
-        ++ option_to_list (option_map (λ e. record { place = place; entry = e }) (option_map mapping_of given.entry))) }
+    ensures { OnOk result (map located_of found.new.items
+        ≡ map located_of found.old.items
+        ++ option_to_list (option_map (λ e. record { position = position; entry = e })
+        (option_map mapping_of given.entry))) }
 {
     if let Some(entry) = given {
-        found.push(PlacedEntry { place, entry })?;
+        found.push(LocatedEntry { position, entry })?;
     }
     Ok(())
 }
@@ -89,5 +90,5 @@ pub(crate) fn push_entry<'a>(
 pub(crate) fn entry_of<'a>(line: &Line<'a>) -> Option<Entry<'a>>
     ensures { option_map mapping_of result ≡ spec_entry (line_of line.now) }
 {
-    read_line(line.text, line.place.line, Strictness::Lenient)?.ok()
+    read_line(line.text, line.position.line, Strictness::Lenient)?.ok()
 }

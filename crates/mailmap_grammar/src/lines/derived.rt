@@ -4,7 +4,7 @@ ghost use Rattle.mailmap_grammar.specs.Lines.{fault_of};
 
 use crate::lines::Error;
 
-/// Faults are equal where they are of one kind, on one line, and show the same bytes, wherever these lie.
+/// Faults are equal if they are of one kind, on one line, and show the same bytes, wherever these lie.
 pub(crate) fn is_same(a: &Error<'_>, b: &Error<'_>) -> bool
     ensures { IsTrue result ↔ (fault_of a.now ≡ fault_of b.now) }
 {

@@ -13,7 +13,7 @@ fn compare(a: &Signature<'_>, b: &Signature<'_>) -> Ordering
     a.cmp(b)
 }
 
-/// Signatures are equal where the bytes of both texts and the times are, whoever owns the texts.
+/// Signatures are equal if the bytes of both texts and the times are, whoever owns the texts.
 fn is_same(a: &Signature<'_>, b: &Signature<'_>) -> bool
     ensures { IsTrue result ↔ (cow_fields a.now ≡ cow_fields b.now) }
 {

@@ -16,7 +16,7 @@ fn compare(a: &Time, b: &Time) -> Ordering
     a.cmp(b)
 }
 
-/// Times are equal where both fields are.
+/// Times are equal if both fields are.
 fn same(a: &Time, b: &Time) -> bool
     ensures { IsTrue result ↔ (a.now ≡ b.now) }
 {

@@ -18,7 +18,7 @@ impl Snapshot {
         ensures ok { IfOk result (IsNormal (good buf.now)) }
 
         // Memory is asked for only once an entry is accepted.
-        ensures refused { OnErr result (accepted (good buf.now) ≢ []) }
+        ensures out_of_memory { OnErr result (accepted (good buf.now) ≢ []) }
     {
         Snapshot::new(alloc, parse_ignore_errors(buf))
     }
@@ -30,28 +30,34 @@ impl Snapshot {
     ) -> Result<Snapshot, AllocError>
         requires can { I.can_next entries }
         requires finite { IsFinite (I.remaining entries) }
-        ensures ok { IfOk result (λ made. (xs : List Item) × Drains I.next_gives entries xs × IsNormal (map mapping_of xs) made) }
-        ensures refused { OnErr result ((xs : List Item) × (rest : I) × Yields I.next_gives entries xs rest × (accepted (map mapping_of xs) ≢ [])) }
+        ensures ok { IfOk result
+            (λ made. (xs : List Item) × Drains I.next_gives entries xs × IsNormal (map mapping_of xs) made) }
+        ensures out_of_memory { OnErr result
+            ((xs : List Item) × (rest : I) × Yields I.next_gives entries xs rest
+            × (accepted (map mapping_of xs) ≢ [])) }
     {
         let mut snapshot = Snapshot::empty(alloc);
         snapshot.merge(entries)?;
         Ok(snapshot)
     }
 
-    /// Merges `entries` behind those that the snapshot has.
+    /// Merges `entries` after those that the snapshot has.
     pub fn merge<'a, I: Iterator<Item = Entry<'a>> + Drop>(
         &mut self,
         entries: I,
     ) -> Result<(), AllocError>
         requires can { I.can_next entries }
         requires finite { IsFinite (I.remaining entries) }
-        // The entries of `entries` come behind those that were listed, and behind any history that the snapshot stood for.
-        // Where none of them is accepted nothing changes.
-        ensures ok { OnOk result ((xs : List Item) × Drains I.next_gives entries xs × IsMerged self.old (map mapping_of xs) self.new) }
+        // The entries of `entries` come after those that were listed, and after any history that the snapshot stood
+        // for. If none of them is accepted nothing changes.
+        ensures ok { OnOk result
+            ((xs : List Item) × Drains I.next_gives entries xs × IsMerged self.old (map mapping_of xs) self.new) }
         ensures err { OnErr result (self.new ≡ self.old) }
 
         // Memory is asked for only once an entry is accepted.
-        ensures refused { OnErr result ((xs : List Item) × (rest : I) × Yields I.next_gives entries xs rest × (accepted (map mapping_of xs) ≢ [])) }
+        ensures out_of_memory { OnErr result
+            ((xs : List Item) × (rest : I) × Yields I.next_gives entries xs rest
+            × (accepted (map mapping_of xs) ≢ [])) }
     {
         self.tables.merge(entries)
     }

@@ -1,13 +1,8 @@
-//! The listing of a snapshot, and what is told by it: equality, the hash, the debug text and a copy.
-ghost use Rattle.std.specs.Prelude.{◌≡◌, ◌↔◌, List, [], length, map, option_map, IsTrue, IfOk};
-ghost use Rattle.std.specs.Iterator.{YieldsFirstBy, item_count};
-ghost use Rattle.std.specs.List.{AllByRecursion};
-ghost use Rattle.std.specs.Option.{option_to_list};
+//! The listing of a snapshot, and what follows from it: equality, the hash, the debug text and a copy.
+ghost use Rattle.std.specs.Prelude.{◌≡◌, ◌↔◌, length, map, IsTrue, IfOk};
 ghost use Rattle.mailmap_entries.specs.Entries.{mapping_of};
 ghost use Rattle.mailmap_histories.specs.Building.{IsListing};
-ghost use Rattle.mailmap_tables.specs.Groups.{listing, name_row, own_rows};
-ghost use Rattle.mailmap_tables.specs.Remaining.{left_to_list};
-ghost use Rattle.mailmap_tables.specs.Pool.{NameLies, TextsLie, group_of, name_group};
+ghost use Rattle.mailmap_tables.specs.Groups.{listing};
 
 use crate::snapshot::Snapshot;
 use mailmap_entries::Entry;
@@ -46,7 +41,7 @@ impl Snapshot {
         count
     }
 
-    /// The entries of [`iter`](Snapshot::iter()) in a vector. `Err` where memory is refused.
+    /// The entries of [`iter`](Snapshot::iter()) in a vector. `Err` if memory runs out.
     pub fn entries(&self, alloc: Global) -> Result<Vec<Entry<'_>>, AllocError>
         ensures listing { IfOk result (λ v. map mapping_of v.items ≡ self.now) }
 
@@ -56,7 +51,7 @@ impl Snapshot {
         self.iter().collect(alloc)
     }
 
-    /// An equal snapshot that shares nothing with this one. `Err` where memory is refused.
+    /// An equal snapshot that shares nothing with this one. `Err` if memory runs out.
     pub fn try_clone(&self, alloc: Global) -> Result<Snapshot, AllocError>
         ensures { IfOk result (λ s. s ≡ self.now) }
     {

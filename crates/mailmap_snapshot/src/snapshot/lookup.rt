@@ -33,10 +33,10 @@ fn look_up<'a>(
     ensures at_least { steps.old + min 1 (length tables.now.groups)
         + min 1 (name_count (listing tables.now.groups) email.now) ≤ steps.new }
 {
-    let Ok(place) = search_email(tables, 0, email, steps) else {
+    let Ok(index) = search_email(tables, 0, email, steps) else {
         return None;
     };
-    let (texts, names) = tables.email(place);
+    let (texts, names) = tables.email(index);
     match search_name(tables, names, name, steps) {
         Ok(i) => {
             let (new_name, new_email) = tables.fields(names[i]);
@@ -76,14 +76,14 @@ fn answer<'a>(
 
 /// Lookups. They take no memory.
 impl Snapshot {
-    /// The name and the email that stand in the place of those of a signature, `None` where nothing is mapped.
+    /// The name and the email that replace those of a signature, `None` if nothing is mapped.
     ///
     /// Entries for the signature's very name count before those for all names of its email, and then for both fields:
     /// a new name that they lack is not taken from the others. The case of ASCII letters does not count, neither in the
-    /// name nor in the email; where the email differs from the kept spelling in any byte and no new one is given, that
+    /// name nor in the email; if the email differs from the kept spelling in any byte and no new one is given, that
     /// spelling is the email. git leaves such an email as it is.
     ///
-    /// What is answered borrows from the snapshot alone, and may be kept when the signature is gone.
+    /// What is answered borrows only from the snapshot, and may be kept when the signature is gone.
     pub fn try_resolve_ref(&self, signature: SignatureRef<'_>) -> Option<ResolvedSignature<'_>>
         ensures view { option_map shown result ≡ scan self.now signature.entry.name.now signature.entry.email.now }
 
@@ -108,10 +108,11 @@ impl Snapshot {
         look_up(&self.tables.view(), name, email, &mut Steps::new())
     }
 
-    /// As [`try_resolve_ref`](Snapshot::try_resolve_ref()), and counts the comparisons of emails and of names in `steps`.
+    /// As [`try_resolve_ref`](Snapshot::try_resolve_ref()), and counts the comparisons of emails and of names in
+    /// `steps`.
     ///
     /// With E different emails in the snapshot and N old names of the email that is found, these are at most as many as
-    /// E and N have binary digits together, and at least one for each of the two that is not 0. Where no email is found,
+    /// E and N have binary digits together, and at least one for each of the two that is not 0. If no email is found,
     /// N is 0.
     #[inline(always)]
     pub fn try_resolve_ref_counted(

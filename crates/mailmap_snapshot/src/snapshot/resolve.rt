@@ -13,17 +13,17 @@ use mailmap_signatures::actor::SignatureRef;
 use std::alloc::{AllocError, Global};
 use std::borrow::CowSlice;
 
-/// Resolving signatures: the name and the email that the mailmap gives take the place of those that were recorded, each
-/// where there is one, and the others stay. A time that can't be read becomes the default one.
+/// Resolving signatures: a name or an email that the mailmap gives replaces the recorded one, and the other stays. A
+/// time that can't be read becomes the default one.
 ///
-/// Each answer is told twice by the contracts: from the entries of the snapshot, and from any history that the snapshot
-/// stands for, as the entries that were merged one after another.
+/// Each answer is stated twice by the contracts: from the entries of the snapshot, and from any history that the
+/// snapshot stands for, as the entries that were merged one after another.
 impl Snapshot {
-    /// The signature as the mailmap maps it, or `None` where it maps neither its name nor its email.
+    /// The signature as the mailmap maps it, or `None` if it maps neither its name nor its email.
     ///
-    /// Nothing is mapped where no entry is for the email, and where the entry that is for it would change nothing. An
-    /// email that differs from the mailmap's spelling in the case of its letters alone is mapped to that spelling, so it
-    /// is answered. `None` takes no memory, and so can't be refused.
+    /// Nothing is mapped if no entry is for the email, or if the entry for it would change nothing. An email that
+    /// differs from the mailmap's spelling only in the case of its letters is mapped to that spelling. The answer
+    /// `None` takes no memory, and so this can't run out of memory then.
     ///
     /// ```rust
     /// let mailmap = Snapshot::from_bytes(alloc, b"Jane Doe <jane@x> <jd@y>")?;
@@ -38,13 +38,15 @@ impl Snapshot {
         alloc: Global,
         signature: SignatureRef<'_>,
     ) -> Result<Option<actor::Signature>, AllocError>
-        // nothing exactly where nothing is mapped
+        // nothing exactly when nothing is mapped
         ensures none { (result ≡ Ok None) ↔ (mapped self.now signature.entry ≡ None) }
-        ensures some { IfOk result (λ answer. IfSome answer (λ s. IsResolved self.now signature.entry (owned_fields s))) }
-        // it runs out of memory only where something is mapped
-        ensures refused { OnErr result (IsSome (mapped self.now signature.entry)) }
+        ensures some { IfOk result
+            (λ answer. IfSome answer (λ s. IsResolved self.now signature.entry (owned_fields s))) }
+        // it runs out of memory only if something is mapped
+        ensures out_of_memory { OnErr result (IsSome (mapped self.now signature.entry)) }
         // the same, by a history that the snapshot stands for
-        ensures history_none { (h : List Mapping) → IsNormal h self.now → (result ≡ Ok None) ↔ (mapped h signature.entry ≡ None) }
+        ensures history_none { (h : List Mapping) → IsNormal h self.now → (result ≡ Ok None)
+            ↔ (mapped h signature.entry ≡ None) }
         ensures history_some { (h : List Mapping) → IsNormal h self.now →
             IfOk result (λ answer. IfSome answer (λ s. IsResolved h signature.entry (owned_fields s))) }
     {
@@ -57,7 +59,7 @@ impl Snapshot {
         }
     }
 
-    /// The signature as the mailmap maps it, a copy of `signature` where it maps nothing.
+    /// The signature as the mailmap maps it, a copy of `signature` if it maps nothing.
     ///
     /// ```rust
     /// let mailmap = Snapshot::from_bytes(alloc, b"Jane Doe <jane@x> <jd@y>")?;
@@ -73,7 +75,8 @@ impl Snapshot {
     ) -> Result<actor::Signature, AllocError>
         ensures view { IfOk result (λ s. IsResolved self.now signature.entry (owned_fields s)) }
         // the same, by a history that the snapshot stands for
-        ensures history { (h : List Mapping) → IsNormal h self.now → IfOk result (λ s. IsResolved h signature.entry (owned_fields s)) }
+        ensures history { (h : List Mapping) → IsNormal h self.now
+            → IfOk result (λ s. IsResolved h signature.entry (owned_fields s)) }
     {
         match self.try_resolve(alloc, signature)? {
             Some(resolved) => Ok(resolved),
@@ -83,8 +86,8 @@ impl Snapshot {
 
     /// The signature as the mailmap maps it, with mapped texts owned and the others borrowed from `signature`.
     ///
-    /// Where nothing is mapped both are borrowed and no memory is taken, so that this can't be refused. It suits views
-    /// that show many signatures, of which a mailmap changes few:
+    /// If nothing is mapped, both are borrowed and no memory is taken, so this can't run out of memory then. It suits
+    /// views that show many signatures, of which a mailmap changes few:
     ///
     /// ```rust
     /// let mailmap = Snapshot::from_bytes(alloc, b"Jane Doe <jd@y>")?;
@@ -100,10 +103,11 @@ impl Snapshot {
     ) -> Result<Signature<'a>, AllocError>
         ensures view { IfOk result (λ s. IsResolved self.now signature.entry (cow_fields s)) }
         ensures owned { IfOk result (OwnsMapped self.now signature.entry) }
-        // it runs out of memory only where something is mapped
-        ensures refused { OnErr result (IsSome (mapped self.now signature.entry)) }
+        // it runs out of memory only if something is mapped
+        ensures out_of_memory { OnErr result (IsSome (mapped self.now signature.entry)) }
         // the same, by a history that the snapshot stands for
-        ensures history { (h : List Mapping) → IsNormal h self.now → IfOk result (λ s. IsResolved h signature.entry (cow_fields s)) }
+        ensures history { (h : List Mapping) → IsNormal h self.now
+            → IfOk result (λ s. IsResolved h signature.entry (cow_fields s)) }
         ensures history_owned { (h : List Mapping) → IsNormal h self.now → IfOk result (OwnsMapped h signature.entry) }
     {
         match self.try_resolve_ref(signature) {
@@ -113,7 +117,7 @@ impl Snapshot {
     }
 }
 
-/// The signature with copies of the fields that a lookup found in the place of its own. A lookup finds one of them at
+/// The signature with copies of the fields that a lookup found in place of its own. A lookup finds one of them at
 /// least.
 fn enriched_signature<'a>(
     alloc: Global,

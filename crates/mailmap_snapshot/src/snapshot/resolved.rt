@@ -6,15 +6,15 @@ ghost use Rattle.mailmap_entries.specs.Folding.{text_cmp};
 ghost use Rattle.mailmap_histories.specs.Histories.{answered};
 ghost use Rattle.mailmap_snapshot.specs.Signatures.{shown};
 
-/// A name and an email that stand in the place of those of a signature. They are lent by the snapshot that answered, so
-/// they may be kept when the signature is gone, and not over a merge of the snapshot.
+/// A name and an email that replace those of a signature. They are lent by the snapshot that answered: they may be kept
+/// when the signature is gone, but not over a merge of the snapshot.
 ///
 /// At least one of them is there in every answer.
 #[derive(Drop)]
 pub struct ResolvedSignature<'a> {
-    /// The name, `None` where the signature's own stands.
+    /// The name, `None` if the signature's own is kept.
     pub name: Option<&'a [u8]>,
-    /// The email, `None` where the signature's own stands.
+    /// The email, `None` if the signature's own is kept.
     pub email: Option<&'a [u8]>,
 }
 

@@ -1,4 +1,4 @@
-//! Merging from several sources, where running out of memory skips a source and is told.
+//! Merging from several sources. A source is skipped if memory runs out, and that is reported.
 ghost use Rattle.std.specs.Prelude.{◌≡◌, ◌≢◌, ℕ, [], Some, true, false, length, slice_get, OnOk, OnErr};
 ghost use Rattle.std.specs.List.{All};
 ghost use Rattle.mailmap_histories.specs.Building.{IsMerged};
@@ -21,17 +21,18 @@ pub enum Source<'a> {
 }
 
 impl Snapshot {
-    /// Merges each source behind the ones before it, and is never refused itself: `made` tells for each source whether
-    /// it was merged. Where memory was refused, that source changed nothing, and the next one is merged all the same.
+    /// Merges each source after the ones before it, and never runs out of memory itself: `made` says for each source
+    /// whether it was merged. If memory ran out, that source changed nothing, and the next one is merged all the same.
     pub fn merge_sources(&mut self, sources: &[Source<'_>], made: &mut [bool])
         requires { length sources.now ≡ length made.old }
-        // What the sources say that are marked as made comes behind what was listed, and behind any history that the
-        // snapshot stood for. Where none of it is accepted nothing changes.
+        // What the sources marked as made say comes after what was listed, and after any history that the snapshot
+        // stood for. If none of it is accepted, nothing changes.
         ensures merged { IsMerged self.old (history sources.now made.new) self.new }
         ensures none_made { All (λ is_made. is_made ≡ false) made.new → self.new ≡ self.old }
 
         // A source without an accepted entry asks for no memory, so it is always made.
-        ensures unrefused { (i : ℕ) (s : Said) → slice_get sources.now i ≡ Some s → accepted (said_by s) ≡ [] → slice_get made.new i ≡ Some true }
+        ensures never_out_of_memory { (i : ℕ) (s : Said) → slice_get sources.now i ≡ Some s → accepted (said_by s) ≡ []
+            → slice_get made.new i ≡ Some true }
         ensures marks { length made.new ≡ length made.old }
     {
         // What is listed is its own normal list, by the invariant of the tables.
@@ -45,7 +46,7 @@ impl Snapshot {
     fn merge_source(&mut self, source: &Source<'_>) -> Result<(), AllocError>
         ensures ok { OnOk result (IsMerged self.old (said_by source.now) self.new) }
         ensures err { OnErr result (self.new ≡ self.old) }
-        ensures refused { OnErr result (accepted (said_by source.now) ≢ []) }
+        ensures out_of_memory { OnErr result (accepted (said_by source.now) ≢ []) }
     {
         match source {
             Source::Buffer(buf) => self.merge(parse_ignore_errors(buf)),

@@ -15,11 +15,12 @@ use thiserror::Error;
 /// Why a snapshot is not written.
 #[derive(Debug, PartialEq, Eq, Drop, Error)]
 pub enum WriteError {
-    /// No line can hold the entry at this place of the listing, counted from 0: read back, it would be another. Lines
-    /// hold each entry that was ever read from one, so this comes of the constructors of [`Entry`](mailmap_entries::Entry) alone.
-    #[error("entry {place} cannot be written")]
-    Unwritable { place: usize },
-    /// Memory was refused.
+    /// No line can hold the entry at this index of the listing, counted from 0: read back, it would be another. Lines
+    /// hold each entry that was ever read from one, so only the constructors of [`Entry`](mailmap_entries::Entry) make
+    /// such entries.
+    #[error("entry {index} cannot be written")]
+    Unwritable { index: usize },
+    /// Out of memory.
     #[error("out of memory")]
     Memory(AllocError),
 }
@@ -38,36 +39,37 @@ impl From<AllocError> for WriteError {
 impl Snapshot {
     /// The snapshot as a mailmap: the text that [`Snapshot::from_bytes`] reads as an equal snapshot.
     ///
-    /// It has a line for each entry of [`Snapshot::iter`], in its order: a blank, the new name, the new email in `<` and
-    /// `>`, the old name, the old email in `<` and `>`, and a line feed, with a blank behind each part but the last. By
-    /// the blank in front a name may begin with `#` and the line is still no comment. Equal snapshots have the same text.
+    /// It has a line for each entry of [`Snapshot::iter`], in its order: a blank, the new name, the new email in `<`
+    /// and `>`, the old name, the old email in `<` and `>`, and a line feed, with a blank after each part but the last.
+    /// By the blank in front a name may begin with `#` and the line is still no comment. Equal snapshots have the same
+    /// text.
     ///
-    /// `Err` where no line can hold an entry, with the place of the first such, or where memory is refused. That an entry
-    /// can't be written is found before memory is asked for.
+    /// `Err` if no line can hold some entry, with the index of the first such entry, or if memory runs out. That an
+    /// entry can't be written is found before memory is asked for.
     ///
-    /// `n@y` by the empty email is written as ` <n@y> <>`; the name `N` by the empty email is refused.
+    /// `n@y` by the empty email is written as ` <n@y> <>`; the name `N` by the empty email can't be written.
     pub fn write(&self, alloc: Global) -> Result<Vec<u8>, WriteError>
         ensures ok { IfOk result (λ v. v.items ≡ text self.now) }
         ensures writable { OnOk result (All IsWritable self.now) }
 
-        // The first entry that no line can hold is named; out of memory is answered only where there is none.
+        // The first entry that no line can hold is named; out of memory is answered only if there is none.
         ensures err { IfErr result (IsUnwrittenBy self.now) }
 
         // whatever was merged, what a snapshot lists is its own normal list, so its text reads back to it
         ensures own { IsListing self.now }
     {
-        if let Some(place) = self.first_unwritable() {
-            return Err(WriteError::Unwritable { place });
+        if let Some(index) = self.first_unwritable() {
+            return Err(WriteError::Unwritable { index });
         }
         Ok(self.write_lines(alloc)?)
     }
 
-    /// The text that [`Snapshot::write`] gives, for a caller who knows that a line can hold each entry: none is looked at
-    /// for that again. Whatever buffers build is such a snapshot, as `law_text` says in its clause `builds`.
+    /// The text that [`Snapshot::write`] gives, for a caller who knows that a line can hold each entry: none is looked
+    /// at for that again. Whatever buffers build is such a snapshot, as `law_text` says in its clause `builds`.
     ///
-    /// `Err` where memory is refused.
+    /// `Err` if memory runs out.
     ///
-    /// Behind a merge of `parse_ignore_errors(b"N <a@x>")` into an empty snapshot it gives ` N <a@x>`.
+    /// After a merge of `parse_ignore_errors(b"N <a@x>")` into an empty snapshot it gives ` N <a@x>`.
     pub fn write_lines(&self, alloc: Global) -> Result<Vec<u8>, AllocError>
         requires { All IsWritable self.now }
         ensures { IfOk result (λ v. v.items ≡ text self.now) }
@@ -79,20 +81,20 @@ impl Snapshot {
         Ok(out)
     }
 
-    // The place of the first entry that no line can hold.
+    // The index of the first entry that no line can hold.
     fn first_unwritable(&self) -> Option<usize>
-        ensures place { MatchOption result (All IsWritable self.now) (IsFirstUnwritable self.now) }
+        ensures index { MatchOption result (All IsWritable self.now) (IsFirstUnwritable self.now) }
         ensures own { IsListing self.now }
     {
-        // no listing has more entries than the tables have rows, so places can be counted
+        // no listing has more entries than the tables have rows, so indexes can be counted
         let _rows = self.tables.view().row_count();
         let entries = self.iter();
-        let mut place = 0;
+        let mut index = 0;
         for entry in entries {
             if !is_writable(&entry) {
-                return Some(place);
+                return Some(index);
             }
-            place += 1;
+            index += 1;
         }
         None
     }

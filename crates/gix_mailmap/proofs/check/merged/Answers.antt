@@ -1,21 +1,22 @@
-use Rattle.std.proofs.Common.{[], map, take, get_or, sym, subst}
-use Rattle.std.specs.List.{flat_map}
+use Rattle.std.proofs.Common.{Bor, sym, ap, subst, ◌∙◌, rules, tests}
+use Rattle.std.proofs.lemmas.Iterator.{YieldsList-from_slice}
 use Rattle.std.proofs.lemmas.Iterator.Consumers.{YieldsList-from_first}
+use Rattle.std.proofs.lemmas.Iterator.Adapters.{YieldsList-from_flat_map}
+use Rattle.std.proofs.lemmas.List.Folds.{flat_map-map}
+use Rattle.std.proofs.lemmas.Result.{IfOk-weaker}
 use Rattle.mailmap_entries.specs.Entries.{mapping_of}
+use Rattle.mailmap_entries.specs.Folding.{Text}
 use Rattle.mailmap_histories.specs.Histories.{IsNormal}
 use Rattle.mailmap_grammar.specs.Lines.{good}
-use Rattle.mailmap_histories.proofs.Building.{normal_none}
-use Rattle.mailmap_snapshot.proofs.Sources.{gives_said, merged_whole, buffers_more}
+use Rattle.mailmap_snapshot.proofs.Sources.{gives_said}
 use Rattle.gix_mailmap.proofs.check.merged.Goals as goal
 
-pub loop-buf-init : goal.loop-buf-init
-loop-buf-init c = subst (IsNormal []) (sym c.empty-snapshot.ensures) normal_none
-
-pub loop-buf-preserved : goal.loop-buf-preserved
-loop-buf-preserved c =
+pub returns : goal.returns
+returns c =
     let bufs = c.args.buffers.now in
-    let i = c.loop-buf.buf-index in
-    let said = good (get_or bufs i (record { ref_ptr = (0, 0); now = [] })).now in
-    let front = flat_map good (map (λ b. b.now) (take i bufs)) in
-    subst (λ l. IsNormal l c.merge.new.self) (sym (buffers_more bufs i _ c.loop-buf-test.true))
-    ((merged_whole (gives_said (YieldsList-from_first mapping_of (λ s. s) said c.parse_ignore_errors.ensures.value)) c.loop-buf.snapshot c.merge.new.self c.in_ok-merge.ensures.ok).history front c.loop-buf.invariant)
+    let e = c.flat_map-entries.ensures in
+    let road = YieldsList-from_flat_map _ _ _ mapping_of (λ (b : Bor Text). good b.now) _ (λ (x : Bor (Bor Text)) u q called. (search rules, λ j becomes. YieldsList-from_first mapping_of (λ s. s) (good x.now.now) (search (rules, tests))))
+    (YieldsList-from_slice bufs (ap (λ s. s) search)) e.closure e.front e.back e.done in
+    let same = sym (flat_map-map good (λ (b : Bor Text). b.now) bufs) in
+    let gives = gives_said road in
+    IfOk-weaker c.new.result _ _ (λ made m. subst (λ l. IsNormal l made) (gives.whole m.0 m.1 ∙ same) m.2) c.new.ensures.ok

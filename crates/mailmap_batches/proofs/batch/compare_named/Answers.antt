@@ -9,9 +9,9 @@ use Rattle.mailmap_batches.proofs.batch.compare_named.Goals as goal
 
 pub returns-in_default : goal.returns-in_default
 returns-in_default c =
-    let a = mapping_at c.a.inside.placed in
-    let b = mapping_at c.b.inside.placed in
+    let a = mapping_at c.a.inside.indexed in
+    let b = mapping_at c.b.inside.indexed in
     let r = c.cmp.result in
-    let fronts = c.cmp.ensures ∙ ap₂ nat_cmp c.a.invariant.is c.b.invariant.is in
-    sym (names_settled a.old_name b.old_name c.a.invariant.bytes c.b.invariant.bytes r fronts c.in_default.not-Equal)
+    let prefixes = c.cmp.ensures ∙ ap₂ nat_cmp c.a.invariant.is c.b.invariant.is in
+    sym (names_settled a.old_name b.old_name c.a.invariant.bytes c.b.invariant.bytes r prefixes c.in_default.not-Equal)
     ∙ ap₂ (λ p q. option_cmp text_cmp (key (mapping_at p)).1 (key (mapping_at q)).1) c.a.view_is c.b.view_is

@@ -2,4 +2,4 @@ use Rattle.std.proofs.Common.{◌≡◌, take}
 use Rattle.mailmap_batches.proofs.batch.without_names.Given as goal
 
 abbrev pub invariant-loop-entry : goal.invariant-loop-entry
-invariant-loop-entry l = l.run.items ≡ take l.entry-index l.named
+invariant-loop-entry l = l.group.items ≡ take l.entry-index l.named

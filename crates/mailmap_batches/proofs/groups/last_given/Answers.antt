@@ -13,16 +13,16 @@ copied-or : (a b : Option (Bor Text)) → option_copied (option_or a b) ≡ opti
 copied-or None b = refl
 copied-or (Some x) b = refl
 
-pub loop-placed-preserved : goal.loop-placed-preserved
-loop-placed-preserved c =
+pub loop-indexed-preserved : goal.loop-indexed-preserved
+loop-indexed-preserved c =
     let xs = c.args.own.now in
-    let i = c.loop-placed.placed-index in
-    let x = c.placed-item.result in
-    let grown = map_more mapping_at xs i x (omega arith) ∙ ap (λ m. map mapping_at (take i xs) ++ mapping_at m ∷ []) (sym c.placed-item.is) in
-    let given = c.loop-placed.given in
-    let parts : fields_given (record { new_name = c.or.result; new_email = c.or-in-loop-placed.result }) ≡ give (fields_given given) (mapping_at x) = λ k. record {
+    let i = c.loop-indexed.indexed-index in
+    let x = c.indexed-item.result in
+    let grown = map_more mapping_at xs i x (omega arith) ∙ ap (λ m. map mapping_at (take i xs) ++ mapping_at m ∷ []) (sym c.indexed-item.is) in
+    let given = c.loop-indexed.given in
+    let parts : fields_given (record { new_name = c.or.result; new_email = c.or-in-loop-indexed.result }) ≡ give (fields_given given) (mapping_at x) = λ k. record {
       name = (ap option_copied c.or.ensures ∙ copied-or c.new_name.result given.new_name ∙ ap (λ o. option_or o (option_copied given.new_name)) c.new_name.ensures) k;
-      email = (ap option_copied c.or-in-loop-placed.ensures ∙ copied-or c.new_email.result given.new_email ∙ ap (λ o. option_or o (option_copied given.new_email)) c.new_email.ensures) k;
+      email = (ap option_copied c.or-in-loop-indexed.ensures ∙ copied-or c.new_email.result given.new_email ∙ ap (λ o. option_or o (option_copied given.new_email)) c.new_email.ensures) k;
     } in
-    parts ∙ ap (λ f. give f (mapping_at x)) c.loop-placed.invariant
+    parts ∙ ap (λ f. give f (mapping_at x)) c.loop-indexed.invariant
     ∙ sym (ap (fold give no_fields) grown ∙ fold-append give no_fields (map mapping_at (take i xs)) (mapping_at x ∷ []))

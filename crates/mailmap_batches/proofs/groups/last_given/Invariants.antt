@@ -5,5 +5,5 @@ use Rattle.mailmap_batches.specs.Given.{give, fields_given}
 use Rattle.mailmap_batches.specs.Batches.{mapping_at}
 use Rattle.mailmap_batches.proofs.groups.last_given.Given as goal
 
-abbrev pub invariant-loop-placed : goal.invariant-loop-placed
-invariant-loop-placed l = fields_given l.given ≡ fold give no_fields (map mapping_at (take l.placed-index l.own))
+abbrev pub invariant-loop-indexed : goal.invariant-loop-indexed
+invariant-loop-indexed l = fields_given l.given ≡ fold give no_fields (map mapping_at (take l.indexed-index l.own))

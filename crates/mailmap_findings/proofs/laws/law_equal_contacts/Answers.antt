@@ -3,14 +3,14 @@ use Rattle.std.proofs.lemmas.Bool.Decides.{Decides-and}
 use lib.Pointwise.{bytes_decides, pointwise}
 use Rattle.mailmap_histories.specs.Listings.{same_optional}
 use Rattle.mailmap_histories.proofs.EqualListings.{optional_decides}
-use Rattle.mailmap_findings.specs.Places.{same_place}
+use Rattle.mailmap_findings.specs.Positions.{same_position}
 use Rattle.mailmap_findings.proofs.Walking.{same_is, same_itself}
 use Rattle.mailmap_findings.proofs.laws.law_equal_contacts.Goals as goal
 
 pub returns : goal.returns
 returns c =
     record {
-      places = λ a b. (same_is a b, λ e. subst (λ p. same_place a p ≡ true) e (same_itself a));
+      positions = λ a b. (same_is a b, λ e. subst (λ p. same_position a p ≡ true) e (same_itself a));
       contacts = λ a b.
           let both = Decides-and (same_optional a.name b.name) (pointwise nat_eq a.email b.email) (optional_decides a.name b.name) (bytes_decides a.email b.email) in (
             λ same. let parts = both.0 same in λ i. record { name = parts.0 i; email = parts.1 i },

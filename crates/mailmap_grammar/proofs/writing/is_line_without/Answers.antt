@@ -19,25 +19,25 @@ unfolding is_in
 is_in-other x y c first second is =
     ⊎_elim (λ h. first (eqb-true c x h)) (λ rest. ⊎_elim (λ h. second (eqb-true c y h)) (λ h. absurd (cc h)) (or_cases (c == y) false rest)) (or_cases (c == x) (c == y || false) is)
 
-no_place : (x y : ℕ) (s : List ℕ) → ((k : ℕ) → k < length s → is_in (x ∷ y ∷ []) (slice_index s k) ≡ true → ⊥) → HoldsNo x s × HoldsNo y s
-no_place x y [] none = (tt, tt)
-no_place x y (c ∷ s) none =
-    let rest = no_place x y s (λ k l. none (suc k) (omega arith)) in
+no_index : (x y : ℕ) (s : List ℕ) → ((k : ℕ) → k < length s → is_in (x ∷ y ∷ []) (slice_index s k) ≡ true → ⊥) → HoldsNo x s × HoldsNo y s
+no_index x y [] none = (tt, tt)
+no_index x y (c ∷ s) none =
+    let rest = no_index x y s (λ k l. none (suc k) (omega arith)) in
     ((λ is. none 0 (omega arith) (is_in-first x y c is), rest.0), (λ is. none 0 (omega arith) (is_in-second x y c is), rest.1))
 
-each_place : (x : ℕ) (s : List ℕ) (k : ℕ) → HoldsNo x s → k < length s → slice_index s k ≢ x
-each_place x [] k holds l = absurd (omega arith)
-each_place x (c ∷ s) zero holds l = holds.0
-each_place x (c ∷ s) (suc k) holds l = each_place x s k holds.1 (omega arith)
+each_index : (x : ℕ) (s : List ℕ) (k : ℕ) → HoldsNo x s → k < length s → slice_index s k ≢ x
+each_index x [] k holds l = absurd (omega arith)
+each_index x (c ∷ s) zero holds l = holds.0
+each_index x (c ∷ s) (suc k) holds l = each_index x s k holds.1 (omega arith)
 
 found : (x y : ℕ) (s : List ℕ) (r : Option ℕ) (none : Bool) → is_some r ≡ not none → IsFirstByte (is_in (x ∷ y ∷ [])) s r
     → (none ≡ true) ↔ (HoldsNo x s × HoldsNo y s)
-found x y s None true same h = (λ _. no_place x y s (λ k l. h k (omega arith) l), λ _. refl)
+found x y s None true same h = (λ _. no_index x y s (λ k l. h k (omega arith) l), λ _. refl)
 found x y s None false same h = absurd (cc same)
 found x y s (Some k) true same h = absurd (cc same)
 found x y s (Some k) false same h = (
   λ is. absurd (cc is),
-  λ holds. absurd (is_in-other x y _ (each_place x s k holds.0 h.0.high) (each_place y s k holds.1 h.0.high) h.1),
+  λ holds. absurd (is_in-other x y _ (each_index x s k holds.0 h.0.high) (each_index y s k holds.1 h.0.high) h.1),
 )
 
 pub returns : goal.returns

@@ -6,7 +6,7 @@ use Rattle.std.proofs.KnownBytes.{Appends-kept, Appends-trans}
 use Rattle.mailmap_io.proofs.streams.write_all.Goals as goal
 use Rattle.mailmap_io.proofs.streams.write_all.Goals.{in-Ok, in-Err}
 
--- known bytes that grew by a front of the text, and then by the front of its rest, grew by the longer front
+-- known bytes that grew by the beginning of the text, and then by the front of its rest, grew by the longer front
 front_grows : (a b c : Option (List ℕ)) (text : List ℕ) (i n : ℕ) → Appends a b (take i text)
     → n ≤ length (take (length text - i) (drop i text)) → Appends b c (take n (take (length text - i) (drop i text))) → Appends a c (take (i + n) text)
 front_grows a b c text i n before fits after =

@@ -1,4 +1,4 @@
--- What was written so far is a front of the text.
+-- What was written so far is the beginning of the text.
 use Rattle.std.proofs.Common.{◌≤◌, length, take}
 use Rattle.std.specs.Io.KnownBytes.{Appends}
 use Rattle.mailmap_io.proofs.streams.write_all.Given as goal

@@ -4,7 +4,7 @@ use Rattle.mailmap_io.specs.Files.{AreRead}
 use Rattle.mailmap_reports.specs.Task.{AreMailmaps}
 use Rattle.mailmap_reports.proofs.answer.read_mailmaps.Goals as goal
 
--- where there is a path, the mailmaps are the files'
+-- if there is a path, the mailmaps are the files'
 of_files : {X : Type 0} (may_open : List ℕ → Type 0) (known : List ℕ → Option (List ℕ)) (path : X → List ℕ) (input : Option (List ℕ)) (xs : List X) (mailmaps : List (List ℕ))
     → (length xs == 0) ≡ false → AreRead may_open known (map path xs) mailmaps → AreMailmaps may_open known (map path xs) input mailmaps
 of_files may_open known path input [] mailmaps none read = cc

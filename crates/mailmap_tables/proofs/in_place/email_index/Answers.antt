@@ -1,13 +1,13 @@
-use Rattle.std.proofs.Common.{◌≡◌, ◌<◌, ◌≤◌, ◌∙◌, [], length, take, drop, get_or, ◌+◌, ◌++◌, ◌∷◌, sym, ap, subst, refl, arith, take-append-drop}
+use Rattle.std.proofs.Common.{◌≡◌, ◌∙◌, [], take, drop, get_or, ◌+◌, sym, ap, subst, refl, arith, take-append-drop}
 use Rattle.std.specs.List.{insert}
 use Rattle.mailmap_entries.specs.Entries.{mapping_of}
 use Rattle.mailmap_entries.specs.Folding.{Text, folded}
-use Rattle.mailmap_tables.specs.Groups.{Contents, EmailGroup, email_key}
+use Rattle.mailmap_tables.specs.Groups.{Contents, email_key}
 use Rattle.mailmap_tables.specs.Merging.{bare, known, unknown}
 use Rattle.mailmap_batches.specs.Batches.{email_text}
-use Rattle.mailmap_tables.specs.Places.{IsFound, IsMissing}
-use Rattle.mailmap_tables.proofs.InPlace.{earliest_itself, insert_parts, length_front}
-use Rattle.mailmap_tables.proofs.Parting.{found_key, missing_above, missing_front, split_front}
+use Rattle.mailmap_tables.specs.KeySearch.{IsFound, IsMissing}
+use Rattle.mailmap_tables.proofs.InPlace.{earliest_itself, insert_parts, length_prefix}
+use Rattle.mailmap_tables.proofs.Parting.{found_key, missing_above, missing_head, split_head}
 use Rattle.mailmap_tables.proofs.RowEdits.{get_or_any}
 use Rattle.mailmap_tables.proofs.in_place.email_index.Goals as goal
 
@@ -20,14 +20,14 @@ returns-in-Ok-clause-ready c =
     (subst (λ (v : Contents). IsFound email_key (folded c.old_email-old_email.result.now) 0 v.groups i) c.view.ensures c.in-Ok.ensures.found) in
     let g = get_or gs i (bare []) in
     let read : g ≡ get_or gs i g = get_or_any gs i (bare []) g found.within in
-    let parts = split_front gs i g found.within read in
+    let parts = split_head gs i g found.within read in
     record {
       before = take i gs;
       group = g;
       after = drop (i + 1) gs;
-      placed = known parts (found_key email_key (email_text m) 0 gs i g found read);
+      indexed = known parts (found_key email_key (email_text m) 0 gs i g found read);
       groups = parts;
-      index_is = length_front gs i (omega (arith, found.within));
+      index_is = length_prefix gs i (omega (arith, found.within));
     }
 
 pub returns-in-Err-clause-ready : goal.returns-in-Err-clause-ready
@@ -46,7 +46,7 @@ returns-in-Err-clause-ready c =
       before = take i gs;
       group = g;
       after = drop i gs;
-      placed = unknown (sym (take-append-drop i gs)) (missing_front email_key (email_text m) 0 gs i refl missing) (missing_above email_key (email_text m) 0 gs i missing) (0, m) (earliest_itself m) refl;
+      indexed = unknown (sym (take-append-drop i gs)) (missing_head email_key (email_text m) 0 gs i refl missing) (missing_above email_key (email_text m) 0 gs i missing) (0, m) (earliest_itself m) refl;
       groups = made;
-      index_is = length_front gs i missing.within;
+      index_is = length_prefix gs i missing.within;
     }

@@ -1,16 +1,16 @@
-use Rattle.std.proofs.Common.{◌≡◌, ◌≤◌, ◌∙◌, ◌++◌, map, length, sym, subst, arith}
+use Rattle.std.proofs.Common.{◌≡◌, ◌∙◌, ◌++◌, map, sym, subst, arith}
 use Rattle.std.proofs.lemmas.List.{length-map}
 use Rattle.mailmap_entries.specs.Entries.{mapping_of}
 use Rattle.mailmap_histories.specs.Histories.{IsNormal}
 use Rattle.mailmap_tables.specs.Groups.{Contents, IsComplete, listing}
-use Rattle.mailmap_tables.specs.Room.{OwnWithin}
+use Rattle.mailmap_tables.specs.Reserved.{OwnWithin}
 use Rattle.mailmap_tables.proofs.in_place.merge_in_place.Goals as goal
 
 pub put_each-requires-clause-complete : goal.put_each-requires-clause-complete
 put_each-requires-clause-complete c = subst IsComplete (sym (c.in-Ok.ensures.held ∙ c.replace-held.ensures.value)) c.requires.complete
 
-pub put_each-requires-clause-room : goal.put_each-requires-clause-room
-put_each-requires-clause-room c =
+pub put_each-requires-clause-reserved : goal.put_each-requires-clause-reserved
+put_each-requires-clause-reserved c =
     let same : c.in-Ok.reserved.held ≡ c.args.tables.now = c.in-Ok.ensures.held ∙ c.replace-held.ensures.value in
     let xs = c.args.entries.now in
     let has = c.requires.bytes in

@@ -4,7 +4,7 @@ use Rattle.std.specs.List.Sorted.{IsStrictlySortedBy}
 use Rattle.std.proofs.lemmas.List.{get_or-map, length-map}
 use Rattle.mailmap_entries.specs.Folding.{folded, text_cmp}
 use Rattle.mailmap_tables.specs.Groups.{Contents, EmailGroup, name_key}
-use Rattle.mailmap_tables.specs.Places.{IsFound, IsMissing}
+use Rattle.mailmap_tables.specs.KeySearch.{IsFound, IsMissing}
 use Rattle.mailmap_tables.specs.Pool.{NameLies, group_of, name_group, spelled}
 use Rattle.mailmap_tables.specs.declared.texts.Texts.{Texts}
 use Rattle.mailmap_tables.specs.Texts.{old_span}
@@ -18,8 +18,8 @@ use Rattle.mailmap_tables.proofs.in_place.name_index.Goals as goal
 abbrev none : Texts
 none = record { start = 0; old_len = 0; new_name_len = 0; new_email_len = 0 }
 
-pub place_name-requires-clause-ascending : goal.place_name-requires-clause-ascending
-place_name-requires-clause-ascending c =
+pub find_name-requires-clause-ascending : goal.find_name-requires-clause-ascending
+find_name-requires-clause-ascending c =
     let v = c.view-view.result in
     let P : EmailGroup → Type 0 = λ h. IsStrictlySortedBy text_cmp (map name_key h.names) in
     from_read P v.groups c.args.email (group_of v.pool c.email.result.0 c.email.result.1.now) c.email.ensures.group
@@ -32,8 +32,8 @@ returns-in-Ok-clause-found c =
     subst (λ (w : Contents). HoldsAt P w.groups c.args.email) c.view-view.ensures
     (at_read P v.groups c.args.email (group_of v.pool c.email.result.0 c.email.result.1.now) c.email.ensures.group c.in-Ok.ensures.found)
 
-pub returns-in-Ok-clause-present : goal.returns-in-Ok-clause-present
-returns-in-Ok-clause-present c =
+pub returns-in-Ok-clause-existing : goal.returns-in-Ok-clause-existing
+returns-in-Ok-clause-existing c =
     let v = c.view-view.result in
     let i = c.in-Ok.index in
     let names = c.email.result.1.now in

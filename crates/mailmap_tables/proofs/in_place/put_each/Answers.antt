@@ -1,11 +1,10 @@
-use Rattle.std.proofs.Common.{◌≡◌, ◌<◌, ◌+◌, ◌++◌, ◌∷◌, ◌∙◌, [], List, suc, true, get_or, map, take, take_all, drop, drop-cons, length, append-nil, append_assoc, sym, ap, subst, arith}
-use Rattle.std.specs.List.{AllByRecursion}
+use Rattle.std.proofs.Common.{◌≡◌, ◌<◌, ◌+◌, ◌++◌, ◌∷◌, ◌∙◌, [], suc, true, get_or, map, take, take_all, drop, drop-cons, length, append-nil, append_assoc, sym, ap, subst, arith}
 use Rattle.std.proofs.lemmas.List.{get_or-map, length-map, map-append, take_more}
-use Rattle.mailmap_entries.specs.Entries.{Mapping, mapping_of}
+use Rattle.mailmap_entries.specs.Entries.{mapping_of}
 use Rattle.mailmap_histories.specs.Histories.{IsNormal, is_accepted}
 use Rattle.mailmap_histories.proofs.Normal.{normal_then}
 use Rattle.mailmap_tables.specs.Groups.{listing}
-use Rattle.mailmap_tables.specs.Room.{Fits}
+use Rattle.mailmap_tables.specs.Reserved.{Fits}
 use Rattle.mailmap_tables.proofs.Grouped.{groups_normal}
 use Rattle.mailmap_tables.proofs.Pooled.{all_at}
 use Rattle.mailmap_tables.proofs.in_place.put_each.Goals as goal
@@ -15,7 +14,7 @@ loop-entry-init c =
     let gs = c.args.tables.now.held.groups in (
       c.requires.complete,
       subst (λ l. IsNormal l (listing gs)) (sym (append-nil (listing gs))) (groups_normal gs c.requires.complete.groups),
-      c.requires.room,
+      c.requires.reserved,
     )
 
 pub put-requires-clause-accepted : goal.put-requires-clause-accepted
@@ -27,8 +26,8 @@ put-requires-clause-accepted c =
     let here : get_or (map mapping_of xs) i (mapping_of x) ≡ mapping_of x = get_or-map mapping_of xs i x (mapping_of x) lt ∙ ap mapping_of (sym c.entry-item.is) in
     subst (λ m. is_accepted m ≡ true) here (all_at (λ m. is_accepted m ≡ true) (map mapping_of xs) i (mapping_of x) c.requires.accepted (omega (arith, lt, length-map xs mapping_of)))
 
-pub put-requires-clause-room : goal.put-requires-clause-room
-put-requires-clause-room c =
+pub put-requires-clause-reserved : goal.put-requires-clause-reserved
+put-requires-clause-reserved c =
     let xs = c.args.entries.now in
     let i = c.loop-entry.entry-index in
     let x = c.entry-item.result in
@@ -51,7 +50,7 @@ loop-entry-preserved c =
       c.put.ensures.complete,
       subst (λ l. IsNormal l new) (append_assoc (listing gs) (map mapping_of (take i xs)) (m ∷ []) ∙ ap (λ l. listing gs ++ l) (sym whole))
           (normal_then (listing gs ++ map mapping_of (take i xs)) old (m ∷ []) new c.loop-entry.invariant.1 c.put.ensures.normal),
-      c.put.ensures.room (map mapping_of (drop (i + 1) xs)) (subst (λ l. Fits c.loop-entry.tables (map mapping_of l)) parts c.loop-entry.invariant.2),
+      c.put.ensures.reserved (map mapping_of (drop (i + 1) xs)) (subst (λ l. Fits c.loop-entry.tables (map mapping_of l)) parts c.loop-entry.invariant.2),
     )
 
 pub returns-clause-normal : goal.returns-clause-normal

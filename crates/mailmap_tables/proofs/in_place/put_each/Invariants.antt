@@ -2,7 +2,7 @@ use Rattle.std.proofs.Common.{◌++◌, map, take, drop}
 use Rattle.mailmap_entries.specs.Entries.{mapping_of}
 use Rattle.mailmap_histories.specs.Histories.{IsNormal}
 use Rattle.mailmap_tables.specs.Groups.{IsComplete, listing}
-use Rattle.mailmap_tables.specs.Room.{Fits}
+use Rattle.mailmap_tables.specs.Reserved.{Fits}
 use Rattle.mailmap_tables.proofs.in_place.put_each.Given as goal
 
 abbrev pub invariant-loop-entry : goal.invariant-loop-entry

@@ -6,7 +6,7 @@ use Rattle.mailmap_tables.specs.Merging.{bare}
 use Rattle.mailmap_tables.specs.Named.{given_or}
 use Rattle.mailmap_batches.specs.Given.{fields_given}
 use Rattle.mailmap_tables.specs.Pool.{TextsLie, fields_of, group_of}
-use Rattle.mailmap_tables.specs.Room.{own_room, with_email_at}
+use Rattle.mailmap_tables.specs.Reserved.{own_reserved, with_email_at}
 use Rattle.mailmap_tables.specs.declared.texts.Texts.{Texts}
 use Rattle.mailmap_tables.proofs.InPlace.{changed_from}
 use Rattle.mailmap_tables.proofs.RowEdits.{get_or_any}
@@ -27,10 +27,10 @@ email-requires c = omega (arith, c.requires.within, ap (λ (v : Contents). lengt
 pub own_row-own-requires-clause-lies : goal.own_row-own-requires-clause-lies
 own_row-own-requires-clause-lies c = subst (λ (v : Contents). TextsLie (length v.pool) c.email.result.0) c.view.ensures c.email.ensures.lie.email_lies
 
-pub own_row-own-requires-clause-room : goal.own_row-own-requires-clause-room
-own_row-own-requires-clause-room c =
+pub own_row-own-requires-clause-reserved : goal.own_row-own-requires-clause-reserved
+own_row-own-requires-clause-reserved c =
     let a = c.args.tables.now.held in
-    subst (λ (g : EmailGroup). own_room g (fields_given c.args.given) ≤ c.args.tables.now.bytes)
+    subst (λ (g : EmailGroup). own_reserved g (fields_given c.args.given) ≤ c.args.tables.now.bytes)
     (row_read c.args.email a c.view.result c.email.result.0 c.email.result.1.now c.view.ensures c.email.ensures.group c.requires.within (bare [])) (c.requires.bytes (bare []))
 
 pub replace_texts-requires-clause-email : goal.replace_texts-requires-clause-email
@@ -58,17 +58,17 @@ returns-clause-changed c =
     let own : fields_of mid.pool c.own_row-own.result ≡ given_or gave g.own = c.own_row-own.ensures.spells.fields ∙ ap (λ (h : EmailGroup). given_or gave h.own) (sym read) in
     let there : get_or mid.groups email d ≡ g = ap (λ (v : Contents). get_or v.groups email d) grown.1 in
     let is : e ≡ with_email_at mid email (record g { own = given_or gave g.own }) = c.replace_texts.ensures.held d ∙ (λ i. with_email_at mid email (record (there i) { own = own i })) in
-    changed_from email (record g { own = given_or gave g.own }) a mid e (ap (λ (v : Contents). v.groups) grown.1) (ap (λ (v : Contents). v.loose) grown.1) is
+    changed_from email (record g { own = given_or gave g.own }) a mid e (ap (λ (v : Contents). v.groups) grown.1) (ap (λ (v : Contents). v.pending) grown.1) is
 
-pub returns-clause-room : goal.returns-clause-room
-returns-clause-room c =
+pub returns-clause-reserved : goal.returns-clause-reserved
+returns-clause-reserved c =
     let gave = fields_given c.args.given in
-    let one = c.own_row-own.ensures.room in
-    let last = c.replace_texts.ensures.room in
+    let one = c.own_row-own.ensures.reserved in
+    let last = c.replace_texts.ensures.reserved in
     λ d.
     let read = row_read c.args.email c.args.tables.now.held c.view.result c.email.result.0 c.email.result.1.now c.view.ensures c.email.ensures.group c.requires.within d in
     record {
-      bytes = omega (arith, ap (λ (g : EmailGroup). own_room g gave) read, one.bytes, last.bytes);
+      bytes = omega (arith, ap (λ (g : EmailGroup). own_reserved g gave) read, one.bytes, last.bytes);
       emails = omega (arith, one.emails, last.emails);
       names = omega (arith, one.names, last.names);
     }

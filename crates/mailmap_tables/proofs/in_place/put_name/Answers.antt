@@ -7,10 +7,10 @@ use Rattle.mailmap_batches.specs.Given.{NameGroup}
 use Rattle.mailmap_tables.specs.Merging.{known, unknown}
 use Rattle.mailmap_batches.specs.Given.{named_group}
 use Rattle.mailmap_tables.specs.Pool.{name_group, spelled}
-use Rattle.mailmap_tables.specs.Room.{EmailChanged, with_email_at}
+use Rattle.mailmap_tables.specs.Reserved.{with_email_at}
 use Rattle.mailmap_tables.specs.Texts.{old_span}
 use Rattle.mailmap_tables.proofs.InPlace.{changed_from, insert_parts, set_parts}
-use Rattle.mailmap_tables.proofs.Parting.{found_key, missing_above, missing_front, split_front}
+use Rattle.mailmap_tables.proofs.Parting.{found_key, missing_above, missing_head, split_head}
 use Rattle.mailmap_tables.proofs.in_place.put_name.Goals as goal
 
 pub returns-in-Ok-clause-put : goal.returns-in-Ok-clause-put
@@ -22,13 +22,13 @@ returns-in-Ok-clause-put c =
     let i = c.in-Ok.index in
     let n = named_group c.args.named in
     let grown = c.name_row-row.ensures.grown in
-    let kept = spelled old.pool (old_span c.in-Ok.present) in
+    let kept = spelled old.pool (old_span c.in-Ok.existing) in
     let one : NameGroup = record n { old_name = kept } in
-    let k = name_group old.pool c.in-Ok.present in
+    let k = name_group old.pool c.in-Ok.existing in
     λ d.
     let g = get_or old.groups email d in
     let found = c.in-Ok.ensures.found d in
-    let read : k ≡ get_or g.names i k = sym (get_or_from_slice_get g.names i k k (c.in-Ok.ensures.present d)) in
+    let read : k ≡ get_or g.names i k = sym (get_or_from_slice_get g.names i k k (c.in-Ok.ensures.existing d)) in
     let there : get_or mid.groups email d ≡ g = ap (λ (v : Contents). get_or v.groups email d) grown.1 in
     let row : name_group mid.pool c.name_row-row.result ≡ one = c.name_row-row.ensures.spells ∙ ap (λ s. record n { old_name = spelled old.pool s }) c.old.ensures in
     let names : set g.names i one ≡ take i g.names ++ one ∷ drop (i + 1) g.names = set_parts g.names i one found.within in
@@ -38,8 +38,8 @@ returns-in-Ok-clause-put c =
       before = take i g.names;
       kept = kept;
       after = drop (i + 1) g.names;
-      changed = changed_from email _ old mid new (ap (λ (v : Contents). v.groups) grown.1) (ap (λ (v : Contents). v.loose) grown.1) is;
-      placed = known k (split_front g.names i k found.within read) (found_key name_key (folded n.old_name) 0 g.names i k found read) refl;
+      changed = changed_from email _ old mid new (ap (λ (v : Contents). v.groups) grown.1) (ap (λ (v : Contents). v.pending) grown.1) is;
+      indexed = known k (split_head g.names i k found.within read) (found_key name_key (folded n.old_name) 0 g.names i k found read) refl;
     }
 
 pub returns-in-Err-clause-put : goal.returns-in-Err-clause-put
@@ -54,7 +54,7 @@ returns-in-Err-clause-put c =
     let grown = c.name_row-row-in-Err.ensures.grown in
     let row : name_group mid.pool c.name_row-row-in-Err.result ≡ n = c.name_row-row-in-Err.ensures.spells ∙ ap (λ t. record n { old_name = t }) text.spells in
     let groups : mid.groups ≡ old.groups = ap (λ (v : Contents). v.groups) grown.1 ∙ ap (λ (v : Contents). v.groups) text.held in
-    let loose : mid.loose ≡ old.loose = ap (λ (v : Contents). v.loose) grown.1 ∙ ap (λ (v : Contents). v.loose) text.held in
+    let pending : mid.pending ≡ old.pending = ap (λ (v : Contents). v.pending) grown.1 ∙ ap (λ (v : Contents). v.pending) text.held in
     λ d.
     let g = get_or old.groups email d in
     let missing = c.in-Err.ensures.missing d in
@@ -65,6 +65,6 @@ returns-in-Err-clause-put c =
       before = take i g.names;
       kept = n.old_name;
       after = drop i g.names;
-      changed = changed_from email _ old mid new groups loose is;
-      placed = unknown (sym (take-append-drop i g.names)) (missing_front name_key (folded n.old_name) 0 g.names i refl missing) (missing_above name_key (folded n.old_name) 0 g.names i missing) refl;
+      changed = changed_from email _ old mid new groups pending is;
+      indexed = unknown (sym (take-append-drop i g.names)) (missing_head name_key (folded n.old_name) 0 g.names i refl missing) (missing_above name_key (folded n.old_name) 0 g.names i missing) refl;
     }

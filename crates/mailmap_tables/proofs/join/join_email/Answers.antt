@@ -11,27 +11,27 @@ use Rattle.mailmap_batches.specs.Batches.{IsAscending, mapping_at, name_text}
 use Rattle.mailmap_tables.specs.Merging.{Extends, EmailJoined, NamesJoined}
 use Rattle.mailmap_tables.specs.Named.{given_or}
 use Rattle.mailmap_tables.specs.Pool.{fields_of, name_group, group_of}
-use Rattle.mailmap_batches.specs.declared.indexed.Placed.{Placed}
+use Rattle.mailmap_batches.specs.declared.indexed.IndexedEntry.{IndexedEntry}
 use Rattle.mailmap_entries.proofs.Results.{on_ok_then}
-use Rattle.mailmap_tables.proofs.EmailPuts.{name_of, named_behind, names_ascend, ascending_rest, joined_group, email_joined}
-use Rattle.mailmap_histories.proofs.Parts.{all_mapped, all_front}
+use Rattle.mailmap_tables.proofs.EmailPuts.{name_of, named_after, names_ascend, ascending_rest, joined_group, email_joined}
+use Rattle.mailmap_histories.proofs.Parts.{all_mapped, all_head}
 use Rattle.mailmap_tables.proofs.Given.{fold-give}
-use Rattle.mailmap_tables.proofs.NamePlaces.{extends_through, name_groups_on, names_lie_on}
+use Rattle.mailmap_tables.proofs.NameLookups.{extends_through, name_groups_on, names_lie_on}
 use Rattle.mailmap_tables.proofs.OwnTexts.{own_spells_on}
 use Rattle.mailmap_tables.proofs.Passing.{texts_lie_on}
 use Rattle.mailmap_tables.proofs.join.join_email.Goals as goal
 
 pub join_names-requires-clause-named : goal.join_names-requires-clause-named
 join_names-requires-clause-named c =
-    subst (λ (l : List Placed). AllByRecursion (λ p. IsNamed (mapping_at p)) l) (sym c.behind.ensures) (named_behind c.args.batch.now c.unnamed_run-len.result c.requires.run.ascending c.unnamed_run-len.ensures.other)
+    subst (λ (l : List IndexedEntry). AllByRecursion (λ p. IsNamed (mapping_at p)) l) (sym c.after.ensures) (named_after c.args.batch.now c.unnamed_len-len.result c.requires.group.ascending c.unnamed_len-len.ensures.other)
 
 pub join_names-requires-clause-named_ascend : goal.join_names-requires-clause-named_ascend
 join_names-requires-clause-named_ascend c =
     let xs = c.args.batch.now in
-    let len = c.unnamed_run-len.result in
-    let named = named_behind xs len c.requires.run.ascending c.unnamed_run-len.ensures.other in
-    let up = subst (λ l. IsAscending (option_cmp text_cmp) (map name_of l)) (drop-map mapping_at len xs) (ascending_rest (option_cmp text_cmp) name_of len (map mapping_at xs) c.requires.run.ascending) in
-    subst (λ (l : List Placed). IsAscending text_cmp (map name_text (map mapping_at l))) (sym c.behind.ensures) (names_ascend (map mapping_at (drop len xs)) (all_mapped mapping_at IsNamed (drop len xs) named) up)
+    let len = c.unnamed_len-len.result in
+    let named = named_after xs len c.requires.group.ascending c.unnamed_len-len.ensures.other in
+    let up = subst (λ l. IsAscending (option_cmp text_cmp) (map name_of l)) (drop-map mapping_at len xs) (ascending_rest (option_cmp text_cmp) name_of len (map mapping_at xs) c.requires.group.ascending) in
+    subst (λ (l : List IndexedEntry). IsAscending text_cmp (map name_text (map mapping_at l))) (sym c.after.ensures) (names_ascend (map mapping_at (drop len xs)) (all_mapped mapping_at IsNamed (drop len xs) named) up)
 
 pub join_names-requires-clause-lie : goal.join_names-requires-clause-lie
 join_names-requires-clause-lie c =
@@ -50,7 +50,7 @@ pub returns : goal.returns
 returns c =
     let old = c.args.out.now in
     let xs = c.args.batch.now in
-    let len = c.unnamed_run-len.result in
+    let len = c.unnamed_len-len.result in
     let g = group_of old.pool c.args.texts c.args.names.now in
     let put = c.in_ok-join_names.ensures in
     let grown = c.in_ok-own.ensures.grown in
@@ -62,19 +62,19 @@ returns c =
     let us = map mapping_at (take len xs) in
     let js = map mapping_at (drop len xs) in
     let whole : map mapping_at xs ≡ us ++ js = ap (map mapping_at) (sym (take-append-drop len xs)) ∙ map-append mapping_at (take len xs) (drop len xs) in
-    let good = all_front (λ m. is_accepted m ≡ true) us js (subst (AllByRecursion (λ m. is_accepted m ≡ true)) whole c.requires.run.accepted) in
-    let stood : map (name_group two.pool) c.args.names.now ≡ g.names = sym (name_groups_on old.pool two.pool to_two c.args.names.now c.requires.lie.names_lie) in
-    let named : NamesJoined g.names js put.names = subst (λ (ns : List NameGroup). NamesJoined ns js put.names) stood (subst (λ (l : List Placed). NamesJoined (map (name_group two.pool) c.args.names.now) (map mapping_at l) put.names) c.behind.ensures put.joined) in
-    let joined = email_joined g us js put.names (all_mapped mapping_at (λ m. m.old_name ≡ None) (take len xs) c.unnamed_run-len.ensures.none) good named in
-    let given : fields_given c.last_given.result ≡ fold give no_fields us = c.last_given.ensures ∙ ap (λ (l : List Placed). fold give no_fields (map mapping_at l)) c.before-2.ensures in
+    let good = all_head (λ m. is_accepted m ≡ true) us js (subst (AllByRecursion (λ m. is_accepted m ≡ true)) whole c.requires.group.accepted) in
+    let existing : map (name_group two.pool) c.args.names.now ≡ g.names = sym (name_groups_on old.pool two.pool to_two c.args.names.now c.requires.lie.names_lie) in
+    let named : NamesJoined g.names js put.names = subst (λ (ns : List NameGroup). NamesJoined ns js put.names) existing (subst (λ (l : List IndexedEntry). NamesJoined (map (name_group two.pool) c.args.names.now) (map mapping_at l) put.names) c.after.ensures put.joined) in
+    let joined = email_joined g us js put.names (all_mapped mapping_at (λ m. m.old_name ≡ None) (take len xs) c.unnamed_len-len.ensures.none) good named in
+    let given : fields_given c.last_given.result ≡ fold give no_fields us = c.last_given.ensures ∙ ap (λ (l : List IndexedEntry). fold give no_fields (map mapping_at l)) c.before-2.ensures in
     let made = own_spells_on old.pool two.pool three.pool c.args.texts c.in_ok-own.own (fields_given c.last_given.result) put.pool c.in_ok-own.ensures.lies c.in_ok-own.ensures.spells in
     let own : fields_of three.pool c.in_ok-own.own ≡ fold give g.own us = made.fields ∙ ap (λ (f : Fields). given_or f g.own) given ∙ sym (fold-give g.own no_fields us) in
-    let loose : three.loose ≡ put.names = put.loose ∙ ap (λ (v : Contents). v.loose ++ put.names) grown.1 ∙ ap (λ l. l ++ put.names) c.requires.no_loose in
+    let pending : three.pending ≡ put.names = put.pending ∙ ap (λ (v : Contents). v.pending ++ put.names) grown.1 ∙ ap (λ l. l ++ put.names) c.requires.none_pending in
     let groups : three.groups ≡ old.groups = put.groups ∙ ap (λ (v : Contents). v.groups) grown.1 in
     on_ok_then c.push_email.result _ _ (λ is. record {
       group = joined_group g us put.names;
       pool = subst (Extends old.pool) (sym (ap (λ (v : Contents). v.pool) is)) to_three;
-      groups = ap (λ (v : Contents). v.groups) is ∙ (λ i. groups i ++ record { old_email = made.old_same i; own = own i; names = loose i } ∷ []);
-      no_loose = ap (λ (v : Contents). v.loose) is;
+      groups = ap (λ (v : Contents). v.groups) is ∙ (λ i. groups i ++ record { old_email = made.old_same i; own = own i; names = pending i } ∷ []);
+      none_pending = ap (λ (v : Contents). v.pending) is;
       joined = subst (λ l. EmailJoined g l (joined_group g us put.names)) (sym whole) joined;
     }) c.push_email.ensures

@@ -4,11 +4,11 @@ use Rattle.std.proofs.lemmas.List.{nil_from_length}
 use Rattle.mailmap_batches.specs.Given.{IsNamed}
 use Rattle.mailmap_batches.specs.Batches.{mapping_at}
 use Rattle.mailmap_tables.specs.Pool.{NameLies, name_group}
-use Rattle.mailmap_batches.specs.declared.indexed.Placed.{Placed}
+use Rattle.mailmap_batches.specs.declared.indexed.IndexedEntry.{IndexedEntry}
 use Rattle.mailmap_entries.proofs.Results.{on_ok_then}
 use Rattle.mailmap_histories.proofs.Parts.{all_mapped}
-use Rattle.mailmap_batches.proofs.FrontRuns.{run_shortens}
-use Rattle.mailmap_tables.proofs.NamePlaces.{all_rest}
+use Rattle.mailmap_batches.proofs.LeadingNames.{group_shortens}
+use Rattle.mailmap_tables.proofs.NameLookups.{all_rest}
 use Rattle.mailmap_tables.proofs.NamesLoop.{NamesState, names_start, names_step, names_end}
 use Rattle.mailmap_tables.proofs.join.join_names.Goals as goal
 
@@ -18,24 +18,24 @@ loop-left-init c = (names_start _ _ _ c.requires.kept_ascend c.requires.named_as
 pub loop-left-preserved : goal.loop-left-preserved
 loop-left-preserved c =
     let left = c.loop-left.left.now in
-    let len = c.front_name-len.result.1 in
+    let len = c.leading_name-len.result.1 in
     let named0 = all_mapped mapping_at IsNamed c.args.named.now c.requires.named in
-    subst (λ (l : List Placed). NamesState (map (name_group c.args.out.now.pool) c.args.kept.now) (map mapping_at c.args.named.now) c.args.out.now (map (name_group c.put_name.new.out.pool) c.in_ok-standing.standing.now) (map mapping_at l) c.put_name.new.out
-    × AllByRecursion (NameLies (length c.put_name.new.out.pool)) c.in_ok-standing.standing.now × AllByRecursion (λ p. IsNamed (mapping_at p)) l) (sym c.behind-left.ensures) (
-      names_step _ _ _ named0 _ _ (map mapping_at left) (map mapping_at (drop len left)) _ _ _ c.loop-left.invariant.0 c.in_ok-standing.ensures.put c.front_name-len.ensures.run,
+    subst (λ (l : List IndexedEntry). NamesState (map (name_group c.args.out.now.pool) c.args.kept.now) (map mapping_at c.args.named.now) c.args.out.now (map (name_group c.put_name.new.out.pool) c.in_ok-standing.standing.now) (map mapping_at l) c.put_name.new.out
+    × AllByRecursion (NameLies (length c.put_name.new.out.pool)) c.in_ok-standing.standing.now × AllByRecursion (λ p. IsNamed (mapping_at p)) l) (sym c.after-left.ensures) (
+      names_step _ _ _ named0 _ _ (map mapping_at left) (map mapping_at (drop len left)) _ _ _ c.loop-left.invariant.0 c.in_ok-standing.ensures.put c.leading_name-len.ensures.group,
       c.in_ok-standing.ensures.lie,
       all_rest _ len left c.loop-left.invariant.2,
     )
 
 pub loop-left-smaller : goal.loop-left-smaller
 loop-left-smaller c =
-    let shorter = run_shortens c.loop-left.left.now c.front_name-len.result.1 _ c.front_name-len.ensures.run in
-    omega (arith, shorter, ap length c.behind-left.ensures)
+    let shorter = group_shortens c.loop-left.left.now c.leading_name-len.result.1 _ c.leading_name-len.ensures.group in
+    omega (arith, shorter, ap length c.after-left.ensures)
 
 pub returns : goal.returns
 returns c =
     let left = c.loop-left.left.now in
     let none : left ≡ [] = nil_from_length left (omega (arith, eqb-true _ _ (sym (c.loop-left-test.ensures)))) in
     let named0 = all_mapped mapping_at IsNamed c.args.named.now c.requires.named in
-    let state = subst (λ (l : List Placed). NamesState (map (name_group c.args.out.now.pool) c.args.kept.now) (map mapping_at c.args.named.now) c.args.out.now (map (name_group c.loop-left.out.pool) c.loop-left.standing.now) (map mapping_at l) c.loop-left.out) none c.loop-left.invariant.0 in
+    let state = subst (λ (l : List IndexedEntry). NamesState (map (name_group c.args.out.now.pool) c.args.kept.now) (map mapping_at c.args.named.now) c.args.out.now (map (name_group c.loop-left.out.pool) c.loop-left.standing.now) (map mapping_at l) c.loop-left.out) none c.loop-left.invariant.0 in
     on_ok_then c.push_names.result _ _ (λ is. names_end _ _ _ named0 _ c.loop-left.out c.push_names.new.self state is) c.push_names.ensures

@@ -3,25 +3,25 @@ use Rattle.std.specs.List.{AllByRecursion}
 use Rattle.mailmap_entries.specs.Entries.{mapping_of}
 use Rattle.mailmap_tables.specs.Groups.{AreGroups, Contents, listing}
 use Rattle.mailmap_histories.specs.Histories.{IsNormal, is_accepted, key, key_cmp}
-use Rattle.mailmap_batches.specs.Batches.{IsAscending, mapping_at, placed_at}
+use Rattle.mailmap_batches.specs.Batches.{IsAscending, mapping_at, indexed_mapping}
 use Rattle.mailmap_tables.specs.Merging.{AllJoined}
-use Rattle.mailmap_batches.specs.declared.indexed.Placed.{Placed}
+use Rattle.mailmap_batches.specs.declared.indexed.IndexedEntry.{IndexedEntry}
 use Rattle.mailmap_batches.proofs.Numbered.{mapped_twice}
 use Rattle.mailmap_entries.proofs.Results.{if_ok_then}
-use Rattle.mailmap_tables.proofs.WholeMerge.{sorted_all, joined_normal, of_placed}
+use Rattle.mailmap_tables.proofs.WholeMerge.{sorted_all, joined_normal, of_indexed}
 use Rattle.mailmap_tables.proofs.join.joined.Goals as goal
 
 pub join_sorted-requires-clause-accepted : goal.join_sorted-requires-clause-accepted
 join_sorted-requires-clause-accepted c =
     let items = c.in_ok-batch.batch.items in
-    subst (λ (l : List Placed). AllByRecursion (λ m. is_accepted m ≡ true) (map mapping_at l)) (sym c.deref.ensures.value)
-    (of_placed (λ m. is_accepted m ≡ true) items (sorted_all (λ m. is_accepted m ≡ true) (map mapping_of c.args.entries.now) (map placed_at items) c.in_ok-batch.ensures c.requires.accepted))
+    subst (λ (l : List IndexedEntry). AllByRecursion (λ m. is_accepted m ≡ true) (map mapping_at l)) (sym c.deref.ensures.value)
+    (of_indexed (λ m. is_accepted m ≡ true) items (sorted_all (λ m. is_accepted m ≡ true) (map mapping_of c.args.entries.now) (map indexed_mapping items) c.in_ok-batch.ensures c.requires.accepted))
 
 pub join_sorted-requires-clause-ascending : goal.join_sorted-requires-clause-ascending
 join_sorted-requires-clause-ascending c =
     let items = c.in_ok-batch.batch.items in
-    subst (λ (l : List Placed). IsAscending key_cmp (map key (map mapping_at l))) (sym c.deref.ensures.value)
-    (subst (IsAscending key_cmp) (mapped_twice placed_at (λ p. key p.1) items ∙ sym (mapped_twice mapping_at key items)) c.in_ok-batch.ensures.ascending)
+    subst (λ (l : List IndexedEntry). IsAscending key_cmp (map key (map mapping_at l))) (sym c.deref.ensures.value)
+    (subst (IsAscending key_cmp) (mapped_twice indexed_mapping (λ p. key p.1) items ∙ sym (mapped_twice mapping_at key items)) c.in_ok-batch.ensures.ascending)
 
 pub returns : goal.returns
 returns c =
@@ -30,14 +30,14 @@ returns c =
     let stands : gs ≡ c.args.standing.now.groups = ap (λ (v : Contents). v.groups) c.view.ensures in
     let xs = map mapping_of c.args.entries.now in
     if_ok_then c.join_sorted.result _ _ _ (λ (made : Contents) j none. (
-      record { groups = j.groups; no_loose = none },
+      record { groups = j.groups; none_pending = none },
       subst (λ g. IsNormal (listing g ++ xs) (listing made.groups)) stands
-          (joined_normal gs (subst AreGroups (sym stands) c.requires.standing) xs c.requires.accepted (map placed_at items) c.in_ok-batch.ensures made.groups
-          (subst (λ (l : List Placed). AllJoined gs (map placed_at l) made.groups) c.deref.ensures.value j)),
-    )) c.join_sorted.ensures.joined c.join_sorted.ensures.no_loose
+          (joined_normal gs (subst AreGroups (sym stands) c.requires.standing) xs c.requires.accepted (map indexed_mapping items) c.in_ok-batch.ensures made.groups
+          (subst (λ (l : List IndexedEntry). AllJoined gs (map indexed_mapping l) made.groups) c.deref.ensures.value j)),
+    )) c.join_sorted.ensures.joined c.join_sorted.ensures.none_pending
 
 pub join_sorted-requires-clause-standing : goal.join_sorted-requires-clause-standing
 join_sorted-requires-clause-standing c = subst (λ (v : Contents). AreGroups v.groups) (sym c.view.ensures) c.requires.standing
 
 pub join_sorted-requires-clause-out : goal.join_sorted-requires-clause-out
-join_sorted-requires-clause-out c = c.in_ok-out.ensures ∙ ap (λ (v : Contents). record { pool = v.pool; groups = []; loose = [] }) (sym c.view.ensures)
+join_sorted-requires-clause-out c = c.in_ok-out.ensures ∙ ap (λ (v : Contents). record { pool = v.pool; groups = []; pending = [] }) (sym c.view.ensures)

@@ -3,9 +3,9 @@ use Rattle.mailmap_tables.proofs.Passing.{names_of_all}
 use Rattle.mailmap_tables.proofs.join.pass_emails.Given as goal
 
 -- the names of the emails that are left to pass have gone ahead
-abbrev pub invariant-loop-place : goal.invariant-loop-place
-invariant-loop-place l = l.out ≡ record {
+abbrev pub invariant-loop-index : goal.invariant-loop-index
+invariant-loop-index l = l.out ≡ record {
   pool = l.fn.out.pool;
-  groups = l.fn.out.groups ++ take (l.place - l.from) (drop l.from l.standing.groups);
-  loose = names_of_all (take (l.to - l.place) (drop l.place l.standing.groups));
+  groups = l.fn.out.groups ++ take (l.index - l.from) (drop l.from l.standing.groups);
+  pending = names_of_all (take (l.to - l.index) (drop l.index l.standing.groups));
 }

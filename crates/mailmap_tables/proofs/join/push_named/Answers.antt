@@ -8,8 +8,8 @@ returns-clause-grown c =
     let grown = c.in_ok-row.ensures.grown in
     on_ok_then c.push_name.result _ _ (λ is. (grown.0, ap (λ (v : Contents). v.pool) is ∙ ap (λ (v : Contents). v.pool) grown.1)) c.push_name.ensures
 
-pub returns-clause-loose : goal.returns-clause-loose
-returns-clause-loose c =
+pub returns-clause-pending : goal.returns-clause-pending
+returns-clause-pending c =
     let grown = c.in_ok-row.ensures.grown in
     let group = c.in_ok-row.ensures.spells in
-    on_ok_then c.push_name.result _ _ (λ is. ap (λ (v : Contents). v.loose) is ∙ (λ i. (grown.1 i).loose ++ group i ∷ [])) c.push_name.ensures
+    on_ok_then c.push_name.result _ _ (λ is. ap (λ (v : Contents). v.pending) is ∙ (λ i. (grown.1 i).pending ++ group i ∷ [])) c.push_name.ensures

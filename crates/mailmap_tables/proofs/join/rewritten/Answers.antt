@@ -19,10 +19,10 @@ joined-requires-clause-accepted c =
 
 pub returns : goal.returns
 returns c =
-    let stood = c.args.tables.now.groups in
+    let existing = c.args.tables.now.groups in
     let said = c.as_slice.result.now in
     let listed = ap (λ (t : Contents). listing t.groups ++ map mapping_of said) c.new.ensures ∙ ap (map mapping_of) c.as_slice.ensures.value ∙ c.in_ok-entries.ensures in
     if_ok_map c.joined-2.result _ _ (λ (made : Contents) d. (
       d.0,
-      normal_unique (listing stood) (listing made.groups) (listing stood) (subst (λ l. IsNormal l (listing made.groups)) listed d.1) (groups_normal stood c.requires.groups),
+      normal_unique (listing existing) (listing made.groups) (listing existing) (subst (λ l. IsNormal l (listing made.groups)) listed d.1) (groups_normal existing c.requires.groups),
     )) c.joined-2.ensures

@@ -1,5 +1,5 @@
 use Rattle.std.proofs.Common.{length, ap, arith}
-use Rattle.mailmap_tables.specs.Room.{optional_bytes}
+use Rattle.mailmap_tables.specs.Reserved.{optional_bytes}
 use Rattle.mailmap_tables.proofs.lengths.entry_len.Goals as goal
 
 pub returns : goal.returns

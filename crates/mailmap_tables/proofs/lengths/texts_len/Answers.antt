@@ -1,8 +1,8 @@
-use Rattle.std.proofs.Common.{◌≡◌, ◌<◌, ◌+◌, get_or, length, map, sum_by, take, take_all, ap, sym, ◌∙◌, arith}
+use Rattle.std.proofs.Common.{◌≡◌, ◌<◌, ◌+◌, get_or, length, map, sum_by, take_all, ap, sym, ◌∙◌, arith}
 use Rattle.std.proofs.lemmas.List.{get_or-map, length-map, take-map}
 use Rattle.std.proofs.lemmas.List.Sums.{sum_by_more}
 use Rattle.mailmap_entries.specs.Entries.{mapping_of}
-use Rattle.mailmap_tables.specs.Room.{entry_bytes}
+use Rattle.mailmap_tables.specs.Reserved.{entry_bytes}
 use Rattle.mailmap_tables.proofs.lengths.texts_len.Goals as goal
 
 pub loop-entry-preserved : goal.loop-entry-preserved

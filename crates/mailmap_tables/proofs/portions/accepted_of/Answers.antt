@@ -28,8 +28,8 @@ loop-entry-preserved-in-Continue-1 g c =
       kept = subst (λ h. IsCollected c.args.standing.now h c.push.new.self.made (map mapping_of c.push.new.self.batch.items)) (sym (map_push mapping_of xs x)) kept;
     }
 
-pub returns-in_err-push-clause-refused : goal.returns-in_err-push-clause-refused
-returns-in_err-push-clause-refused g c =
+pub returns-in_err-push-clause-out_of_memory : goal.returns-in_err-push-clause-out_of_memory
+returns-in_err-push-clause-out_of_memory g c =
     let xs = c.loop-entry.yielded in
     let x = c.in-Some.entry in
     let more = Yields-more g.I.Iterator.next_gives c.into_iter-entry-iterator.result xs c.loop-entry.entry-iterator x c.next.new.self c.loop-entry.yielded_by c.in-Some.ensures.steps in

@@ -1,5 +1,5 @@
 use Rattle.std.proofs.Common.{◌≡◌, ◌++◌, map, take, drop}
-use Rattle.mailmap_tables.specs.Room.{one_later}
+use Rattle.mailmap_tables.specs.Reserved.{one_later}
 use Rattle.mailmap_tables.proofs.reserved.stand_later.Given as goal
 
 abbrev pub invariant-loop-row : goal.invariant-loop-row

@@ -4,9 +4,9 @@ use Rattle.std.specs.Cmp.Lexicographic.{nat_list_cmp_total}
 use Rattle.std.proofs.lemmas.List.{drop-map}
 use Rattle.mailmap_entries.specs.Folding.{folded, text_cmp}
 use Rattle.mailmap_tables.specs.Groups.{email_key}
-use Rattle.mailmap_tables.specs.Places.{IsFound, IsMissing}
+use Rattle.mailmap_tables.specs.KeySearch.{IsFound, IsMissing}
 use Rattle.mailmap_entries.proofs.Lookups.{IsPartitioned-from_ascending}
-use Rattle.mailmap_tables.proofs.Places.{sorted_drop, found_from, missing_from}
+use Rattle.mailmap_tables.proofs.KeySearch.{sorted_drop, found_from, missing_from}
 use Rattle.mailmap_entries.proofs.Search.{digits-le}
 use Rattle.mailmap_tables.proofs.search.search_email.Goals as goal
 

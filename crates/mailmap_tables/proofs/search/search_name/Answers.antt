@@ -6,10 +6,10 @@ use Rattle.std.proofs.lemmas.List.{length-map}
 use Rattle.mailmap_entries.specs.Folding.{folded, text_cmp}
 use Rattle.mailmap_tables.specs.Groups.{name_key}
 use Rattle.mailmap_batches.specs.Given.{NameGroup}
-use Rattle.mailmap_tables.specs.Places.{IsFound, IsMissing}
+use Rattle.mailmap_tables.specs.KeySearch.{IsFound, IsMissing}
 use Rattle.mailmap_tables.specs.Pool.{name_group}
 use Rattle.mailmap_entries.proofs.Lookups.{IsPartitioned-from_ascending}
-use Rattle.mailmap_tables.proofs.Places.{found_from, missing_from, if_ok, if_missing}
+use Rattle.mailmap_tables.proofs.KeySearch.{found_from, missing_from, if_ok, if_missing}
 use Rattle.mailmap_tables.proofs.search.search_name.Goals as goal
 
 pub search-found-requires-clause-parted : goal.search-found-requires-clause-parted

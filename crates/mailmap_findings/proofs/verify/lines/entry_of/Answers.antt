@@ -5,7 +5,7 @@ use Rattle.mailmap_entries.specs.Entries.{mapping_of}
 use Rattle.mailmap_entries.specs.declared.entry.Entry.{Entry}
 use Rattle.mailmap_grammar.specs.Lines.{reading_of}
 use Rattle.mailmap_grammar.specs.declared.lines.Error.{Error}
-use Rattle.mailmap_findings.specs.Places.{entry}
+use Rattle.mailmap_findings.specs.Positions.{entry}
 use Rattle.mailmap_findings.proofs.verify.lines.entry_of.Goals as goal
 
 good_item : (item : Result Entry Error) → option_map mapping_of (result_ok item) ≡ result_ok (reading_of item)

@@ -1,6 +1,6 @@
 use Rattle.std.proofs.Common.{[], ◌++◌, ◌∙◌, Bor, ap, get_or, map, sym}
 use Rattle.mailmap_entries.specs.Folding.{Text}
-use Rattle.mailmap_findings.specs.Places.{buffer_lines, line_of}
+use Rattle.mailmap_findings.specs.Positions.{buffer_lines, line_of}
 use Rattle.mailmap_findings.proofs.Placing.{lines_from-nil, buffers_more}
 use Rattle.mailmap_findings.proofs.verify.lines.read_lines.Goals as goal
 

@@ -1,5 +1,5 @@
 use Rattle.std.proofs.Common.{◌≡◌, map, take}
-use Rattle.mailmap_findings.specs.Places.{line_of, lines}
+use Rattle.mailmap_findings.specs.Positions.{line_of, lines}
 use Rattle.mailmap_findings.proofs.verify.lines.read_lines.Given as goal
 
 abbrev pub invariant-loop-number : goal.invariant-loop-number

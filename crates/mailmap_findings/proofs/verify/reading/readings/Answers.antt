@@ -1,10 +1,10 @@
 use Rattle.std.proofs.Common.{◌++◌, ◌∙◌, ap, get_or, map, option_to_list, sym, take}
 use Rattle.std.specs.List.{filter_map}
 use Rattle.std.specs.Option.{option_map}
-use Rattle.mailmap_findings.specs.Places.{line_of, placed, placed_entry}
-use Rattle.mailmap_findings.specs.Steps.{told_alone}
+use Rattle.mailmap_findings.specs.Positions.{line_of, located, located_entry}
+use Rattle.mailmap_findings.specs.Steps.{reported_by_reading}
 use Rattle.mailmap_findings.proofs.Entries.{lines_more, no_line}
-use Rattle.mailmap_findings.proofs.Meeting.{given_more, mapped, told_at, with_place}
+use Rattle.mailmap_findings.proofs.Meeting.{given_more, mapped, reported_at, with_position}
 use Rattle.mailmap_findings.proofs.verify.reading.readings.Goals as goal
 
 pub loop-line-preserved : goal.loop-line-preserved
@@ -16,12 +16,12 @@ loop-line-preserved c =
     let before = c.loop-line.invariant in
     let more = lines_more ls i no_line c.loop-line-test.true in (
       c.in_ok-push_kind.ensures
-          ∙ (λ j. before.0 j ++ map (told_at l) (option_to_list (c.read_strictly.ensures.told j)))
-          ∙ ap (λ fs. filter_map told_alone front ++ fs) (mapped (told_at l) _)
-          ∙ sym (given_more told_alone front l)
-          ∙ ap (filter_map told_alone) (sym more),
+          ∙ (λ j. before.0 j ++ map (reported_at l) (option_to_list (c.read_strictly.ensures.reported j)))
+          ∙ ap (λ fs. filter_map reported_by_reading front ++ fs) (mapped (reported_at l) _)
+          ∙ sym (given_more reported_by_reading front l)
+          ∙ ap (filter_map reported_by_reading) (sym more),
       c.in_ok-push_entry.ensures
-          ∙ (λ j. before.1 j ++ option_to_list (option_map (with_place l) (c.read_strictly.ensures.entry j)))
-          ∙ sym (given_more placed_entry front l)
-          ∙ ap placed (sym more),
+          ∙ (λ j. before.1 j ++ option_to_list (option_map (with_position l) (c.read_strictly.ensures.entry j)))
+          ∙ sym (given_more located_entry front l)
+          ∙ ap located (sym more),
     )

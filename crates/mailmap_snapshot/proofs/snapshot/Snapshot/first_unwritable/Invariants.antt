@@ -5,6 +5,6 @@ use Rattle.mailmap_snapshot.proofs.snapshot.Snapshot.first_unwritable.Given as g
 
 abbrev pub invariant-loop-entry : goal.invariant-loop-entry
 invariant-loop-entry l = record {
-  left : drop l.place l.fn.self ≡ l.entry-iterator;
-  before : AllByRecursion IsWritable (take l.place l.fn.self);
+  left : drop l.index l.fn.self ≡ l.entry-iterator;
+  before : AllByRecursion IsWritable (take l.index l.fn.self);
 }

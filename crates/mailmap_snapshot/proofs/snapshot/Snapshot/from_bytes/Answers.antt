@@ -13,8 +13,8 @@ returns-clause-ok c =
     sym (yields_front mapping_of (λ s. s) d.0 c.parse_ignore_errors.result d.1.1.0 d.1.1.1 ∙ ap (λ l. map mapping_of d.0 ++ l) d.1.1.2.0 ∙ append-nil (map mapping_of d.0)) ∙ c.parse_ignore_errors.ensures.value in
     subst (λ h. IsNormal h made) all d.2) c.new.ensures.ok
 
-pub returns-clause-refused : goal.returns-clause-refused
-returns-clause-refused c =
+pub returns-clause-out_of_memory : goal.returns-clause-out_of_memory
+returns-clause-out_of_memory c =
     on_err_map c.new.result _ (accepted (good c.args.buf.now) ≢ []) (λ d.
     subst (λ l. accepted l ≢ []) (sym (yields_front mapping_of (λ s. s) d.0 c.parse_ignore_errors.result d.1 d.2) ∙ c.parse_ignore_errors.ensures.value)
-    (accepted_front (map mapping_of d.0) d.1 d.3)) c.new.ensures.refused
+    (accepted_front (map mapping_of d.0) d.1 d.3)) c.new.ensures.out_of_memory

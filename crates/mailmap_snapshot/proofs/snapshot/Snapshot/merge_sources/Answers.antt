@@ -11,7 +11,7 @@ loop-i-init c = record {
   marks = sym c.requires;
   own = subst (λ n. IsNormal n n) c.self.view_is (groups_normal c.self.inside.tables.groups c.self.invariant.groups);
   normal = normal_start c.args.self.now (subst (λ n. IsNormal n n) c.self.view_is (groups_normal c.self.inside.tables.groups c.self.invariant.groups));
-  unrefused = λ k s below. absurd (omega arith);
+  never_out_of_memory = λ k s below. absurd (omega arith);
 }
 
 pub loop-i-preserved : goal.loop-i-preserved
@@ -26,14 +26,14 @@ loop-i-preserved c =
       own = c.loop-i.invariant.own;
       normal = normal_more sources made i s c.merge_source.result c.is_ok.result c.is_ok.ensures.value within c.loop-i.invariant.marks c.index-sources-i.is
           c.args.self.now c.loop-i.self c.merge_source.new.self c.loop-i.invariant.normal c.merge_source.ensures.ok c.merge_source.ensures.err;
-      unrefused = marks_more sources made i s c.merge_source.result c.is_ok.result c.is_ok.ensures.value within c.loop-i.invariant.marks c.index-sources-i.is
-          c.merge_source.ensures.refused c.loop-i.invariant.unrefused;
+      never_out_of_memory = marks_more sources made i s c.merge_source.result c.is_ok.result c.is_ok.ensures.value within c.loop-i.invariant.marks c.index-sources-i.is
+          c.merge_source.ensures.out_of_memory c.loop-i.invariant.never_out_of_memory;
     }
 
-pub returns-clause-unrefused : goal.returns-clause-unrefused
-returns-clause-unrefused c i s at none =
+pub returns-clause-never_out_of_memory : goal.returns-clause-never_out_of_memory
+returns-clause-never_out_of_memory c i s at none =
     let within : i < length c.args.sources.now = slice_get_within c.args.sources.now i s at in
-    c.loop-i.invariant.unrefused i s (omega arith) at none
+    c.loop-i.invariant.never_out_of_memory i s (omega arith) at none
 
 pub returns-clause-merged : goal.returns-clause-merged
 returns-clause-merged c =
@@ -42,4 +42,4 @@ returns-clause-merged c =
 pub returns-clause-none_made : goal.returns-clause-none_made
 returns-clause-none_made c none =
     let merged = sources_merged c.args.sources.now c.loop-i.made c.loop-i.i c.args.self.now c.loop-i.self (omega arith) c.loop-i.invariant.marks c.loop-i.invariant.own c.loop-i.invariant.normal in
-    merged.idle (ap accepted (none_said c.args.sources.now c.loop-i.made (recursion_from_All _ c.loop-i.made none)))
+    merged.unchanged (ap accepted (none_said c.args.sources.now c.loop-i.made (recursion_from_All _ c.loop-i.made none)))

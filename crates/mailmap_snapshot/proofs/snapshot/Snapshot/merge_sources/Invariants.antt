@@ -1,7 +1,7 @@
 use Rattle.std.proofs.Common.{◌≡◌, ◌++◌, length, take}
 use Rattle.mailmap_histories.specs.Histories.{IsNormal}
 use Rattle.mailmap_snapshot.specs.Sources.{history}
-use Rattle.mailmap_snapshot.proofs.Sources.{MarksIdle}
+use Rattle.mailmap_snapshot.proofs.Sources.{MarksUnchanged}
 use Rattle.mailmap_snapshot.proofs.snapshot.Snapshot.merge_sources.Given as goal
 
 abbrev pub invariant-loop-i : goal.invariant-loop-i
@@ -10,5 +10,5 @@ invariant-loop-i l =
       marks : length l.made ≡ length l.sources;
       own : IsNormal l.fn.self l.fn.self;
       normal : IsNormal (l.fn.self ++ history (take l.i l.sources) (take l.i l.made)) l.self;
-      unrefused : MarksIdle l.sources l.made l.i;
+      never_out_of_memory : MarksUnchanged l.sources l.made l.i;
     }

@@ -15,7 +15,7 @@ returns-in_default-clause-at_least c =
 
 pub search_name-requires-clause-ascending : goal.search_name-requires-clause-ascending
 search_name-requires-clause-ascending c =
-    names_ascend c.args.tables.now.groups c.requires.groups c.args.email.now c.in-Ok.place c.in-Ok.ensures.found
+    names_ascend c.args.tables.now.groups c.requires.groups c.args.email.now c.in-Ok.index c.in-Ok.ensures.found
     c.args.tables.now.pool c.email.result.0 c.email.result.1.now c.email.ensures.group
 
 pub returns-in-Ok-search_name-clause-fields : goal.returns-in-Ok-search_name-clause-fields
@@ -24,20 +24,20 @@ returns-in-Ok-search_name-clause-fields c =
     let given = c.fields-new_name.ensures in
     c.answer.ensures.fields
     ∙ (λ k. answered c.args.email.now (record { name = option_map (spelled pool) (given.new_name k); email = option_map (spelled pool) (given.new_email k) }) (Some (spelled pool (c.old.ensures k))))
-    ∙ sym (scan_at_name c.args.tables.now.groups c.requires.groups c.args.email.now c.in-Ok.place c.in-Ok.ensures.found
+    ∙ sym (scan_at_name c.args.tables.now.groups c.requires.groups c.args.email.now c.in-Ok.index c.in-Ok.ensures.found
     c.args.tables.now.pool c.email.result.0 c.email.result.1.now c.email.ensures.group c.args.name.now c.in-Ok-search_name.i _ c.email.ensures.lie.names_lie c.in-Ok-search_name.ensures.found)
 
 pub returns-in-Ok-search_name-clause-at_most : goal.returns-in-Ok-search_name-clause-at_most
 returns-in-Ok-search_name-clause-at_most c =
     let groups = c.args.tables.now.groups in
     let emails : digits (length groups - 0) ≡ digits (length groups) = ap digits (omega arith) in
-    let names = names_counted groups c.requires.groups c.args.email.now c.in-Ok.place c.in-Ok.ensures.found
+    let names = names_counted groups c.requires.groups c.args.email.now c.in-Ok.index c.in-Ok.ensures.found
     c.args.tables.now.pool c.email.result.0 c.email.result.1.now c.email.ensures.group in
     omega (arith, emails, ap digits names, c.in-Ok.ensures.at_most, c.in-Ok-search_name.ensures.at_most)
 
 pub returns-in-Ok-search_name-clause-at_least : goal.returns-in-Ok-search_name-clause-at_least
 returns-in-Ok-search_name-clause-at_least c =
-    let names = names_counted c.args.tables.now.groups c.requires.groups c.args.email.now c.in-Ok.place c.in-Ok.ensures.found
+    let names = names_counted c.args.tables.now.groups c.requires.groups c.args.email.now c.in-Ok.index c.in-Ok.ensures.found
     c.args.tables.now.pool c.email.result.0 c.email.result.1.now c.email.ensures.group in
     omega (arith, names, c.in-Ok.ensures.at_least, c.in-Ok-search_name.ensures.at_least)
 
@@ -47,19 +47,19 @@ returns-in-Err-clause-fields c =
     let given = c.fields-new_name-in-Err.ensures in
     c.answer-in-Err.ensures.fields
     ∙ (λ k. answered c.args.email.now (record { name = option_map (spelled pool) (given.new_name k); email = option_map (spelled pool) (given.new_email k) }) (Some (spelled pool (c.old-in-Err.ensures k))))
-    ∙ sym (scan_at_email c.args.tables.now.groups c.requires.groups c.args.email.now c.in-Ok.place c.in-Ok.ensures.found
+    ∙ sym (scan_at_email c.args.tables.now.groups c.requires.groups c.args.email.now c.in-Ok.index c.in-Ok.ensures.found
     c.args.tables.now.pool c.email.result.0 c.email.result.1.now c.email.ensures.group c.args.name.now c.in-Err.field-0 c.in-Err.ensures.missing)
 
 pub returns-in-Err-clause-at_most : goal.returns-in-Err-clause-at_most
 returns-in-Err-clause-at_most c =
     let groups = c.args.tables.now.groups in
     let emails : digits (length groups - 0) ≡ digits (length groups) = ap digits (omega arith) in
-    let names = names_counted groups c.requires.groups c.args.email.now c.in-Ok.place c.in-Ok.ensures.found
+    let names = names_counted groups c.requires.groups c.args.email.now c.in-Ok.index c.in-Ok.ensures.found
     c.args.tables.now.pool c.email.result.0 c.email.result.1.now c.email.ensures.group in
     omega (arith, emails, ap digits names, c.in-Ok.ensures.at_most, c.in-Err.ensures.at_most)
 
 pub returns-in-Err-clause-at_least : goal.returns-in-Err-clause-at_least
 returns-in-Err-clause-at_least c =
-    let names = names_counted c.args.tables.now.groups c.requires.groups c.args.email.now c.in-Ok.place c.in-Ok.ensures.found
+    let names = names_counted c.args.tables.now.groups c.requires.groups c.args.email.now c.in-Ok.index c.in-Ok.ensures.found
     c.args.tables.now.pool c.email.result.0 c.email.result.1.now c.email.ensures.group in
     omega (arith, names, c.in-Ok.ensures.at_least, c.in-Err.ensures.at_least)

@@ -1,15 +1,13 @@
-use Rattle.std.proofs.Common.{◌≡◌, ◌≤◌, ◌+◌, ◌∙◌, length, vec_len, vec_capacity, Option, Some, None, refl, sym, ap, arith}
+use Rattle.std.proofs.Common.{◌≡◌, ◌∙◌, Option, Some, None, refl, sym, ap, arith}
 use Rattle.std.specs.Option.{option_or}
 use Rattle.mailmap_entries.specs.Folding.{Text}
-use Rattle.mailmap_tables.specs.Merging.{Extends}
 use Rattle.mailmap_batches.specs.Given.{named_group}
-use Rattle.mailmap_tables.specs.Pool.{name_group, spelled}
-use Rattle.mailmap_tables.specs.Room.{optional_bytes}
+use Rattle.mailmap_tables.specs.Reserved.{optional_bytes}
 use Rattle.mailmap_tables.specs.Texts.{span_bytes}
 use Rattle.mailmap_tables.proofs.Bytes.{spans_bytes}
 use Rattle.mailmap_entries.proofs.Results.{if_ok_map}
 use Rattle.mailmap_tables.proofs.EmailPuts.{options_on, spelled_on}
-use Rattle.mailmap_tables.proofs.NamePlaces.{extends_through}
+use Rattle.mailmap_tables.proofs.NameLookups.{extends_through}
 use Rattle.mailmap_tables.proofs.RowTexts.{row_group}
 use Rattle.mailmap_tables.proofs.pool.Pool.name_row.Goals as goal
 
@@ -37,4 +35,4 @@ returns-clause-succeeds c =
     let name = c.in_ok-new_name.ensures in
     let email = c.in_ok-new_email.ensures in
     let name_len : span_bytes c.in_ok-new_name.new_name ≡ optional_bytes (named_group c.args.named).new_name = sym (spans_bytes _ c.in_ok-new_name.new_name name.lies) ∙ ap optional_bytes (name.spells ∙ or_none (named_group c.args.named).new_name) in
-    λ room. c.together.ensures.succeeds (omega (arith, room, name_len, email.len, name.bytes, email.bytes, name.capacity, email.capacity, c.args.self.now.bytes.ok.0, c.push_text.new.self.bytes.ok.0))
+    λ reserved. c.together.ensures.succeeds (omega (arith, reserved, name_len, email.len, name.bytes, email.bytes, name.capacity, email.capacity, c.args.self.now.bytes.ok.0, c.push_text.new.self.bytes.ok.0))

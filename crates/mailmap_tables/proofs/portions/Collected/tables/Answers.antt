@@ -23,4 +23,4 @@ returns c =
     let joined = c.in_ok-joined.ensures in
     let put : IsNormal (listing base.groups ++ entries) (listing c.in_ok-joined.field-0.groups) = subst (λ (b : Contents). IsNormal (listing b.groups ++ entries) (listing c.in_ok-joined.field-0.groups)) c.base.ensures
     (subst (λ (l : List Item). IsNormal (listing c.base.result.now.groups ++ map mapping_of l) (listing c.in_ok-joined.field-0.groups)) c.deref.ensures.value joined.1) in
-    if_ok_map c.thinned.result _ _ (λ (t : Contents) d. λ h is. collected_joined c.args.standing.now h c.args.self.now.made entries is t d.0 (subst (IsNormal (listing base.groups ++ entries)) (sym d.1) put)) c.thinned.ensures
+    if_ok_map c.without_unused_texts.result _ _ (λ (t : Contents) d. λ h is. collected_joined c.args.standing.now h c.args.self.now.made entries is t d.0 (subst (IsNormal (listing base.groups ++ entries)) (sym d.1) put)) c.without_unused_texts.ensures

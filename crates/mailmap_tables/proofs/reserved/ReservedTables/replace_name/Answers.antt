@@ -2,7 +2,7 @@ use Rattle.std.proofs.Common.{◌≡◌, ◌<◌, ◌+◌, ◌-◌, ◌∙◌, r
 use Rattle.std.proofs.lemmas.List.{length-map}
 use Rattle.mailmap_tables.specs.Groups.{Contents, EmailGroup}
 use Rattle.mailmap_tables.specs.Pool.{contents, email_group, name_group}
-use Rattle.mailmap_tables.specs.Room.{Room, with_email_at}
+use Rattle.mailmap_tables.specs.Reserved.{Reserved, with_email_at}
 use Rattle.mailmap_tables.proofs.RowEdits.{at_group, contents-set_name, from_group, names_count, names_within, stands_up}
 use Rattle.mailmap_tables.proofs.reserved.ReservedTables.replace_name.Goals as goal
 
@@ -13,9 +13,9 @@ prove-unreachable-requires c =
     let names = old.names.items in
     let es = old.emails.items in
     let e = c.index.result.now in
-    let held : contents pool names es ≡ c.args.self.now.held = ap (λ (r : Room). r.held) c.self.view_is in
+    let held : contents pool names es ≡ c.args.self.now.held = ap (λ (r : Reserved). r.held) c.self.view_is in
     let lt : c.args.email < length es = omega (arith, c.requires.email, ap (λ (v : Contents). length v.groups) held, length-map es (email_group pool names)) in
-    let less = from_group pool names es c.args.self.now.held c.args.email e (λ (g : EmailGroup). c.args.place < length g.names) held lt c.index.ensures c.requires.place in
+    let less = from_group pool names es c.args.self.now.held c.args.email e (λ (g : EmailGroup). c.args.index < length g.names) held lt c.index.ensures c.requires.index in
     let count = names_count pool names es c.self.invariant c.args.email e lt c.index.ensures in
     let within = names_within pool names es c.self.invariant c.args.email e lt c.index.ensures in
     omega (arith, less, count, within, c.if-prove.true, c.len.ensures, old.names.ok.0)
@@ -27,9 +27,9 @@ overflow_add-start c =
     let names = old.names.items in
     let es = old.emails.items in
     let e = c.index.result.now in
-    let held : contents pool names es ≡ c.args.self.now.held = ap (λ (r : Room). r.held) c.self.view_is in
+    let held : contents pool names es ≡ c.args.self.now.held = ap (λ (r : Reserved). r.held) c.self.view_is in
     let lt : c.args.email < length es = omega (arith, c.requires.email, ap (λ (v : Contents). length v.groups) held, length-map es (email_group pool names)) in
-    let less = from_group pool names es c.args.self.now.held c.args.email e (λ (g : EmailGroup). c.args.place < length g.names) held lt c.index.ensures c.requires.place in
+    let less = from_group pool names es c.args.self.now.held c.args.email e (λ (g : EmailGroup). c.args.index < length g.names) held lt c.index.ensures c.requires.index in
     let count = names_count pool names es c.self.invariant c.args.email e lt c.index.ensures in
     let within = names_within pool names es c.self.invariant c.args.email e lt c.index.ensures in
     let up = stands_up pool names es c.self.invariant c.args.email e lt c.index.ensures in
@@ -42,9 +42,9 @@ index_mut-requires c =
     let names = old.names.items in
     let es = old.emails.items in
     let e = c.index.result.now in
-    let held : contents pool names es ≡ c.args.self.now.held = ap (λ (r : Room). r.held) c.self.view_is in
+    let held : contents pool names es ≡ c.args.self.now.held = ap (λ (r : Reserved). r.held) c.self.view_is in
     let lt : c.args.email < length es = omega (arith, c.requires.email, ap (λ (v : Contents). length v.groups) held, length-map es (email_group pool names)) in
-    let less = from_group pool names es c.args.self.now.held c.args.email e (λ (g : EmailGroup). c.args.place < length g.names) held lt c.index.ensures c.requires.place in
+    let less = from_group pool names es c.args.self.now.held c.args.email e (λ (g : EmailGroup). c.args.index < length g.names) held lt c.index.ensures c.requires.index in
     let count = names_count pool names es c.self.invariant c.args.email e lt c.index.ensures in
     let within = names_within pool names es c.self.invariant c.args.email e lt c.index.ensures in
     let up = stands_up pool names es c.self.invariant c.args.email e lt c.index.ensures in
@@ -58,15 +58,15 @@ returns-clause-held c =
     let es = old.emails.items in
     let email = c.args.email in
     let e = c.index.result.now in
-    let stood = c.args.self.now.held in
-    let held : contents pool names es ≡ stood = ap (λ (v : Room). v.held) c.self.view_is in
+    let existing = c.args.self.now.held in
+    let held : contents pool names es ≡ existing = ap (λ (v : Reserved). v.held) c.self.view_is in
     let lt : email < length es = omega (arith, c.requires.email, ap (λ (v : Contents). length v.groups) held, length-map es (email_group pool names)) in
-    let less = from_group pool names es stood email e (λ (g : EmailGroup). c.args.place < length g.names) held lt c.index.ensures c.requires.place in
+    let less = from_group pool names es existing email e (λ (g : EmailGroup). c.args.index < length g.names) held lt c.index.ensures c.requires.index in
     let count = names_count pool names es c.self.invariant email e lt c.index.ensures in
-    let within : c.args.place < e.names_end - e.names_start = omega (arith, less, count) in
-    let p = e.names_start + c.args.place in
+    let within : c.args.index < e.names_end - e.names_start = omega (arith, less, count) in
+    let p = e.names_start + c.args.index in
     let after = contents pool (set names p c.args.row) es in
-    let P : EmailGroup → Type 0 = λ g. after ≡ with_email_at stood email (record g { names = set g.names c.args.place (name_group stood.pool c.args.row) }) in
-    let at : P (email_group pool names e) = contents-set_name pool names es c.self.invariant email e lt c.index.ensures c.args.place p c.args.row refl within
-    ∙ ap (λ (v : Contents). with_email_at v email (record (email_group pool names e) { names = set (email_group pool names e).names c.args.place (name_group v.pool c.args.row) })) held in
-    at_group pool names es stood email e P held lt c.index.ensures at
+    let P : EmailGroup → Type 0 = λ g. after ≡ with_email_at existing email (record g { names = set g.names c.args.index (name_group existing.pool c.args.row) }) in
+    let at : P (email_group pool names e) = contents-set_name pool names es c.self.invariant email e lt c.index.ensures c.args.index p c.args.row refl within
+    ∙ ap (λ (v : Contents). with_email_at v email (record (email_group pool names e) { names = set (email_group pool names e).names c.args.index (name_group v.pool c.args.row) })) held in
+    at_group pool names es existing email e P held lt c.index.ensures at

@@ -2,7 +2,7 @@ use Rattle.std.proofs.Common.{◌≡◌, ◌≤◌, ◌+◌, ◌-◌, arith, ◌
 use Rattle.std.proofs.lemmas.List.{length-map, length-drop}
 use Rattle.mailmap_tables.specs.Pool.{AreTables, contents, spelled, TextsLie, end_of, name_group, group_of}
 use Rattle.mailmap_entries.specs.Folding.{folded}
-use Rattle.mailmap_entries.specs.Fronts.{front_number}
+use Rattle.mailmap_entries.specs.Prefixes.{key_prefix}
 use Rattle.mailmap_tables.specs.Groups.{Contents}
 use Rattle.mailmap_tables.specs.Texts.{old_span}
 use Rattle.mailmap_tables.proofs.Pooled.{contents-email, tables-email, end_within}
@@ -18,15 +18,15 @@ invariant_of-self-2 c =
     let to : c.last_end-names_start.result + c.args.count ≤ length names = omega (
       arith,
       from,
-      c.requires.loose,
-      ap (λ (v : Contents). length v.loose) c.self.view_is,
+      c.requires.pending,
+      ap (λ (v : Contents). length v.pending) c.self.view_is,
       end_within 0 (length names) emails c.self.invariant.ranges,
       length-map (drop (end_of 0 emails) names) (name_group c.self.inside.pool.bytes.items),
       length-drop (end_of 0 emails) names,
     ) in
-    let front = c.requires.front.is ∙ ap (λ (v : Contents). front_number 16 (folded (spelled v.pool (old_span row)))) (sym c.self.view_is) in
-    subst₂ (λ es fs. AreTables c.self.inside.pool.bytes.items names es fs) (sym c.in_ok-push_row.ensures.emails) (sym c.in_ok-push_row.ensures.fronts)
-    (tables-email _ _ _ c.self.invariant _ from (omega arith) to lies _ front)
+    let prefix = c.requires.prefix.is ∙ ap (λ (v : Contents). key_prefix 16 (folded (spelled v.pool (old_span row)))) (sym c.self.view_is) in
+    subst₂ (λ es fs. AreTables c.self.inside.pool.bytes.items names es fs) (sym c.in_ok-push_row.ensures.emails) (sym c.in_ok-push_row.ensures.prefixes)
+    (tables-email _ _ _ c.self.invariant _ from (omega arith) to lies _ prefix)
 
 pub returns : goal.returns
 returns c =
@@ -36,16 +36,16 @@ returns c =
     let row = c.args.texts in
     let from : c.last_end-names_start.result ≡ end_of 0 emails = c.last_end-names_start.ensures ∙ ap (end_of 0) c.deref.ensures.value in
     let count : c.last_end-names_start.result + c.args.count - c.last_end-names_start.result ≡ c.args.count = omega arith in
-    let loose = (contents pool names emails).loose in
+    let pending = (contents pool names emails).pending in
     ap (λ es. contents pool names es) c.in_ok-push_row.ensures.emails
     ∙ contents-email pool names emails c.self.invariant _ from (omega arith)
     ∙ (λ i. record {
       pool = pool;
-      groups = (contents pool names emails).groups ++ record (group_of pool row []) { names = take (count i) loose } ∷ [];
-      loose = drop (count i) loose;
+      groups = (contents pool names emails).groups ++ record (group_of pool row []) { names = take (count i) pending } ∷ [];
+      pending = drop (count i) pending;
     })
     ∙ ap (λ (v : Contents). record {
       pool = v.pool;
-      groups = v.groups ++ record (group_of v.pool row []) { names = take c.args.count v.loose } ∷ [];
-      loose = drop c.args.count v.loose;
+      groups = v.groups ++ record (group_of v.pool row []) { names = take c.args.count v.pending } ∷ [];
+      pending = drop c.args.count v.pending;
     }) c.self.view_is

@@ -3,7 +3,7 @@ use Rattle.std.proofs.lemmas.List.{take_all, drop_all}
 use Rattle.mailmap_tables.specs.Pool.{AreTables, TextsLie, contents, group_of, spelled, end_of}
 use Rattle.mailmap_tables.specs.Texts.{old_span}
 use Rattle.mailmap_entries.specs.Folding.{folded}
-use Rattle.mailmap_entries.specs.Fronts.{front_number}
+use Rattle.mailmap_entries.specs.Prefixes.{key_prefix}
 use Rattle.mailmap_tables.specs.Groups.{Contents}
 use Rattle.mailmap_tables.specs.declared.tables.EmailRow.{EmailRow}
 use Rattle.mailmap_tables.proofs.Pooled.{contents-email, tables-email, takes_all, end_within}
@@ -17,9 +17,9 @@ invariant_of-self-2 c =
     let to : c.len.result ≡ length names = omega (arith, c.len.ensures, c.self.inside.names.ok.0) in
     let from : c.last_end.result ≡ end_of 0 emails = c.last_end.ensures ∙ ap (end_of 0) c.deref.ensures.value in
     let within : end_of 0 emails ≤ length names = end_within 0 (length names) emails c.self.invariant.ranges in
-    let front = c.front_number-front.ensures.is ∙ ap (λ t. front_number 16 (folded t)) (c.text.ensures ∙ ap (λ s. spelled c.view.result.pool s) c.old.ensures) ∙ ap (λ (v : Contents). front_number 16 (folded (spelled v.pool (old_span c.args.texts)))) (c.view.ensures ∙ back) in
-    subst₂ (λ es fs. AreTables c.self.inside.pool.bytes.items names es fs) (sym c.in_ok-push_row.ensures.emails) (sym c.in_ok-push_row.ensures.fronts)
-    (tables-email _ _ _ c.self.invariant _ from (omega (arith, from, to, within)) (omega (arith, to)) (subst (λ (v : Contents). TextsLie (length v.pool) c.args.texts) back c.requires) _ front)
+    let prefix = c.key_prefix-prefix.ensures.is ∙ ap (λ t. key_prefix 16 (folded t)) (c.text.ensures ∙ ap (λ s. spelled c.view.result.pool s) c.old.ensures) ∙ ap (λ (v : Contents). key_prefix 16 (folded (spelled v.pool (old_span c.args.texts)))) (c.view.ensures ∙ back) in
+    subst₂ (λ es fs. AreTables c.self.inside.pool.bytes.items names es fs) (sym c.in_ok-push_row.ensures.emails) (sym c.in_ok-push_row.ensures.prefixes)
+    (tables-email _ _ _ c.self.invariant _ from (omega (arith, from, to, within)) (omega (arith, to)) (subst (λ (v : Contents). TextsLie (length v.pool) c.args.texts) back c.requires) _ prefix)
 
 pub returns : goal.returns
 returns c =
@@ -32,16 +32,16 @@ returns c =
     let up : c.last_end.result ≤ c.len.result = omega (arith, from, to, within) in
     let row : EmailRow = record { texts = c.args.texts; names_start = c.last_end.result; names_end = c.len.result } in
     let all = takes_all pool names emails c.self.invariant row from up to in
-    let loose = (contents pool names emails).loose in
+    let pending = (contents pool names emails).pending in
     ap (λ es. contents pool names es) c.in_ok-push_row.ensures.emails
     ∙ contents-email pool names emails c.self.invariant _ from up
     ∙ (λ i. record {
       pool = pool;
-      groups = (contents pool names emails).groups ++ record (group_of pool c.args.texts []) { names = take_all _ loose all i } ∷ [];
-      loose = drop_all _ loose all i;
+      groups = (contents pool names emails).groups ++ record (group_of pool c.args.texts []) { names = take_all _ pending all i } ∷ [];
+      pending = drop_all _ pending all i;
     })
     ∙ ap (λ (v : Contents). record {
       pool = v.pool;
-      groups = v.groups ++ record (group_of v.pool c.args.texts []) { names = v.loose } ∷ [];
-      loose = [];
+      groups = v.groups ++ record (group_of v.pool c.args.texts []) { names = v.pending } ∷ [];
+      pending = [];
     }) c.self.view_is

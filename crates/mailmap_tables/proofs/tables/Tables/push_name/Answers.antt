@@ -13,4 +13,4 @@ pub returns : goal.returns
 returns c =
     ap (λ ns. contents c.self.inside.pool.bytes.items ns c.self.inside.emails.items) c.in_ok-push.ensures.items
     ∙ contents-names _ _ _ c.self.invariant (c.args.row ∷ [])
-    ∙ ap (λ (v : Contents). record v { loose = v.loose ++ name_group v.pool c.args.row ∷ [] }) c.self.view_is
+    ∙ ap (λ (v : Contents). record v { pending = v.pending ++ name_group v.pool c.args.row ∷ [] }) c.self.view_is

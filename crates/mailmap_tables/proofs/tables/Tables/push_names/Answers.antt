@@ -14,4 +14,4 @@ pub returns : goal.returns
 returns c =
     ap (λ ns. contents c.self.inside.pool.bytes.items ns c.self.inside.emails.items) c.in_ok-extend_from_slice.ensures.items
     ∙ contents-names _ _ _ c.self.invariant c.args.rows.now
-    ∙ ap (λ (v : Contents). record v { loose = v.loose ++ map (name_group v.pool) c.args.rows.now }) c.self.view_is
+    ∙ ap (λ (v : Contents). record v { pending = v.pending ++ map (name_group v.pool) c.args.rows.now }) c.self.view_is

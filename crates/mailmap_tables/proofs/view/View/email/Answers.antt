@@ -13,8 +13,8 @@ part-requires-clause-up c =
     let row = c.at-row.result in
     let emails = c.self.inside.emails.now in
     let names = c.self.inside.names.now in
-    let lt : c.args.place < length emails = omega (arith, c.requires, ap (λ (v : Contents). length v.groups) c.self.view_is, length-map emails (email_group c.self.inside.pool.now names)) in
-    let range = range_at 0 (length names) emails c.args.place row c.self.invariant.ranges lt in
+    let lt : c.args.index < length emails = omega (arith, c.requires, ap (λ (v : Contents). length v.groups) c.self.view_is, length-map emails (email_group c.self.inside.pool.now names)) in
+    let range = range_at 0 (length names) emails c.args.index row c.self.invariant.ranges lt in
     rw c.at-row.ensures range.0
 
 pub part-requires-clause-within : goal.part-requires-clause-within
@@ -22,8 +22,8 @@ part-requires-clause-within c =
     let row = c.at-row.result in
     let emails = c.self.inside.emails.now in
     let names = c.self.inside.names.now in
-    let lt : c.args.place < length emails = omega (arith, c.requires, ap (λ (v : Contents). length v.groups) c.self.view_is, length-map emails (email_group c.self.inside.pool.now names)) in
-    let range = range_at 0 (length names) emails c.args.place row c.self.invariant.ranges lt in
+    let lt : c.args.index < length emails = omega (arith, c.requires, ap (λ (v : Contents). length v.groups) c.self.view_is, length-map emails (email_group c.self.inside.pool.now names)) in
+    let range = range_at 0 (length names) emails c.args.index row c.self.invariant.ranges lt in
     let high : row.names_end ≤ length names = subst (λ (r : EmailRow). r.names_end ≤ length names) (sym c.at-row.ensures) range.1 in
     omega (arith, high)
 
@@ -33,9 +33,9 @@ returns-clause-group c =
     let emails = c.self.inside.emails.now in
     let names = c.self.inside.names.now in
     let row = c.at-row.result in
-    let lt : c.args.place < length emails = omega (arith, c.requires, ap (λ (v : Contents). length v.groups) c.self.view_is, length-map emails (email_group pool names)) in
+    let lt : c.args.index < length emails = omega (arith, c.requires, ap (λ (v : Contents). length v.groups) c.self.view_is, length-map emails (email_group pool names)) in
     let ns : c.part.result.now ≡ names_of names row = c.part.ensures in
-    ap (λ (v : Contents). slice_get v.groups c.args.place) (sym c.self.view_is) ∙ slice_get-map_at (email_group pool names) emails c.args.place row lt
+    ap (λ (v : Contents). slice_get v.groups c.args.index) (sym c.self.view_is) ∙ slice_get-map_at (email_group pool names) emails c.args.index row lt
     ∙ ap (λ r. Some (email_group pool names r)) (sym c.at-row.ensures) ∙ ap (λ l. Some (group_of pool row.texts l)) (sym ns)
     ∙ ap (λ (v : Contents). Some (group_of v.pool row.texts c.part.result.now)) c.self.view_is
 
@@ -45,9 +45,9 @@ returns-clause-lie c =
     let emails = c.self.inside.emails.now in
     let names = c.self.inside.names.now in
     let row = c.at-row.result in
-    let lt : c.args.place < length emails = omega (arith, c.requires, ap (λ (v : Contents). length v.groups) c.self.view_is, length-map emails (email_group pool names)) in
+    let lt : c.args.index < length emails = omega (arith, c.requires, ap (λ (v : Contents). length v.groups) c.self.view_is, length-map emails (email_group pool names)) in
     let ns : c.part.result.now ≡ names_of names row = c.part.ensures in
-    subst₂ (λ (v : Contents) (l : List Texts). RowsLie v.pool row.texts l) c.self.view_is (sym ns) (rows_lie_at pool names emails c.self.invariant c.args.place row lt c.at-row.ensures)
+    subst₂ (λ (v : Contents) (l : List Texts). RowsLie v.pool row.texts l) c.self.view_is (sym ns) (rows_lie_at pool names emails c.self.invariant c.args.index row lt c.at-row.ensures)
 
 pub at-row-requires : goal.at-row-requires
 at-row-requires c =

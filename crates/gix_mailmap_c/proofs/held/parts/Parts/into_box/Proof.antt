@@ -32,7 +32,7 @@ use Rattle.gix_mailmap_c.specs.contracts.held.parts.Parts.into_box as f
 use Rattle.gix_mailmap_c.proofs.held.parts.Parts.into_box.Statement.{statement}
 use Rattle.gix_mailmap_c.proofs.held.parts.Parts.into_box.Code as code
 
--- what is left to run behind the call
+-- what is left to run after the call
 abbrev rest : Body
 rest = seq (assign (place 0 []) (rv_opd (copy (place 4 [])))) return
 

@@ -1,0 +1,43 @@
+use Rattle.std.proofs.Common.{◌≡◌, ◌<◌, ◌+◌, [], ◌∷◌, List, map, drop, length, sym, ap, ◌∙◌, subst, arith}
+use Rattle.std.proofs.lemmas.List.{drop_more, drop_all, length-map}
+use Rattle.mailmap_findings.specs.Findings.{finding_of}
+use Rattle.mailmap_findings.specs.declared.verify.Finding as library
+use Rattle.gix_mailmap_c.specs.Findings.{all_reported, one_reported}
+use Rattle.gix_mailmap_c.specs.declared.findings.Finding.{Finding}
+use Rattle.gix_mailmap_c.proofs.Copying.{Copied, copied_more, copied_all, behind_set}
+use Rattle.gix_mailmap_c.proofs.findings.report.Goals as goal
+
+pub loop-finding-preserved : goal.loop-finding-preserved
+loop-finding-preserved c =
+    let xs = c.args.found.now in
+    let i = c.loop-finding.finding-index in
+    let index = c.loop-finding.index in
+    let out = c.loop-finding.out in
+    let old = c.args.out.now in
+    let one = c.of-one.result in
+    let all = all_reported (map finding_of xs) in
+    let left = all_reported (map finding_of (drop (i + 1) xs)) in
+    let within : i < length xs = omega arith in
+    let cut : all_reported (map finding_of (drop i xs)) ≡ one ∷ left =
+    ap (λ (l : List library.Finding). all_reported (map finding_of l)) (drop_more xs i _ within)
+    ∙ ap (λ (y : Finding). y ∷ left) (sym c.of-one.ensures) in
+    let before : Copied (one ∷ left) all index out old = subst (λ (l : List Finding). Copied l all index out old) cut c.loop-finding.invariant.reported in
+    let lt : index < length out = omega (arith, c.loop-finding.invariant.index, c.requires) in
+    record {
+      reported = copied_more (one ∷ []) left all index (index + 1) out _ old before (behind_set out index one lt);
+      index = omega (arith, c.loop-finding.invariant.index);
+    }
+
+pub returns : goal.returns
+returns c =
+    let xs = c.args.found.now in
+    let all = all_reported (map finding_of xs) in
+    let index = c.loop-finding.index in
+    let out = c.loop-finding.out in
+    let old = c.args.out.now in
+    let done : Copied [] all index out old =
+    subst (λ (l : List library.Finding). Copied (all_reported (map finding_of l)) all index out old) (drop_all c.loop-finding.finding-index xs c.loop-finding-test.false) c.loop-finding.invariant.reported in
+    record {
+      fits = omega (arith, c.requires, length-map (map finding_of xs) one_reported, length-map xs finding_of);
+      written = copied_all all index out old done;
+    }

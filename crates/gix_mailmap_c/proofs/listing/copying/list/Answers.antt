@@ -1,0 +1,44 @@
+use Rattle.std.proofs.Common.{◌≡◌, ◌+◌, ◌<◌, [], ◌∷◌, ◌++◌, List, ℕ, drop, length, length-append, sym, ap, ◌∙◌, subst, arith}
+use Rattle.mailmap_entries.specs.Entries.{Mapping, mapping_of}
+use Rattle.gix_mailmap_c.specs.Listed.{all_text, entry_text, all_listed}
+use Rattle.gix_mailmap_c.specs.declared.listing.Listed.{Listed}
+use Rattle.gix_mailmap_c.proofs.Copying.{Copied, copied_more, copied_all, behind_set, listed_room, length-all_listed}
+use Rattle.gix_mailmap_c.proofs.listing.copying.list.Goals as goal
+
+pub bounds-listed-index : goal.bounds-listed-index
+bounds-listed-index c =
+    let here = listed_room c.loop-entry.start c.loop-entry.index (length c.args.listed.now) c.loop-entry.entry-iterator c.next.new.self c.args.snapshot.now (mapping_of c.in-Some.entry) c.in-Some.ensures.steps
+    c.loop-entry.invariant.listed.until c.requires.room in
+    omega (arith, here)
+
+pub loop-entry-preserved : goal.loop-entry-preserved
+loop-entry-preserved c =
+    let m = mapping_of c.in-Some.entry in
+    let start = c.loop-entry.start in
+    let index = c.loop-entry.index in
+    let listed = c.loop-entry.listed in
+    let one = c.of-one.result in
+    let next = start + c.texts_len-start.result in
+    let rest = c.next.new.self in
+    let all = all_listed 0 c.args.snapshot.now in
+    let cut : all_listed start c.loop-entry.entry-iterator ≡ one ∷ all_listed next rest =
+    ap (all_listed start) c.in-Some.ensures.steps
+    ∙ ap (λ (x : Listed). x ∷ all_listed (start + length (entry_text m)) rest) (sym c.of-one.ensures)
+    ∙ ap (λ (k : ℕ). one ∷ all_listed (start + k) rest) (sym c.texts_len-start.ensures) in
+    let before : Copied (one ∷ all_listed next rest) all index listed c.args.listed.now = subst (λ (l : List Listed). Copied l all index listed c.args.listed.now) cut c.loop-entry.invariant.listed in
+    let here = listed_room start index (length c.args.listed.now) c.loop-entry.entry-iterator rest c.args.snapshot.now m c.in-Some.ensures.steps c.loop-entry.invariant.listed.until c.requires.room in
+    let lt : index < length listed = omega (arith, here) in
+    record {
+      listed = copied_more (one ∷ []) (all_listed next rest) all index (index + 1) listed _ c.args.listed.now before (behind_set listed index one lt);
+      start = omega (arith, c.loop-entry.invariant.start, ap (λ (ms : List Mapping). length (all_text ms)) c.in-Some.ensures.steps, length-append (entry_text m) (all_text rest), c.texts_len-start.ensures);
+    }
+
+pub returns : goal.returns
+returns c =
+    let all = all_listed 0 c.args.snapshot.now in
+    let done : Copied [] all c.loop-entry.index c.loop-entry.listed c.args.listed.now =
+    subst (λ (ms : List Mapping). Copied (all_listed c.loop-entry.start ms) all c.loop-entry.index c.loop-entry.listed c.args.listed.now) c.in-None.ensures.steps.0 c.loop-entry.invariant.listed in
+    record {
+      listed = copied_all all c.loop-entry.index c.loop-entry.listed c.args.listed.now done
+          ∙ ap (λ (n : ℕ). all ++ drop n c.args.listed.now) (length-all_listed 0 c.args.snapshot.now);
+    }

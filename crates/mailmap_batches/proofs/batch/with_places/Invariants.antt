@@ -1,7 +1,0 @@
-use Rattle.std.proofs.Common.{◌≡◌, map, take}
-use Rattle.std.specs.List.{enumerate_from}
-use Rattle.mailmap_batches.specs.Batches.{placed_at}
-use Rattle.mailmap_batches.proofs.batch.with_places.Given as goal
-
-abbrev pub invariant-loop-index : goal.invariant-loop-index
-invariant-loop-index g l = map placed_at l.batch.items ≡ enumerate_from 0 (map g.T.HasEntry.mapped (take l.index l.entries))

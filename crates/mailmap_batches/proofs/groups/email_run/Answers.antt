@@ -1,5 +1,0 @@
-use Rattle.mailmap_histories.proofs.Parts.{first_alone}
-use Rattle.mailmap_batches.proofs.groups.email_run.Goals as goal
-
-pub loop-i-init : goal.loop-i-init
-loop-i-init c = first_alone _ c.args.batch.now c.requires

@@ -1,0 +1,146 @@
+-- The numbers of the first bytes of two texts order the texts, where they differ.
+use Rattle.std.proofs.Common.{◌≡◌, ◌≢◌, ◌<◌, ◌≤◌, ◌+◌, ◌-◌, ◌*◌, ◌^◌, ℕ, zero, suc, [], ◌∷◌, drop, take, map, length, get_or, Ordering, Less, Equal, Greater, refl, sym, ap, ◌∙◌, arith, true, false, cond}
+use Rattle.std.specs.Cmp.Lexicographic.{slice_cmp, nat_list_cmp_total}
+use Rattle.std.specs.Ordering.{nat_cmp, ordering_then, ordering_reverse}
+use Rattle.std.proofs.Math.Nat.{pow-succ', suc-mul, add-mul, mul_assoc, mul-le-mul_right, le-mul_of_pos_right}
+use Rattle.std.proofs.lemmas.Cmp.{ranked}
+use Rattle.std.proofs.Math.Dec.{ltb}
+use Rattle.std.proofs.lemmas.Bool.{ltb-true}
+use Rattle.std.specs.Char.{to_ascii_lowercase}
+use Rattle.std.specs.Int.{from_be_bytes, w128}
+use Rattle.mailmap_entries.specs.Folding.{Text, folded, text_cmp}
+use Rattle.mailmap_entries.specs.Prefixes.{key_prefix, AreBytes}
+
+pos : (n : ℕ) → 0 < 256 ^ n
+pos zero = omega arith
+pos (suc n) = omega (arith, pow-succ' 256 n, pos n)
+
+pub prefix_below : (n : ℕ) (xs : Text) → AreBytes xs → key_prefix n xs < 256 ^ n
+prefix_below zero xs all = omega arith
+prefix_below (suc n) [] all = pos (suc n)
+prefix_below (suc n) (x ∷ xs) all =
+    let digit : suc x ≤ 256 = omega (arith, all.0) in
+    omega (arith, pow-succ' 256 n, suc-mul x (256 ^ n), mul-le-mul_right (256 ^ n) digit, prefix_below n xs all.1)
+
+-- a greater digit outweighs all after it
+outweighed : (n x y : ℕ) (xs ys : Text) → AreBytes xs → x < y → x * 256 ^ n + key_prefix n xs < y * 256 ^ n
+outweighed n x y xs ys all lt = omega (arith, suc-mul x (256 ^ n), mul-le-mul_right (256 ^ n) lt, prefix_below n xs all)
+
+pub prefix_less : (n : ℕ) (xs ys : Text) → AreBytes xs → AreBytes ys → key_prefix n xs < key_prefix n ys → text_cmp xs ys ≡ Less
+prefix_less zero xs ys ps qs lt = absurd (omega arith)
+prefix_less (suc n) xs [] ps qs lt = absurd (omega arith)
+prefix_less (suc n) [] (y ∷ ys) ps qs lt = refl
+prefix_less (suc n) (x ∷ xs) (y ∷ ys) ps qs lt =
+    elim (nat_cmp x y) as (λ r. nat_cmp x y ≡ r → ordering_then r (slice_cmp nat_cmp xs ys) ≡ Less) [
+      | Less ↦ λ e. refl
+      | Equal ↦ λ e.
+          let same : x ≡ y = ranked x y Equal (sym e) in
+          prefix_less n xs ys ps.1 qs.1 (omega (arith, lt, ap (λ z. z * 256 ^ n) same))
+      | Greater ↦ λ e.
+          let above : y < x = ranked x y Greater (sym e) in
+          absurd (omega (arith, lt, outweighed n y x ys xs qs.1 above))
+    ] refl
+
+-- if the numbers differ, they answer for the texts
+pub prefix_settles : (n : ℕ) (xs ys : Text) → AreBytes xs → AreBytes ys → (r : Ordering) → r ≡ nat_cmp (key_prefix n xs) (key_prefix n ys) → r ≢ Equal → text_cmp xs ys ≡ r
+prefix_settles n xs ys ps qs Less e other = prefix_less n xs ys ps qs (ranked _ _ Less e)
+prefix_settles n xs ys ps qs Equal e other = absurd (other refl)
+prefix_settles n xs ys ps qs Greater e other = nat_list_cmp_total.antisymm xs ys ∙ ap ordering_reverse (prefix_less n ys xs qs ps (ranked _ _ Greater e))
+
+-- if the numbers are alike, what is after those bytes answers
+pub prefix_alike : (n : ℕ) (xs ys : Text) → AreBytes xs → AreBytes ys → n ≤ length xs → n ≤ length ys → key_prefix n xs ≡ key_prefix n ys → text_cmp xs ys ≡ text_cmp (drop n xs) (drop n ys)
+prefix_alike zero xs ys ps qs lx ly e = refl
+prefix_alike (suc n) [] ys ps qs lx ly e = absurd (omega arith)
+prefix_alike (suc n) (x ∷ xs) [] ps qs lx ly e = absurd (omega arith)
+prefix_alike (suc n) (x ∷ xs) (y ∷ ys) ps qs lx ly e =
+    elim (nat_cmp x y) as (λ r. nat_cmp x y ≡ r → ordering_then r (slice_cmp nat_cmp xs ys) ≡ text_cmp (drop n xs) (drop n ys)) [
+      | Less ↦ λ c. let below : x < y = ranked x y Less (sym c) in absurd (omega (arith, e, outweighed n x y xs ys ps.1 below))
+      | Equal ↦ λ c.
+          let same : x ≡ y = ranked x y Equal (sym c) in
+          prefix_alike n xs ys ps.1 qs.1 (omega arith) (omega arith) (omega (arith, e, ap (λ z. z * 256 ^ n) same))
+      | Greater ↦ λ c. let above : y < x = ranked x y Greater (sym c) in absurd (omega (arith, e, outweighed n y x ys xs qs.1 above))
+    ] refl
+
+pub then_settled : (r o : Ordering) → r ≢ Equal → ordering_then r o ≡ r
+then_settled Less o other = refl
+then_settled Equal o other = absurd (other refl)
+then_settled Greater o other = refl
+
+-- ---- the number, digit by digit
+
+none_left : (n i : ℕ) → key_prefix n (drop i []) ≡ 0
+none_left zero i = refl
+none_left (suc n) zero = refl
+none_left (suc n) (suc i) = refl
+
+first_digit : (n i : ℕ) (xs : Text) → key_prefix (suc n) (drop i xs) ≡ get_or xs i 0 * 256 ^ n + key_prefix n (drop (suc i) xs)
+first_digit zero zero [] = refl
+first_digit (suc n) zero [] = omega arith
+first_digit n (suc i) [] = omega (arith, none_left (suc n) (suc i), none_left n (suc (suc i)))
+first_digit n zero (x ∷ xs) = refl
+first_digit n (suc i) (x ∷ xs) = first_digit n i xs
+
+-- one digit more
+digit : (number n i : ℕ) (xs : Text) → (number * 256 + get_or xs i 0) * 256 ^ n + key_prefix n (drop (suc i) xs) ≡ number * 256 ^ suc n + key_prefix (suc n) (drop i xs)
+digit number n i xs =
+    let whole : number * 256 ^ suc n ≡ number * 256 * 256 ^ n = ap (λ k. number * k) (pow-succ' 256 n) ∙ sym (mul_assoc number 256 (256 ^ n)) in
+    omega (arith, whole, add-mul (number * 256) (get_or xs i 0) (256 ^ n), first_digit n i xs)
+
+pub prefix_more : (number i : ℕ) (xs : Text) → i < 16 → number * 256 ^ (16 - i) + key_prefix (16 - i) (drop i xs) ≡ key_prefix 16 xs
+    → (number * 256 + get_or xs i 0) * 256 ^ (16 - (i + 1)) + key_prefix (16 - (i + 1)) (drop (i + 1) xs) ≡ key_prefix 16 xs
+prefix_more number i xs lt e =
+    let next : i + 1 ≡ suc i = omega arith in
+    let before : suc (16 - suc i) ≡ 16 - i = omega (arith, lt) in
+    ap (λ k. (number * 256 + get_or xs i 0) * 256 ^ (16 - k) + key_prefix (16 - k) (drop k xs)) next ∙ digit number (16 - suc i) i xs ∙ ap (λ k. number * 256 ^ k + key_prefix k (drop i xs)) before ∙ e
+
+pub prefix_fits : (number i : ℕ) (xs : Text) → AreBytes xs → i < 16 → number * 256 ^ (16 - i) + key_prefix (16 - i) (drop i xs) ≡ key_prefix 16 xs → number * 256 + get_or xs i 0 < 256 ^ 16
+prefix_fits number i xs all lt e =
+    let next = number * 256 + get_or xs i 0 in
+    omega (arith, le-mul_of_pos_right next (pos (16 - (i + 1))), prefix_more number i xs lt e, prefix_below 16 xs all)
+
+pub prefix_done : (number i : ℕ) (xs : Text) → 16 ≤ i → number * 256 ^ (16 - i) + key_prefix (16 - i) (drop i xs) ≡ key_prefix 16 xs → number ≡ key_prefix 16 xs
+prefix_done number i xs le e =
+    let none : 16 - i ≡ 0 = omega (arith, le) in
+    omega (arith, ap (λ k. number * 256 ^ k + key_prefix k (drop i xs)) none, e)
+
+-- sixteen bytes, the first one worth most
+pub number_of : (xs : Text) → from_be_bytes w128 xs ≡ key_prefix 16 xs
+number_of xs = omega (
+  arith,
+  first_digit 15 0 xs,
+  first_digit 14 1 xs,
+  first_digit 13 2 xs,
+  first_digit 12 3 xs,
+  first_digit 11 4 xs,
+  first_digit 10 5 xs,
+  first_digit 9 6 xs,
+  first_digit 8 7 xs,
+  first_digit 7 8 xs,
+  first_digit 6 9 xs,
+  first_digit 5 10 xs,
+  first_digit 4 11 xs,
+  first_digit 3 12 xs,
+  first_digit 2 13 xs,
+  first_digit 1 14 xs,
+  first_digit 0 15 xs,
+)
+
+-- what is after them doesn't count
+pub prefix_take : (f : ℕ → ℕ) (n : ℕ) (xs : Text) → key_prefix n (map f (take n xs)) ≡ key_prefix n (map f xs)
+prefix_take f zero xs = refl
+prefix_take f (suc n) [] = refl
+prefix_take f (suc n) (x ∷ xs) = ap (λ k. f x * 256 ^ n + k) (prefix_take f n xs)
+
+folded_below : (x : ℕ) → x < 256 → to_ascii_lowercase x < 256
+folded_below x lt =
+    elim (ltb x 65) as (λ b. cond b x (cond (ltb x 91) (x + 32) x) < 256) [
+      | true ↦ lt
+      | false ↦ elim (ltb x 91) as (λ b. ltb x 91 ≡ b → cond b (x + 32) x < 256) [
+        | true ↦ λ e. omega (arith, ltb-true x 91 e)
+        | false ↦ λ e. lt
+      ] refl
+    ]
+
+pub folded_bytes : (xs : Text) → ((i : ℕ) → get_or xs i 0 < 256) → AreBytes (folded xs)
+folded_bytes [] all = tt
+folded_bytes (x ∷ xs) all = (folded_below x (all 0), folded_bytes xs (λ i. all (suc i)))

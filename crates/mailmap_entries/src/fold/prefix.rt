@@ -1,0 +1,113 @@
+//! The prefix of a text: its first sixteen bytes as a number. It settles most comparisons without a look at the texts.
+ghost use Rattle.std.specs.Prelude.{◌≡◌, ◌+◌, ◌<◌, map, slice_index_or};
+ghost use Rattle.std.specs.Char.{to_ascii_lowercase};
+ghost use Rattle.mailmap_entries.specs.Folding.{folded, text_cmp};
+ghost use Rattle.mailmap_entries.specs.Prefixes.{IsKeyPrefix, key_prefix};
+ghost use Rattle.std.proofs.Props.{props};
+
+use crate::fold::{Steps, cmp_ignore_ascii_case};
+use std::cmp::Ordering;
+use std::simd::prelude::*;
+
+/// A text and its prefix.
+#[derive(Clone, Copy)]
+pub struct Prefixed<'a> {
+    pub text: &'a [u8],
+    pub prefix: u128,
+    ghost is_prefix: { IsKeyPrefix prefix (folded text.now) } by { Prim.hlevel props },
+}
+
+impl<'a> Prefixed<'a> {
+    /// The text with its prefix.
+    pub fn new(text: &'a [u8]) -> Prefixed<'a>
+        ensures { result.text.now ≡ text.now }
+    {
+        Prefixed {
+            text,
+            prefix: key_prefix(text),
+        }
+    }
+
+    /// The text with its prefix, which is known already.
+    #[inline(always)]
+    pub fn with_prefix(text: &'a [u8], prefix: u128) -> Prefixed<'a>
+        requires { prefix ≡ key_prefix 16 (folded text.now) }
+        ensures text { result.text.now ≡ text.now }
+        ensures prefix { result.prefix ≡ prefix }
+    {
+        Prefixed { text, prefix }
+    }
+}
+
+impl Steps {
+    /// Compares two texts as [`cmp_ignore_ascii_case`] does, and counts it. The texts are read only if their prefixes
+    /// are equal.
+    #[inline(always)]
+    pub fn compare_prefixed(&mut self, a: Prefixed<'_>, b: Prefixed<'_>) -> Ordering
+        requires { self.old < usize.MAX }
+        ensures value { result ≡ text_cmp (folded a.entry.text.now) (folded b.entry.text.now) }
+        ensures counted { self.new ≡ self.old + 1 }
+    {
+        self.count += 1;
+        match a.prefix.cmp(&b.prefix) {
+            Ordering::Equal => compare_after_prefix(a.text, b.text),
+            unequal => unequal,
+        }
+    }
+}
+
+/// The first sixteen bytes of a text as a number, of which the first byte is worth most. Capital letters count as small
+/// ones, and a byte after the end counts as 0. If the prefixes of two texts differ, the texts are ordered as the
+/// prefixes are.
+pub fn key_prefix(text: &[u8]) -> u128
+    ensures { IsKeyPrefix result (folded text.now) }
+{
+    let Some(prefix) = text.first_chunk::<16>() else {
+        return short_number(text);
+    };
+    u128::from_be_bytes(lowercase(prefix))
+}
+
+// The bytes with the letters `A` to `Z` as `a` to `z`.
+#[inline(always)]
+fn lowercase(bytes: &[u8; 16]) -> [u8; 16]
+    ensures { result ≡ map to_ascii_lowercase bytes.now }
+{
+    let lanes = u8x16::from_array(*bytes);
+    let is_upper = lanes.simd_ge(u8x16::splat(b'A')) & lanes.simd_le(u8x16::splat(b'Z'));
+    is_upper.select(lanes + u8x16::splat(32), lanes).to_array()
+}
+
+// The same, byte by byte, for a text that may be shorter.
+fn short_number(text: &[u8]) -> u128
+    ensures { IsKeyPrefix result (folded text.now) }
+{
+    let mut number = 0;
+    for i in 0..16 {
+        number = number * 256 + folded_at(text, i) as u128;
+    }
+    number
+}
+
+// The byte at an index, without case, and 0 after the end.
+fn folded_at(text: &[u8], i: usize) -> u8
+    ensures { result ≡ slice_index_or (folded text.now) i 0 }
+{
+    if i < text.len() {
+        text[i].to_ascii_lowercase()
+    } else {
+        0
+    }
+}
+
+/// Compares two texts of the same prefix as [`cmp_ignore_ascii_case`] does, but looks only at what follows their first
+/// sixteen bytes.
+pub fn compare_after_prefix(a: &[u8], b: &[u8]) -> Ordering
+    requires { key_prefix 16 (folded a.now) ≡ key_prefix 16 (folded b.now) }
+    ensures { result ≡ text_cmp (folded a.now) (folded b.now) }
+{
+    if a.len() < 16 || b.len() < 16 {
+        return cmp_ignore_ascii_case(a, b);
+    }
+    cmp_ignore_ascii_case(&a[16..], &b[16..])
+}

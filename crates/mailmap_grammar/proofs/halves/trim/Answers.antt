@@ -1,7 +1,0 @@
-use Rattle.std.proofs.Common.{◌∙◌}
-use Rattle.mailmap_grammar.specs.Trimming.{trim as spec_trim}
-use Rattle.mailmap_grammar.proofs.halves.trim.Goals as goal
-
-pub returns : goal.returns
-unfolding spec_trim
-returns c = c.trim.ensures ∙ c.without_last_blank-inner.ensures ∙ c.without_first_blank.ensures

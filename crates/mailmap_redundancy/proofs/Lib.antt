@@ -1,0 +1,16 @@
+pub mod Summaries
+mod Givers
+pub mod Redundant
+pub mod Sublists
+pub mod Kept
+pub mod Keyed
+pub mod Ascending
+pub mod Searched
+pub mod Rows
+pub mod Walked
+pub mod Numbered
+pub mod RepeatedKeys
+pub mod Passing
+pub mod Settling
+pub mod Marking
+pub mod Forgetting

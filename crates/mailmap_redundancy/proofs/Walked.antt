@@ -1,0 +1,106 @@
+-- What a walk over entries has seen, and what it has left.
+use Rattle.std.proofs.Common.{◌≡◌, ◌<◌, ◌+◌, ℕ, Bool, false, cond, List, [], ◌∷◌, ◌++◌, filter, take, drop, length, get_or, Some, None, unwrap_or, option_map, append-nil, refl, sym, ap, subst, ◌∙◌}
+use Rattle.std.specs.Prelude.{Contains, All}
+use Rattle.std.specs.Cmp.{tied_itself}
+use Rattle.std.specs.List.{AllByRecursion}
+use Rattle.std.specs.Ordering.{eq_by_cmp, is_eq}
+use Rattle.std.proofs.lemmas.List.{map-append, map_more, drop_more}
+use Rattle.std.proofs.lemmas.List.Elements.{filter-append, recursion_from_All}
+use Rattle.std.proofs.lemmas.Option.{slice_get_within, get_or_from_slice_get}
+use Rattle.mailmap_entries.specs.Entries.{Mapping}
+use Rattle.mailmap_entries.specs.Folding.{Text, folded, text_cmp}
+use Rattle.mailmap_histories.specs.Histories.{Key, key, key_cmp, accepted, first, last, of_key, spelling}
+use Rattle.mailmap_histories.proofs.Keys.{keys_total}
+use Rattle.mailmap_redundancy.specs.Redundancy.{LocatedMapping, entries, last_position}
+use Rattle.mailmap_redundancy.specs.Numbers.{AreKnown, HasKeys, IsNumber, IsNumbered, email_key, located_entry_of, mappings}
+use Rattle.mailmap_redundancy.specs.declared.numbers.NumberedEntry.{NumberedEntry}
+use Rattle.mailmap_redundancy.proofs.Keyed.{unequal_keys}
+use Rattle.mailmap_redundancy.proofs.Rows.{unequal_emails}
+use Rattle.mailmap_redundancy.proofs.Summaries.{picked_without}
+
+-- ---- one more
+
+-- what a walk from the start has seen with one more, and what a walk from the back has seen
+pub mappings_more : (xs : List NumberedEntry) (i : ℕ) (x : NumberedEntry) → i < length xs → x ≡ get_or xs i x → mappings (take (i + 1) xs) ≡ mappings (take i xs) ++ located_entry_of x ∷ []
+mappings_more xs i x within is = map_more located_entry_of xs i x within ∙ ap (λ y. mappings (take i xs) ++ located_entry_of y ∷ []) (sym is)
+
+pub mappings_next : (xs : List NumberedEntry) (i j : ℕ) (x : NumberedEntry) → i < length xs → x ≡ get_or xs i x → j ≡ i + 1 → mappings (drop i xs) ≡ located_entry_of x ∷ mappings (drop j xs)
+mappings_next xs i j x within is next =
+    ap mappings (drop_more xs i x within) ∙ (λ k. located_entry_of (is' k) ∷ mappings (drop (next' k) xs))
+  where
+    is' : get_or xs i x ≡ x
+    is' = sym is
+
+    next' : i + 1 ≡ j
+    next' = sym next
+
+pub entries-more : (xs : List LocatedMapping) (x : LocatedMapping) → entries (xs ++ x ∷ []) ≡ entries xs ++ x.entry ∷ []
+entries-more xs x = map-append (λ y. y.entry) xs (x ∷ [])
+
+-- lists that end alike
+pub same_ends : {X : Type 0} (xs ys : List X) (x y : X) → xs ++ x ∷ [] ≡ ys ++ y ∷ [] → (xs ≡ ys) × (x ≡ y)
+same_ends [] [] x y e = (refl, cc)
+same_ends [] (b ∷ []) x y e = absurd (cc)
+same_ends [] (b ∷ c ∷ ys) x y e = absurd (cc)
+same_ends (a ∷ []) [] x y e = absurd (cc)
+same_ends (a ∷ c ∷ xs) [] x y e = absurd (cc)
+same_ends (a ∷ xs) (b ∷ ys) x y e =
+    let tails : xs ++ x ∷ [] ≡ ys ++ y ∷ [] = cc in
+    let heads : a ≡ b = cc in
+    let rest = same_ends xs ys x y tails in
+    (λ i. heads i ∷ rest.0 i, rest.1)
+
+-- ---- the position of the last entry of a key
+
+last_of_more : {X : Type 0} (xs : List X) (x : X) → last (xs ++ x ∷ []) ≡ Some x
+last_of_more [] x = refl
+last_of_more (y ∷ xs) x = ap (λ o. Some (unwrap_or o y)) (last_of_more xs x)
+
+pub last_position-own : (xs : List LocatedMapping) (x : LocatedMapping) → last_position (xs ++ x ∷ []) (key x.entry) ≡ Some x.position
+last_position-own xs x =
+    let p : LocatedMapping → Bool = λ y. eq_by_cmp key_cmp (key x.entry) (key y.entry) in
+    ap (λ l. option_map (λ y. y.position) (last l)) (filter-append p xs (x ∷ []) ∙ ap (λ o. filter p xs ++ cond (is_eq o) (x ∷ []) []) (tied_itself keys_total (key x.entry)))
+    ∙ ap (option_map (λ y. y.position)) (last_of_more (filter p xs) x)
+
+pub last_position-other : (xs : List LocatedMapping) (x : LocatedMapping) (k : Key) → (k ≡ key x.entry → ⊥) → last_position (xs ++ x ∷ []) k ≡ last_position xs k
+last_position-other xs x k other =
+    let p : LocatedMapping → Bool = λ y. eq_by_cmp key_cmp k (key y.entry) in
+    ap (λ l. option_map (λ y. y.position) (last l))
+    (filter-append p xs (x ∷ []) ∙ ap (λ b. filter p xs ++ cond b (x ∷ []) []) (unequal_keys k (key x.entry) other) ∙ append-nil (filter p xs))
+
+-- ---- keys that are not there
+
+pub contained : (ks : List Key) (k : Key) (i : ℕ) → IsNumber ks k i → Contains ks k
+contained ks k i is = (i, slice_get_within ks i k is, get_or_from_slice_get ks i k k is)
+
+module _ (ks : List Key) (k : Key) (none : Contains ks k → ⊥) where
+  other_key : (e : Mapping) → HasKeys ks e → eq_by_cmp key_cmp k (key e) ≡ false
+  other_key e has = unequal_keys k (key e) (λ same. none (subst (Contains ks) (sym same) has.own))
+
+  pub no_position : (xs : List LocatedMapping) → AreKnown ks (entries xs) → last_position xs k ≡ None
+  no_position [] known = refl
+  no_position (x ∷ xs) known =
+      let p : LocatedMapping → Bool = λ y. eq_by_cmp key_cmp k (key y.entry) in
+      ap (λ b. option_map (λ y. y.position) (last (cond b (x ∷ filter p xs) (filter p xs)))) (other_key x.entry known.0) ∙ no_position xs known.1
+
+  pub no_entry : (h : List Mapping) → AreKnown ks h → of_key h k ≡ []
+  no_entry [] known = refl
+  no_entry (e ∷ h) known = picked_without (λ x. eq_by_cmp key_cmp k (key x)) [] e h (other_key e known.0) ∙ no_entry h known.1
+
+pub no_spelling : (ks : List Key) (email : Text) → (Contains ks (email_key email) → ⊥) → (h : List Mapping) → AreKnown ks h → spelling h email ≡ None
+no_spelling ks email none h known = ap (λ l. option_map (λ e. e.old_email) (first l)) (nobody h known)
+  where
+    nobody : (h : List Mapping) → AreKnown ks h → filter (λ e. eq_by_cmp text_cmp email (folded e.old_email)) (accepted h) ≡ []
+    nobody [] known = refl
+    nobody (e ∷ h) known =
+        picked_without (λ x. eq_by_cmp text_cmp email (folded x.old_email)) [] e h (unequal_emails email (folded e.old_email) (λ same. none (subst (λ t. Contains ks (email_key t)) (sym same) known.0.email)))
+        ∙ nobody h known.1
+
+-- ---- keys that are there
+
+pub known_numbered : (ks : List Key) (xs : List NumberedEntry) → All (IsNumbered ks) xs → AreKnown ks (entries (mappings xs))
+known_numbered ks xs all = by xs (recursion_from_All _ xs all)
+  where
+    by : (xs : List NumberedEntry) → AllByRecursion (IsNumbered ks) xs → AreKnown ks (entries (mappings xs))
+    by [] all = tt
+    by (x ∷ xs) all = (record { own = contained ks _ x.key all.0.own; email = contained ks _ x.email all.0.of_email }, by xs all.1)

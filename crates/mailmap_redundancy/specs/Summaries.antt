@@ -1,0 +1,93 @@
+-- A summary of what a stretch of a history says of a key and of its email: enough to decide whether an entry before or
+-- after the stretch is redundant.
+use Rattle.std.specs.Prelude.{Bool, false, ◌&&◌, ◌||◌, if◌then◌else◌, List, Option, Some, None, is_some, is_none}
+use Rattle.std.specs.List.{filter_map}
+use Rattle.std.specs.Option.{option_or}
+use Rattle.mailmap_entries.specs.Entries.{Mapping}
+use Rattle.mailmap_entries.specs.Folding.{Text}
+use Rattle.mailmap_histories.specs.Histories.{Fields, Key, first, last_given, of_key, last_fields, spelling, new_fields}
+use Rattle.mailmap_histories.specs.Listings.{same_optional}
+use Rattle.mailmap_redundancy.specs.declared.summary.Later.{Later}
+
+-- of the entries of a key: the first old name, the new name and the new email as they were given last, and both new
+-- fields of the last entry
+pub record KeySummary : Type 0 where
+  pub old_name : Option Text
+  pub name : Option Text
+  pub email : Option Text
+  pub last : Option Fields
+
+abbrev pub key_summary : List Mapping → Key → KeySummary
+key_summary h k =
+    record {
+      old_name = first (filter_map (λ e. e.old_name) (of_key h k));
+      name = last_given (λ e. e.new_name) (of_key h k);
+      email = last_given (λ e. e.new_email) (of_key h k);
+      last = last_fields h k;
+    }
+
+-- of the entries of a key, and the spelling of the first entry of its email
+pub record Summary : Type 0 where
+  pub of_key : KeySummary
+  pub spelling : Option Text
+
+abbrev pub summary : List Mapping → Key → Summary
+summary h k = record { of_key = key_summary h k; spelling = spelling h k.0 }
+
+-- of no entry
+abbrev pub no_summary : KeySummary
+no_summary = record { old_name = None; name = None; email = None; last = None }
+
+-- of one entry
+abbrev pub own_summary : Mapping → KeySummary
+own_summary e = record { old_name = e.old_name; name = e.new_name; email = e.new_email; last = Some (new_fields e) }
+
+-- of a stretch a with b after it
+abbrev pub joined_summary : KeySummary → KeySummary → KeySummary
+joined_summary a b =
+    record {
+      old_name = option_or a.old_name b.old_name;
+      name = option_or b.name a.name;
+      email = option_or b.email a.email;
+      last = option_or b.last a.last;
+    }
+
+-- ---- whether an entry between two stretches changes anything
+
+-- what the entry has to know of the stretch after it
+abbrev pub later_of : Mapping → Summary → Later
+later_of e s =
+    record {
+      key = is_some s.of_key.last;
+      name = is_some s.of_key.name;
+      email = is_some s.of_key.email;
+      same_name = same_optional e.old_name s.of_key.old_name;
+      same_spelling = same_optional (Some e.old_email) s.spelling;
+    }
+
+-- the text that was given last is the same without the entry: a later entry gives one, the entry gives none, or the same
+-- one was given before
+abbrev pub is_last_kept : Option Text → Option Text → Bool → Bool
+is_last_kept before own after = after || (is_none own || same_optional own before)
+
+abbrev pub same_fields : Fields → Option Fields → Bool
+same_fields own None = false
+same_fields own (Some f) = same_optional own.name f.name && same_optional own.email f.email
+
+-- The value of the key is the same without the entry, apart from the spelling of its email. With an old name: an earlier
+-- entry gives the old name, or the next one spells it alike; and a later entry gives the fields, or the last earlier one
+-- gave the same.
+abbrev pub is_value_kept : KeySummary → Mapping → Later → Bool
+is_value_kept before e after =
+    if is_some e.old_name then (is_some before.old_name || after.same_name) && (after.key || same_fields (new_fields e) before.last)
+    else (is_last_kept before.name e.new_name after.name && is_last_kept before.email e.new_email after.email)
+
+-- the key is there without the entry, its email is spelled the same, and its value is the same
+abbrev pub is_redundant_before : Summary → Mapping → Later → Bool
+is_redundant_before before e after =
+    (is_some before.of_key.last || after.key)
+    && ((is_some before.spelling || after.same_spelling)
+    && is_value_kept before.of_key e after)
+
+abbrev pub is_redundant : Summary → Mapping → Summary → Bool
+is_redundant before e after = is_redundant_before before e (later_of e after)

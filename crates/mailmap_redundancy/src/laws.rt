@@ -1,0 +1,57 @@
+//! Laws of histories without their redundant entries. Each function runs nothing: its contract is the law.
+ghost use Rattle.std.specs.Prelude.{◌≡◌, ◌≢◌, ◌↔◌, ◌++◌, ◌∷◌, List, Contains, IsSome, map, true};
+ghost use Rattle.std.specs.declared.cmp.Ordering.{Ordering};
+ghost use Rattle.std.specs.List.Sorted.{IsStrictlySortedBy};
+ghost use Rattle.mailmap_entries.specs.Entries.{Mapping};
+ghost use Rattle.mailmap_histories.specs.Histories.{IsNormal, Key, accepted, has_key, is_accepted, key};
+ghost use Rattle.mailmap_redundancy.specs.Redundancy.{IsRedundant, IsReduced, IsSublist, LocatedMapping, entries, last_position};
+ghost use Rattle.mailmap_redundancy.specs.declared.located.Position.{Position};
+ghost use Rattle.mailmap_redundancy.specs.Summaries.{is_redundant, summary};
+
+/// The normal list is the same without the redundant entries.
+pub fn law_same_listing()
+    ensures { (xs kept : List LocatedMapping) (n : List Mapping) → IsReduced xs kept
+        → IsNormal (entries xs) n ↔ IsNormal (entries kept) n }
+{}
+
+/// None of the entries that stay is redundant: without it, the normal list would differ.
+pub fn law_none_can_go()
+    ensures redundant { (xs a c : List LocatedMapping) (x : LocatedMapping) → IsReduced xs (a ++ x ∷ c)
+        → IsRedundant (entries a) x.entry (entries c) → ⊥ }
+    ensures differs { (xs a c : List LocatedMapping) (x : LocatedMapping) (n m : List Mapping)
+        → IsReduced xs (a ++ x ∷ c)
+        → IsNormal (entries xs) n → IsNormal (entries (a ++ c)) m → n ≢ m }
+{}
+
+/// The entries that stay are some of all entries, in their order.
+pub fn law_some_stay()
+    ensures sublist { (xs kept : List LocatedMapping) → IsReduced xs kept → IsSublist kept xs }
+    ensures among { (xs kept : List LocatedMapping) (x : LocatedMapping) → IsReduced xs kept → Contains kept x
+        → Contains xs x }
+    ensures ascending { (cmp : Position → Position → Ordering) (xs kept : List LocatedMapping) → IsReduced xs kept
+        → IsStrictlySortedBy cmp (map (λ (x : LocatedMapping). x.position) xs)
+        → IsStrictlySortedBy cmp (map (λ (x : LocatedMapping). x.position) kept) }
+{}
+
+/// For each key of the accepted entries an entry stays.
+pub fn law_each_key_stays()
+    ensures keys { (xs kept : List LocatedMapping) (k : Key) → IsReduced xs kept
+        → has_key (accepted (entries kept)) k ≡ has_key (accepted (entries xs)) k }
+    ensures last { (xs kept : List LocatedMapping) (x : LocatedMapping) → IsReduced xs kept → Contains xs x
+        → is_accepted x.entry ≡ true
+        → IsSome (last_position kept (key x.entry)) }
+{}
+
+/// There is exactly one list of entries that stay, and none of them is redundant when the list is reduced again.
+pub fn law_settled()
+    ensures exists { (xs : List LocatedMapping) → (kept : List LocatedMapping) × IsReduced xs kept }
+    ensures one { (xs kept other : List LocatedMapping) → IsReduced xs kept → IsReduced xs other → kept ≡ other }
+    ensures again { (xs kept : List LocatedMapping) → IsReduced xs kept → IsReduced kept kept }
+{}
+
+/// Whether an accepted entry is redundant follows from the summaries of its key and its email, of the entries before it
+/// and of those after it.
+pub fn law_redundant()
+    ensures { (a c : List Mapping) (e : Mapping) → is_accepted e ≡ true
+        → (is_redundant (summary a (key e)) e (summary c (key e)) ≡ true) ↔ IsRedundant a e c }
+{}

@@ -1,0 +1,142 @@
+//! A summary of the entries that a key and its email have in a stretch of a history, and whether an entry between two
+//! stretches is redundant.
+ghost use Rattle.std.specs.Prelude.{◌≡◌, None, Some};
+ghost use Rattle.std.specs.Option.{option_copied, option_or};
+ghost use Rattle.mailmap_entries.specs.Entries.{mapping_of};
+ghost use Rattle.mailmap_histories.specs.Histories.{new_fields};
+ghost use Rattle.mailmap_histories.specs.Listings.{same_optional};
+ghost use Rattle.mailmap_redundancy.specs.Summaries as spec;
+ghost use Rattle.mailmap_redundancy.specs.Numbers.{key_summary_of, last_fields_of, spelling_of, summary_of};
+
+use crate::key_summary::KeySummary;
+use crate::located::LocatedEntry;
+use mailmap_entries::Entry;
+
+/// Of the entries of an email: the first one, whose spelling counts.
+#[derive(Clone, Copy)]
+pub(crate) struct EmailSummary<'p, 'a> {
+    first: Option<&'p LocatedEntry<'a>>,
+}
+
+impl<'p, 'a> EmailSummary<'p, 'a> {
+    /// The summary of no entry.
+    pub(crate) fn none() -> EmailSummary<'p, 'a>
+        ensures { spelling_of result ≡ None }
+    {
+        EmailSummary { first: None }
+    }
+
+    /// The summary of one entry.
+    pub(crate) fn of(located: &'p LocatedEntry<'a>) -> EmailSummary<'p, 'a>
+        ensures { spelling_of result ≡ Some (mapping_of located.now.entry).old_email }
+    {
+        EmailSummary {
+            first: Some(located),
+        }
+    }
+
+    /// The summary of this stretch and the one that comes after it.
+    pub(crate) fn joined(self, after: EmailSummary<'p, 'a>) -> EmailSummary<'p, 'a>
+        ensures { spelling_of result ≡ option_or (spelling_of self.entry) (spelling_of after.entry) }
+    {
+        EmailSummary {
+            first: self.first.or(after.first),
+        }
+    }
+
+    /// The spelling that counts.
+    pub(crate) fn spelling(&self) -> Option<&'a [u8]>
+        ensures { option_copied result ≡ spelling_of self.now }
+    {
+        match self.first {
+            Some(located) => Some(located.entry.old_email()),
+            None => None,
+        }
+    }
+}
+
+/// The summaries of the entries of a key and of the entries of its email.
+#[derive(Clone, Copy)]
+pub(crate) struct Summary<'p, 'a> {
+    pub(crate) of_key: KeySummary<'p, 'a>,
+    pub(crate) of_email: EmailSummary<'p, 'a>,
+}
+
+/// What an entry has to know of the later ones to be redundant: whether one has its key (`key`), whether one of that
+/// key gives a new name (`name`) or a new email (`email`), whether the first of that key that has an old name spells it
+/// as this entry does (`same_name`), and whether the first of its email spells the email as it does (`same_spelling`).
+#[derive(Clone, Copy)]
+pub(crate) struct Later {
+    pub(crate) key: bool,
+    pub(crate) name: bool,
+    pub(crate) email: bool,
+    pub(crate) same_name: bool,
+    pub(crate) same_spelling: bool,
+}
+
+impl Later {
+    /// What a summary of the later entries says to an entry.
+    pub(crate) fn of(entry: &Entry, summary: &Summary) -> Later
+        ensures { result ≡ spec.later_of (mapping_of entry.now) (summary_of summary.now) }
+    {
+        Later {
+            key: summary.of_key.last.is_some(),
+            name: summary.of_key.name.is_some(),
+            email: summary.of_key.email.is_some(),
+            same_name: is_same_text(entry.old_name(), summary.of_key.old_name()),
+            same_spelling: is_same_text(Some(entry.old_email()), summary.of_email.spelling()),
+        }
+    }
+}
+
+/// Whether an entry is redundant between the entries that were kept before it and those after it. Without it, its key
+/// has to be there all the same, its email has to be spelled as with it, and its key has to map to the same fields.
+pub(crate) fn is_redundant(before: &Summary, entry: &Entry, after: Later) -> bool
+    ensures { result ≡ spec.is_redundant_before (summary_of before.now) (mapping_of entry.now) after }
+{
+    (before.of_key.last.is_some() || after.key)
+        && (before.of_email.first.is_some() || after.same_spelling)
+        && is_value_kept(&before.of_key, entry, after)
+}
+
+// Whether the key keeps its fields and the spelling of its old name without the entry. With an old name, the last entry
+// of the key decides on both fields; without one, the last that gives a field decides on that field.
+fn is_value_kept(before: &KeySummary, entry: &Entry, after: Later) -> bool
+    ensures { result ≡ spec.is_value_kept (key_summary_of before.now) (mapping_of entry.now) after }
+{
+    if entry.old_name().is_some() {
+        (before.old_name.is_some() || after.same_name)
+            && (after.key || are_same_fields(entry, before.last))
+    } else {
+        is_last_kept(before.name(), entry.new_name(), after.name)
+            && is_last_kept(before.email(), entry.new_email(), after.email)
+    }
+}
+
+// Whether the field that was given last stays the same without this entry's own one: a later entry gives the field
+// anyway, this entry doesn't give it, or the same text was given before.
+fn is_last_kept(before: Option<&[u8]>, own: Option<&[u8]>, after: bool) -> bool
+    ensures { result ≡ spec.is_last_kept (option_copied before.entry) (option_copied own.entry) after }
+{
+    after || own.is_none() || is_same_text(own, before)
+}
+
+// Whether the last entry has the same new fields as this one.
+fn are_same_fields(entry: &Entry, last: Option<&LocatedEntry>) -> bool
+    ensures { result ≡ spec.same_fields (new_fields (mapping_of entry.now)) (last_fields_of last.entry) }
+{
+    match last {
+        Some(located) => {
+            is_same_text(entry.new_name(), located.entry.new_name())
+                && is_same_text(entry.new_email(), located.entry.new_email())
+        }
+        None => false,
+    }
+}
+
+// Whether both are the same text, or both are missing.
+fn is_same_text(a: Option<&[u8]>, b: Option<&[u8]>) -> bool
+    ensures { result ≡ same_optional (option_copied a.entry) (option_copied b.entry) }
+{
+    a == b
+}

@@ -1,7 +1,0 @@
-pub use Rattle.mailmap_entries.specs.Folding
-pub use Rattle.mailmap_entries.specs.Entries
-pub use Rattle.mailmap_histories.specs.Histories
-pub mod Summaries
-pub mod Sifting
-pub mod Numbers
-pub mod Crowded

@@ -1,0 +1,179 @@
+//! The calls that take memory, one after the other.
+
+use crate::call::Call;
+use crate::run::{Run, Wrong, lists, wants};
+use crate::samples::{
+    ANSWERS, CONTACTS, FAULTY, JANE, NOBODY, PRUNED, TEAM, WRITTEN, all, are_of_faulty, five,
+    is_jane, is_nobody, later, owns_jane, team, three, two,
+};
+use gix_mailmap::snapshot::{Source, WriteError};
+use gix_mailmap::verify::{prune, verify};
+use gix_mailmap::{Entry, Snapshot, actor, check};
+use std::alloc::{AllocError, Global};
+
+/// The snapshot of the team.
+pub fn build(run: &mut Run, alloc: Global) -> Result<Snapshot, Wrong> {
+    run.judge(
+        Call::New,
+        || Snapshot::new(alloc, team().into_iter()),
+        |made| lists(made, &team()),
+    )
+}
+
+/// Makes these calls but for the first, which built the team.
+pub fn judge(run: &mut Run, alloc: Global, team: &Snapshot) -> Result<(), Wrong> {
+    read_and_list(run, alloc, team)?;
+    copy_and_write(run, alloc, team)?;
+    merge(run, alloc, team)?;
+    merge_in_place(run, alloc)?;
+    merge_anew(run, alloc)?;
+    merge_sources(run, alloc)?;
+    resolve(run, alloc, team)?;
+    copy_signatures(run, alloc, team)?;
+    check_and_compact(run, alloc)?;
+    verify_and_prune(run, alloc)
+}
+
+// Reads the snapshot of the team, and lists it.
+fn read_and_list(run: &mut Run, alloc: Global, snapshot: &Snapshot) -> Result<(), Wrong> {
+    run.judge_at_once(Call::FromBytes, || {
+        Ok(Snapshot::from_bytes(alloc, TEAM)? == *snapshot)
+    })?;
+    run.judge_at_once(Call::Entries, || {
+        Ok(snapshot.entries(alloc)?.as_slice() == team().as_slice())
+    })
+}
+
+// Copies the snapshot of the team, and writes it.
+fn copy_and_write(run: &mut Run, alloc: Global, snapshot: &Snapshot) -> Result<(), Wrong> {
+    clone(run, alloc, snapshot)?;
+    run.judge_at_once(Call::Write, || writes(snapshot, alloc))
+}
+
+// Whether the text of the team's snapshot is the right one.
+fn writes(snapshot: &Snapshot, alloc: Global) -> Result<bool, AllocError> {
+    match snapshot.write(alloc) {
+        Ok(text) => Ok(text.as_slice() == WRITTEN),
+        Err(WriteError::Unwritable { .. }) => Ok(false),
+        Err(WriteError::Memory(error)) => Err(error),
+    }
+}
+
+// A merge into the team.
+fn merge(run: &mut Run, alloc: Global, team: &Snapshot) -> Result<(), Wrong> {
+    let mut copy = clone(run, alloc, team)?;
+    run.judge_merge(Call::Merge, team, &mut copy, &later(), &all())
+}
+
+// A small merge, which is made in place: a new name and a new email, ahead of existing emails.
+fn merge_in_place(run: &mut Run, alloc: Global) -> Result<(), Wrong> {
+    let stood = run.judge(
+        Call::New,
+        || Snapshot::new(alloc, three().into_iter()),
+        |made| lists(made, &three()),
+    )?;
+    let mut copy = clone(run, alloc, &stood)?;
+    run.judge_merge(Call::MergeInPlace, &stood, &mut copy, &two(), &five())
+}
+
+// A merge that gives replaced texts up, which builds the snapshot once more.
+fn merge_anew(run: &mut Run, alloc: Global) -> Result<(), Wrong> {
+    let long = [Entry::change_name_by_email(b"A long name", b"a")];
+    let short = [Entry::change_name_by_email(b"N", b"a")];
+    let worn = run.judge(
+        Call::New,
+        || Snapshot::new(alloc, long.into_iter()),
+        |made| lists(made, &long),
+    )?;
+    let mut copy = clone(run, alloc, &worn)?;
+    run.judge_merge(Call::MergeAnew, &worn, &mut copy, &short, &short)
+}
+
+/// A copy of a snapshot.
+pub fn clone(run: &mut Run, alloc: Global, snapshot: &Snapshot) -> Result<Snapshot, Wrong> {
+    run.judge(
+        Call::TryClone,
+        || snapshot.try_clone(alloc),
+        |copy| *copy == *snapshot,
+    )
+}
+
+// Three sources, of which the one in the middle has no entry, so that it is always made. What the others say is there
+// exactly when they are marked as made.
+fn merge_sources(run: &mut Run, alloc: Global) -> Result<(), Wrong> {
+    let mut snapshot = Snapshot::empty(alloc);
+    let made = merge_three(&mut snapshot);
+    let n = Entry::change_name_by_email(b"N", b"a@x");
+    let m = Entry::change_name_by_email(b"M", b"a@x");
+    match made {
+        [true, true, true] => wants(Call::MergeSources, lists(&snapshot, &[m])),
+        [false, true, true] => refused_source(run, Call::FirstSource, lists(&snapshot, &[m])),
+        [true, true, false] => refused_source(run, Call::ThirdSource, lists(&snapshot, &[n])),
+        _ => wants(Call::MergeSources, false),
+    }
+}
+
+// Which of the sources were made.
+fn merge_three(snapshot: &mut Snapshot) -> [bool; 3] {
+    let sources = [
+        Source::Buffer(b"N <a@x>"),
+        Source::Buffer(b""),
+        Source::Buffer(b"M <a@x>"),
+    ];
+    let mut made = [false; 3];
+    snapshot.merge_sources(&sources, &mut made);
+    made
+}
+
+fn refused_source(run: &mut Run, call: Call, is_right: bool) -> Result<(), Wrong> {
+    run.refuse(call)?;
+    wants(call, is_right)
+}
+
+// Signatures that are mapped, or copied as they are.
+fn resolve(run: &mut Run, alloc: Global, team: &Snapshot) -> Result<(), Wrong> {
+    run.judge_at_once(Call::TryResolve, || {
+        let answer = team.try_resolve(alloc, JANE)?;
+        Ok(answer.as_ref().is_some_and(is_jane))
+    })?;
+    run.judge_at_once(Call::Resolve, || Ok(is_jane(&team.resolve(alloc, JANE)?)))?;
+    run.judge_at_once(Call::ResolveNothing, || {
+        Ok(is_nobody(&team.resolve(alloc, NOBODY)?))
+    })
+}
+
+// A signature that owns its texts, copied and turned into one that always does.
+fn copy_signatures(run: &mut Run, alloc: Global, team: &Snapshot) -> Result<(), Wrong> {
+    let jane = run.judge(
+        Call::ResolveCow,
+        || team.resolve_cow(alloc, JANE),
+        owns_jane,
+    )?;
+    run.judge_at_once(Call::SignatureTryClone, || {
+        Ok(owns_jane(&jane.try_clone(alloc)?))
+    })?;
+    run.judge_at_once(Call::FromCow, || {
+        let owned = actor::Signature::from_cow(alloc, NOBODY.into())?;
+        Ok(is_nobody(&owned))
+    })
+}
+
+// Answers to contact lines, and a mailmap written anew.
+fn check_and_compact(run: &mut Run, alloc: Global) -> Result<(), Wrong> {
+    run.judge_at_once(Call::Check, || {
+        Ok(check::check(alloc, &[TEAM], CONTACTS)?.as_slice() == ANSWERS)
+    })?;
+    run.judge_at_once(Call::Compact, || {
+        Ok(check::compact(alloc, &[TEAM])?.as_slice() == WRITTEN)
+    })
+}
+
+// What is wrong with two mailmaps, and one of them without the lines that have no effect.
+fn verify_and_prune(run: &mut Run, alloc: Global) -> Result<(), Wrong> {
+    run.judge_at_once(Call::Verify, || {
+        Ok(are_of_faulty(verify(alloc, &[TEAM, FAULTY])?.as_slice()))
+    })?;
+    run.judge_at_once(Call::Prune, || {
+        Ok(prune(alloc, FAULTY)?.as_slice() == PRUNED)
+    })
+}

@@ -1,0 +1,198 @@
+//! What is built, and what each call on it has to answer.
+
+use gix_mailmap::actor::SignatureRef;
+use gix_mailmap::date::Time;
+use gix_mailmap::lines::Error;
+use gix_mailmap::snapshot::Signature;
+use gix_mailmap::verify::{Contact, Finding, Kind, Position};
+use gix_mailmap::{Entry, actor};
+use std::borrow::CowSlice;
+
+/// A mailmap with two mappings of one email: for everybody, and for one name.
+pub const TEAM: &[u8] = b"
+Joe R. Developer <joe@example.com> <bugs@example.com>
+Jane Doe <jane@example.com> Jane <bugs@example.com>
+";
+
+/// The mailmap as it is written.
+pub const WRITTEN: &[u8] = b" Joe R. Developer <joe@example.com> <bugs@example.com>
+ Jane Doe <jane@example.com> Jane <bugs@example.com>
+";
+
+/// Contact lines, and a line that is none.
+pub const CONTACTS: &[u8] = b"bob <BUGS@example.com>\nJANE <bugs@example.com>\nnot a contact\n";
+
+/// The answers to them.
+pub const ANSWERS: &[u8] = b"Joe R. Developer <joe@example.com>
+Jane Doe <jane@example.com>
+not a contact
+";
+
+/// A mailmap with a finding of each kind.
+pub const FAULTY: &[u8] = b"Ann <ann@example.com>
+plain
+Ann Lee <ann@example.com> # since May
+Bob <ann@example.com> <bob@example.com>
+";
+
+/// The same without its line of no effect.
+pub const PRUNED: &[u8] = b"plain
+Ann Lee <ann@example.com> # since May
+Bob <ann@example.com> <bob@example.com>
+";
+
+/// Whether this is what is found in that mailmap, as the second of two buffers.
+pub fn are_of_faulty(findings: &[Finding<'_>]) -> bool {
+    let email = b"ann@example.com";
+    let [no_effect, fault, ignored, mapped] = findings else {
+        return false;
+    };
+    is_on(no_effect, 1)
+        && is_on(fault, 2)
+        && is_on(ignored, 3)
+        && is_on(mapped, 4)
+        && no_effect.kind == Kind::NoEffect { beside: at(3) }
+        && fault.kind
+            == Kind::Fault(Error::NoEmail {
+                line: 2,
+                input: b"plain",
+            })
+        && ignored.kind == Kind::IgnoredText(b"# since May")
+        && mapped.kind
+            == Kind::ItselfMapped {
+                contact: contact(b"Bob", email),
+                to: contact(b"Ann Lee", email),
+            }
+}
+
+fn at(line: usize) -> Position {
+    Position { buffer: 1, line }
+}
+
+fn is_on(finding: &Finding<'_>, line: usize) -> bool {
+    finding.position == at(line)
+}
+
+fn contact<'a>(name: &'a [u8], email: &'a [u8]) -> Contact<'a> {
+    Contact {
+        name: Some(name),
+        email,
+    }
+}
+
+/// The entries of the mailmap.
+pub fn team() -> [Entry<'static>; 2] {
+    [
+        Entry::change_name_and_email_by_email(
+            b"Joe R. Developer",
+            b"joe@example.com",
+            b"bugs@example.com",
+        ),
+        Entry::change_name_and_email_by_name_and_email(
+            b"Jane Doe",
+            b"jane@example.com",
+            b"Jane",
+            b"bugs@example.com",
+        ),
+    ]
+}
+
+/// Entries to merge after those: an email that is new, and one that is known, for which a field is replaced, a name is
+/// replaced and a name is new.
+pub fn later() -> [Entry<'static>; 4] {
+    [
+        Entry::change_name_by_email(b"Ann", b"ann@example.com"),
+        Entry::change_name_by_email(b"Joseph", b"BUGS@example.com"),
+        Entry::change_email_by_name_and_email(b"jd@example.com", b"JANE", b"bugs@example.com"),
+        Entry::change_email_by_name_and_email(b"bob@example.com", b"Bob", b"bugs@example.com"),
+    ]
+}
+
+/// What is listed of all of them.
+pub fn all() -> [Entry<'static>; 4] {
+    [
+        Entry::change_name_by_email(b"Ann", b"ann@example.com"),
+        Entry::change_name_and_email_by_email(b"Joseph", b"joe@example.com", b"bugs@example.com"),
+        Entry::change_email_by_name_and_email(b"bob@example.com", b"Bob", b"bugs@example.com"),
+        Entry::change_email_by_name_and_email(b"jd@example.com", b"Jane", b"bugs@example.com"),
+    ]
+}
+
+/// Entries of three emails.
+pub fn three() -> [Entry<'static>; 3] {
+    [
+        Entry::change_name_by_email(b"Ann", b"a@x"),
+        Entry::change_name_by_email(b"Bob", b"b@x"),
+        Entry::change_name_by_email(b"Cid", b"c@x"),
+    ]
+}
+
+/// Entries to merge after those: a name that is new for the first email, and an email that is new.
+pub fn two() -> [Entry<'static>; 2] {
+    [
+        Entry::change_email_by_name_and_email(b"anna@x", b"Anna", b"A@x"),
+        Entry::change_name_by_email(b"Abe", b"aa@x"),
+    ]
+}
+
+/// What is listed of all of them.
+pub fn five() -> [Entry<'static>; 5] {
+    [
+        Entry::change_name_by_email(b"Ann", b"a@x"),
+        Entry::change_email_by_name_and_email(b"anna@x", b"Anna", b"a@x"),
+        Entry::change_name_by_email(b"Abe", b"aa@x"),
+        Entry::change_name_by_email(b"Bob", b"b@x"),
+        Entry::change_name_by_email(b"Cid", b"c@x"),
+    ]
+}
+
+/// A signature whose name and email are mapped.
+pub const JANE: SignatureRef<'static> = SignatureRef {
+    name: b"Jane",
+    email: b"bugs@example.com",
+    time: "1711398853 +0800",
+};
+
+/// The time of that signature.
+pub const JANES_TIME: Time = Time {
+    seconds: 1711398853,
+    offset: 28800,
+};
+
+/// A signature of which nothing is mapped.
+pub const NOBODY: SignatureRef<'static> = SignatureRef {
+    name: b"Bob",
+    email: b"nobody@example.com",
+    time: "soon",
+};
+
+/// A signature whose email is known in its spelling, for another name alone.
+pub const BOB: SignatureRef<'static> = SignatureRef {
+    name: b"Bob",
+    email: b"x@y",
+    time: "5 +0000",
+};
+
+/// Whether this is what the team makes of Jane's signature.
+pub fn is_jane(answer: &actor::Signature) -> bool {
+    answer.name.as_slice() == b"Jane Doe".as_slice()
+        && answer.email.as_slice() == b"jane@example.com".as_slice()
+        && answer.time == JANES_TIME
+}
+
+/// Whether this is the same, with both texts owned.
+pub fn owns_jane(answer: &Signature<'_>) -> bool {
+    let (CowSlice::Owned(name), CowSlice::Owned(email)) = (&answer.name, &answer.email) else {
+        return false;
+    };
+    name.as_slice() == b"Jane Doe".as_slice()
+        && email.as_slice() == b"jane@example.com".as_slice()
+        && answer.time == JANES_TIME
+}
+
+/// Whether this is a copy of the signature of which nothing is mapped, whose time can't be read.
+pub fn is_nobody(answer: &actor::Signature) -> bool {
+    answer.name.as_slice() == NOBODY.name
+        && answer.email.as_slice() == NOBODY.email
+        && answer.time == Time::default()
+}
