@@ -86,7 +86,8 @@ class Mailmap(Sequence[Entry[AnyStr]], Generic[AnyStr]):
         ['Jane Doe <jane@x>', 'plain']
 
         Lines are taken in parts, so some are read ahead: 4096 at first, and later more. What is added meanwhile counts from
-        a later part on. A ValueError if a line has a line feed before its end. Raises OutOfMemory.
+        a later part on, and once the mailmap is closed there is no other part. A ValueError if a line has a line feed before
+        its end. Raises OutOfMemory.
         """
         return _stream.answers(self._as_text, len(self), lines)
 

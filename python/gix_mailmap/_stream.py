@@ -44,14 +44,15 @@ def answers(mailmap: Callable[[], bytes], entries: int, lines: Iterable[AnyStr])
     text = b""
     for part in _parts(lines, max(_LONGEST_PART, _LINES_AN_ENTRY * entries)):
         before, text = text, mailmap()
-        if text is not before:
+        if text is not before or len(known) > _KEPT:
             known.clear()
         new = set(part).difference(known)
-        if len(known) + len(new) > _KEPT:
-            known.clear()
-            new = set(part)
+        if 2 * len(new) > len(part):
+            yield from _answered(text, part)
+            continue
         if new:
-            known.update(_answered(text, list(new)))
+            asked = list(new)
+            known.update(zip(asked, _answered(text, asked)))
         yield from map(known.__getitem__, part)
 
 
@@ -69,15 +70,25 @@ def _parts(lines: Iterable[AnyStr], longest: int) -> Iterator[list[AnyStr]]:
         length = min(_GROWTH * length, longest)
 
 
-def _answered(mailmap: bytes, lines: list[AnyStr]) -> Iterator[tuple[AnyStr, AnyStr]]:
-    """Each line with its answer."""
-    if isinstance(lines[0], str):
-        contacts = as_bytes("".join([line if line.endswith("\n") else line + "\n" for line in lines]))
+def _answered(mailmap: bytes, lines: list[AnyStr]) -> Iterator[AnyStr]:
+    """The answer to each line, by one call."""
+    first = lines[0]
+    if isinstance(first, str):
+        feed, carriage_return = "\n", "\r"
     else:
-        contacts = b"".join([line if line.endswith(b"\n") else line + b"\n" for line in lines])
+        feed, carriage_return = b"\n", b"\r"
+    contacts = as_bytes(_joined(lines, feed, carriage_return))
     if contacts.count(b"\n") != len(lines):
         raise ValueError("a line has a line feed before its end")
-    told = _native.check(mailmap, contacts)
-    if isinstance(lines[0], str):
-        return zip(lines, as_str(told).split("\n"))
-    return zip(lines, told.split(b"\n"))
+    answers = _native.check(mailmap, contacts)
+    texts = as_str(answers) if isinstance(first, str) else answers
+    return islice(texts.split(feed), len(lines))
+
+
+def _joined(lines: list[AnyStr], feed: AnyStr, carriage_return: AnyStr) -> AnyStr:
+    """The lines with a line feed each. A carriage return counts as part of a line's end only with a line feed after it, so
+    one that ends a line gets another one before the line feed."""
+    return feed[:0].join([
+        line if line.endswith(feed) else line + (carriage_return + feed if line.endswith(carriage_return) else feed)
+        for line in lines
+    ])
