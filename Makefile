@@ -1,6 +1,7 @@
 # make run: maps the sample contacts by the sample mailmap. make test: the gate. make edits: the wrong bodies that the
-# gate leaves out for its time. make lib: the libraries for C. make install: the programs and their manual pages, the
-# libraries, their header, what pkg-config reads and the module for Python, under PREFIX.
+# gate leaves out for its time. make lib: the libraries for C. make wheel: the package for Python, in dist. make install:
+# the programs and their manual pages, the libraries, their header, what pkg-config reads and the package for Python, under
+# PREFIX.
 PREFIX ?= /usr/local
 PROGRAM = crates/mailmap_check/out/mailmap_check
 VERIFIER = crates/mailmap_verify/out/mailmap_verify
@@ -9,7 +10,7 @@ DUMP = crates/mailmap_dump/out/mailmap_dump
 LIB = crates/gix_mailmap_c/out
 HEAP = $(dir $(shell rt doc))c/liblibc_c.a
 
-.PHONY: build run test edits install install_lib lib
+.PHONY: build run test edits install install_lib lib wheel
 build:
 	@echo 'Proves everything first: ten to twenty minutes on four processors the first time.'
 	cd crates/mailmap_check && rt run < stdin > /dev/null
@@ -26,6 +27,11 @@ lib:
 	cd $(LIB)/c && ar x $(HEAP) && ar rs libgix_mailmap.a *.o 2> /dev/null
 	$(CC) -shared -o $(LIB)/c/libgix_mailmap.so -Wl,-soname,libgix_mailmap.so \
 	    -Wl,--version-script,include/gix_mailmap.map -Wl,--whole-archive $(LIB)/c/libgix_mailmap.a -Wl,--no-whole-archive
+	ln -sf ../../$(LIB)/c/libgix_mailmap.so python/gix_mailmap/libgix_mailmap.so
+
+# the package for Python, with the shared library in it
+wheel: lib
+	python3 -m pip wheel --quiet --no-index --no-deps --wheel-dir dist .
 
 test:
 	tests/refused_memory.sh
@@ -58,6 +64,8 @@ install_lib:
 	install -D -m 644 include/gix_mailmap.h $(DESTDIR)$(PREFIX)/include/gix_mailmap.h
 	install -D -m 644 $(LIB)/c/libgix_mailmap.a $(DESTDIR)$(PREFIX)/lib/libgix_mailmap.a
 	install -D -m 755 $(LIB)/c/libgix_mailmap.so $(DESTDIR)$(PREFIX)/lib/libgix_mailmap.so
-	install -D -m 644 python/gix_mailmap.py $(DESTDIR)$(PREFIX)/share/gix_mailmap/python/gix_mailmap.py
+	install -d $(DESTDIR)$(PREFIX)/share/gix_mailmap/python/gix_mailmap
+	install -m 644 python/gix_mailmap/*.py python/gix_mailmap/py.typed $(DESTDIR)$(PREFIX)/share/gix_mailmap/python/gix_mailmap
+	ln -sf ../../../../lib/libgix_mailmap.so $(DESTDIR)$(PREFIX)/share/gix_mailmap/python/gix_mailmap/libgix_mailmap.so
 	install -d $(DESTDIR)$(PREFIX)/lib/pkgconfig
 	sed 's|@PREFIX@|$(PREFIX)|' include/gix_mailmap.pc.in > $(DESTDIR)$(PREFIX)/lib/pkgconfig/gix_mailmap.pc

@@ -108,4 +108,5 @@ def _metadata(project: dict[str, Any], version: str) -> str:
         f"License-File: {project['license']['file']}",
         "Description-Content-Type: text/markdown",
     ]
-    return "\n".join(lines) + "\n\n" + (TOP / project["readme"]).read_text(encoding="utf-8")
+    readme = TOP / str(project["readme"])
+    return "\n".join(lines) + "\n\n" + readme.read_text(encoding="utf-8")

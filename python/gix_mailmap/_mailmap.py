@@ -75,7 +75,13 @@ class Mailmap(Sequence[Entry[AnyStr]], Generic[AnyStr]):
             return Answer(as_str(found_name), as_str(found_email), is_name_given, is_email_given)
         return Answer(found_name, found_email, is_name_given, is_email_given)
 
-    def map_contacts(self, lines: Iterable[AnyStr]) -> Iterator[AnyStr]:
+    @overload
+    def map_contacts(self, lines: Iterable[str]) -> Iterator[str]: ...
+
+    @overload
+    def map_contacts(self, lines: Iterable[Buffer]) -> Iterator[bytes]: ...
+
+    def map_contacts(self, lines: Iterable[Any]) -> Iterator[Any]:
         """Answers lines of contacts, as `Jane <jane@x>`, one after the other. A line that is no contact is its own answer.
 
         It is for many lines, and much faster than as many lookups. The lines may be `str` or bytes, and with or without the
