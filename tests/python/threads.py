@@ -2,6 +2,7 @@
 import faulthandler
 import gc
 import itertools
+import sys
 import threading
 import time
 import tracemalloc
@@ -34,11 +35,19 @@ def together(*works):
         raise errors[0]
 
 
-class Threads(unittest.TestCase):
+class Ending(unittest.TestCase):
+    """A call that waits for ever ends the tests."""
+
     def setUp(self):
-        # a call that waits for ever would be the worst: it ends the tests here
-        faulthandler.dump_traceback_later(300, exit=True)
+        faulthandler.dump_traceback_later(120, exit=True)
         self.addCleanup(faulthandler.cancel_dump_traceback_later)
+
+
+class Threads(Ending):
+    def setUp(self):
+        super().setUp()
+        self.addCleanup(sys.setswitchinterval, sys.getswitchinterval())
+        sys.setswitchinterval(1e-6)
 
     def test_close_waits_for_a_call(self):
         handle = Handle()
@@ -92,27 +101,28 @@ class Threads(unittest.TestCase):
 
     def test_entries_while_others_are_added(self):
         """Each answer is one of before or after an `add`."""
-        mailmap, done = Mailmap(""), threading.Event()
+        mailmap, done = Mailmap(""), [threading.Event(), threading.Event()]
 
         def add():
-            for number in range(300):
-                mailmap.add(f"{'N' * number} <n@x> <o@x>\nM <{number}@x>\n")
-            done.set()
+            for number in itertools.count():
+                mailmap.add(f"{'N' * (number % 500)} <n@x> <o@x>\nM <{number % 500}@x>\n")
+                if all(event.is_set() for event in done):
+                    break
 
-        def use():
-            while not done.is_set():
+        def use(event):
+            for _ in range(200):
                 length = len(mailmap)
                 entries = mailmap.entries()
                 self.assertGreaterEqual(len(entries), length)
                 for entry in entries:
-                    wanted = entry.old_email == "o@x" and not (entry.new_name or "").strip("N") or entry.new_name == "M"
-                    self.assertTrue(wanted, entry)
+                    name = entry.new_name or ""
+                    self.assertEqual(name.strip("N"), "" if entry.old_email == "o@x" else "M")
                 answer, = mailmap.map_contacts(["a <o@x>"])
-                self.assertRegex(answer, "^(a <o@x>|a <n@x>|N* <n@x>)$")
-                found = mailmap.lookup("a", "o@x")
-                self.assertTrue(found.name == "a" or not found.name.strip("N"))
+                self.assertRegex(answer, "^(a <o@x>|a <n@x>|N+ <n@x>)$")
+                self.assertRegex(mailmap.lookup("a", "o@x").name, "^(a|N+)$")
+            event.set()
 
-        together(add, use, use)
+        together(add, *(lambda event=event: use(event) for event in done))
 
     def test_answers_of_all_lengths(self):
         """Buffers are those of one call only."""
@@ -132,13 +142,16 @@ class Threads(unittest.TestCase):
         together(*[lambda: self.assertEqual(list(mailmap.map_contacts(lines)), wanted)] * 3)
 
 
-class Cycles(unittest.TestCase):
-    """A `__del__` that calls a mailmap, as often as the collector can be made to run."""
+class Cycles(Ending):
+    """A `__del__` that calls a mailmap, wherever the collector can be made to run."""
 
     def setUp(self):
-        faulthandler.dump_traceback_later(300, exit=True)
-        self.addCleanup(faulthandler.cancel_dump_traceback_later)
+        super().setUp()
         self.addCleanup(gc.set_threshold, *gc.get_threshold())
+
+    def collect_after(self, allocations):
+        """Has the collector run as soon as so many objects are new."""
+        gc.set_threshold(allocations, 1_000_000, 1_000_000)
 
     def cycle(self, at_end, *kept):
         """Garbage for the collector, which calls a function."""
@@ -150,17 +163,28 @@ class Cycles(unittest.TestCase):
         node = Node()
         node.itself, node.kept = node, kept
 
+    def test_a_call_of_the_thread_that_is_in_a_call(self):
+        handle = Handle()
+
+        def call(_at):
+            self.assertEqual(handle.lookup(b"a", b"b"), (b"a", b"b", False, False))
+            handle.close()
+            return 0
+
+        handle._called(call)
+        self.assertTrue(handle.closed)
+
     def test_calls_in_the_middle_of_calls(self):
         mailmap, calls = Mailmap(MAP, "".join(f"N <{number}@x>\n" for number in range(100))), itertools.count()
 
         def at_end():
             number = next(calls)
-            assert mailmap.lookup("x" * number, "y").name == "x" * number
-            mailmap.add(f"M <{number}@z>")
+            assert mailmap.lookup("x" * (number % 200), "y").name == "x" * (number % 200)
+            mailmap.add(f"M <{number % 10}@z>")
             assert len(mailmap.entries()) == len(mailmap)
 
-        gc.set_threshold(1)
-        for _ in range(500):
+        for round in range(600):
+            self.collect_after(1 + round % 60)
             self.cycle(at_end)
             self.assertEqual(mailmap.lookup("jd", "jd@y"), JANE)
             self.cycle(at_end)
@@ -168,21 +192,20 @@ class Cycles(unittest.TestCase):
             self.cycle(at_end)
             self.assertEqual(list(mailmap.map_contacts(["a <7@x>"])), ["N <7@x>"])
         gc.collect()
-        self.assertEqual(next(calls), 1500)
+        self.assertEqual(next(calls), 1800)
 
     def test_a_mailmap_that_is_closed_in_the_middle_of_a_call(self):
         closed = 0
-        for _ in range(300):
+        for round in range(600):
             mailmap = Mailmap(MAP)
-            gc.set_threshold(1)
+            self.collect_after(1 + round % 60)
             self.cycle(mailmap.close)
             try:
-                for _ in range(5):
+                for _ in range(20):
                     self.assertEqual(mailmap.lookup("jd", "jd@y"), JANE)
                     self.assertEqual(len(mailmap.entries()), 1)
             except Closed:
                 closed += 1
-            gc.set_threshold(1_000_000)
         self.assertGreater(closed, 0)
 
     def test_a_mailmap_in_a_cycle_is_closed(self):
