@@ -1,10 +1,8 @@
 """The shared library, by ctypes. All that knows the calls of `gix_mailmap.h` is in this file; texts are bytes here.
 
-Threads: each handle has a lock, and a call on it waits until the one before is done. The lock is one that a thread may
-take again, since the garbage collector may run a `__del__` with calls of its own at any time. No such call can begin while
-the library is at work for the same thread.
-
-Other threads run during a call, except during a lookup: it takes less time than to hand over to them and back.
+Threads: other threads run during a call. So each handle has a lock, and a call on it waits until the one before is done. The
+lock is one that a thread may take again, since the garbage collector may run a `__del__` with calls of its own at any time.
+No such call can begin while the library is at work for the same thread.
 """
 
 from __future__ import annotations
@@ -99,9 +97,6 @@ def _load() -> ctypes.CDLL:
 
 
 _library = _load()
-_lookup: Callable[..., int] = ctypes.PYFUNCTYPE(c_uint32, *_library.gix_mailmap_lookup.argtypes)(
-    ("gix_mailmap_lookup", _library)
-)
 
 
 def _is_short(status: int) -> bool:
@@ -216,7 +211,7 @@ class Handle:
         except IndexError:
             buffers = _Buffers(_USUAL_LENGTH)
         contact = name, len(name), email, len(email)
-        while self._called(_lookup, *contact, *buffers.arguments):
+        while self._called(_library.gix_mailmap_lookup, *contact, *buffers.arguments):
             buffers = buffers.longer()
         answer = buffers.answer()
         if buffers.length == _USUAL_LENGTH:

@@ -174,6 +174,21 @@ class Cycles(Ending):
         handle._called(call)
         self.assertTrue(handle.closed)
 
+    def test_a_lookup_in_the_middle_of_a_lookup(self):
+        """Between the call of the library and the answer."""
+        handle = Handle()
+        handle.lookup(b"", b"")
+        called = handle._called
+
+        def interrupted(*arguments):
+            is_short = called(*arguments)
+            handle._called = called
+            self.assertEqual(handle.lookup(b"c", b"d"), (b"c", b"d", False, False))
+            return is_short
+
+        handle._called = interrupted
+        self.assertEqual(handle.lookup(b"a", b"b"), (b"a", b"b", False, False))
+
     def test_calls_in_the_middle_of_calls(self):
         mailmap, calls = Mailmap(MAP, "".join(f"N <{number}@x>\n" for number in range(100))), itertools.count()
 
