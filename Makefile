@@ -1,7 +1,7 @@
 # make run: maps the sample contacts by the sample mailmap. make test: the gate. make edits: the wrong bodies that the
-# gate leaves out for its time. make lib: the libraries for C. make wheel: the package for Python, in dist. make install:
-# the programs and their manual pages, the libraries, their header, what pkg-config reads and the package for Python, under
-# PREFIX.
+# gate leaves out for its time. make lib: the libraries for C. make wheel: the package for Python, in dist.
+# make install: the programs and their manual pages, the libraries, their header, what pkg-config reads and the package
+# for Python, under PREFIX.
 PREFIX ?= /usr/local
 PROGRAM = crates/mailmap_check/out/mailmap_check
 VERIFIER = crates/mailmap_verify/out/mailmap_verify
@@ -9,6 +9,8 @@ DUMP = crates/mailmap_dump/out/mailmap_dump
 # the libraries for C, and the part of the toolchain's that they stand on
 LIB = crates/gix_mailmap_c/out
 HEAP = $(dir $(shell rt doc))c/liblibc_c.a
+# where the package for Python goes
+PACKAGE = share/gix_mailmap/python/gix_mailmap
 
 .PHONY: build run test edits install install_lib lib wheel
 build:
@@ -64,8 +66,8 @@ install_lib:
 	install -D -m 644 include/gix_mailmap.h $(DESTDIR)$(PREFIX)/include/gix_mailmap.h
 	install -D -m 644 $(LIB)/c/libgix_mailmap.a $(DESTDIR)$(PREFIX)/lib/libgix_mailmap.a
 	install -D -m 755 $(LIB)/c/libgix_mailmap.so $(DESTDIR)$(PREFIX)/lib/libgix_mailmap.so
-	install -d $(DESTDIR)$(PREFIX)/share/gix_mailmap/python/gix_mailmap
-	install -m 644 python/gix_mailmap/*.py python/gix_mailmap/py.typed $(DESTDIR)$(PREFIX)/share/gix_mailmap/python/gix_mailmap
-	ln -sf ../../../../lib/libgix_mailmap.so $(DESTDIR)$(PREFIX)/share/gix_mailmap/python/gix_mailmap/libgix_mailmap.so
+	install -d $(DESTDIR)$(PREFIX)/$(PACKAGE)
+	install -m 644 python/gix_mailmap/*.py python/gix_mailmap/py.typed $(DESTDIR)$(PREFIX)/$(PACKAGE)
+	ln -sf ../../../../lib/libgix_mailmap.so $(DESTDIR)$(PREFIX)/$(PACKAGE)/libgix_mailmap.so
 	install -d $(DESTDIR)$(PREFIX)/lib/pkgconfig
 	sed 's|@PREFIX@|$(PREFIX)|' include/gix_mailmap.pc.in > $(DESTDIR)$(PREFIX)/lib/pkgconfig/gix_mailmap.pc

@@ -139,7 +139,8 @@ def pause(label, kind):
 
 def main():
     program = sys.argv[1] if sys.argv[1:] else None
-    print("| entries | different | lookups | a list | a file of bytes | a file of str |" + " the program |" * bool(program))
+    columns = ["entries", "different", "lookups", "a list", "a file of bytes", "a file of str"]
+    print(f"| {' | '.join(columns + ['the program'] * bool(program))} |")
     with tempfile.TemporaryDirectory() as folder:
         for entries, different in ((10_000, 3_000), (100_000, 3_000), (10_000, CONTACTS)):
             stream(Path(folder), entries, different, program)

@@ -1,7 +1,7 @@
-"""Builds the wheel of gix_mailmap, as PEP 517 has it: the package, and the shared library that `make lib` has built.
+"""Builds the wheel of gix_mailmap: the package, and the shared library that `make lib` has built. pip calls this.
 
-It stands for setuptools, since that needs the package `wheel` besides, and would have to be taught that the wheel is for
-one platform and yet for each version of Python. The same files give the same wheel, byte for byte.
+setuptools would need the package `wheel` to write one, and would have to be taught that it is for one platform but for
+any Python. This needs only Python. The same files give the same wheel, byte for byte.
 """
 
 from __future__ import annotations
@@ -24,11 +24,13 @@ Settings = Optional[Mapping[str, Any]]
 
 
 class UnsupportedOperation(Exception):
-    """What PEP 517 has for a backend that makes no source distribution."""
+    """What pip knows of a backend that makes no source distribution."""
 
 
-def build_wheel(wheel_directory: str, config_settings: Settings = None, metadata_directory: Optional[str] = None) -> str:
-    """Writes the wheel into a folder, and answers its name."""
+def build_wheel(
+    wheel_directory: str, config_settings: Settings = None, metadata_directory: Optional[str] = None
+) -> str:
+    """Writes the wheel into a folder, and returns its name."""
     library = _library()
     files = {f"gix_mailmap/{path.name}": path.read_bytes() for path in sorted(PACKAGE.glob("*.py"))}
     files["gix_mailmap/py.typed"] = b""
@@ -36,8 +38,10 @@ def build_wheel(wheel_directory: str, config_settings: Settings = None, metadata
     return _write(Path(wheel_directory), files, f"py3-none-{_platform(library)}")
 
 
-def build_editable(wheel_directory: str, config_settings: Settings = None, metadata_directory: Optional[str] = None) -> str:
-    """Writes a wheel that leads to the package in the source tree (PEP 660)."""
+def build_editable(
+    wheel_directory: str, config_settings: Settings = None, metadata_directory: Optional[str] = None
+) -> str:
+    """Writes a wheel that leads to the package in the source tree, for `pip install -e`."""
     return _write(Path(wheel_directory), {"gix_mailmap.pth": f"{PACKAGE.parent}\n".encode()}, "py3-none-any")
 
 
@@ -54,8 +58,8 @@ def _library() -> bytes:
 
 
 def _platform(library: bytes) -> str:
-    """The platform of the library: Linux with the newest version of glibc that one of its symbols asks for, and no older
-    one than pip knows."""
+    """The platform of the library: Linux with the newest version of glibc that one of its symbols asks for, and no
+    older one than pip knows."""
     minors = [int(minor) for minor in re.findall(rb"\0GLIBC_2\.(\d+)", library)]
     machine = platform.machine()
     return f"manylinux_2_{max(minors + [17])}_{machine}" if minors else f"linux_{machine}"

@@ -7,9 +7,9 @@ A mailmap says which names and emails stand for which:
 ...     mailmap.lookup("jd", "JD@y")
 Answer(name='Jane Doe', email='jane@x', is_name_given=True, is_email_given=True)
 
-Texts are `str` or bytes, and what a call answers is of the same kind. Bytes may be any, as nothing says how a mailmap is
-encoded; in a `str`, bytes that aren't UTF-8 are lone surrogates (`surrogateescape`). A `bytearray` and a `memoryview` are
-taken as bytes.
+Texts are `str` or bytes, and what a call answers is of the same kind. Bytes may be any, as nothing says how a mailmap
+is encoded; in a `str`, bytes that aren't UTF-8 are lone surrogates (`surrogateescape`). A `bytearray` and a
+`memoryview` are taken as bytes.
 
 All errors of the module are of the class Error. An argument of a wrong type is a TypeError.
 """

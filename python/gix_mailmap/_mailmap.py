@@ -38,7 +38,8 @@ class Mailmap(Sequence[Entry[AnyStr]], Generic[AnyStr]):
 
     def __init__(self, *texts: Text) -> None:
         """Opens the mailmaps `texts`, of which later ones come after earlier ones: where two entries are for the same
-        contact, the later one counts. Lines that can't be read are left out, as git leaves them out. Raises OutOfMemory."""
+        contact, the later one counts. Lines that can't be read are left out, as git leaves them out. Raises
+        OutOfMemory."""
         self._is_str = are_str(*texts)
         self._handle = Handle()
         self._changed = object()
@@ -82,18 +83,19 @@ class Mailmap(Sequence[Entry[AnyStr]], Generic[AnyStr]):
     def map_contacts(self, lines: Iterable[Buffer]) -> Iterator[bytes]: ...
 
     def map_contacts(self, lines: Iterable[Any]) -> Iterator[Any]:
-        """Answers lines of contacts, as `Jane <jane@x>`, one after the other. A line that is no contact is its own answer.
+        """Answers lines of contacts, as `Jane <jane@x>`, one after the other. A line that is no contact is its own
+        answer.
 
-        It is for many lines, and much faster than as many lookups. The lines may be `str` or bytes, and with or without the
-        line feed at the end, as those of a file. The answers have none:
+        It is for many lines, and much faster than as many lookups. The lines may be `str` or bytes, and with or
+        without the line feed at the end, as those of a file. The answers have none:
 
         >>> with Mailmap("Jane Doe <jane@x> <jd@y>") as mailmap:
         ...     list(mailmap.map_contacts(["jd <JD@y>\\n", "plain\\n"]))
         ['Jane Doe <jane@x>', 'plain']
 
-        Lines are taken in parts, so some are read ahead: 4096 at first, and later more. What is added meanwhile counts from
-        a later part on, and once the mailmap is closed there is no other part. A ValueError if a line has a line feed before
-        its end. Raises OutOfMemory.
+        Lines are taken in parts, so some are read ahead: 4096 at first, and later more. What is added meanwhile counts
+        from a later part on, and once the mailmap is closed there is no other part. A ValueError if a line has a line
+        feed before its end. Raises OutOfMemory.
         """
         return _stream.answers(self._as_text, len(self), lines)
 
@@ -128,8 +130,8 @@ class Mailmap(Sequence[Entry[AnyStr]], Generic[AnyStr]):
     def __getitem__(self, index: Union[int, slice]) -> Union[Entry[AnyStr], list[Entry[AnyStr]]]:
         """The entry at an index, or a list of those of a slice.
 
-        A single entry takes a walk over those before it: `entries` gives all of them at once. Raises NoEntry, which is an
-        IndexError.
+        A single entry takes a walk over those before it: `entries` gives all of them at once. Raises NoEntry, which is
+        an IndexError.
         """
         if isinstance(index, slice):
             return self.entries()[index]

@@ -1,8 +1,8 @@
 """The shared library, by ctypes. All that knows the calls of `gix_mailmap.h` is in this file; texts are bytes here.
 
-Threads: other threads run during a call. So each handle has a lock, and a call on it waits until the one before is done. The
-lock is one that a thread may take again, since the garbage collector may run a `__del__` with calls of its own at any time.
-No such call can begin while the library is at work for the same thread.
+Threads: other threads run during a call. So each handle has a lock, and a call on it waits until the one before is
+done. The lock is one that a thread may take again, since the garbage collector may run a `__del__` with calls of its
+own at any time. No such call can begin while the library is at work for the same thread.
 """
 
 from __future__ import annotations
@@ -51,20 +51,20 @@ class Fields(NamedTuple):
     old_email: bytes
 
 
-def _places() -> list[str]:
+def _paths() -> list[str]:
     """Where the library may be: where the environment says, or else beside this file, or where the system looks."""
     named = os.environ.get(_VARIABLE)
     return [named] if named else [str(Path(__file__).with_name(_NAME)), _NAME]
 
 
 def _found() -> ctypes.CDLL:
-    """The library at the first place that has one. An ImportError names all places."""
+    """The library at the first path that has one. An ImportError names all of them."""
     tried = []
-    for place in _places():
+    for path in _paths():
         try:
-            return ctypes.CDLL(place)
+            return ctypes.CDLL(path)
         except OSError as error:
-            tried.append(f"  {place}: {error}")
+            tried.append(f"  {path}: {error}")
     raise ImportError("\n".join([
         f"gix_mailmap finds no {_NAME} that it can load. It tried:",
         *tried,

@@ -1,7 +1,7 @@
 """Many contacts, answered in large parts.
 
-The library has no call yet that answers many contacts by an open mailmap. So a part goes to the one that reads a mailmap
-from its text first, and answers to lines that come again are kept.
+The library has no call yet that answers many contacts by an open mailmap. So a part goes to the one that reads a
+mailmap from its text first, and answers to lines that come again are kept.
 """
 
 from __future__ import annotations
@@ -13,8 +13,8 @@ from . import _native
 from ._native import Fields
 from ._texts import as_bytes, as_str
 
-# The mailmap is read again for each part. So the first part is short, for an early answer, and the others grow, up to a few
-# lines for each entry of the mailmap.
+# The mailmap is read again for each part. So the first part is short, for an early answer, and the others grow, up to
+# a few lines for each entry of the mailmap.
 _FIRST_PART = 4096
 _GROWTH = 4
 _LONGEST_PART = 65_536
@@ -38,8 +38,8 @@ def mailmap_of(entries: Iterable[Fields]) -> bytes:
 
 
 def answers(mailmap: Callable[[], bytes], entries: int, lines: Iterable[AnyStr]) -> Iterator[AnyStr]:
-    """The answer to each line, without a line feed. `mailmap` is asked before each part: the same bytes as long as nothing
-    changes."""
+    """The answer to each line, without a line feed. `mailmap` is asked before each part: the same bytes as long as
+    nothing changes."""
     known: dict[AnyStr, AnyStr] = {}
     text = b""
     for part in _parts(lines, max(_LONGEST_PART, _LINES_AN_ENTRY * entries)):
@@ -86,8 +86,8 @@ def _answered(mailmap: bytes, lines: list[AnyStr]) -> Iterator[AnyStr]:
 
 
 def _joined(lines: list[AnyStr], feed: AnyStr, carriage_return: AnyStr) -> AnyStr:
-    """The lines with a line feed each. A carriage return counts as part of a line's end only with a line feed after it, so
-    one that ends a line gets another one before the line feed."""
+    """The lines with a line feed each. A carriage return counts as part of a line's end only with a line feed after
+    it, so one that ends a line gets another one before the line feed."""
     return feed[:0].join([
         line if line.endswith(feed) else line + (carriage_return + feed if line.endswith(carriage_return) else feed)
         for line in lines

@@ -1,7 +1,7 @@
 """Texts: `str` or bytes outside, bytes inside.
 
-A `str` is UTF-8 inside. A byte that isn't UTF-8 is a lone surrogate outside, as in file names (`surrogateescape`), and so
-is the same byte again when it comes back.
+A `str` is UTF-8 inside. A byte that isn't UTF-8 is a lone surrogate outside, as in file names (`surrogateescape`), and
+so is the same byte again when it comes back.
 
 >>> as_bytes("J\\xf6rg"), as_bytes(bytearray(b"J\\xf6rg")), as_str(b"J\\xf6rg")
 (b'J\\xc3\\xb6rg', b'J\\xf6rg', 'J\\udcf6rg')

@@ -56,7 +56,8 @@ class Backend(unittest.TestCase):
         with tempfile.TemporaryDirectory() as folder:
             run = subprocess.run(
                 [sys.executable, "-c", f"import sys, backend; backend.{call}(sys.argv[1])", folder],
-                env=os.environ | {"PYTHONPATH": str(TOP / "python" / "build")} | environment, capture_output=True, text=True,
+                env=os.environ | {"PYTHONPATH": str(TOP / "python" / "build")} | environment,
+                capture_output=True, text=True,
             )
             return run, {path.name: path.read_bytes() for path in Path(folder).iterdir()}
 

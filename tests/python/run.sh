@@ -16,6 +16,7 @@ tests() {
     for name in gix_mailmap gix_mailmap._texts gix_mailmap._results gix_mailmap._calls gix_mailmap._mailmap; do
         env "$@" -W error -c "import doctest, sys, $name; sys.exit(doctest.testmod(sys.modules['$name']).failed)"
     done
+    env "$@" -m doctest "$top/python/README.md"
     for name in calls kinds sequence stream threads; do
         env "$@" -W error "$here/$name.py"
     done

@@ -138,7 +138,8 @@ class Threads(Ending):
     def test_one_stream_by_each_thread(self):
         mailmap = Mailmap(MANY)
         lines = [f"a <o{number % 30_000}@y>\n" for number in range(100_000)]
-        wanted = [f"N{n} <n{n}@x>" if n < 20_000 else f"a <o{n}@y>" for n in (number % 30_000 for number in range(100_000))]
+        numbers = [number % 30_000 for number in range(100_000)]
+        wanted = [f"N{n} <n{n}@x>" if n < 20_000 else f"a <o{n}@y>" for n in numbers]
         together(*[lambda: self.assertEqual(list(mailmap.map_contacts(lines)), wanted)] * 3)
 
 
