@@ -1,6 +1,7 @@
 # make run: maps the sample contacts by the sample mailmap. make test: the gate. make edits: the wrong bodies that the
-# gate leaves out for its time. make build: the programs. make lib: the libraries for C. make install: the programs and
-# their manual pages, the libraries, their header, what pkg-config reads and the module for Python, under PREFIX.
+# gate leaves out for its time. make build: the programs. make lib: the libraries for C. make wheel: the package for Python,
+# in dist. make install: the programs and their manual pages, the libraries, their header, what pkg-config reads and the
+# package for Python, under PREFIX.
 #
 # What is built is built again only after a change of what it is made from. `rt ci` builds each program that it proves,
 # so after it there is nothing left to build but the libraries for C.
@@ -11,11 +12,13 @@ DUMP = crates/mailmap_dump/out/mailmap_dump
 # the libraries for C, and the part of the toolchain's that they stand on
 LIB = crates/gix_mailmap_c/out
 HEAP = $(dir $(shell rt doc))c/liblibc_c.a
+# where the package for Python goes
+PACKAGE = share/gix_mailmap/python/gix_mailmap
 
 # what a proof reads
 SOURCES = crates.txt $(shell find crates -name out -prune -o -type f \( -name '*.rt' -o -name '*.antt' \) -print)
 
-.PHONY: build run test edits install install_lib lib
+.PHONY: build run test edits install install_lib lib wheel
 build: $(PROGRAM) $(VERIFIER)
 
 $(PROGRAM): $(SOURCES)
@@ -47,6 +50,11 @@ $(LIB)/c/libgix_mailmap.so: $(SOURCES) include/gix_mailmap.map
 	cd $(LIB)/c && ar x $(HEAP) && ar rs libgix_mailmap.a *.o 2> /dev/null
 	$(CC) -shared -o $(LIB)/c/libgix_mailmap.so -Wl,-soname,libgix_mailmap.so \
 	    -Wl,--version-script,include/gix_mailmap.map -Wl,--whole-archive $(LIB)/c/libgix_mailmap.a -Wl,--no-whole-archive
+	ln -sf ../../$(LIB)/c/libgix_mailmap.so python/gix_mailmap/libgix_mailmap.so
+
+# the package for Python, with the shared library in it
+wheel: lib
+	python3 -m pip wheel --quiet --no-index --no-deps --wheel-dir dist .
 
 test:
 	tests/out_of_memory.sh
@@ -78,6 +86,8 @@ install_lib:
 	install -D -m 644 include/gix_mailmap.h $(DESTDIR)$(PREFIX)/include/gix_mailmap.h
 	install -D -m 644 $(LIB)/c/libgix_mailmap.a $(DESTDIR)$(PREFIX)/lib/libgix_mailmap.a
 	install -D -m 755 $(LIB)/c/libgix_mailmap.so $(DESTDIR)$(PREFIX)/lib/libgix_mailmap.so
-	install -D -m 644 python/gix_mailmap.py $(DESTDIR)$(PREFIX)/share/gix_mailmap/python/gix_mailmap.py
+	install -d $(DESTDIR)$(PREFIX)/$(PACKAGE)
+	install -m 644 python/gix_mailmap/*.py python/gix_mailmap/py.typed $(DESTDIR)$(PREFIX)/$(PACKAGE)
+	ln -sf ../../../../lib/libgix_mailmap.so $(DESTDIR)$(PREFIX)/$(PACKAGE)/libgix_mailmap.so
 	install -d $(DESTDIR)$(PREFIX)/lib/pkgconfig
 	sed 's|@PREFIX@|$(PREFIX)|' include/gix_mailmap.pc.in > $(DESTDIR)$(PREFIX)/lib/pkgconfig/gix_mailmap.pc

@@ -35,6 +35,5 @@ fi
 same 'the C program, shared,' "$(LD_LIBRARY_PATH="$installed/lib" "$work/shared")"
 "$cc" "${flags[@]}" "-I$installed/include" "$work/example.c" "$installed/lib/libgix_mailmap.a" -o "$work/static"
 same 'the C program, static,' "$("$work/static")"
-same 'the Python program' "$(GIX_MAILMAP_LIBRARY="$installed/lib/libgix_mailmap.so" \
-    PYTHONPATH="$installed/share/gix_mailmap/python" python3 "$work/example.py")"
+same 'the Python program' "$(PYTHONPATH="$installed/share/gix_mailmap/python" python3 "$work/example.py")"
 echo 'installed: the programs of docs/C.md print what it says'

@@ -1,4 +1,4 @@
-"""The calls of gix_mailmap.py, and what they raise."""
+"""The calls of the package gix_mailmap, and what they raise."""
 import gc
 import unittest
 
@@ -47,9 +47,10 @@ class Texts(unittest.TestCase):
         found = [Finding(line, Kind.NO_EMAIL, None) for line in range(1, 1001)]
         self.assertEqual(gix_mailmap.verify(b"plain\n" * 1000), found)
 
-    def test_text_that_is_no_bytes(self):
-        with self.assertRaises(TypeError):
-            gix_mailmap.compact("N <a@x>")
+    def test_what_is_no_text(self):
+        for wrong in (None, 1, ["N <a@x>"]):
+            with self.assertRaises(TypeError):
+                gix_mailmap.compact(wrong)
 
 
 class Handles(unittest.TestCase):
@@ -87,8 +88,8 @@ class Handles(unittest.TestCase):
 
     def test_a_closed_one(self):
         with Mailmap(MAP) as mailmap:
-            self.assertTrue(mailmap.is_open)
-        self.assertFalse(mailmap.is_open)
+            self.assertFalse(mailmap.closed)
+        self.assertTrue(mailmap.closed)
         mailmap.close()
         calls = [
             lambda: mailmap.lookup(b"jd", b"jd@y"),
@@ -97,6 +98,9 @@ class Handles(unittest.TestCase):
             lambda: len(mailmap),
             lambda: mailmap[0],
             lambda: list(mailmap),
+            lambda: mailmap[:],
+            lambda: mailmap.map_contacts([]),
+            mailmap.__enter__,
         ]
         for call in calls:
             with self.assertRaises(Closed):

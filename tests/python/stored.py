@@ -1,4 +1,4 @@
-"""The stored answers of the original, by gix_mailmap.py.
+"""The stored answers of the original, by the package gix_mailmap.
 
     stored.py CASES
 
@@ -45,7 +45,18 @@ def answer(mode, mailmap, text):
     if mode == "resolve":
         return resolved(mailmap, text)
     whole = b"".join(line(entry) for entry in mailmap)
-    return gix_mailmap.compact(whole) if mode == "compact" else gix_mailmap.check(whole, text)
+    return gix_mailmap.compact(whole) if mode == "compact" else checked(mailmap, whole, text)
+
+
+def checked(mailmap, whole, contacts):
+    """By `check`, and by `map_contacts` of bytes and of `str`."""
+    answers = gix_mailmap.check(whole, contacts)
+    *ended, last = contacts.split(b"\n")
+    lines = [line + b"\n" for line in ended] + [last] * bool(last)
+    assert b"".join(line + b"\n" for line in mailmap.map_contacts(lines)) == answers
+    texts = [line.decode(errors="surrogateescape") for line in lines]
+    assert "".join(f"{text}\n" for text in mailmap.map_contacts(texts)).encode(errors="surrogateescape") == answers
+    return answers
 
 
 def main():

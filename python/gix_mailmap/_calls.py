@@ -1,0 +1,83 @@
+"""The calls that take the text of a mailmap."""
+
+from __future__ import annotations
+
+from typing import Callable, Union, overload
+
+from . import _native
+from ._results import Finding, Kind
+from ._texts import Buffer, Text, are_str, as_bytes, as_str
+
+
+def _answer(call: Callable[..., bytes], *texts: Text) -> Union[str, bytes]:
+    """What a call makes of texts: `str` if they are."""
+    is_str = are_str(*texts)
+    answer = call(*map(as_bytes, texts))
+    return as_str(answer) if is_str else answer
+
+
+@overload
+def check(mailmap: str, contacts: str) -> str: ...
+
+
+@overload
+def check(mailmap: Buffer, contacts: Buffer) -> bytes: ...
+
+
+def check(mailmap: Text, contacts: Text) -> Union[str, bytes]:
+    """Answers each line of `contacts`, as `Jane <jane@x>`, by what the mailmap maps: a line for each line.
+
+    A line that is no contact is its own answer. Raises OutOfMemory.
+
+    >>> check("Jane Doe <jane@x> <jd@y>", "jd <JD@y>\\nplain")
+    'Jane Doe <jane@x>\\nplain\\n'
+    """
+    return _answer(_native.check, mailmap, contacts)
+
+
+@overload
+def compact(mailmap: str) -> str: ...
+
+
+@overload
+def compact(mailmap: Buffer) -> bytes: ...
+
+
+def compact(mailmap: Text) -> Union[str, bytes]:
+    """The mailmap that maps the same, without what later lines replaced. Raises OutOfMemory.
+
+    >>> compact("N <a@x>\\nM <a@x>\\n")
+    ' M <a@x>\\n'
+    """
+    return _answer(_native.compact, mailmap)
+
+
+@overload
+def prune(mailmap: str) -> str: ...
+
+
+@overload
+def prune(mailmap: Buffer) -> bytes: ...
+
+
+def prune(mailmap: Text) -> Union[str, bytes]:
+    """The mailmap without its lines that have no effect. All others stay byte for byte. Raises OutOfMemory.
+
+    >>> prune("N <a@x>\\n# why\\nM <a@x>\\n")
+    '# why\\nM <a@x>\\n'
+    """
+    return _answer(_native.prune, mailmap)
+
+
+def verify(mailmap: Text) -> list[Finding]:
+    """What is wrong with the lines of a mailmap, in their order. Raises OutOfMemory.
+
+    >>> verify("Jane <jd@y>\\nJane Doe <jd@y>\\n")
+    [Finding(line=1, kind=<Kind.NO_EFFECT: 7>, beside=2)]
+    """
+    return [_finding(*found) for found in _native.verify(as_bytes(mailmap))]
+
+
+def _finding(line: int, number: int, beside: int) -> Finding:
+    kind = Kind(number)
+    return Finding(line, kind, beside if kind == Kind.NO_EFFECT else None)

@@ -1,0 +1,17 @@
+"""What the module raises. Arguments of a wrong type raise a plain TypeError."""
+
+
+class Error(Exception):
+    """The base class of the errors of this module."""
+
+
+class Closed(Error, ValueError):
+    """The mailmap is closed."""
+
+
+class OutOfMemory(Error, MemoryError):
+    """There is not enough memory. The mailmap is as it was before the call."""
+
+
+class NoEntry(Error, IndexError):
+    """The mailmap has no entry at this index."""

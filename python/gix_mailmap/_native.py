@@ -1,0 +1,272 @@
+"""The shared library, by ctypes. All that knows the calls of `gix_mailmap.h` is in this file; texts are bytes here.
+
+Threads: other threads run during a call. So each handle has a lock, and a call on it waits until the one before is
+done. The lock is one that a thread may take again, since the garbage collector may run a `__del__` with calls of its
+own at any time. No such call can begin while the library is at work for the same thread.
+"""
+
+from __future__ import annotations
+
+import ctypes
+import os
+import struct
+import threading
+import weakref
+from ctypes import POINTER, Structure, byref, c_bool, c_size_t, c_uint32, c_void_p, create_string_buffer
+from pathlib import Path
+from typing import Any, Callable, NamedTuple, Optional
+
+from ._errors import Closed, Error, NoEntry, OutOfMemory
+
+_NAME = "libgix_mailmap.so"
+_VARIABLE = "GIX_MAILMAP_LIBRARY"
+
+_DONE, _SHORT, _OUT_OF_MEMORY, _CLOSED, _OPEN, _NO_ENTRY = range(6)
+
+# The buffers of a lookup that are kept for the next one have this length each. A longer text gets longer ones, for that
+# call only.
+_USUAL_LENGTH = 256
+
+
+class _Map(Structure):
+    _fields_ = [("at", c_void_p), ("is_open", c_bool)]
+
+
+class _Field(Structure):
+    _fields_ = [("len", c_size_t), ("is_given", c_bool)]
+
+
+# gix_mailmap_listed: the start of the texts, and the length of each and whether there is one
+_LISTED = struct.Struct("@N N? N? N? N? 0N")
+# gix_mailmap_finding: line, kind and beside
+_FINDING = struct.Struct("@N I N 0N")
+
+
+class Fields(NamedTuple):
+    """The texts of an entry."""
+
+    new_name: Optional[bytes]
+    new_email: Optional[bytes]
+    old_name: Optional[bytes]
+    old_email: bytes
+
+
+def _paths() -> list[str]:
+    """Where the library may be: where the environment says, or else beside this file, or where the system looks."""
+    named = os.environ.get(_VARIABLE)
+    return [named] if named else [str(Path(__file__).with_name(_NAME)), _NAME]
+
+
+def _found() -> ctypes.CDLL:
+    """The library at the first path that has one. An ImportError names all of them."""
+    tried = []
+    for path in _paths():
+        try:
+            return ctypes.CDLL(path)
+        except OSError as error:
+            tried.append(f"  {path}: {error}")
+    raise ImportError("\n".join([
+        f"gix_mailmap finds no {_NAME} that it can load. It tried:",
+        *tried,
+        f"`make lib` builds the library, and the variable {_VARIABLE} of the environment may name it.",
+    ]))
+
+
+def _load() -> ctypes.CDLL:
+    """The library, with the types of its calls."""
+    library = _found()
+    text, room = [c_void_p, c_size_t], [c_void_p, c_size_t]
+    handle, length, field = POINTER(_Map), POINTER(c_size_t), POINTER(_Field)
+    calls: dict[str, list[Any]] = {
+        "open": [handle, *text],
+        "add": [handle, *text],
+        "lookup": [handle, *text, *text, *room, field, *room, field],
+        "len": [handle, length, length],
+        "list": [handle, *room, *room],
+        "entry": [handle, c_size_t, c_void_p, *room],
+        "check": [*text, *text, *room, length],
+        "compact": [*text, *room, length],
+        "prune": [*text, *room, length],
+        "verify": [*text, *room, length],
+    }
+    for name, arguments in calls.items():
+        call = getattr(library, f"gix_mailmap_{name}")
+        call.argtypes, call.restype = arguments, c_uint32
+    library.gix_mailmap_close.argtypes, library.gix_mailmap_close.restype = [handle], None
+    return library
+
+
+_library = _load()
+
+
+def _is_short(status: int) -> bool:
+    """Whether a buffer was too short. Raises what a status stands for that is neither this nor DONE."""
+    if status <= _SHORT:
+        return status == _SHORT
+    if status == _OUT_OF_MEMORY:
+        raise OutOfMemory("out of memory")
+    if status == _CLOSED:
+        raise Closed("the mailmap is closed")
+    if status == _NO_ENTRY:
+        raise NoEntry("the mailmap has no entry at this index")
+    raise Error(f"the library answers with the status {status}")
+
+
+def _buffer(length: int) -> ctypes.Array[ctypes.c_char]:
+    """A buffer of this length, whose address isn't NULL if that is 0."""
+    return create_string_buffer(max(length, 1))
+
+
+def _head(buffer: ctypes.Array[ctypes.c_char], length: int) -> bytes:
+    return memoryview(buffer)[:length].tobytes()
+
+
+def _filled(call: Callable[..., int], size: int, guess: int, *texts: bytes) -> bytes:
+    """What a call writes into a buffer of elements of a size. `guess` is how many there may be."""
+    arguments = [argument for text in texts for argument in (text, len(text))]
+    needed = c_size_t(guess)
+    while True:
+        buffer, length = _buffer(size * needed.value), needed.value
+        if not _is_short(call(*arguments, buffer, length, byref(needed))):
+            return _head(buffer, size * needed.value)
+
+
+def check(mailmap: bytes, contacts: bytes) -> bytes:
+    """The answers to lines of contacts."""
+    guess = len(contacts) + len(contacts) // 2 + 4096
+    return _filled(_library.gix_mailmap_check, 1, guess, mailmap, contacts)
+
+
+def compact(mailmap: bytes) -> bytes:
+    """The mailmap that maps the same, without what later lines replaced."""
+    return _filled(_library.gix_mailmap_compact, 1, len(mailmap) + 4096, mailmap)
+
+
+def prune(mailmap: bytes) -> bytes:
+    """The mailmap without its lines of no effect."""
+    return _filled(_library.gix_mailmap_prune, 1, len(mailmap), mailmap)
+
+
+def verify(mailmap: bytes) -> list[tuple[int, int, int]]:
+    """Line, kind and `beside` of each finding."""
+    found = _filled(_library.gix_mailmap_verify, _FINDING.size, 64, mailmap)
+    return [(line, kind, beside) for line, kind, beside in _FINDING.iter_unpack(found)]
+
+
+class _Buffers:
+    """Where a lookup writes."""
+
+    def __init__(self, length: int) -> None:
+        self.length = length
+        self.name, self.email = _buffer(length), _buffer(length)
+        self.name_field, self.email_field = _Field(), _Field()
+        self.arguments = (
+            self.name, length, byref(self.name_field), self.email, length, byref(self.email_field),
+        )
+
+    def longer(self) -> _Buffers:
+        """Those that the answer fits into, which was too long for these."""
+        return _Buffers(max(self.name_field.len, self.email_field.len))
+
+    def answer(self) -> tuple[bytes, bytes, bool, bool]:
+        name, email = self.name_field, self.email_field
+        return self.name.raw[: name.len], self.email.raw[: email.len], name.is_given, email.is_given
+
+
+def _close(lock: threading.RLock, handle: _Map) -> None:
+    with lock:
+        _library.gix_mailmap_close(byref(handle))
+
+
+class Handle:
+    """A mailmap that the library holds, until `close` or until nothing refers to it any more.
+
+    Threads may share it.
+    """
+
+    def __init__(self) -> None:
+        self._lock = threading.RLock()
+        self._map = _Map()
+        self._at = byref(self._map)
+        self._spare: list[_Buffers] = []
+        self._called(_library.gix_mailmap_open, b"", 0)
+        # At the end of the process there is nothing to free, and other threads may still be at work.
+        weakref.finalize(self, _close, self._lock, self._map).atexit = False
+
+    def _called(self, call: Callable[..., int], *arguments: object) -> bool:
+        """Calls the library on the handle. Whether a buffer was too short."""
+        with self._lock:
+            status = call(self._at, *arguments)
+        return _is_short(status)
+
+    def add(self, text: bytes) -> None:
+        """Adds the entries of a text after those that are held."""
+        self._called(_library.gix_mailmap_add, text, len(text))
+
+    def lookup(self, name: bytes, email: bytes) -> tuple[bytes, bytes, bool, bool]:
+        """The proper name and email, and whether the mailmap gives them."""
+        # Buffers in use are in no list: neither another thread nor a `__del__` in the middle of this call can get them.
+        try:
+            buffers = self._spare.pop()
+        except IndexError:
+            buffers = _Buffers(_USUAL_LENGTH)
+        contact = name, len(name), email, len(email)
+        while self._called(_library.gix_mailmap_lookup, *contact, *buffers.arguments):
+            buffers = buffers.longer()
+        answer = buffers.answer()
+        if buffers.length == _USUAL_LENGTH:
+            self._spare.append(buffers)
+        return answer
+
+    def lengths(self) -> tuple[int, int]:
+        """How many entries there are, and how many bytes their texts have."""
+        entries, texts = c_size_t(), c_size_t()
+        self._called(_library.gix_mailmap_len, byref(entries), byref(texts))
+        return entries.value, texts.value
+
+    def entries(self) -> list[Fields]:
+        """All entries."""
+        while True:
+            count, length = self.lengths()
+            listed, texts = _buffer(count * _LISTED.size), _buffer(length)
+            if not self._called(_library.gix_mailmap_list, listed, count, texts, length):
+                break
+        whole = texts.raw
+        return [_cut(whole, *entry) for entry in _LISTED.iter_unpack(_head(listed, count * _LISTED.size))]
+
+    def entry(self, index: int) -> Fields:
+        """The entry at an index that a `size_t` holds."""
+        listed, length = _buffer(_LISTED.size), _USUAL_LENGTH
+        while True:
+            texts = _buffer(length)
+            is_short = self._called(_library.gix_mailmap_entry, index, listed, texts, length)
+            entry = _LISTED.unpack(listed.raw)
+            if not is_short:
+                return _cut(texts.raw, *entry)
+            length = sum(entry[1::2])
+
+    def close(self) -> None:
+        """Frees the memory. A closed one stays closed."""
+        _close(self._lock, self._map)
+
+    @property
+    def closed(self) -> bool:
+        """Whether it is closed."""
+        return not self._map.is_open
+
+
+def _cut(
+    texts: bytes, start: int,
+    new_name: int, has_new_name: bool, new_email: int, has_new_email: bool,
+    old_name: int, has_old_name: bool, old_email: int, _has_old_email: bool,
+) -> Fields:
+    """An entry, its texts cut out of all that were written, where they are one after the other."""
+    after_name = start + new_name
+    after_email = after_name + new_email
+    after_old_name = after_email + old_name
+    return Fields(
+        texts[start:after_name] if has_new_name else None,
+        texts[after_name:after_email] if has_new_email else None,
+        texts[after_email:after_old_name] if has_old_name else None,
+        texts[after_old_name : after_old_name + old_email],
+    )

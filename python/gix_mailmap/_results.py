@@ -1,0 +1,68 @@
+"""What the calls answer."""
+
+from __future__ import annotations
+
+from enum import IntEnum
+from typing import AnyStr, Generic, NamedTuple, Optional
+
+
+class Answer(NamedTuple, Generic[AnyStr]):
+    """The proper name and email of a contact, and whether the mailmap gives them.
+
+    What the mailmap doesn't give is as it was asked for:
+
+    >>> from gix_mailmap import Mailmap
+    >>> with Mailmap("Joe <joe@x>") as mailmap:
+    ...     mailmap.lookup("jd", "joe@x")
+    Answer(name='Joe', email='joe@x', is_name_given=True, is_email_given=False)
+    """
+
+    name: AnyStr
+    email: AnyStr
+    is_name_given: bool
+    is_email_given: bool
+
+
+class Entry(NamedTuple, Generic[AnyStr]):
+    """An entry of a mailmap: the name and the email that replace an old email, or an old name with that email.
+
+    What an entry doesn't have is None:
+
+    >>> from gix_mailmap import Mailmap
+    >>> with Mailmap("Joe <joe@x>") as mailmap:
+    ...     mailmap[0]
+    Entry(new_name='Joe', new_email=None, old_name=None, old_email='joe@x')
+    """
+
+    new_name: Optional[AnyStr]
+    new_email: Optional[AnyStr]
+    old_name: Optional[AnyStr]
+    old_email: AnyStr
+
+
+class Kind(IntEnum):
+    """What may be wrong with a line of a mailmap.
+
+    A line of one of the first four kinds gives no entry. One of the fifth maps by its first half only.
+    """
+
+    NO_EMAIL = 1
+    MISSING_CLOSING_BRACKET = 2
+    EMPTY_EMAIL = 3
+    NOTHING_TO_MAP = 4
+    UNCLOSED_SECOND = 5
+    IGNORED_TEXT = 6
+    NO_EFFECT = 7
+    ITSELF_MAPPED = 8
+
+
+class Finding(NamedTuple):
+    """What is wrong with a line: its number, counted from 1, and the kind.
+
+    For a line of no effect, `beside` is the number of the last line that stays and is for the same old email and old
+    name. For all other kinds it is None.
+    """
+
+    line: int
+    kind: Kind
+    beside: Optional[int]

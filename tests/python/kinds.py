@@ -1,0 +1,100 @@
+"""`str` and bytes in, the same kind out; and the errors."""
+import unittest
+
+import gix_mailmap
+from gix_mailmap import Answer, Closed, Entry, Error, Finding, Kind, Mailmap, NoEntry, OutOfMemory
+
+TEXT = "Jörg Doe <j@x> <jd@y>\n"
+JOERG = b"J\xf6rg <j@x>\n"
+
+
+class Kinds(unittest.TestCase):
+    def test_lookup_answers_in_the_kind_of_the_contact(self):
+        for text in (TEXT, TEXT.encode(), bytearray(TEXT.encode()), memoryview(TEXT.encode())):
+            with Mailmap(text) as mailmap:
+                self.assertEqual(mailmap.lookup("jd", "jd@y"), Answer("Jörg Doe", "j@x", True, True))
+                found = Answer("Jörg Doe".encode(), b"j@x", True, True)
+                self.assertEqual(mailmap.lookup(b"jd", b"jd@y"), found)
+                self.assertEqual(mailmap.lookup(bytearray(b"jd"), memoryview(b"jd@y")), found)
+                self.assertEqual(mailmap.lookup(memoryview(b"d_j_")[2::-2], b"jd@y"), found)
+
+    def test_entries_are_of_the_kind_of_the_mailmap(self):
+        entry = Entry("Jörg Doe", "j@x", None, "jd@y")
+        with Mailmap(TEXT) as mailmap:
+            self.assertEqual((mailmap[0], list(mailmap), mailmap[:]), (entry, [entry], [entry]))
+        entry = Entry("Jörg Doe".encode(), b"j@x", None, b"jd@y")
+        with Mailmap(bytearray(TEXT.encode()), b"") as mailmap:
+            self.assertEqual((mailmap[0], list(mailmap), mailmap[:]), (entry, [entry], [entry]))
+        with Mailmap() as mailmap:
+            mailmap.add(TEXT.encode())
+            self.assertEqual(mailmap[0], entry)
+
+    def test_texts(self):
+        for call in (gix_mailmap.compact, gix_mailmap.prune):
+            answer = call("N <ä@x>\n")
+            self.assertIsInstance(answer, str)
+            for kind in (bytes, bytearray, memoryview):
+                self.assertEqual(call(kind("N <ä@x>\n".encode())), answer.encode())
+        self.assertEqual(gix_mailmap.check(TEXT, "jd <jd@y>"), "Jörg Doe <j@x>\n")
+        self.assertEqual(gix_mailmap.check(memoryview(TEXT.encode()), bytearray(b"-")), b"-\n")
+        for kind in (bytes, bytearray, memoryview):
+            self.assertEqual(gix_mailmap.verify(kind(b"plain")), [Finding(1, Kind.NO_EMAIL, None)])
+        self.assertEqual(gix_mailmap.verify("plain"), gix_mailmap.verify(b"plain"))
+
+    def test_what_is_not_utf_8(self):
+        text = JOERG.decode(errors="surrogateescape")
+        with Mailmap(text) as mailmap:
+            name = mailmap.lookup("jd", "j@x").name
+            self.assertEqual((name, mailmap[0].new_name), ("J\udcf6rg", "J\udcf6rg"))
+            self.assertEqual(name.encode(errors="surrogateescape"), b"J\xf6rg")
+            self.assertEqual(mailmap.lookup(b"jd", b"j@x").name, b"J\xf6rg")
+            self.assertEqual(list(mailmap.map_contacts(["\udcff <j@x>"])), ["J\udcf6rg <j@x>"])
+        with self.assertRaises(UnicodeEncodeError):
+            gix_mailmap.compact("\ud800 <j@x>")
+
+    def test_mixed_kinds(self):
+        with Mailmap(TEXT) as of_str, Mailmap(TEXT.encode()) as of_bytes:
+            calls = [
+                lambda: Mailmap("", b""),
+                lambda: of_str.add(b""),
+                lambda: of_bytes.add(""),
+                lambda: of_str.lookup("", b""),
+                lambda: of_bytes.lookup(bytearray(), ""),
+                lambda: gix_mailmap.check("", b""),
+                lambda: list(of_str.map_contacts(["", b""])),
+                lambda: list(of_str.map_contacts(["x"] * 10_000 + [b""])),
+            ]
+            for call in calls:
+                with self.assertRaises(TypeError):
+                    call()
+
+    def test_what_is_no_text(self):
+        for wrong in (None, 1, [b"N <a@x>"], (b"",)):
+            for call in (Mailmap, Mailmap().add, gix_mailmap.compact, gix_mailmap.prune, gix_mailmap.verify):
+                with self.assertRaises(TypeError):
+                    call(wrong)
+            for call in (gix_mailmap.check, Mailmap().lookup):
+                for arguments in ((wrong, b""), (b"", wrong), ("", wrong), (wrong, wrong)):
+                    with self.assertRaises(TypeError):
+                        call(*arguments)
+            with self.assertRaises(TypeError):
+                list(Mailmap().map_contacts([wrong]))
+
+
+class Errors(unittest.TestCase):
+    def test_their_classes(self):
+        self.assertTrue(issubclass(Error, Exception))
+        for error, usual in ((Closed, ValueError), (NoEntry, IndexError), (OutOfMemory, MemoryError)):
+            self.assertTrue(issubclass(error, Error) and issubclass(error, usual))
+
+    def test_what_a_status_raises(self):
+        from gix_mailmap import _native
+
+        self.assertEqual([_native._is_short(status) for status in (0, 1)], [False, True])
+        for status, error in ((2, OutOfMemory), (3, Closed), (4, Error), (5, NoEntry), (6, Error), (99, Error)):
+            with self.assertRaises(error):
+                _native._is_short(status)
+
+
+if __name__ == "__main__":
+    unittest.main()

@@ -1,0 +1,75 @@
+"""`map_contacts`, beside `check`."""
+import itertools
+import random
+import unittest
+from unittest import mock
+
+import gix_mailmap
+from gix_mailmap import Closed, Mailmap, _stream
+
+MAP = "Jane Doe <jane@x> <jd@y>\nJoe <joe@x> joe <j@x>\n # <joe@x>\n <new@x> <old@x>\nX <x1@x> y <x@x>\n"
+LINES = [
+    "jd <JD@y>", "joe <j@x>", "jim <j@x>", "a <joe@x>", "b <old@x>", "y <x@x>", "plain", "", " ", "\r", "a\rb", "a\r",
+    "a\r\r", "<jd@y>\r", "  jd  <  jd@y  > and more", "\x0b\x0c\x1c\x85\u2028", "ä <jd@y>", "\udcff", "<", "<>",
+    "a <b",
+]
+
+
+def by_check(lines):
+    return [gix_mailmap.check(MAP, line)[:-1] if line else "" for line in lines]
+
+
+class Stream(unittest.TestCase):
+    def test_each_line(self):
+        wanted = by_check(LINES)
+        with Mailmap(MAP) as mailmap:
+            self.assertEqual(list(mailmap.map_contacts(LINES)), wanted)
+            self.assertEqual([next(mailmap.map_contacts([line])) for line in LINES], wanted)
+            ended = [f"{line}\n" for line in LINES]
+            self.assertEqual(list(mailmap.map_contacts(ended)), by_check(ended))
+            for kind in (bytes, bytearray, memoryview):
+                lines = [kind(line.encode(errors="surrogateescape")) for line in LINES]
+                answers = [answer.decode(errors="surrogateescape") for answer in mailmap.map_contacts(lines)]
+                self.assertEqual(answers, wanted)
+            self.assertEqual(list(mailmap.map_contacts([])), [])
+
+    def test_many_parts(self):
+        """Lines that come again and lines that don't, in parts of all lengths, with few answers kept and with many."""
+        rng = random.Random(7)
+        with Mailmap(MAP) as mailmap:
+            for _ in range(200):
+                names = rng.choice([3, 30, 1000])
+                lines = [f"{rng.randrange(names)} <{rng.choice(LINES)}@y>" for _ in range(rng.randrange(200))]
+                sizes = {"_FIRST_PART": rng.randrange(1, 9), "_LONGEST_PART": rng.randrange(1, 40)}
+                with mock.patch.multiple(_stream, **sizes, _LINES_AN_ENTRY=1, _KEPT=rng.choice([0, 5, 1000])):
+                    self.assertEqual(list(mailmap.map_contacts(lines)), by_check(lines))
+
+    def test_lines_are_taken_as_answers_are_wanted(self):
+        with Mailmap(MAP) as mailmap:
+            answers = mailmap.map_contacts(itertools.repeat(b"jd <jd@y>\n"))
+            self.assertEqual(set(itertools.islice(answers, 1_000_000)), {b"Jane Doe <jane@x>"})
+
+    def test_a_changed_mailmap(self):
+        with Mailmap(MAP) as mailmap, mock.patch.multiple(_stream, _FIRST_PART=1, _GROWTH=1):
+            answers = mailmap.map_contacts(itertools.repeat("jd <jd@y>"))
+            self.assertEqual(next(answers), "Jane Doe <jane@x>")
+            mailmap.add("JD <jd@y>")
+            self.assertEqual(next(answers), "JD <jane@x>")
+            mailmap.close()
+            with self.assertRaises(Closed):
+                next(answers)
+
+    def test_a_line_feed_inside(self):
+        with Mailmap(MAP) as mailmap:
+            for line in ("a\nb", "\n\n", "\na"):
+                for lines in ([line], [line.encode()], ["x"] * 9 + [line]):
+                    with self.assertRaises(ValueError):
+                        list(mailmap.map_contacts(lines))
+
+    def test_an_empty_mailmap(self):
+        with Mailmap() as mailmap:
+            self.assertEqual(list(mailmap.map_contacts(["a  <b>", "c"])), ["a <b>", "c"])
+
+
+if __name__ == "__main__":
+    unittest.main()

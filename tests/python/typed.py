@@ -1,0 +1,41 @@
+"""What type checkers have to know of the calls. mypy reads this, and nothing runs it."""
+from typing import Iterator, Sequence, assert_type
+
+import gix_mailmap
+from gix_mailmap import Answer, Entry, Finding, Kind, Mailmap
+
+buffer = bytearray()
+with Mailmap("") as of_str, Mailmap(b"", buffer, memoryview(buffer)) as of_bytes:
+    assert_type(of_str, Mailmap[str])
+    assert_type(of_bytes, Mailmap[bytes])
+    assert_type(Mailmap(), Mailmap[bytes])
+    entries: Sequence[Entry[str]] = of_str
+
+    assert_type(of_str.lookup("", ""), Answer[str])
+    assert_type(of_str.lookup(b"", buffer).name, bytes)
+    assert_type(of_bytes.lookup("", "").email, str)
+    assert_type(of_bytes.lookup(b"", b"").is_name_given, bool)
+
+    assert_type(of_str[0], Entry[str])
+    assert_type(of_str[0].old_email, str)
+    assert_type(of_bytes[1:], list[Entry[bytes]])
+    assert_type(of_bytes.entries()[0].new_name, bytes | None)
+    assert_type([entry.old_email for entry in of_str], list[str])
+    assert_type(of_str.closed, bool)
+
+    assert_type(of_str.map_contacts([b""]), Iterator[bytes])
+    assert_type(of_bytes.map_contacts(iter([""])), Iterator[str])
+
+    of_bytes.add(buffer)
+    of_str.add("")
+    of_bytes.add("")  # type: ignore[arg-type]
+    of_str.lookup("", b"")  # type: ignore[call-overload]
+    gix_mailmap.check("", b"")  # type: ignore[call-overload]
+    Mailmap("", b"")  # type: ignore[call-overload]
+    gix_mailmap.compact(1)  # type: ignore[call-overload]
+
+assert_type(gix_mailmap.check("", ""), str)
+assert_type(gix_mailmap.compact(buffer), bytes)
+assert_type(gix_mailmap.prune(b""), bytes)
+assert_type(gix_mailmap.verify(""), list[Finding])
+assert_type(gix_mailmap.verify(b"")[0].kind, Kind)
