@@ -19,9 +19,9 @@
  * Buffers and handles belong to the caller. What a call writes must not overlap with anything else that it is given.
  * What a call doesn't write stays as it was.
  *
- * Threads: calls on different handles, and calls without a handle, may run at the same time. A handle stays on the
- * thread that opened it. No call may be made from a signal handler, or from the forked child of a process with
- * threads.
+ * Threads: calls on different handles, and calls without a handle, may run at the same time. A handle may be used from
+ * any thread, but only by one call at a time. No call may be made from a signal handler, or from the forked child of a
+ * process with threads.
  *
  * Memory comes from the program's malloc, realloc and free.
  */

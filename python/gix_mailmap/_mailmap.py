@@ -38,7 +38,7 @@ class Mailmap(Sequence[Entry[AnyStr]], Generic[AnyStr]):
 
     def __init__(self, *texts: Text) -> None:
         """Opens the mailmaps `texts`, of which later ones come after earlier ones: where two entries are for the same
-        contact, the later one counts. Lines that can't be read are left out, as git leaves them out. Raises
+        contact, the later one counts. Lines that can't be read are left out. Raises
         OutOfMemory."""
         self._is_str = are_str(*texts)
         self._handle = Handle()

@@ -43,7 +43,8 @@ class Entry(NamedTuple, Generic[AnyStr]):
 class Kind(IntEnum):
     """What may be wrong with a line of a mailmap.
 
-    A line of one of the first four kinds gives no entry. One of the fifth maps by its first half only.
+    A line of one of the first four kinds gives no entry. One of the fifth
+    gives the entry of its first contact, if that has a name.
     """
 
     NO_EMAIL = 1
