@@ -6,7 +6,7 @@
 
 ORIGINAL is a program over the original crate: `ORIGINAL check MAP.. < contacts` and `ORIGINAL compact MAP..` print what
 mailmap_check does without and with --compact. Before it, `make build` builds mailmap_check and mailmap_verify, and
-`rt run` in crates/mailmap_bench what merges entries one by one; without that those merges are left out.
+`rt run` in crates/mailmap_bench what merges entries one by one. What isn't built is left out.
 
 It makes each family with 10,000, 100,000 and 1,000,000 lines, in a folder in memory that goes away again. All programs
 run in turn, three times and for S seconds a cell (1 if it is not given); what takes more than three seconds runs once. The
@@ -93,13 +93,14 @@ class Programs:
         check, verify = (str(CRATES / name / "out" / name) for name in ("mailmap_check", "mailmap_verify"))
         original = str(Path(original).resolve())
         self.bench = CRATES / "mailmap_bench" / "out" / "mailmap_bench"
-        self.words = {
+        words = {
             CHECK: [check],
             ORIGINAL: [original, "check"],
             COMPACT: [check, "--compact"],
             ORIGINAL_COMPACT: [original, "compact"],
             VERIFY: [verify],
         }
+        self.words = {name: line for name, line in words.items() if Path(line[0]).exists()}
         self.merging = {CHECK: [str(self.bench), "bench-merge1"], ORIGINAL: [original, "bench-merge1"]}
 
     def cost(self, words: list[str], contacts: str = "/dev/null") -> Cost:
@@ -143,7 +144,7 @@ def measured_cell(programs: Programs, family: Family, lines: int, faults: dict[s
     made = family.make(lines)
     mailmaps, contacts, size = made_files(programs, made)
     wanted = PROGRAMS if made.contacts is None else [CHECK, ORIGINAL]
-    words = {name: [*programs.words[name], *mailmaps] for name in wanted if name not in faults}
+    words = {name: [*line, *mailmaps] for name, line in programs.words.items() if name in wanted and name not in faults}
     costs = programs.costs(words, contacts, seconds)
     for name in mailmaps:
         (programs.folder / name).unlink()
@@ -213,7 +214,7 @@ class Growth:
     """What one program takes a byte in one family, by the number of lines."""
 
     def __init__(self, figures: Figures, family: str, program: str, what: str) -> None:
-        self.start: int = getattr(figures.starts[program], what)
+        self.start: int = getattr(figures.starts.get(program, Cost()), what)
         self.cells = {cell.lines: cell for cell in figures.cells if cell.family == family and program in cell.costs}
         self.costs = {lines: cell.costs[program] for lines, cell in self.cells.items()}
         self.what = what
