@@ -50,7 +50,7 @@ CHECK, ORIGINAL, COMPACT, ORIGINAL_COMPACT, VERIFY = PROGRAMS = [
 # mailmap_verify ends with 1 if it finds something
 SUCCESSES = {0, 1}
 # a family may grow so much more than the random map, which grows by n log n and what the caches add
-MORE_GROWTH = 1.5
+MORE_GROWTH = 2
 # the peak is at most so often the files, and so many bytes for each entry
 FILE_SHARE, ENTRY_SHARE = 2, 200
 # port to original, and mailmap_verify to mailmap_check
