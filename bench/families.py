@@ -1,21 +1,21 @@
 #!/usr/bin/env python3
 """Measures how the time and the memory a byte grow over the families of make_families.py.
 
-    families.py ORIGINAL [--write] [--json FILE] [--lines N ..] [--seconds S] [--only WORD]
+    families.py ORIGINAL [--write] [--json FILE] [--add] [--lines N ..] [--seconds S] [--only WORD] [--programs NAME ..]
     families.py --again [--write] [--json FILE]    the tables of what was measured before
 
 ORIGINAL is a program over the original crate: `ORIGINAL check MAP.. < contacts` and `ORIGINAL compact MAP..` print what
 mailmap_check does without and with --compact. Before it, `make build` builds mailmap_check and mailmap_verify, and
-`rt run` in crates/mailmap_bench what merges entries one by one; without that those merges are left out.
+`rt run` in crates/mailmap_bench what merges entries one by one. What isn't built is left out.
 
 It makes each family with 10,000, 100,000 and 1,000,000 lines, in a folder in memory that goes away again. All programs
-run in turn, three times and for S seconds a cell (1 if it is not given); what takes more than three seconds runs once. The
-time is that of the processor, for the program and for the system, and the least of all runs counts. The peak is the
+run in turn, three times and for S seconds a cell (1 if it is not given); what takes more than three seconds runs once.
+The time is that of the processor, for the program and for the system, and the least of all runs counts. The peak is the
 largest resident set. What a program takes over an empty mailmap is taken off both. Past 60 seconds of processor time or
 8 GiB of addresses a program is stopped, and doesn't get more lines of that family.
 
-It prints the tables. With --write it puts them into docs/BENCHMARKS.md, and the figures into docs/families.json; --json
-names a file for the figures, to be written or, with --again, to be read.
+It prints the tables. With --write it puts them into docs/BENCHMARKS.md. The figures are kept after each cell in the file
+that --json names, or with --write in docs/families.json. With --add they are added to those that are in that file.
 """
 import argparse
 import json
@@ -36,6 +36,7 @@ FIGURES = DOCS / "families.json"
 CRATES = HERE.parent / "crates"
 SIZES = [10_000, 100_000, 1_000_000]
 NAMES_MERGED = [1_000, 10_000, 32_000]
+MERGES = "one merge each"
 SECONDS, ADDRESSES = 60, 8 << 30
 # what runs so many seconds is run once
 ONCE = 3
@@ -49,7 +50,7 @@ CHECK, ORIGINAL, COMPACT, ORIGINAL_COMPACT, VERIFY = PROGRAMS = [
 # mailmap_verify ends with 1 if it finds something
 SUCCESSES = {0, 1}
 # a family may grow so much more than the random map, which grows by n log n and what the caches add
-MORE_GROWTH = 1.5
+MORE_GROWTH = 2
 # the peak is at most so often the files, and so many bytes for each entry
 FILE_SHARE, ENTRY_SHARE = 2, 200
 # port to original, and mailmap_verify to mailmap_check
@@ -87,19 +88,20 @@ class Figures:
 class Programs:
     """The programs, what measures them, and a folder for what they read."""
 
-    def __init__(self, original: str, folder: str) -> None:
+    def __init__(self, original: str, wanted: list[str], folder: str) -> None:
         self.folder = Path(folder)
         self.measure = built("measure", folder, "-static")
         check, verify = (str(CRATES / name / "out" / name) for name in ("mailmap_check", "mailmap_verify"))
         original = str(Path(original).resolve())
         self.bench = CRATES / "mailmap_bench" / "out" / "mailmap_bench"
-        self.words = {
+        words = {
             CHECK: [check],
             ORIGINAL: [original, "check"],
             COMPACT: [check, "--compact"],
             ORIGINAL_COMPACT: [original, "compact"],
             VERIFY: [verify],
         }
+        self.words = {name: line for name, line in words.items() if name in wanted and Path(line[0]).exists()}
         self.merging = {CHECK: [str(self.bench), "bench-merge1"], ORIGINAL: [original, "bench-merge1"]}
 
     def cost(self, words: list[str], contacts: str = "/dev/null") -> Cost:
@@ -143,7 +145,7 @@ def measured_cell(programs: Programs, family: Family, lines: int, faults: dict[s
     made = family.make(lines)
     mailmaps, contacts, size = made_files(programs, made)
     wanted = PROGRAMS if made.contacts is None else [CHECK, ORIGINAL]
-    words = {name: [*programs.words[name], *mailmaps] for name in wanted if name not in faults}
+    words = {name: [*line, *mailmaps] for name, line in programs.words.items() if name in wanted and name not in faults}
     costs = programs.costs(words, contacts, seconds)
     for name in mailmaps:
         (programs.folder / name).unlink()
@@ -151,49 +153,55 @@ def measured_cell(programs: Programs, family: Family, lines: int, faults: dict[s
     return Cell(family.name, lines, size, made.entries, {**faults, **costs})
 
 
-def told(cell: Cell) -> None:
-    """Says on standard error what a cell took."""
+def kept(figures: Figures, cell: Cell, path: Path | None) -> None:
+    """Puts a cell among the figures, where it adds to one that is there, and the figures into their file."""
     costs = [f"{name} {cost.fault or duration(cost.time)}" for name, cost in cell.costs.items()]
     print(f"{cell.family}, {cell.lines:,}: {', '.join(costs)}", file=sys.stderr, flush=True)
+    cells = figures.merges if cell.family == MERGES else figures.cells
+    before = [old for old in cells if (old.family, old.lines) == (cell.family, cell.lines)]
+    for old in before:
+        cell.costs = {**old.costs, **cell.costs}
+        cells.remove(old)
+    cells.append(cell)
+    order = {family.name: place for place, family in enumerate(FAMILIES)}
+    cells.sort(key=lambda cell: (order.get(cell.family, 0), cell.lines))
+    if path:
+        stored(path, asdict(figures))
 
 
-def measured_families(programs: Programs, sizes: list[int], seconds: float, only: str) -> list[Cell]:
-    cells = []
+def measured_families(programs: Programs, figures: Figures, given: argparse.Namespace) -> None:
     for family in FAMILIES:
         faults: dict[str, Cost] = {}
-        for lines in sizes if only in family.name else []:
-            cell = measured_cell(programs, family, lines, faults, seconds)
+        for lines in sorted(given.lines) if given.only in family.name else []:
+            cell = measured_cell(programs, family, lines, faults, given.seconds)
             faults = {name: cost for name, cost in cell.costs.items() if cost.fault}
-            cells.append(cell)
-            told(cell)
-    return cells
+            kept(figures, cell, given.json)
 
 
-def measured_merges(programs: Programs, seconds: float) -> list[Cell]:
+def measured_merges(programs: Programs, figures: Figures, given: argparse.Namespace) -> None:
     """Names of one email that are replaced one by one, each by a merge of its own."""
-    cells, faults = [], dict[str, Cost]()
-    for names in NAMES_MERGED if programs.bench.exists() else []:
+    faults: dict[str, Cost] = {}
+    for names in NAMES_MERGED if programs.bench.exists() and given.only in MERGES else []:
         size = write(programs.folder / "0", merged_one_by_one(names))
         words = {name: [*line, "0"] for name, line in programs.merging.items() if name not in faults}
-        cell = Cell("merges", names, size, 2 * names, {**faults, **programs.costs(words, "/dev/null", seconds, least=2)})
-        faults = {name: cost for name, cost in cell.costs.items() if cost.fault}
-        cells.append(cell)
-        told(cell)
-    return cells
+        costs = {**faults, **programs.costs(words, "/dev/null", given.seconds, least=2)}
+        faults = {name: cost for name, cost in costs.items() if cost.fault}
+        kept(figures, Cell(MERGES, names, size, 2 * names, costs), given.json)
 
 
-def measured(original: str, sizes: list[int], seconds: float, only: str) -> Figures:
-    start = time.monotonic()
+def measured(figures: Figures, given: argparse.Namespace) -> None:
+    """Adds to the figures what is measured now."""
+    begin = time.monotonic()
     resource.setrlimit(resource.RLIMIT_AS, (ADDRESSES, ADDRESSES))
     with scratch() as folder:
-        programs = Programs(original, folder)
+        programs = Programs(given.original, given.programs, folder)
         (programs.folder / "0").write_bytes(b"")
-        starts = programs.costs({name: [*line, "0"] for name, line in programs.words.items()}, "/dev/null", 1, least=20)
-        cells = measured_families(programs, sizes, seconds, only)
-        merges = measured_merges(programs, seconds) if only in "merges" else []
-    minutes = f"{(time.monotonic() - start) / 60:.1f}"
-    machine = {**versions(), "minutes": minutes}
-    return Figures(machine, starts, cells, merges)
+        empty = {name: [*line, "0"] for name, line in programs.words.items()}
+        figures.starts |= programs.costs(empty, "/dev/null", 1, least=20)
+        measured_families(programs, figures, given)
+        measured_merges(programs, figures, given)
+    minutes = float(figures.machine.get("minutes", 0)) + (time.monotonic() - begin) / 60
+    figures.machine = {**versions(), "minutes": f"{minutes:.1f}"}
 
 
 def read(path: Path) -> Figures:
@@ -213,7 +221,7 @@ class Growth:
     """What one program takes a byte in one family, by the number of lines."""
 
     def __init__(self, figures: Figures, family: str, program: str, what: str) -> None:
-        self.start: int = getattr(figures.starts[program], what)
+        self.start: int = getattr(figures.starts.get(program, Cost()), what)
         self.cells = {cell.lines: cell for cell in figures.cells if cell.family == family and program in cell.costs}
         self.costs = {lines: cell.costs[program] for lines, cell in self.cells.items()}
         self.what = what
@@ -371,16 +379,18 @@ def main() -> None:
     parser.add_argument("--lines", type=int, nargs="+", default=SIZES)
     parser.add_argument("--seconds", type=float, default=1)
     parser.add_argument("--only", default="", help="measure only the families whose name has this word")
+    parser.add_argument("--programs", nargs="+", default=PROGRAMS, choices=PROGRAMS)
+    parser.add_argument("--add", action="store_true", help="add to the figures that are in the file")
     given = parser.parse_args()
     if given.again == bool(given.original):
         parser.error("either ORIGINAL or --again")
-    if given.again:
-        figures = read(given.json or FIGURES)
-    else:
-        figures = measured(given.original, sorted(given.lines), given.seconds, given.only)
-    if not given.again or given.write:
-        for path in {given.json, FIGURES if given.write else None} - {None}:
-            stored(path, asdict(figures))
+    if given.json is None and (given.write or given.again or given.add):
+        given.json = FIGURES
+    figures = read(given.json) if given.again or given.add else Figures({}, {}, [], [])
+    if given.original:
+        measured(figures, given)
+    if given.json:
+        stored(given.json, asdict(figures))
     if given.write:
         put_in(DOCS / "BENCHMARKS.md", tables(figures))
     else:
