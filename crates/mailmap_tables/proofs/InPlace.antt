@@ -83,7 +83,7 @@ module _ (ks before after : List NameGroup) (kept : Text) (n : NameGroup) (m : M
   named = record { old_name = subst IsSome (sym says.old_name) refl; new_email = subst IsSome (sym says.new_email) refl }
 
   put : NameLookup ks before n.old_name kept after → NamePut ks after n (nothing [] []) (nothing [] (before ++ one ∷ []))
-  put indexed = record { passed = before; kept = kept; pool = ([], refl); groups = refl; pending = refl; indexed = indexed }
+  put lookup = record { passed = before; kept = kept; pool = ([], refl); groups = refl; pending = refl; lookup = indexed }
 
   group : NameEntries (m ∷ []) n []
   group = record { head = m; more = []; whole = refl; named = says.old_name; same = tt; new_name = says.new_name; new_email = says.new_email; other = tt }
@@ -112,7 +112,7 @@ module _ (gs before after : List EmailGroup) (existing group : EmailGroup) (m : 
   items = (0, m) ∷ []
 
   put_group : GroupPut gs after items (email_text m) (nothing [] []) (nothing (before ++ group ∷ []) [])
-  put_group = record { passed = before; existing = existing; group = group; pool = ([], refl); groups = refl; none_pending = refl; indexed = indexed; joined = joined }
+  put_group = record { passed = before; existing = existing; group = group; pool = ([], refl); groups = refl; none_pending = refl; lookup = indexed; joined = joined }
 
   all_joined : AllJoined gs items (before ++ group ∷ after)
   all_joined =
@@ -206,7 +206,7 @@ module _ (m : Mapping) (index : ℕ) (old mid : List EmailGroup) (ready : EmailR
   ready_changed h = (λ i. take (sym ready.index_is i) (ready.groups i) ++ h ∷ drop (sym ready.index_is i + 1) (ready.groups i)) ∙ other_there ready.before ready.after ready.group h
 
   pub ready_ascends : AreGroups old → IsStrictlySortedBy text_cmp (map name_key ready.group.names)
-  ready_ascends are = at ready.indexed
+  ready_ascends are = at ready.lookup
     where
       one_of : (before after : List EmailGroup) (g : EmailGroup) → AllByRecursion IsGroup (before ++ g ∷ after) → IsStrictlySortedBy text_cmp (map name_key g.names)
       one_of [] after g all = all.0.ascending
@@ -221,8 +221,8 @@ pub put_done : (m : Mapping) (index : ℕ) (old mid new : Contents) (ready : Ema
     → EmailChanged index h mid new → EmailJoined ready.group (m ∷ []) h → IsComplete new × IsNormal (listing old.groups ++ m ∷ []) (listing new.groups)
 put_done m index old mid new ready h complete good pending changed joined =
     let is : new.groups ≡ ready.before ++ h ∷ ready.after = changed.groups ∙ ready_changed m index old.groups mid.groups ready h in (
-      record { groups = subst AreGroups (sym is) (put_groups old.groups ready.before ready.after ready.group h m complete.groups good ready.indexed joined); none_pending = changed.pending ∙ pending },
-      subst (λ gs. IsNormal (listing old.groups ++ m ∷ []) (listing gs)) (sym is) (put_normal old.groups ready.before ready.after ready.group h m complete.groups good ready.indexed joined),
+      record { groups = subst AreGroups (sym is) (put_groups old.groups ready.before ready.after ready.group h m complete.groups good ready.lookup joined); none_pending = changed.pending ∙ pending },
+      subst (λ gs. IsNormal (listing old.groups ++ m ∷ []) (listing gs)) (sym is) (put_normal old.groups ready.before ready.after ready.group h m complete.groups good ready.lookup joined),
     )
 
 -- and there is room for those after it
@@ -231,7 +231,7 @@ pub put_fits : (m : Mapping) (ms : List Mapping) (index : ℕ) (old new : Reserv
 put_fits m ms index old new mid ready h changed same le f bytes emails names =
     let own = f.bytes.0 in
     let is : new.held.groups ≡ ready.before ++ h ∷ ready.after = changed.groups ∙ ready_changed m index old.held.groups mid.groups ready h in
-    let within : OwnWithin (own + field_bytes m) (ready.before ++ h ∷ ready.after) ms = own_after old.held.groups ready.before ready.after ready.group m own (field_bytes m) ms h ready.indexed same le f.bytes.1.0.1 in
+    let within : OwnWithin (own + field_bytes m) (ready.before ++ h ∷ ready.after) ms = own_after old.held.groups ready.before ready.after ready.group m own (field_bytes m) ms h ready.lookup same le f.bytes.1.0.1 in
     record {
       bytes = (own + field_bytes m, (subst (λ gs. OwnWithin (own + field_bytes m) gs ms) (sym is) within, rest_reserved own m ms old.bytes new.bytes f.bytes.1.1 bytes));
       emails = omega (arith, f.emails, emails);

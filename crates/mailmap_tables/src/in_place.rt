@@ -20,8 +20,8 @@ use mailmap_entries::Entry;
 use std::alloc::{AllocError, Global};
 use std::mem;
 
-/// Puts entries after those that the tables have, in place. All memory is taken first: when there is not enough, the
-/// tables stay as they were.
+/// Merges entries into the tables in place, as later than all that is there. All memory is taken first: when there is not
+/// enough, the tables stay as they were.
 pub(crate) fn merge_in_place(
     alloc: Global,
     tables: &mut Tables,
@@ -63,8 +63,8 @@ fn put_each(tables: &mut ReservedTables, entries: &[Entry<'_>])
     }
 }
 
-// Puts an entry after those that the tables have: without an old name it gives its email new fields, each for itself;
-// with one it takes the index of what the name had.
+// Merges one entry. Without an old name it gives its email new fields, each only if it has one. With an old name it
+// replaces both fields of that name, or adds the name.
 fn put(tables: &mut ReservedTables, entry: &Entry<'_>)
     requires complete { IsComplete tables.old.held }
     requires accepted { is_accepted (mapping_of entry.now) ≡ true }

@@ -27,7 +27,8 @@ use mailmap_batches::indexed::IndexedEntry;
 use mailmap_entries::Entry;
 use std::alloc::{AllocError, Global};
 
-// Puts a name out, its old name as `old_name` spells it, in place of fields of so many bytes.
+// Appends a name to `out`, with its old name as `old_name` spells it. `replaced` is how many bytes of the pool no row uses
+// then.
 fn push_named(
     out: &mut Tables,
     old_name: Span,
@@ -47,7 +48,7 @@ fn push_named(
     out.push_name(row)
 }
 
-// Puts a name out, after the kept names that come before it, and gives those that are left.
+// Appends a name to `out`, after the kept names that come before it, and gives those that are left.
 fn put_name<'k>(
     out: &mut Tables,
     kept: &'k [NameRow],
@@ -63,12 +64,12 @@ fn put_name<'k>(
     match find_name(&out.view(), kept, named.old_name) {
         Ok(index) => {
             let row = kept[index];
-            out.push_names(prefix(kept, index))?;
+            out.push_names(head(kept, index))?;
             push_named(out, row.old(), named, row.fields_len())?;
             Ok(tail(kept, index + 1))
         }
         Err(index) => {
-            out.push_names(prefix(kept, index))?;
+            out.push_names(head(kept, index))?;
             let old_name = out.push_text(named.old_name, 0)?;
             push_named(out, old_name, named, 0)?;
             Ok(tail(kept, index))
@@ -77,7 +78,7 @@ fn put_name<'k>(
 }
 
 // The rows before an index.
-fn prefix(rows: &[NameRow], index: usize) -> &[NameRow]
+fn head(rows: &[NameRow], index: usize) -> &[NameRow]
     requires { index ≤ length rows.now }
     ensures { result.now ≡ take index rows.now }
 {
@@ -92,7 +93,7 @@ pub(crate) fn tail(rows: &[NameRow], index: usize) -> &[NameRow]
     &rows[index..]
 }
 
-// Puts out the kept names of an email and the named entries of a batch for it.
+// Appends the kept names of an email to `out`, joined with the named entries of a batch for it.
 fn join_names(
     out: &mut Tables,
     kept: &[NameRow],
@@ -115,8 +116,9 @@ fn join_names(
     out.push_names(standing)
 }
 
-// Puts an email out: what was known of it, and the entries of a batch for it. Its own texts come first, for those of a
-// new email to follow it directly.
+// Appends an email to `out`: what was known of it, joined with the entries of a batch for it. Its own fields are those that
+// are given for it without an old name. They are pushed before its names, so that in the pool those of a new email follow
+// its text and nothing is copied.
 fn join_email(
     out: &mut Tables,
     texts: Texts,
@@ -136,7 +138,7 @@ fn join_email(
     out.push_email(own)
 }
 
-// Passes standing emails on, from one index up to another.
+// Copies old emails to `out`, from one index up to another.
 fn pass_emails(
     out: &mut Tables,
     standing: &View<'_>,
@@ -158,8 +160,8 @@ fn pass_emails(
     Ok(())
 }
 
-// Puts the email of a group of the batch out, after the standing emails before it, and gives the index of the next
-// standing email.
+// Appends the email of a group of the batch to `out`, after the old emails before it, and gives the index of the next old
+// email.
 fn join_group(
     out: &mut Tables,
     standing: &View<'_>,
@@ -195,7 +197,7 @@ fn join_group(
     }
 }
 
-// The standing tables with a sorted batch after them, put into `out`, which has their pool already.
+// The old tables with a sorted batch after them, put into `out`, which has their pool already.
 fn join_sorted(
     mut out: Tables,
     standing: &View<'_>,
@@ -219,7 +221,7 @@ fn join_sorted(
     Ok(out)
 }
 
-// The standing tables with entries after them.
+// The old tables with entries after them.
 pub(crate) fn joined(
     alloc: Global,
     standing: &Tables,
@@ -236,8 +238,8 @@ pub(crate) fn joined(
     join_sorted(out, &standing.view(), &batch)
 }
 
-// Written anew if no more than half of the pool is in use, so that merges which replace don't make it grow without
-// end.
+// Builds the tables anew if half of the pool or more is unused, so that a pool doesn't grow without end by merges that
+// replace.
 pub(crate) fn without_unused_texts(tables: Tables) -> Result<Tables, AllocError>
     requires { IsComplete tables }
     ensures { IfOk result (λ made. IsComplete made × (listing made.groups ≡ listing tables.groups)) }

@@ -18,7 +18,7 @@ use std::alloc::AllocError;
 impl Tables {
     /// Puts the accepted entries that an iterator gives after those that the tables have. A few are put in place, once all
     /// memory is taken. For any others new tables are built aside, which replace these at the end. So when memory
-    /// groups out, the tables stay as they were.
+    /// runs out, the tables stay as they were.
     pub fn merge<'a, I: Iterator<Item = Entry<'a>> + Drop>(
         &mut self,
         entries: I,

@@ -14,30 +14,31 @@ use mailmap_entries::Entry;
 use mailmap_entries::fold::prefix::key_prefix;
 use std::alloc::{AllocError, Global};
 
-// So many entries are collected before the first look at how often their keys come.
+// The least number of entries in a portion.
 const PORTION: usize = 16_384;
 
-// So many of them are looked at.
+// How many entries of a portion are looked at, to see whether their keys come again and again.
 const SAMPLE: usize = 4_096;
 
-// So many bytes of the pool are copied in less time than it takes to join an entry.
+// About as many bytes of the pool are copied in the time that joining one entry takes, or more.
 const BYTES_AN_ENTRY: usize = 256;
 
-// A prime number, so that keys with like beginnings or endings go to different slots.
+// The size of the table of numbers that were seen. It is prime, so that keys with like beginnings or endings go to
+// different slots.
 const SLOTS: usize = 8_191;
 
-/// Entries after existing tables.
+/// Accepted entries on their way into tables.
 #[derive(Drop)]
 pub(crate) struct Collected<'a> {
-    // the standing tables with all portions after them, once there is one
+    // the old tables with all portions joined, `None` before the first portion
     pub(crate) made: Option<Tables>,
     // the accepted entries after those
     pub(crate) batch: Vec<Entry<'a>>,
-    // when the batch has so many entries it is a portion
+    // with how many entries the batch is a portion
     portion: usize,
 }
 
-/// The accepted entries that an iterator gives, to be put after the standing tables.
+/// The accepted entries that an iterator gives, to be put after the old tables.
 pub(crate) fn accepted_of<'a, I: Iterator<Item = Entry<'a>> + Drop>(
     alloc: Global,
     standing: &Tables,
@@ -101,7 +102,7 @@ impl<'a> Collected<'a> {
         self.end_portion(standing)
     }
 
-    // Joins the batch with the tables, if its keys come again and again. Else the batch goes on without an end.
+    // Joins the batch with the tables, if its keys come again and again. Else all that follows is one batch.
     fn end_portion(&mut self, standing: &Tables) -> Result<(), AllocError>
         requires { (h : List Mapping) × IsCollected standing.now h self.old.made (map mapping_of self.old.batch.items) }
         ensures { OnOk result
@@ -127,7 +128,7 @@ impl<'a> Collected<'a> {
         self.batch.is_empty()
     }
 
-    /// Puts the tables that were made in place of the existing ones.
+    /// Puts the tables that were made in place of the old ones.
     pub(crate) fn put_into(self, standing: &mut Tables)
         ensures { standing.new ≡ unwrap_or self.entry.made standing.old }
     {
@@ -137,7 +138,7 @@ impl<'a> Collected<'a> {
         }
     }
 
-    /// The standing tables with all entries after them.
+    /// The old tables with all entries after them.
     pub(crate) fn tables(&self, standing: &Tables) -> Result<Tables, AllocError>
         requires { (h : List Mapping) × IsCollected standing.now h self.now.made (map mapping_of self.now.batch.items) }
         ensures { IfOk result

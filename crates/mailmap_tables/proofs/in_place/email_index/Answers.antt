@@ -25,7 +25,7 @@ returns-in-Ok-clause-ready c =
       before = take i gs;
       group = g;
       after = drop (i + 1) gs;
-      indexed = known parts (found_key email_key (email_text m) 0 gs i g found read);
+      lookup = known parts (found_key email_key (email_text m) 0 gs i g found read);
       groups = parts;
       index_is = length_prefix gs i (omega (arith, found.within));
     }
@@ -46,7 +46,7 @@ returns-in-Err-clause-ready c =
       before = take i gs;
       group = g;
       after = drop i gs;
-      indexed = unknown (sym (take-append-drop i gs)) (missing_head email_key (email_text m) 0 gs i refl missing) (missing_above email_key (email_text m) 0 gs i missing) (0, m) (earliest_itself m) refl;
+      lookup = unknown (sym (take-append-drop i gs)) (missing_head email_key (email_text m) 0 gs i refl missing) (missing_above email_key (email_text m) 0 gs i missing) (0, m) (earliest_itself m) refl;
       groups = made;
       index_is = length_prefix gs i missing.within;
     }

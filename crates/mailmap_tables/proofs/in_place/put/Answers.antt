@@ -34,7 +34,7 @@ put_fields-requires-clause-bytes c =
     let own = f.1.bytes.0 in
     let gave = fields_given c.given.result in
     let reserved = first_reserved own m f.0 c.args.tables.now.bytes f.1.bytes.1.1 in
-    let existing = existing_reserved c.args.tables.now.held.groups ready.before ready.after ready.group m own ready.indexed f.1.bytes.1.0.0 in
+    let existing = existing_reserved c.args.tables.now.held.groups ready.before ready.after ready.group m own ready.lookup f.1.bytes.1.0.0 in
     let fits : own_reserved ready.group gave ≤ c.email_index-email.new.tables.bytes =
     omega (arith, reserved, existing.0, existing.1, ap (λ (g : Fields). optional_bytes g.name) c.given.ensures, ap (λ (g : Fields). optional_bytes g.email) c.given.ensures, c.email_index-email.ensures.reserved.bytes) in
     λ d. subst (λ (g : EmailGroup). own_reserved g gave ≤ c.email_index-email.new.tables.bytes) (sym (ready_there m _ _ _ ready d)) fits
@@ -101,7 +101,7 @@ returns-in-None-clause-reserved c =
     let name_len = ap (λ (g : Fields). optional_bytes g.name) c.given.ensures in
     let email_len = ap (λ (g : Fields). optional_bytes g.email) c.given.ensures in
     λ ms f.
-    let most = existing_reserved c.args.tables.now.held.groups ready.before ready.after existing m f.bytes.0 ready.indexed f.bytes.1.0.0 in
+    let most = existing_reserved c.args.tables.now.held.groups ready.before ready.after existing m f.bytes.0 ready.lookup f.bytes.1.0.0 in
     put_fits m ms _ c.args.tables.now new mid ready (record existing { own = given_or gave existing.own }) changed refl
     (omega (arith, or_bytes gave.name existing.own.name, or_bytes gave.email existing.own.email, name_len, email_len)) f
     (omega (arith, first.bytes, took.bytes, ap (λ (g : EmailGroup). own_reserved g gave) there, name_len, email_len, most.0, most.1))

@@ -39,7 +39,7 @@ returns-in-Ok-clause-put c =
       kept = kept;
       after = drop (i + 1) g.names;
       changed = changed_from email _ old mid new (ap (λ (v : Contents). v.groups) grown.1) (ap (λ (v : Contents). v.pending) grown.1) is;
-      indexed = known k (split_head g.names i k found.within read) (found_key name_key (folded n.old_name) 0 g.names i k found read) refl;
+      lookup = known k (split_head g.names i k found.within read) (found_key name_key (folded n.old_name) 0 g.names i k found read) refl;
     }
 
 pub returns-in-Err-clause-put : goal.returns-in-Err-clause-put
@@ -66,5 +66,5 @@ returns-in-Err-clause-put c =
       kept = n.old_name;
       after = drop i g.names;
       changed = changed_from email _ old mid new groups pending is;
-      indexed = unknown (sym (take-append-drop i g.names)) (missing_head name_key (folded n.old_name) 0 g.names i refl missing) (missing_above name_key (folded n.old_name) 0 g.names i missing) refl;
+      lookup = unknown (sym (take-append-drop i g.names)) (missing_head name_key (folded n.old_name) 0 g.names i refl missing) (missing_above name_key (folded n.old_name) 0 g.names i missing) refl;
     }
