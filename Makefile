@@ -126,7 +126,8 @@ install_lib:
 	    include/gix_mailmap.pc.in > $(DESTDIR)$(LIBDIR)/pkgconfig/gix_mailmap.pc
 	chmod 644 $(DESTDIR)$(LIBDIR)/pkgconfig/gix_mailmap.pc
 	install -C -m 644 $(PACKAGE) $(DESTDIR)$(PYTHONDIR)/gix_mailmap
-	ln -sfr $(DESTDIR)$(LIBDIR)/$(SONAME) $(DESTDIR)$(PYTHONDIR)/gix_mailmap/$(LINKED)
+	ln -sf $$(realpath -sm --relative-to=$(PYTHONDIR)/gix_mailmap $(LIBDIR))/$(SONAME) \
+	    $(DESTDIR)$(PYTHONDIR)/gix_mailmap/$(LINKED)
 
 # Folders that others may use, such as bin, stay.
 uninstall:

@@ -9,7 +9,6 @@ trap 'rm -rf "$work"' EXIT
 . "$top/tests/ship_functions.sh"
 version="$(cat "$top/VERSION")"
 so=libgix_mailmap.so
-unset DESTDIR PREFIX BINDIR INCLUDEDIR LIBDIR MANDIR PYTHONDIR DIST SOURCE_DATE_EPOCH PYTHONPATH GIX_MAILMAP_LIBRARY
 
 # PATH without the toolchain: a folder that has it is replaced by links to all else in it
 without_toolchain() {
