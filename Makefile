@@ -1,24 +1,40 @@
 # make run: maps the sample contacts by the sample mailmap. make test: the gate. make edits: the wrong bodies that the
 # gate leaves out for its time. make build: the programs. make lib: the libraries for C. make wheel: the package for Python,
 # in dist. make install: the programs and their manual pages, the libraries, their header, what pkg-config reads and the
-# package for Python, under PREFIX.
+# package for Python, under PREFIX. make uninstall: removes those. make dist and make deb: a tarball and a Debian package
+# of them, in dist, for machines without the toolchain.
 #
 # What is built is built again only after a change of what it is made from. `rt ci` builds each program that it proves,
 # so after it there is nothing left to build but the libraries for C.
 PREFIX ?= /usr/local
+BINDIR ?= $(PREFIX)/bin
+INCLUDEDIR ?= $(PREFIX)/include
+LIBDIR ?= $(PREFIX)/lib
+MANDIR ?= $(PREFIX)/share/man
+# the folder of the package for Python
+PYTHONDIR ?= $(PREFIX)/share/gix_mailmap/python
+
+# the version of all that is shipped
+VERSION := $(shell cat VERSION)
+# The number of the shared library's binary interface. A program runs with any library of the number that it was linked
+# with, so this is to grow with each change after which one would not.
+ABI = 0
+
 PROGRAM = crates/mailmap_check/out/mailmap_check
 VERIFIER = crates/mailmap_verify/out/mailmap_verify
 DUMP = crates/mailmap_dump/out/mailmap_dump
 # the libraries for C, and the part of the toolchain's that they stand on
 LIB = crates/gix_mailmap_c/out
 HEAP = $(dir $(shell rt doc))c/liblibc_c.a
-# where the package for Python goes
-PACKAGE = share/gix_mailmap/python/gix_mailmap
+# the shared library: its name, the one that the loader looks for, and the one that the linker looks for
+SHARED = libgix_mailmap.so.$(VERSION)
+SONAME = libgix_mailmap.so.$(ABI)
+LINKED = libgix_mailmap.so
 
 # what a proof reads
 SOURCES = crates.txt $(shell find crates -name out -prune -o -type f \( -name '*.rt' -o -name '*.antt' \) -print)
 
-.PHONY: build run test edits install install_lib lib wheel
+.PHONY: build run test edits install install_lib uninstall lib wheel dist deb
 build: $(PROGRAM) $(VERIFIER)
 
 $(PROGRAM): $(SOURCES)
@@ -39,22 +55,32 @@ $(DUMP): $(SOURCES)
 run: $(PROGRAM)
 	$(PROGRAM) sample/mailmap < sample/contacts
 
-lib: $(LIB)/c/libgix_mailmap.so
+lib: $(LIB)/c/libgix_mailmap.a $(LIB)/c/$(SHARED)
 
-# the static library, whole by itself, and the shared one
-$(LIB)/c/libgix_mailmap.so: $(SOURCES) include/gix_mailmap.map
+# the static library, whole by itself
+$(LIB)/c/libgix_mailmap.a: $(SOURCES)
 	@echo 'Proving and building the libraries for C.'
 	cd crates/gix_mailmap_c && rt lib > /dev/null
 	rm -rf $(LIB)/c && mkdir $(LIB)/c
-	cp $(LIB)/libgix_mailmap_c.a $(LIB)/c/libgix_mailmap.a
+	cp $(LIB)/libgix_mailmap_c.a $@
 	cd $(LIB)/c && ar x $(HEAP) && ar rs libgix_mailmap.a *.o 2> /dev/null
-	$(CC) -shared -o $(LIB)/c/libgix_mailmap.so -Wl,-soname,libgix_mailmap.so \
-	    -Wl,--version-script,include/gix_mailmap.map -Wl,--whole-archive $(LIB)/c/libgix_mailmap.a -Wl,--no-whole-archive
-	ln -sf ../../$(LIB)/c/libgix_mailmap.so python/gix_mailmap/libgix_mailmap.so
 
-# the package for Python, with the shared library in it
+# the shared one, made of it; the Makefile has its number
+$(LIB)/c/$(SHARED): $(LIB)/c/libgix_mailmap.a include/gix_mailmap.map VERSION Makefile
+	rm -f $(LIB)/c/$(LINKED)*
+	$(CC) -shared -o $@ -Wl,-soname,$(SONAME) -Wl,--version-script,include/gix_mailmap.map \
+	    -Wl,--whole-archive $< -Wl,--no-whole-archive
+	ln -s $(SHARED) $(LIB)/c/$(SONAME)
+	ln -s $(SONAME) $(LIB)/c/$(LINKED)
+	ln -sf ../../$(LIB)/c/$(LINKED) python/gix_mailmap/$(LINKED)
+
+# the package for Python, with the shared library in it: what pip builds, without pip
+WHEEL = PYTHONDONTWRITEBYTECODE=1 PYTHONPATH=python/build \
+    python3 -c 'import backend, sys; backend.build_wheel(sys.argv[1])'
+
 wheel: lib
-	python3 -m pip wheel --quiet --no-index --no-deps --wheel-dir dist .
+	mkdir -p $(DIST)
+	$(WHEEL) $(DIST)
 
 test:
 	tests/out_of_memory.sh
@@ -70,24 +96,87 @@ test:
 	tests/c/run.sh $(LIB)/c
 	tests/python/run.sh $(LIB)/c
 	tests/c/installed.sh
+	tests/ship.sh
 
 edits:
 	tests/more_must_fail.sh
 
+# What is already there stays as it is.
 install: build lib
-	install -D -m 755 $(PROGRAM) $(DESTDIR)$(PREFIX)/bin/mailmap_check
-	install -D -m 755 $(VERIFIER) $(DESTDIR)$(PREFIX)/bin/mailmap_verify
-	install -D -m 644 man/mailmap_check.1 $(DESTDIR)$(PREFIX)/share/man/man1/mailmap_check.1
-	install -D -m 644 man/mailmap_verify.1 $(DESTDIR)$(PREFIX)/share/man/man1/mailmap_verify.1
+	mkdir -p $(DESTDIR)$(BINDIR) $(DESTDIR)$(MANDIR)/man1
+	install -C -m 755 $(PROGRAM) $(VERIFIER) $(DESTDIR)$(BINDIR)
+	install -C -m 644 $(PAGES) $(DESTDIR)$(MANDIR)/man1
 	$(MAKE) install_lib
+
+PAGES = man/mailmap_check.1 man/mailmap_verify.1
+PACKAGE = python/gix_mailmap/py.typed $(wildcard python/gix_mailmap/*.py)
+# a folder as pkg-config has it: from the prefix on, where it is below that
+BELOW = $(patsubst $(PREFIX)/%,$${prefix}/%,$(1))
 
 # what `make lib` has built
 install_lib:
-	install -D -m 644 include/gix_mailmap.h $(DESTDIR)$(PREFIX)/include/gix_mailmap.h
-	install -D -m 644 $(LIB)/c/libgix_mailmap.a $(DESTDIR)$(PREFIX)/lib/libgix_mailmap.a
-	install -D -m 755 $(LIB)/c/libgix_mailmap.so $(DESTDIR)$(PREFIX)/lib/libgix_mailmap.so
-	install -d $(DESTDIR)$(PREFIX)/$(PACKAGE)
-	install -m 644 python/gix_mailmap/*.py python/gix_mailmap/py.typed $(DESTDIR)$(PREFIX)/$(PACKAGE)
-	ln -sf ../../../../lib/libgix_mailmap.so $(DESTDIR)$(PREFIX)/$(PACKAGE)/libgix_mailmap.so
-	install -d $(DESTDIR)$(PREFIX)/lib/pkgconfig
-	sed 's|@PREFIX@|$(PREFIX)|' include/gix_mailmap.pc.in > $(DESTDIR)$(PREFIX)/lib/pkgconfig/gix_mailmap.pc
+	mkdir -p $(DESTDIR)$(INCLUDEDIR) $(DESTDIR)$(LIBDIR)/pkgconfig $(DESTDIR)$(PYTHONDIR)/gix_mailmap
+	install -C -m 644 include/gix_mailmap.h $(DESTDIR)$(INCLUDEDIR)
+	install -C -m 644 $(LIB)/c/libgix_mailmap.a $(DESTDIR)$(LIBDIR)
+	install -C -m 755 $(LIB)/c/$(SHARED) $(DESTDIR)$(LIBDIR)
+	ln -sf $(SHARED) $(DESTDIR)$(LIBDIR)/$(SONAME)
+	ln -sf $(SONAME) $(DESTDIR)$(LIBDIR)/$(LINKED)
+	sed -e 's|@PREFIX@|$(PREFIX)|' -e 's|@INCLUDEDIR@|$(call BELOW,$(INCLUDEDIR))|' \
+	    -e 's|@LIBDIR@|$(call BELOW,$(LIBDIR))|' -e 's|@VERSION@|$(VERSION)|' \
+	    include/gix_mailmap.pc.in > $(DESTDIR)$(LIBDIR)/pkgconfig/gix_mailmap.pc
+	chmod 644 $(DESTDIR)$(LIBDIR)/pkgconfig/gix_mailmap.pc
+	install -C -m 644 $(PACKAGE) $(DESTDIR)$(PYTHONDIR)/gix_mailmap
+	ln -sf $$(realpath -sm --relative-to=$(PYTHONDIR)/gix_mailmap $(LIBDIR))/$(SONAME) \
+	    $(DESTDIR)$(PYTHONDIR)/gix_mailmap/$(LINKED)
+
+# Folders that others may use, such as bin, stay.
+uninstall:
+	rm -f $(addprefix $(DESTDIR)$(BINDIR)/,$(notdir $(PROGRAM) $(VERIFIER)))
+	rm -f $(addprefix $(DESTDIR)$(MANDIR)/man1/,$(notdir $(PAGES)))
+	rm -f $(DESTDIR)$(INCLUDEDIR)/gix_mailmap.h
+	rm -f $(addprefix $(DESTDIR)$(LIBDIR)/,libgix_mailmap.a $(SHARED) $(SONAME) $(LINKED) pkgconfig/gix_mailmap.pc)
+	rm -f $(addprefix $(DESTDIR)$(PYTHONDIR)/gix_mailmap/,$(notdir $(PACKAGE)) $(LINKED))
+	rm -rf $(DESTDIR)$(PYTHONDIR)/gix_mailmap/__pycache__
+	for folder in $(PYTHONDIR)/gix_mailmap $(PREFIX)/share/gix_mailmap/python $(PREFIX)/share/gix_mailmap; do \
+	    [ ! -d $(DESTDIR)$$folder ] || rmdir --ignore-fail-on-non-empty $(DESTDIR)$$folder; done
+
+# Packages. The same files give the same package: its files have one time, and root owns them.
+DIST ?= dist
+SOURCE_DATE_EPOCH ?= 315532800
+export SOURCE_DATE_EPOCH
+TARBALL = gix_mailmap-$(VERSION)-linux-x86_64
+DEBIAN = gix-mailmap_$(VERSION)_amd64
+MAINTAINER ?= The maintainers of gix_mailmap <maintainers@gix-mailmap.invalid>
+# the oldest version of glibc that all of it runs with
+GLIBC = $(shell grep -aoh 'GLIBC_2\.[0-9]*' $(PROGRAM) $(VERIFIER) $(LIB)/c/$(SHARED) | sort -V | tail -n 1 \
+    | cut -d _ -f 2)
+FILLED = sed -e 's|@VERSION@|$(VERSION)|' -e 's|@GLIBC@|$(GLIBC)|' -e 's|@MAINTAINER@|$(MAINTAINER)|'
+
+dist: build lib
+	rm -rf $(DIST)/$(TARBALL)
+	$(MAKE) install DESTDIR=$(DIST)/$(TARBALL) PREFIX= BINDIR=/bin INCLUDEDIR=/include LIBDIR=/lib MANDIR=/share/man \
+	    PYTHONDIR=/share/gix_mailmap/python
+	GIX_MAILMAP_LIBRARY= $(WHEEL) $(DIST)/$(TARBALL)
+	install -m 755 packaging/install.sh $(DIST)/$(TARBALL)
+	install -m 644 LICENSE $(DIST)/$(TARBALL)
+	$(FILLED) packaging/INSTALL.in > $(DIST)/$(TARBALL)/INSTALL
+	tar -C $(DIST) --format=gnu --sort=name --mtime=@$(SOURCE_DATE_EPOCH) --owner=root:0 --group=root:0 \
+	    --mode=u=rwX,go=rX -I 'gzip -9n' -cf $(DIST)/$(TARBALL).tar.gz $(TARBALL)
+	rm -rf $(DIST)/$(TARBALL)
+
+deb: build lib
+	@[ -n "$$(command -v dpkg-deb)" ] || { echo 'make deb: there is no dpkg-deb here'; exit 1; }
+	rm -rf $(DIST)/$(DEBIAN)
+	$(MAKE) install DESTDIR=$(DIST)/$(DEBIAN) PREFIX=/usr BINDIR=/usr/bin INCLUDEDIR=/usr/include \
+	    LIBDIR=/usr/lib/x86_64-linux-gnu MANDIR=/usr/share/man PYTHONDIR=/usr/lib/python3/dist-packages
+	gzip -9n $(DIST)/$(DEBIAN)/usr/share/man/man1/*.1
+	install -D -m 644 LICENSE $(DIST)/$(DEBIAN)/usr/share/doc/gix-mailmap/copyright
+	mkdir $(DIST)/$(DEBIAN)/DEBIAN
+	cd $(DIST)/$(DEBIAN) && find usr -type f | LC_ALL=C sort | xargs md5sum > DEBIAN/md5sums
+	$(FILLED) packaging/control.in > $(DIST)/$(DEBIAN)/DEBIAN/control
+	install -m 644 packaging/triggers $(DIST)/$(DEBIAN)/DEBIAN
+	install -m 755 packaging/prerm $(DIST)/$(DEBIAN)/DEBIAN
+	chmod -R u=rwX,go=rX $(DIST)/$(DEBIAN)
+	find $(DIST)/$(DEBIAN) -exec touch -h -d @$(SOURCE_DATE_EPOCH) {} +
+	dpkg-deb --root-owner-group -Zgzip --build $(DIST)/$(DEBIAN) $(DIST)/$(DEBIAN).deb > /dev/null
+	rm -rf $(DIST)/$(DEBIAN)

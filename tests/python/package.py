@@ -81,7 +81,7 @@ class Backend(unittest.TestCase):
 class Version(unittest.TestCase):
     def test_it_is_that_of_the_c_library(self):
         page = (TOP / "include" / "gix_mailmap.pc.in").read_text(encoding="ascii")
-        self.assertIn(page.split("\nVersion: ")[1].split("\n")[0], (VERSION, "@VERSION@"))
+        self.assertIn("\nVersion: @VERSION@\n", page)
 
 
 class Library(unittest.TestCase):

@@ -1,0 +1,49 @@
+#!/bin/sh
+# install.sh PREFIX: installs what is beside it under PREFIX. install.sh --uninstall PREFIX: removes that again. With
+# DESTDIR in the environment, both do it under that folder, for a package.
+set -eu
+umask 022
+usage() {
+    echo 'usage: install.sh [--uninstall] PREFIX' >&2
+    exit 2
+}
+
+action=install
+if [ "${1-}" = --uninstall ]; then
+    action=uninstall
+    shift
+fi
+[ $# = 1 ] || usage
+case "$1" in
+    /*) prefix="${1%/}" ;;
+    '' | -*) usage ;;
+    *) prefix="$(pwd)/${1%/}" ;;
+esac
+root="${DESTDIR-}$prefix"
+cd "$(dirname "$0")"
+
+# what is to be installed: no file of this tarball has blanks in its name
+files="$(find bin include lib share ! -type d)"
+
+install_all() {
+    for file in $files; do
+        mkdir -p "$root/$(dirname "$file")"
+        rm -f "$root/$file"
+        cp -P "$file" "$root/$file"
+    done
+    { echo "prefix=$prefix" && sed 1d lib/pkgconfig/gix_mailmap.pc; } > "$root/lib/pkgconfig/gix_mailmap.pc"
+}
+
+# Folders that others may use, such as bin, stay.
+uninstall_all() {
+    for file in $files; do
+        rm -f "$root/$file"
+    done
+    own="$root/share/gix_mailmap"
+    rm -rf "$own/python/gix_mailmap/__pycache__"
+    for folder in "$own/python/gix_mailmap" "$own/python" "$own"; do
+        rmdir "$folder" 2> /dev/null || true
+    done
+}
+
+"${action}_all"

@@ -1,0 +1,119 @@
+#!/usr/bin/env bash
+# Tries what is shipped, without the toolchain: `make install` and `make uninstall` into folders of their own choice, the
+# tarball, and the Debian package. Each copy has to answer, and nothing of it may stay after it is removed. All that it
+# installs has to be built.
+set -euo pipefail
+top="$(cd "$(dirname "$0")/.." && pwd)"
+work="$(mktemp -d)"
+trap 'rm -rf "$work"' EXIT
+. "$top/tests/ship_functions.sh"
+version="$(cat "$top/VERSION")"
+so=libgix_mailmap.so
+
+# PATH without the toolchain: a folder that has it is replaced by links to all else in it
+without_toolchain() {
+    local path='' folder kept=0 folders
+    IFS=: read -r -a folders <<< "$PATH"
+    for folder in "${folders[@]}"; do
+        if [ -e "$folder/rt" ]; then
+            kept=$((kept + 1))
+            mkdir -p "$work/path/$kept"
+            find "$folder" -mindepth 1 -maxdepth 1 ! -name rt -exec ln -s -t "$work/path/$kept" {} +
+            folder="$work/path/$kept"
+        fi
+        path="$path:$folder"
+    done
+    PATH="${path#:}"
+}
+without_toolchain
+hash -r
+if [ -n "$(command -v rt)" ]; then
+    echo 'ship: the toolchain is still there'
+    exit 1
+fi
+
+built() {
+    make --no-print-directory -s -C "$top" "$@"
+}
+
+# Wants that nothing of a copy is left in a folder: no files, and no folders by its name
+nothing_left() {
+    local left
+    left="$(find "$1" ! -type d -print -o -name '*mailmap*' -print)"
+    same "$2: what is left" "$left" ''
+}
+
+# make install, twice, and make uninstall: once with all folders named, and once beside a file of another's
+folders=(PREFIX=/opt/own BINDIR=/opt/bin INCLUDEDIR=/opt/own/headers LIBDIR=/opt/own/lib64 MANDIR=/opt/pages
+    PYTHONDIR=/opt/python)
+root="$work/root"
+listed() { find "$root" -type f -printf '%P %m %T@ %s\n' -o -type l -printf '%P %l\n' | grep -v '\.pc ' | sort; }
+built install DESTDIR="$root" "${folders[@]}"
+once="$(listed)"
+built install DESTDIR="$root" "${folders[@]}"
+same 'make install, for the second time,' "$(listed)" "$once"
+same 'the libraries' "$(cd "$root/opt/own/lib64" && find . ! -type d | LC_ALL=C sort | tr '\n' ' ')" \
+    "./libgix_mailmap.a ./$so ./$so.$(interface) ./$so.$version ./pkgconfig/gix_mailmap.pc "
+programs_answer "$root/opt/bin"
+page_programs_answer 'make install' "$root" /opt/own/headers /opt/own/lib64 /opt/python
+built uninstall DESTDIR="$root" "${folders[@]}"
+nothing_left "$root" 'make uninstall'
+
+built install DESTDIR="$work/usual"
+python3 -c 'import sys; sys.path.insert(0, sys.argv[1]); import gix_mailmap' \
+    "$work/usual/usr/local/share/gix_mailmap/python"
+touch "$work/usual/usr/local/bin/another" "$work/usual/usr/local/lib/libanother.so"
+built uninstall DESTDIR="$work/usual"
+built uninstall DESTDIR="$work/usual"
+rm "$work/usual/usr/local/bin/another" "$work/usual/usr/local/lib/libanother.so"
+nothing_left "$work/usual" 'make uninstall beside others'
+echo 'ship: make install and make uninstall passed'
+
+# the tarball, the same each time
+name="gix_mailmap-$version-linux-x86_64"
+built dist DIST="$work/dist"
+(umask 077 && built dist DIST="$work/again")
+cmp "$work/dist/$name.tar.gz" "$work/again/$name.tar.gz"
+same 'make dist' "$(ls "$work/dist")" "$name.tar.gz"
+tar -C "$work" -xzf "$work/dist/$name.tar.gz"
+# all that it needs to be installed
+mkdir "$work/tools"
+for tool in sh cat cp dirname find mkdir rm rmdir sed; do
+    ln -s "$(command -v "$tool")" "$work/tools"
+done
+installed() {
+    env -i PATH="$work/tools" "$work/$name/install.sh" "$@"
+}
+installed "$work/prefix"
+programs_answer "$work/prefix/bin"
+page_programs_answer tarball '' "$work/prefix/include" "$work/prefix/lib" "$work/prefix/share/gix_mailmap/python"
+installed --uninstall "$work/prefix"
+nothing_left "$work/prefix" 'install.sh --uninstall'
+if python3 -m venv "$work/venv" 2> "$work/said" && [ -x "$work/venv/bin/pip" ]; then
+    "$work/venv/bin/python" -m pip --quiet --disable-pip-version-check install --no-index "$work/$name"/*.whl
+    same 'the wheel' "$(cd "$work" && venv/bin/python page/example.py)" "$(cat "$work/page/printed")"
+else
+    echo 'ship: no pip here, so the wheel is not tried'
+fi
+echo "ship: $name.tar.gz passed"
+
+# the Debian package
+if [ -z "$(command -v dpkg-deb)" ]; then
+    echo 'ship: no dpkg-deb here, so no Debian package is built'
+    exit 0
+fi
+deb="gix-mailmap_${version}_amd64.deb"
+built deb DIST="$work/deb"
+(umask 077 && built deb DIST="$work/again")
+cmp "$work/deb/$deb" "$work/again/$deb"
+same 'make deb' "$(ls "$work/deb")" "$deb"
+same 'the package' "$(dpkg-deb -f "$work/deb/$deb" Package Version Architecture)" "Package: gix-mailmap
+Version: $version
+Architecture: amd64"
+root="$work/debian"
+dpkg-deb -x "$work/deb/$deb" "$root"
+dpkg-deb -e "$work/deb/$deb" "$work/control"
+(cd "$root" && md5sum --quiet -c "$work/control/md5sums")
+programs_answer "$root/usr/bin"
+page_programs_answer 'the Debian package' "$root" /usr/include /usr/lib/x86_64-linux-gnu /usr/lib/python3/dist-packages
+echo "ship: $deb passed"

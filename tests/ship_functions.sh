@@ -1,0 +1,61 @@
+# What tests of installed copies share. `top` is the folder of the repository, and `work` one for what they write.
+# shellcheck shell=bash
+
+# variables of a `make test` around it, and of its caller, which would change what is installed where
+unset MAKEFLAGS MFLAGS MAKEOVERRIDES DESTDIR PREFIX BINDIR INCLUDEDIR LIBDIR MANDIR PYTHONDIR DIST SOURCE_DATE_EPOCH
+unset MAINTAINER PYTHONPATH GIX_MAILMAP_LIBRARY
+
+# same WHAT PRINTED WANTED
+same() {
+    if [ "$2" != "$3" ]; then
+        printf '%s prints:\n%s\nand not:\n%s\n' "$1" "$2" "$3" >&2
+        exit 1
+    fi
+}
+
+# the number of the shared library's binary interface
+interface() {
+    sed -n 's/^ABI = //p' "$top/Makefile"
+}
+
+# Wants what mailmap_check in a folder says of the sample, and mailmap_verify of a line.
+programs_answer() {
+    local found wanted='Joe R. Developer <joe@example.com>
+Joe R. Developer <joe@example.com>
+Jane Doe <jane@example.com>
+Jane Doe <jane@example.com>
+Eve <eve@example.com>
+not a contact'
+    same mailmap_check "$("$1/mailmap_check" "$top/sample/mailmap" < "$top/sample/contacts")" "$wanted"
+    found="$(echo 'Jane Doe <jane@example.com> jd' | "$1/mailmap_verify" || [ $? = 1 ])"
+    same mailmap_verify "$found" '<stdin>:1: warning: ignored text: jd'
+}
+
+# page_programs_answer WHAT ROOT INCLUDEDIR LIBDIR PYTHONDIR: builds the C program of docs/C.md against what is installed
+# under ROOT, with the shared and with the static library, runs its Python program over it, and wants what the page says
+# that they print. The folders are named as if ROOT were the whole system.
+page_programs_answer() {
+    local what="$1" root="$2" include="$2$3" libdir="$2$4" python="$2$5" cc="${CC:-cc}" page="$work/page" wanted built
+    local flags=(-std=c11 -Wall -Wextra -Wpedantic -Werror)
+    mkdir -p "$page/loaded"
+    "$top/tests/c/page.py" "$top/docs/C.md" "$page"
+    wanted="$(cat "$page/printed")"
+    if [ -n "$(command -v pkg-config)" ]; then
+        export PKG_CONFIG_LIBDIR="$libdir/pkgconfig" PKG_CONFIG_SYSROOT_DIR="$root"
+        export PKG_CONFIG_ALLOW_SYSTEM_CFLAGS=1 PKG_CONFIG_ALLOW_SYSTEM_LIBS=1
+        read -r -a built <<< "$(pkg-config --cflags --libs gix_mailmap)"
+        same "$what: pkg-config" "$(pkg-config --modversion gix_mailmap)" "$(cat "$top/VERSION")"
+    else
+        echo "$what: no pkg-config here"
+        built=("-I$include" "-L$libdir" -lgix_mailmap)
+    fi
+    "$cc" "${flags[@]}" "$page/example.c" "${built[@]}" -o "$page/shared"
+    same "$what: the C program, shared," "$(LD_LIBRARY_PATH="$libdir" "$page/shared")" "$wanted"
+    # to run, it needs no name of the library but the one with the number of the interface
+    ln -sf "$libdir/libgix_mailmap.so.$(interface)" "$page/loaded"
+    same "$what: the C program, by the number," "$(LD_LIBRARY_PATH="$page/loaded" "$page/shared")" "$wanted"
+    "$cc" "${flags[@]}" "-I$include" "$page/example.c" "$libdir/libgix_mailmap.a" -o "$page/static"
+    same "$what: the C program, static," "$("$page/static")" "$wanted"
+    same "$what: the Python program" \
+        "$(PYTHONDONTWRITEBYTECODE=1 PYTHONPATH="$python" python3 "$page/example.py")" "$wanted"
+}
