@@ -176,6 +176,5 @@ deb: build lib
 	install -m 644 packaging/triggers $(DIST)/$(DEBIAN)/DEBIAN
 	install -m 755 packaging/prerm $(DIST)/$(DEBIAN)/DEBIAN
 	chmod -R u=rwX,go=rX $(DIST)/$(DEBIAN)
-	find $(DIST)/$(DEBIAN) -exec touch -h -d @$(SOURCE_DATE_EPOCH) {} +
 	SOURCE_DATE_EPOCH=$(SOURCE_DATE_EPOCH) dpkg-deb --root-owner-group -Zgzip --build $(DIST)/$(DEBIAN) > /dev/null
 	rm -rf $(DIST)/$(DEBIAN)

@@ -1,6 +1,6 @@
 #!/usr/bin/env bash
-# Tries what is shipped, without the toolchain: `make install` and `make uninstall`, the tarball, and the Debian package.
-# Each copy has to answer, and nothing of it may stay after it is removed. All programs and libraries have to be built.
+# Tries what is shipped, without the toolchain: `make install` and `make uninstall`, the tarball, the Debian package. Each
+# copy has to answer, and nothing of it may stay after it is removed. All programs and libraries have to be built before.
 set -euo pipefail
 top="$(cd "$(dirname "$0")/.." && pwd)"
 work="$(mktemp -d)"
@@ -42,7 +42,15 @@ nothing_left() {
     same "$2: what is left" "$left" ''
 }
 
-# make install, twice, and make uninstall: once with all folders named, and once beside a file of another's
+# what docs/C.md names has to be of this version
+for named in "$so.$version" "$so.$(interface)\`" "gix_mailmap-$version-linux" "gix-mailmap_${version}_amd64.deb"; do
+    if ! grep -qF "$named" "$top/docs/C.md"; then
+        echo "ship: docs/C.md doesn't name $named"
+        exit 1
+    fi
+done
+
+# make install, twice, and make uninstall: once with all folders named, and once beside files of others
 folders=(PREFIX=/opt/own BINDIR=/opt/bin INCLUDEDIR=/opt/own/headers LIBDIR=/opt/own/lib64 MANDIR=/opt/pages
     PYTHONDIR=/opt/python)
 root="$work/root"
