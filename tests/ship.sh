@@ -1,6 +1,6 @@
 #!/usr/bin/env bash
-# Tries what is shipped, without the toolchain: `make install` and `make uninstall`, the tarball, the Debian package. Each
-# copy has to answer, and nothing of it may stay after it is removed. All programs and libraries have to be built before.
+# Tries what is shipped, without the toolchain: `make install` and `make uninstall`, the tarball, the Debian package.
+# Each copy has to answer, and nothing of it may stay after it is removed. What is shipped has to be built already.
 set -euo pipefail
 top="$(cd "$(dirname "$0")/.." && pwd)"
 work="$(mktemp -d)"
