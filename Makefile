@@ -1,8 +1,8 @@
 # make run: maps the sample contacts by the sample mailmap. make test: the gate. make edits: the wrong bodies that the
-# gate leaves out for its time. make build: the programs. make lib: the libraries for C. make wheel: the package for Python,
-# in dist. make install: the programs and their manual pages, the libraries, their header, what pkg-config reads and the
-# package for Python, under PREFIX. make uninstall: removes those. make dist and make deb: a tarball and a Debian package
-# of them, in dist, for machines without the toolchain.
+# gate leaves out for its time. make build: the programs. make lib: the libraries for C. make wheel: the package for
+# Python, in dist. make install: the programs and their manual pages, the libraries, their header, what pkg-config reads
+# and the package for Python, under PREFIX. make uninstall: removes those. make dist and make deb: a tarball and a
+# Debian package of them, in dist, for machines without the toolchain.
 #
 # What is built is built again only after a change of what it is made from. `rt ci` builds each program that it proves,
 # so after it there is nothing left to build but the libraries for C.
@@ -143,7 +143,6 @@ uninstall:
 # Packages. The same files give the same package: its files have one time, and root owns them.
 DIST ?= dist
 SOURCE_DATE_EPOCH ?= 315532800
-export SOURCE_DATE_EPOCH
 TARBALL = gix_mailmap-$(VERSION)-linux-x86_64
 DEBIAN = gix-mailmap_$(VERSION)_amd64
 MAINTAINER ?= The maintainers of gix_mailmap <maintainers@gix-mailmap.invalid>
@@ -177,6 +176,5 @@ deb: build lib
 	install -m 644 packaging/triggers $(DIST)/$(DEBIAN)/DEBIAN
 	install -m 755 packaging/prerm $(DIST)/$(DEBIAN)/DEBIAN
 	chmod -R u=rwX,go=rX $(DIST)/$(DEBIAN)
-	find $(DIST)/$(DEBIAN) -exec touch -h -d @$(SOURCE_DATE_EPOCH) {} +
-	dpkg-deb --root-owner-group -Zgzip --build $(DIST)/$(DEBIAN) $(DIST)/$(DEBIAN).deb > /dev/null
+	SOURCE_DATE_EPOCH=$(SOURCE_DATE_EPOCH) dpkg-deb --root-owner-group -Zgzip --build $(DIST)/$(DEBIAN) > /dev/null
 	rm -rf $(DIST)/$(DEBIAN)

@@ -1,7 +1,6 @@
 #!/usr/bin/env bash
-# Tries what is shipped, without the toolchain: `make install` and `make uninstall` into folders of their own choice, the
-# tarball, and the Debian package. Each copy has to answer, and nothing of it may stay after it is removed. All that it
-# installs has to be built.
+# Tries what is shipped, without the toolchain: `make install` and `make uninstall`, the tarball, the Debian package.
+# Each copy has to answer, and nothing of it may stay after it is removed. What is shipped has to be built already.
 set -euo pipefail
 top="$(cd "$(dirname "$0")/.." && pwd)"
 work="$(mktemp -d)"
@@ -43,7 +42,15 @@ nothing_left() {
     same "$2: what is left" "$left" ''
 }
 
-# make install, twice, and make uninstall: once with all folders named, and once beside a file of another's
+# what docs/C.md names has to be of this version
+for named in "$so.$version" "$so.$(interface)\`" "gix_mailmap-$version-linux" "gix-mailmap_${version}_amd64.deb"; do
+    if ! grep -qF "$named" "$top/docs/C.md"; then
+        echo "ship: docs/C.md doesn't name $named"
+        exit 1
+    fi
+done
+
+# make install, twice, and make uninstall: once with all folders named, and once beside files of others
 folders=(PREFIX=/opt/own BINDIR=/opt/bin INCLUDEDIR=/opt/own/headers LIBDIR=/opt/own/lib64 MANDIR=/opt/pages
     PYTHONDIR=/opt/python)
 root="$work/root"
@@ -60,12 +67,12 @@ built uninstall DESTDIR="$root" "${folders[@]}"
 nothing_left "$root" 'make uninstall'
 
 built install DESTDIR="$work/usual"
-python3 -c 'import sys; sys.path.insert(0, sys.argv[1]); import gix_mailmap' \
-    "$work/usual/usr/local/share/gix_mailmap/python"
-touch "$work/usual/usr/local/bin/another" "$work/usual/usr/local/lib/libanother.so"
+programs_answer "$work/usual/usr/local/bin"
+others=(bin/another lib/libanother.so include/another.h share/man/man1/another.1)
+(cd "$work/usual/usr/local" && touch "${others[@]}")
 built uninstall DESTDIR="$work/usual"
 built uninstall DESTDIR="$work/usual"
-rm "$work/usual/usr/local/bin/another" "$work/usual/usr/local/lib/libanother.so"
+(cd "$work/usual/usr/local" && rm "${others[@]}")
 nothing_left "$work/usual" 'make uninstall beside others'
 echo 'ship: make install and make uninstall passed'
 

@@ -4,6 +4,8 @@
 # variables of a `make test` around it, and of its caller, which would change what is installed where
 unset MAKEFLAGS MFLAGS MAKEOVERRIDES DESTDIR PREFIX BINDIR INCLUDEDIR LIBDIR MANDIR PYTHONDIR DIST SOURCE_DATE_EPOCH
 unset MAINTAINER PYTHONPATH GIX_MAILMAP_LIBRARY
+# Python writes what it compiles, and that has to be removed, too
+unset PYTHONDONTWRITEBYTECODE PYTHONPYCACHEPREFIX
 
 # same WHAT PRINTED WANTED
 same() {
@@ -31,11 +33,12 @@ not a contact'
     same mailmap_verify "$found" '<stdin>:1: warning: ignored text: jd'
 }
 
-# page_programs_answer WHAT ROOT INCLUDEDIR LIBDIR PYTHONDIR: builds the C program of docs/C.md against what is installed
-# under ROOT, with the shared and with the static library, runs its Python program over it, and wants what the page says
-# that they print. The folders are named as if ROOT were the whole system.
+# page_programs_answer WHAT ROOT INCLUDEDIR LIBDIR PYTHONDIR: builds the C program of docs/C.md against what is under
+# ROOT, with the shared and with the static library, runs its Python program over it, and wants what the page says that
+# they print. The folders are named as if ROOT were the whole system.
 page_programs_answer() {
-    local what="$1" root="$2" include="$2$3" libdir="$2$4" python="$2$5" cc="${CC:-cc}" page="$work/page" wanted built
+    local what="$1" root="$2" include="$2$3" libdir="$2$4" python="$2$5"
+    local cc="${CC:-cc}" page="$work/page" wanted built
     local flags=(-std=c11 -Wall -Wextra -Wpedantic -Werror)
     mkdir -p "$page/loaded"
     "$top/tests/c/page.py" "$top/docs/C.md" "$page"
@@ -56,6 +59,5 @@ page_programs_answer() {
     same "$what: the C program, by the number," "$(LD_LIBRARY_PATH="$page/loaded" "$page/shared")" "$wanted"
     "$cc" "${flags[@]}" "-I$include" "$page/example.c" "$libdir/libgix_mailmap.a" -o "$page/static"
     same "$what: the C program, static," "$("$page/static")" "$wanted"
-    same "$what: the Python program" \
-        "$(PYTHONDONTWRITEBYTECODE=1 PYTHONPATH="$python" python3 "$page/example.py")" "$wanted"
+    same "$what: the Python program" "$(PYTHONPATH="$python" python3 "$page/example.py")" "$wanted"
 }
