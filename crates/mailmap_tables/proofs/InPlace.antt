@@ -83,7 +83,7 @@ module _ (ks before after : List NameGroup) (kept : Text) (n : NameGroup) (m : M
   named = record { old_name = subst IsSome (sym says.old_name) refl; new_email = subst IsSome (sym says.new_email) refl }
 
   put : NameLookup ks before n.old_name kept after → NamePut ks after n (nothing [] []) (nothing [] (before ++ one ∷ []))
-  put lookup = record { passed = before; kept = kept; pool = ([], refl); groups = refl; pending = refl; lookup = indexed }
+  put lookup = record { passed = before; kept = kept; pool = ([], refl); groups = refl; pending = refl; lookup = lookup }
 
   group : NameEntries (m ∷ []) n []
   group = record { head = m; more = []; whole = refl; named = says.old_name; same = tt; new_name = says.new_name; new_email = says.new_email; other = tt }
