@@ -51,18 +51,18 @@ for named in "$so.$version" "$so.$(interface)\`" "gix_mailmap-$version-linux" "g
 done
 
 # make install, twice, and make uninstall: once with all folders named, and once beside files of others
-folders=(PREFIX=/opt/own BINDIR=/opt/bin INCLUDEDIR=/opt/own/headers LIBDIR=/opt/own/lib64 MANDIR=/opt/pages
-    PYTHONDIR=/opt/python)
+folders=(PREFIX=/srv/own BINDIR=/srv/bin INCLUDEDIR=/srv/own/headers LIBDIR=/srv/own/lib64 MANDIR=/srv/pages
+    PYTHONDIR=/srv/python)
 root="$work/root"
 listed() { find "$root" -type f -printf '%P %m %T@ %s\n' -o -type l -printf '%P %l\n' | grep -v '\.pc ' | sort; }
 built install DESTDIR="$root" "${folders[@]}"
 once="$(listed)"
 built install DESTDIR="$root" "${folders[@]}"
 same 'make install, for the second time,' "$(listed)" "$once"
-same 'the libraries' "$(cd "$root/opt/own/lib64" && find . ! -type d | LC_ALL=C sort | tr '\n' ' ')" \
+same 'the libraries' "$(cd "$root/srv/own/lib64" && find . ! -type d | LC_ALL=C sort | tr '\n' ' ')" \
     "./libgix_mailmap.a ./$so ./$so.$(interface) ./$so.$version ./pkgconfig/gix_mailmap.pc "
-programs_answer "$root/opt/bin"
-page_programs_answer 'make install' "$root" /opt/own/headers /opt/own/lib64 /opt/python
+programs_answer "$root/srv/bin"
+page_programs_answer 'make install' "$root" /srv/own/headers /srv/own/lib64 /srv/python
 built uninstall DESTDIR="$root" "${folders[@]}"
 nothing_left "$root" 'make uninstall'
 
