@@ -9,7 +9,7 @@ mod copying;
 use crate::field::Field;
 use crate::held::lent::snapshot;
 use crate::held::{Mailmap, is_open};
-use crate::listing::copying::{copy_entry, copy_texts, len_with_texts, list};
+use crate::listing::copying::{copy_entry, copy_texts, describe, len_with_texts};
 use crate::status::{CLOSED, DONE, NO_ENTRY, SHORT};
 use gix_mailmap::{Entry, Snapshot};
 
@@ -123,7 +123,7 @@ fn list(snapshot: &Snapshot, entries: &mut [Listed], texts: &mut [u8]) -> u32
     }
     match texts_len_of(snapshot) {
         Some(len) if len <= texts.len() => {
-            list(snapshot, entries);
+            describe(snapshot, entries);
             copy_texts(snapshot, texts);
             DONE
         }

@@ -29,8 +29,8 @@ fn len_with_text(len: usize, text: Option<&[u8]>) -> Option<usize>
     }
 }
 
-/// Lists each entry of a snapshot.
-pub(crate) fn list(snapshot: &Snapshot, listed: &mut [Listed])
+/// Describes each entry of a snapshot, in their order.
+pub(crate) fn describe(snapshot: &Snapshot, listed: &mut [Listed])
     requires room { length snapshot.now ≤ length listed.old }
     requires countable { length (all_text snapshot.now) < 2 ^ 64 }
     ensures { AreListed snapshot.now listed.old listed.new }

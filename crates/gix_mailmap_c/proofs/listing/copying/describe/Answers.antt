@@ -3,7 +3,7 @@ use Rattle.mailmap_entries.specs.Entries.{Mapping, mapping_of}
 use Rattle.gix_mailmap_c.specs.Listed.{all_text, entry_text, all_listed}
 use Rattle.gix_mailmap_c.specs.declared.listing.Listed.{Listed}
 use Rattle.gix_mailmap_c.proofs.Copying.{Copied, copied_more, copied_all, behind_set, listed_room, length-all_listed}
-use Rattle.gix_mailmap_c.proofs.listing.copying.list.Goals as goal
+use Rattle.gix_mailmap_c.proofs.listing.copying.describe.Goals as goal
 
 pub bounds-listed-index : goal.bounds-listed-index
 bounds-listed-index c =

@@ -1,7 +1,7 @@
 use Rattle.std.proofs.Common.{◌≡◌, ◌+◌, length}
 use Rattle.gix_mailmap_c.specs.Listed.{all_text, all_listed}
 use Rattle.gix_mailmap_c.proofs.Copying.{Copied}
-use Rattle.gix_mailmap_c.proofs.listing.copying.list.Given as goal
+use Rattle.gix_mailmap_c.proofs.listing.copying.describe.Given as goal
 
 abbrev pub invariant-loop-entry : goal.invariant-loop-entry
 invariant-loop-entry l = record {
