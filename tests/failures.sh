@@ -1,8 +1,9 @@
 #!/usr/bin/env bash
 # Runs mailmap_check and mailmap_verify, the programs that the two arguments name, where files, streams or memory fail
-# them. Each run must end with status 2, with the one line of its failure on standard error, and with nothing on standard
-# output.
+# them, and what they say of themselves. A run that fails must end with status 2, with the lines of its failure on standard
+# error, and with nothing on standard output.
 set -euo pipefail
+top="$(cd "$(dirname "$0")/.." && pwd)"
 work="$(mktemp -d)"
 trap 'rm -rf "$work"' EXIT
 install -m 755 "$1" "$work/mailmap_check"
@@ -35,15 +36,27 @@ fails() {
 as_other=''
 [ "$(id -u)" != 0 ] || as_other='setpriv --reuid=65534 --regid=65534 --clear-groups '
 
-for program in mailmap_check mailmap_verify; do
-    fails 'cannot read file 1' $program 'missing'
-    fails 'cannot read file 2' $program 'mailmap folder'
-    fails 'cannot read file 1' $program 'folder missing'
-    as_user="$as_other" fails 'cannot read file 2' $program 'mailmap unreadable'
-    fails 'cannot read standard input' $program '< folder'
-    # What is read has to fit as well as what is made of it: of too little memory that is the one or the other.
-    limit='ulimit -v 20000; ' fails 'cannot read file 2' $program 'mailmap large'
-done
+# mailmap_check names a file by its number, and no cause.
+fails 'cannot read file 1' mailmap_check 'missing'
+fails 'cannot read file 2' mailmap_check 'mailmap folder'
+fails 'cannot read file 1' mailmap_check 'folder missing'
+fails 'cannot read file 2' mailmap_check "mailmap $'name\\xff'"
+as_user="$as_other" fails 'cannot read file 2' mailmap_check 'mailmap unreadable'
+fails 'cannot read standard input' mailmap_check '< folder'
+# What is read has to fit as well as what is made of it: of too little memory that is the one or the other.
+limit='ulimit -v 20000; ' fails 'cannot read file 2' mailmap_check 'mailmap large'
+# mailmap_verify names the file and the cause, with control bytes shown.
+fails 'missing: No such file or directory' mailmap_verify 'missing'
+fails 'folder: Is a directory' mailmap_verify 'mailmap folder'
+fails 'folder: Is a directory' mailmap_verify 'folder missing'
+fails 'mailmap/x: Not a directory' mailmap_verify 'mailmap/x'
+as_user="$as_other" fails 'unreadable: Permission denied' mailmap_verify 'mailmap unreadable'
+fails 'standard input: Is a directory' mailmap_verify '< folder'
+fails 'standard input: Is a directory' mailmap_verify '- < folder'
+fails '\x1b[31m\x0a: No such file or directory' mailmap_verify "$'\\x1b[31m\\n'"
+fails $'name\xff: the name is not UTF-8' mailmap_verify "mailmap $'name\\xff'"
+limit='ulimit -v 20000; ' fails 'large: out of memory' mailmap_verify 'mailmap large'
+fails '--prune: No such file or directory' mailmap_verify '-- --prune'
 fails 'cannot read file 1' mailmap_check '--compact missing'
 fails 'cannot read standard input' mailmap_check 'mailmap < folder'
 fails 'cannot read standard input' mailmap_check '--compact < folder'
@@ -54,18 +67,49 @@ limit='ulimit -v 20000; '
 fails 'cannot read standard input' mailmap_check 'mailmap < large'
 fails 'cannot read standard input' mailmap_check '--compact < large'
 fails 'out of memory' mailmap_check 'mailmap < half'
-fails 'cannot read standard input' mailmap_verify '< large'
-fails 'cannot read standard input' mailmap_verify '--prune < large'
+fails 'standard input: out of memory' mailmap_verify '< large'
+fails 'standard input: out of memory' mailmap_verify '--prune < large'
 fails 'out of memory' mailmap_verify 'many'
 fails 'out of memory' mailmap_verify '--prune many'
 limit=''
-fails 'cannot read file 1' mailmap_verify '--prune missing'
-fails 'cannot read file 1' mailmap_verify '--prune folder'
-fails 'cannot read standard input' mailmap_verify '--prune < folder'
+fails 'missing: No such file or directory' mailmap_verify '--prune missing'
+fails 'folder: Is a directory' mailmap_verify '--prune folder'
+fails 'standard input: Is a directory' mailmap_verify '--prune < folder'
+usage='usage: mailmap_verify [--prune] [--] [FILE..]'
+fails "unknown option: --foo"$'\n'"$usage" mailmap_verify '--foo mailmap'
+fails "unknown option: -x"$'\n'"$usage" mailmap_verify '--prune -x'
 fails '--prune takes one FILE at most' mailmap_verify '--prune mailmap mailmap'
 fails '--prune takes one FILE at most' mailmap_verify '--prune missing missing mailmap'
 fails 'cannot write output' mailmap_verify 'faulty > /dev/full'
 fails 'cannot write output' mailmap_verify 'faulty >&-'
 fails 'cannot write output' mailmap_verify '--prune mailmap > /dev/full'
 fails 'cannot write output' mailmap_verify '--help > /dev/full'
+fails 'cannot write output' mailmap_verify '--version > /dev/full'
+fails 'cannot write output' mailmap_check '--help > /dev/full'
+
+# prints TEXT STATUS PROGRAM ARGUMENTS: runs the program, which prints this text and nothing on standard error
+prints() {
+    local text="$1" want="$2" program="$3" status=0
+    bash -c "./$program $4" > printed 2> said || status=$?
+    if [ "$status" != "$want" ] || [ -s said ] || [ "$(cat printed)" != "$text" ]; then
+        echo "failures: $program $4: status $status" >&2
+        cat printed said >&2
+        exit 1
+    fi
+    runs=$((runs + 1))
+}
+
+for program in mailmap_check mailmap_verify; do
+    prints "$program $(cat "$top/VERSION")" 0 $program '--version'
+    ./$program --help > help
+    grep -q "^usage: $program " help
+    prints "$(cat help)" 0 $program '-h'
+done
+printf 'Jane <jane@x> \x1b[31m\x7f\xff\n' > control
+cp -- control -x
+found=$'1: warning: ignored text: \\x1b[31m\\x7f\xff'
+prints "control:$found" 1 mailmap_verify 'control'
+prints "-x:$found" 1 mailmap_verify '-- -x'
+prints "<stdin>:$found" 1 mailmap_verify '- < control'
+prints "$(cat control)" 0 mailmap_verify '--prune control'
 echo "failures: each of $runs runs ends as it must"

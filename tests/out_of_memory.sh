@@ -62,6 +62,8 @@ actor::Signature::from_cow
 check::check
 check::compact
 verify::verify
+verify::Mailmaps::read
+verify::Verification::new
 verify::prune
 END
 
@@ -78,11 +80,11 @@ none_between \
     "the request behind the calls that accept or write nothing" \
     "the request behind the calls that take none"
 
-# Where a request was refused and no call told of it, it was that of a collect: in entries, and in each merge that gives
-# texts up, which calls it. Of so few texts half are soon out of use, so two more merges than the one that is made for it
-# give some up: that of Snapshot::merge, and that of the third source.
+# Where a request was refused and no call reported it, it was that of a collect, which asks again for less: in entries, in
+# verify, and in each merge that gives texts up, which calls entries. Of so few texts half are soon out of use, so two
+# more merges than the one that is made for it give some up: that of Snapshot::merge, and that of the third source.
 untold="$(sed -n '/^refused/p' "$printed" | sed '1,/^refused: [^n]/d' | grep -cx 'refused: nothing' || true)"
-[ "$untold" = 4 ] || fail "$untold refusals that no call told of"
+[ "$untold" = 5 ] || fail "$untold refusals that no call reported"
 calls="$(grep '^refused' "$printed" | grep -cvx 'refused: nothing')"
 
 # The programs. Each file without a byte more among the arguments is two requests more, one for the argument and one to

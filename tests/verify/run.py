@@ -71,7 +71,8 @@ def file_names(program):
         Path(name).write_bytes(b"plain\n")
     printed = b"".join(name.encode() + b":1: error: no email in brackets\n" for name in names)
     wants("names of files", run(program, names), 1, printed)
-    wants("a file named as an option", run(program, ["./--prune"]), 2, b"", b"mailmap_verify: cannot read file 1\n")
+    said = b"mailmap_verify: ./--prune: No such file or directory\n"
+    wants("a file named as an option", run(program, ["./--prune"]), 2, b"", said)
 
 
 def usage(program):

@@ -7,3 +7,4 @@ pub mod WrittenText
 pub mod Contacts
 pub mod Dividers
 pub mod ContactLines
+pub mod Streams

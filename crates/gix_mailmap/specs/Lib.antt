@@ -18,3 +18,4 @@ pub use Rattle.mailmap_findings.specs.Positions
 pub use Rattle.mailmap_findings.specs.Findings
 pub mod Contacts
 pub mod Parts
+pub mod Streams

@@ -1,5 +1,6 @@
 //! Answers for contacts: what mailmaps make of lines like `Jane <jane@x>`.
-ghost use Rattle.std.specs.Prelude.{◌≡◌, ◌++◌, map, unwrap_or, IfOk, OnOk};
+ghost use Rattle.std.specs.Prelude.{◌≡◌, ◌++◌, map, unwrap_or, IfOk, OnErr, OnOk};
+ghost use Rattle.std.specs.Io.{StartsWith};
 ghost use Rattle.std.specs.List.{flat_map};
 ghost use Rattle.gix_mailmap.specs.Contacts.{answer, answers, answers_by, contact};
 ghost use Rattle.mailmap_histories.specs.Histories.{IsNormal, fields_for};
@@ -7,6 +8,7 @@ ghost use Rattle.mailmap_grammar.specs.Lines.{good};
 
 mod compaction;
 mod parts;
+mod stream;
 
 use bstr::ByteSlice;
 pub use compaction::compact;
@@ -15,6 +17,7 @@ use mailmap_grammar::parse_ignore_errors;
 use mailmap_snapshot::snapshot::Snapshot;
 pub use parts::split;
 use std::alloc::{AllocError, Global};
+pub use stream::ContactStream;
 
 /// Answers each line of `contacts` by what the buffers map, later buffers after earlier ones: a line for each line.
 ///
@@ -28,7 +31,9 @@ pub fn check(alloc: Global, buffers: &[&[u8]], contacts: &[u8]) -> Result<Vec<u8
     ensures { IfOk result (λ text. text.items ≡ answers_by (map (λ b. b.now) buffers.now) contacts.now) }
 {
     let snapshot = merged(alloc, buffers)?;
-    answer_all(alloc, &snapshot, contacts)
+    let mut text = Vec::new(alloc);
+    push_answers(&mut text, &snapshot, contacts)?;
+    Ok(text)
 }
 
 /// A snapshot of what the buffers say, one after another.
@@ -40,21 +45,39 @@ pub(crate) fn merged(alloc: Global, buffers: &[&[u8]]) -> Result<Snapshot, Alloc
     Snapshot::new(alloc, entries)
 }
 
-// The answers to all lines, each with its line feed.
-fn answer_all(alloc: Global, snapshot: &Snapshot, contacts: &[u8]) -> Result<Vec<u8>, AllocError>
-    ensures { IfOk result (λ text. text.items ≡ answers snapshot.now contacts.now) }
+// Appends the answers to all lines, each with its line feed. At an `Err` the text is as before.
+pub(crate) fn push_answers(
+    text: &mut Vec<u8>,
+    snapshot: &Snapshot,
+    contacts: &[u8],
+) -> Result<(), AllocError>
+    ensures ok { OnOk result (text.new.items ≡ text.old.items ++ answers snapshot.now contacts.now) }
+    ensures err { OnErr result (text.new.items ≡ text.old.items) }
 {
-    let mut text = Vec::new(alloc);
+    let begun = text.len();
+    let pushed = push_each(text, snapshot, contacts);
+    if pushed.is_err() {
+        text.truncate(begun);
+    }
+    pushed
+}
+
+// The same. At an `Err` some of the answers may have been appended.
+fn push_each(text: &mut Vec<u8>, snapshot: &Snapshot, contacts: &[u8]) -> Result<(), AllocError>
+    ensures ok { OnOk result (text.new.items ≡ text.old.items ++ answers snapshot.now contacts.now) }
+    ensures front { StartsWith text.new.items text.old.items }
+{
     for line in contacts.lines() {
-        push_answer(&mut text, snapshot, line)?;
+        push_answer(text, snapshot, line)?;
         text.push(b'\n')?;
     }
-    Ok(text)
+    Ok(())
 }
 
 // Appends the answer to one line.
 fn push_answer(text: &mut Vec<u8>, snapshot: &Snapshot, line: &[u8]) -> Result<(), AllocError>
-    ensures { OnOk result (text.new.items ≡ text.old.items ++ answer snapshot.now line.now) }
+    ensures ok { OnOk result (text.new.items ≡ text.old.items ++ answer snapshot.now line.now) }
+    ensures front { StartsWith text.new.items text.old.items }
 {
     let ParsedContact::Closed { name, email, .. } = parse_name_and_email(trim(line)) else {
         return text.extend_from_slice(line);
@@ -79,7 +102,8 @@ fn resolved<'a>(snapshot: &'a Snapshot, name: &'a [u8], email: &'a [u8]) -> (&'a
 /// The name `Jane` and the email `j@x` are `Jane <j@x>`. If memory runs out, the beginning of it may have been
 /// appended.
 pub fn push_contact(text: &mut Vec<u8>, name: &[u8], email: &[u8]) -> Result<(), AllocError>
-    ensures { OnOk result (text.new.items ≡ text.old.items ++ contact name.now email.now) }
+    ensures ok { OnOk result (text.new.items ≡ text.old.items ++ contact name.now email.now) }
+    ensures front { StartsWith text.new.items text.old.items }
 {
     text.extend_from_slice(name)?;
     if !name.is_empty() {

@@ -2,23 +2,24 @@ ghost use Rattle.std.specs.Prelude.{None};
 
 use crate::check::assert_bytes;
 use mailmap_io::failure::Failure;
-use mailmap_io::files::{FileSystem, System, read_files};
+use mailmap_io::files::{FileSystem, System, read_each, read_files};
+use mailmap_io::read_error::ReadError;
 use std::alloc::{AllocError, Global};
 use std::io;
 use std::io::{Error, ErrorKind};
 use std::process::Abort;
 
 /// Texts of these names.
-pub(crate) fn paths_of(alloc: Global, names: &[&str]) -> Result<Vec<String>, AllocError> {
+pub(crate) fn paths_of(alloc: Global, names: &[&str]) -> Result<Vec<Vec<u8>>, AllocError> {
     let mut paths = Vec::new(alloc);
     for name in names {
-        paths.push(String::from_str(alloc, name)?)?;
+        paths.push(Vec::from_slice(alloc, name.as_bytes())?)?;
     }
     Ok(paths)
 }
 
 /// Wants as paths the arguments from an index on.
-pub(crate) fn assert_paths(rt: &impl Abort, paths: &[String], arguments: &[String], from: usize) {
+pub(crate) fn assert_paths(rt: &impl Abort, paths: &[Vec<u8>], arguments: &[Vec<u8>], from: usize) {
     assert!(rt; from <= arguments.len());
     assert!(rt; paths.iter().eq(arguments[from..].iter()));
 }
@@ -36,9 +37,9 @@ impl<'a> FileSystem for Shelf<'a> {
 
     ghost bytes = { λ _ _. None };
 
-    fn open(&self, path: &str) -> io::Result<&'a [u8]> {
+    fn open(&self, path: &[u8]) -> io::Result<&'a [u8]> {
         for (name, bytes) in self.files {
-            if *name == path {
+            if name.as_bytes() == path {
                 return Ok(*bytes);
             }
         }
@@ -134,5 +135,17 @@ fn a_file_of_the_system_that_cannot_be_read_is_named_by_its_place(
     for (names, failing) in &ROWS {
         assert_failing(&rt, rt.alloc(), &system, names, *failing)?;
     }
+    Ok(())
+}
+
+/// The toolchain opens no file whose name is not UTF-8.
+#[test]
+fn a_name_that_is_not_utf8_is_invalid_data(rt: HostRuntime) -> Result<(), AllocError> {
+    let mut paths = paths_of(rt.alloc(), &["/dev/null"])?;
+    paths.push(Vec::from_slice(rt.alloc(), b"/dev/nul\xff")?)?;
+    let system = System { files: &rt };
+    let read = read_each(&system, rt.alloc(), paths.as_slice()).map(|contents| contents.len());
+    let cause = ErrorKind::InvalidData;
+    assert_eq!(rt; read, Err(ReadError::File { number: 2, cause }));
     Ok(())
 }

@@ -14,9 +14,13 @@ mod failure;
 #[cfg(test)]
 mod files;
 #[cfg(test)]
+mod findings;
+#[cfg(test)]
 mod listings;
 #[cfg(test)]
 mod lookups;
+#[cfg(test)]
+mod printer;
 #[cfg(test)]
 mod report;
 #[cfg(test)]
@@ -25,6 +29,8 @@ mod resolve;
 mod run;
 #[cfg(test)]
 mod sources;
+#[cfg(test)]
+mod stream;
 #[cfg(test)]
 mod task;
 #[cfg(test)]

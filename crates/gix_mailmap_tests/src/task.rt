@@ -5,7 +5,7 @@ use mailmap_runs::task::{Mode, Task, perform, task_of};
 use std::alloc::{AllocError, Global};
 use std::process::Abort;
 
-fn assert_task(rt: &impl Abort, arguments: &[String], mode: Mode, from: usize) {
+fn assert_task(rt: &impl Abort, arguments: &[Vec<u8>], mode: Mode, from: usize) {
     let task = task_of(arguments);
     assert_eq!(rt; task.mode, mode);
     assert_paths(rt, task.paths, arguments, from);

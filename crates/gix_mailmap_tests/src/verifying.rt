@@ -1,14 +1,14 @@
 use crate::check::assert_bytes;
 use crate::files::{SHELF, assert_paths, paths_of};
 use crate::run::{ALL, BREAKS, Sink, Source, Turn};
-use mailmap_io::failure::Failure;
 use mailmap_io::outcome::Outcome;
+use mailmap_reports::failure::Failure;
 use mailmap_reports::task::{Mode, Task, USAGE, perform, task_of};
 use std::alloc::{AllocError, Global};
-use std::io::{Read, Write};
+use std::io::{ErrorKind, Read, Write};
 use std::process::Abort;
 
-fn assert_task(rt: &impl Abort, arguments: &[String], mode: Mode, from: usize) {
+fn assert_task(rt: &impl Abort, arguments: &[Vec<u8>], mode: Mode, from: usize) {
     let task = task_of(arguments);
     assert_eq!(rt; task.mode, mode);
     assert_paths(rt, task.paths, arguments, from);
@@ -78,7 +78,10 @@ fn a_task_is_done_with_its_files_or_with_the_input(rt: HostRuntime) {
         (
             Mode::Verify,
             &["one", "three"],
-            Err(Failure::File { number: 2 }),
+            Err(Failure::File {
+                number: 2,
+                cause: ErrorKind::NotFound,
+            }),
             b"",
         ),
         (Mode::Prune, &[], Ok(Outcome::Clean), b"N <a@x>\n"),
@@ -86,7 +89,10 @@ fn a_task_is_done_with_its_files_or_with_the_input(rt: HostRuntime) {
         (
             Mode::Prune,
             &["three"],
-            Err(Failure::File { number: 1 }),
+            Err(Failure::File {
+                number: 1,
+                cause: ErrorKind::NotFound,
+            }),
             b"",
         ),
         (
@@ -121,12 +127,17 @@ fn help_is_the_usage(rt: HostRuntime) {
     assert_bytes(&rt, &output, USAGE.as_bytes());
 }
 
+/// What [`BREAKS`] is where standard input is read.
+const BROKEN: Failure = Failure::Input {
+    cause: ErrorKind::BrokenPipe,
+};
+
 /// A reader that fails is `Input`, and nothing is written. It is read only if no file is given, and not for help.
 #[test]
 fn a_reader_that_fails_is_input_and_nothing_is_written(rt: HostRuntime) {
     static ROWS: [(Mode, &[&str], Result<Outcome, Failure>); 5] = [
-        (Mode::Verify, &[], Err(Failure::Input)),
-        (Mode::Prune, &[], Err(Failure::Input)),
+        (Mode::Verify, &[], Err(BROKEN)),
+        (Mode::Prune, &[], Err(BROKEN)),
         (Mode::Verify, &["empty"], Ok(Outcome::Clean)),
         (Mode::Prune, &["empty"], Ok(Outcome::Clean)),
         (Mode::Help, &[], Ok(Outcome::Clean)),

@@ -1,5 +1,5 @@
 -- A batch on its way into order: by the prefixes of its emails, then group by group.
-use Rattle.std.proofs.Common.{◌≡◌, ◌<◌, ◌≤◌, ◌&&◌, ℕ, Bool, true, false, not, List, [], ◌∷◌, ◌++◌, map, filter, Option, Some, None, option_map, unwrap_or, Ordering, Less, Equal, Greater, append-nil, refl, sym, ap, ap₂, subst, ◌∙◌, ◌≢◌, arith}
+use Rattle.std.proofs.Common.{◌≡◌, ◌<◌, ◌≤◌, ◌&&◌, ℕ, Bool, true, false, not, List, [], ◌∷◌, ◌++◌, map, filter, drop, Option, Some, None, option_map, unwrap_or, Ordering, Less, Equal, Greater, append-nil, refl, sym, ap, ap₂, subst, ◌∙◌, ◌≢◌, arith}
 use Rattle.std.specs.Cmp.{IsTotalOrder, Equal-is, tied_itself}
 use Rattle.std.specs.Cmp.Lexicographic.{nat_list_cmp_total, options_total}
 use Rattle.std.specs.List.{AllByRecursion, enumerate_from}
@@ -19,10 +19,11 @@ use Rattle.mailmap_histories.proofs.Alike.{picked-append}
 use Rattle.mailmap_histories.proofs.Keys.{keys_total, keys_exact}
 use Rattle.mailmap_histories.proofs.Parts.{all_append, filter-filter, all_weaker}
 use Rattle.mailmap_batches.specs.Batches.{IsAscending, IsSorted, mapping_at, indexed_mapping, email_text}
-use Rattle.mailmap_batches.specs.Sorting.{IsArranged, IsDone, IsPrefixGroup, email_prefix}
+use Rattle.mailmap_batches.specs.Sorting.{IsArranged, IsDone, IsPrefixGroup, KeepsKeys, email_prefix, numbered_after}
+use Rattle.mailmap_batches.specs.declared.batch.NumberedEntry.{NumberedEntry}
 use Rattle.mailmap_batches.specs.declared.indexed.IndexedEntry.{IndexedEntry}
-use Rattle.mailmap_batches.proofs.Stable.{keyed_from_stable, neither}
-use Rattle.mailmap_batches.proofs.Numbered.{ascending_from, mapped_twice, numbered}
+use Rattle.mailmap_batches.proofs.Stable.{filter-map, keyed_from_stable, neither}
+use Rattle.mailmap_batches.proofs.Numbered.{ascending_from, mapped_twice, numbered, unmade}
 
 -- ---- parts
 
@@ -34,7 +35,7 @@ ascending_join : {K : Type 0} (R : K → K → Ordering) (xs ys : List K) → Is
 ascending_join R [] ys s t a = t
 ascending_join R (x ∷ xs) ys s t a = (all_append _ xs ys s.0 a.0, ascending_join R xs ys s.1 t a.1)
 
-moved_all : (P : IndexedEntry → Type 0) (xs ys : List IndexedEntry) → IsPermutation xs ys → AllByRecursion P xs → AllByRecursion P ys
+moved_all : {X : Type 0} (P : X → Type 0) (xs ys : List X) → IsPermutation xs ys → AllByRecursion P xs → AllByRecursion P ys
 moved_all P xs ys moved a = recursion_from_All P ys (All-permutation P xs ys moved (All-from_recursion P xs a))
 
 -- ---- a group after those that are done
@@ -124,6 +125,53 @@ keyed_by {K} {R} o by told old new stable = keyed_from_stable mapping_at old new
     tied : (p q : IndexedEntry) → by p ≡ by q → ties (λ p q. is_lt (R (by p) (by q))) p q ≡ true
     tied p q e = subst (λ z. (not (is_lt (R (by p) z)) && not (is_lt (R z (by p)))) ≡ true) e (ap (λ c. not (is_lt c) && not (is_lt c)) (tied_itself o (by p)))
 
+-- the same of what is made of the elements
+stable_made : {X Y : Type 0} (make : X → Y) (of : Y → X) → ((x : X) → of (make x) ≡ x) → (lt : Y → Y → Bool) (old new : List X) → IsStableBy lt (map make old) (map make new) → IsStableBy (λ p q. lt (make p) (make q)) old new
+stable_made {X} make of same lt old new stable x =
+    let tie : X → Bool = λ y. ties lt (make x) (make y) in
+    sym (unmade make of same (filter tie new)) ∙ ap (map of) (sym (filter-map (ties lt (make x)) make new) ∙ stable (make x) ∙ filter-map (ties lt (make x)) make old) ∙ unmade make of same (filter tie old)
+
+-- one after another
+pub kept_then : (old mid new : List IndexedEntry) → KeepsKeys old mid → KeepsKeys mid new → KeepsKeys old new
+kept_then old mid new a b =
+    record {
+      moved = IsPermutation-trans old mid new a.moved b.moved;
+      keyed = λ k. a.keyed k ∙ b.keyed k;
+    }
+
+pub arranged_then : (old mid new : List IndexedEntry) → KeepsKeys old mid → IsArranged mid new → IsArranged old new
+arranged_then old mid new a b =
+    record {
+      moved = IsPermutation-trans old mid new a.moved b.moved;
+      keyed = λ k. a.keyed k ∙ b.keyed k;
+      ascending = b.ascending;
+    }
+
+-- ---- by numbers
+
+abbrev pub by_number : NumberedEntry → NumberedEntry → Bool
+by_number p q = is_lt (nat_cmp p.number q.number)
+
+all_numbered : (len : ℕ) (xs : List IndexedEntry) → AllByRecursion (λ n. n ≡ numbered_after len n.indexed) (map (numbered_after len) xs)
+all_numbered len [] = tt
+all_numbered len (x ∷ xs) = (refl, all_numbered len xs)
+
+made_again : (len : ℕ) (ns : List NumberedEntry) → AllByRecursion (λ n. n ≡ numbered_after len n.indexed) ns → ns ≡ map (numbered_after len) (map (λ n. n.indexed) ns)
+made_again len [] a = refl
+made_again len (n ∷ ns) a = ap₂ (λ m ms. m ∷ ms) a.0 (made_again len ns a.1)
+
+pub kept_by_numbers : (len : ℕ) (old : List IndexedEntry) (new : List NumberedEntry) → IsPermutation (map (numbered_after len) old) new → IsStableBy by_number (map (numbered_after len) old) new → KeepsKeys old (map (λ n. n.indexed) new)
+kept_by_numbers len old new moved stable =
+    let make = numbered_after len in
+    let of : NumberedEntry → IndexedEntry = λ n. n.indexed in
+    let next : IndexedEntry → ℕ = λ p. (make p).number in
+    let again = made_again len new (moved_all _ (map make old) new moved (all_numbered len old)) in
+    let made : IsStableBy by_number (map make old) (map make (map of new)) = subst (IsStableBy by_number (map make old)) again stable in
+    record {
+      moved = subst (λ l. IsPermutation l (map of new)) (unmade make of (λ p. refl) old) (IsPermutation-map of (map make old) new moved);
+      keyed = keyed_by nat_cmp_total next (λ p q e. ap (λ (j : Key). key_prefix 16 (drop len j.0)) e) old (map of new) (stable_made make of (λ p. refl) by_number old (map of new) made);
+    }
+
 -- by whole keys
 pub arranged_by_keys : (old new : List IndexedEntry) → IsPermutation old new → IsSortedBy by_key new → IsStableBy by_key old new → IsArranged old new
 arranged_by_keys old new moved sorted stable =
@@ -148,13 +196,20 @@ names_ascend email (x ∷ xs) a s = (each xs a.1 s.0, names_ascend email xs a.1 
         let same : text_cmp (email_text (mapping_at y)) (email_text (mapping_at x)) ≡ Equal = ap₂ text_cmp b.0 a.0 ∙ tied_itself nat_list_cmp_total email in
         (ap (λ o. is_lt (ordering_then o (option_cmp text_cmp (name_of y) (name_of x)))) same ∙ t.0, each ys b.1 t.1)
 
+pub kept_by_names : (old new : List IndexedEntry) → IsPermutation old new → IsStableBy (λ p q. is_lt (option_cmp text_cmp (name_of p) (name_of q))) old new → KeepsKeys old new
+kept_by_names old new moved stable =
+    record {
+      moved = moved;
+      keyed = keyed_by (options_total nat_list_cmp_total) name_of (λ p q e. ap (λ k. k.1) e) old new stable;
+    }
+
 pub arranged_by_names : (old new : List IndexedEntry) (email : Text) → AllByRecursion (λ p. email_text (mapping_at p) ≡ email) old → IsPermutation old new
     → IsSortedBy (λ p q. is_lt (option_cmp text_cmp (name_of p) (name_of q))) new → IsStableBy (λ p q. is_lt (option_cmp text_cmp (name_of p) (name_of q))) old new → IsArranged old new
 arranged_by_names old new email one moved sorted stable =
     let o : IsTotalOrder (option_cmp text_cmp) = options_total nat_list_cmp_total in
     record {
       moved = moved;
-      keyed = keyed_by o name_of (λ p q e. ap (λ k. k.1) e) old new stable;
+      keyed = (kept_by_names old new moved stable).keyed;
       ascending = names_ascend email new (moved_all _ old new moved one) (ascending_from (option_cmp text_cmp) name_of new (λ i j d le lt. sorted_far _ (ranks_by o name_of) new sorted i j d le lt));
     }
 

@@ -1,5 +1,4 @@
 pub mod Numbered
 pub mod Stable
 pub mod Arranged
-mod LongPrefixes
 pub mod LeadingNames

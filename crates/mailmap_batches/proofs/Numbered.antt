@@ -1,5 +1,5 @@
 -- Entries with their indexes, and keys that never fall.
-use Rattle.std.proofs.Common.{◌≡◌, ◌+◌, ◌<◌, ◌≤◌, ℕ, suc, length, get_or, arith, false, List, [], ◌∷◌, ◌++◌, map, Ordering, refl, ap}
+use Rattle.std.proofs.Common.{◌≡◌, ◌+◌, ◌<◌, ◌≤◌, ℕ, suc, length, get_or, arith, false, List, [], ◌∷◌, ◌++◌, map, Ordering, refl, ap, ap₂}
 use Rattle.std.specs.List.{AllByRecursion, enumerate_from}
 use Rattle.std.specs.Ordering.{is_lt}
 use Rattle.mailmap_entries.specs.Entries.{Mapping}
@@ -20,6 +20,11 @@ numbered n (x ∷ xs) = ap (λ l. x ∷ l) (numbered (n + 1) xs)
 pub mapped_twice : {X Y Z : Type 0} (f : X → Y) (g : Y → Z) (xs : List X) → map g (map f xs) ≡ map (λ x. g (f x)) xs
 mapped_twice f g [] = refl
 mapped_twice f g (x ∷ xs) = ap (λ l. g (f x) ∷ l) (mapped_twice f g xs)
+
+-- what was made of the elements, taken back
+pub unmade : {X Y : Type 0} (make : X → Y) (of : Y → X) → ((x : X) → of (make x) ≡ x) → (xs : List X) → map of (map make xs) ≡ xs
+unmade make of same [] = refl
+unmade make of same (x ∷ xs) = ap₂ (λ y ys. y ∷ ys) (same x) (unmade make of same xs)
 
 module _ {X K : Type 0} (R : K → K → Ordering) (by : X → K) where
   -- neighbours that don't fall never fall

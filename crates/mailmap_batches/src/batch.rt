@@ -1,14 +1,14 @@
-//! A batch of entries on its way into a snapshot: its accepted entries, sorted by key.
+//! Entries sorted by key, stably.
 ghost use Rattle.std.specs.Prelude.{◌≡◌, ◌+◌, ◌≤◌, [], ◌++◌, ◌∷◌, List, OnOk, IfOk, drop, map};
 ghost use Rattle.std.specs.Option.{ForSome, option_copied, option_map, option_cmp};
 ghost use Rattle.std.specs.Ordering.{nat_cmp};
 ghost use Rattle.std.specs.List.{AllByRecursion, enumerate_from};
 ghost use Rattle.mailmap_entries.specs.Folding.{Text, folded, text_cmp};
 ghost use Rattle.mailmap_histories.specs.Histories.{key, key_cmp};
-ghost use Rattle.mailmap_entries.specs.Prefixes.{IsKeyPrefix, key_prefix};
+ghost use Rattle.mailmap_entries.specs.Prefixes.{IsKeyPrefix};
 ghost use Rattle.mailmap_batches.specs.Batches.{IsSorted, IsAscending, mapping_at, indexed_mapping, email_text, name_text};
-ghost use Rattle.mailmap_batches.specs.Sorting.{IsArranged, IsDone, IsPrefixGroup, email_prefix};
-ghost use Rattle.mailmap_batches.specs.declared.indexed.IndexedEntry.{IndexedEntry as At};
+ghost use Rattle.mailmap_batches.specs.Sorting.{IsArranged, IsDone, IsPrefixGroup, KeepsKeys, email_prefix, numbered_after};
+ghost use Rattle.mailmap_batches.specs.declared.indexed.IndexedEntry.{IndexedEntry as SpecEntry};
 
 use crate::groups::email_group_len;
 use crate::indexed::{HasEntry, IndexedEntry};
@@ -25,16 +25,16 @@ pub fn sorted<'e, 'a, T: HasEntry<'a>>(
 ) -> Result<Vec<IndexedEntry<'e, 'a>>, AllocError>
     ensures { IfOk result (λ batch. IsSorted (map T.mapped entries.now) (map indexed_mapping batch.items)) }
 {
-    if let Some(batch) = ascending(alloc, entries)? {
+    if let Some(batch) = sorted_if_prefixes_ascend(alloc, entries)? {
         return Ok(batch);
     }
-    let mut batch = with_indexes(alloc, entries)?;
+    let mut batch = with_prefixes(alloc, entries)?;
     batch.sort_by(compare_prefixes)?;
-    in_groups(alloc, &batch)
+    sorted_by_groups(alloc, &batch)
 }
 
-// The entries in order, if their old emails came in the order of their prefixes already.
-fn ascending<'e, 'a, T: HasEntry<'a>>(
+// The entries in order, if the prefixes of their old emails ascend already.
+fn sorted_if_prefixes_ascend<'e, 'a, T: HasEntry<'a>>(
     alloc: Global,
     entries: &'e [T],
 ) -> Result<Option<Vec<IndexedEntry<'e, 'a>>>, AllocError>
@@ -53,8 +53,8 @@ fn ascending<'e, 'a, T: HasEntry<'a>>(
     Ok(Some(groups.finish()?))
 }
 
-// The entries in order, which are in the order of their prefixes.
-fn in_groups<'e, 'a>(
+// Sorts entries whose prefixes ascend already.
+fn sorted_by_groups<'e, 'a>(
     alloc: Global,
     batch: &[PrefixedEntry<'e, 'a>],
 ) -> Result<Vec<IndexedEntry<'e, 'a>>, AllocError>
@@ -76,15 +76,15 @@ struct PrefixedEntry<'e, 'a> {
 }
 
 impl<'e, 'a> Model for PrefixedEntry<'e, 'a> {
-    ghost Value = { At };
+    ghost Value = { SpecEntry };
 
     ghost view = { λ f. f.indexed };
 
     ghost invariant = { λ f. IsKeyPrefix f.prefix (email_text (mapping_at f.indexed)) };
 }
 
-// Each entry with its index.
-fn with_indexes<'e, 'a, T: HasEntry<'a>>(
+// Each entry with its index and the prefix of its old email.
+fn with_prefixes<'e, 'a, T: HasEntry<'a>>(
     alloc: Global,
     entries: &'e [T],
 ) -> Result<Vec<PrefixedEntry<'e, 'a>>, AllocError>
@@ -113,7 +113,8 @@ fn compare_prefixes(a: &PrefixedEntry, b: &PrefixedEntry) -> Ordering
     a.prefix.cmp(&b.prefix)
 }
 
-// Entries that come in the order of their prefixes: those of the last prefix as they came, and the others in order.
+// Entries that come in the order of their prefixes. A group here is the entries whose emails share a prefix: `done` has
+// all groups but the last, in order, and `group` those of `prefix`, as they came.
 #[derive(Drop)]
 struct PrefixGroups<'e, 'a> {
     done: Vec<IndexedEntry<'e, 'a>>,
@@ -122,7 +123,7 @@ struct PrefixGroups<'e, 'a> {
 }
 
 impl<'e, 'a> PrefixGroups<'e, 'a> {
-    // No entry yet, and room for so many.
+    // No entry yet, with room for `len` entries.
     fn new(alloc: Global, len: usize) -> Result<PrefixGroups<'e, 'a>, AllocError>
         ensures none { IfOk result (λ groups. IsPrefixGroup [] groups.done.items groups.group.items groups.prefix) }
         ensures prefix { IfOk result (λ groups. groups.prefix ≡ 0) }
@@ -139,7 +140,7 @@ impl<'e, 'a> PrefixGroups<'e, 'a> {
     fn push(&mut self, prefix: u128, indexed: IndexedEntry<'e, 'a>) -> Result<(), AllocError>
         requires prefix { IsKeyPrefix prefix (email_text (mapping_at indexed)) }
         requires up { self.old.prefix ≤ prefix }
-        ensures pushed { OnOk result ((seen : List At)
+        ensures pushed { OnOk result ((seen : List SpecEntry)
             → IsPrefixGroup seen self.old.done.items self.old.group.items self.old.prefix
             → IsPrefixGroup (seen ++ indexed.entry ∷ []) self.new.done.items self.new.group.items self.new.prefix) }
         ensures prefix { OnOk result (self.new.prefix ≡ prefix) }
@@ -152,9 +153,9 @@ impl<'e, 'a> PrefixGroups<'e, 'a> {
         Ok(())
     }
 
-    // Puts the last group in order, too.
+    // Sorts the group and moves it to `done`.
     fn close(&mut self) -> Result<(), AllocError>
-        ensures closed { OnOk result ((seen : List At)
+        ensures closed { OnOk result ((seen : List SpecEntry)
             → IsPrefixGroup seen self.old.done.items self.old.group.items self.old.prefix
             → IsDone seen self.new.done.items self.old.prefix) }
         ensures empty { OnOk result (self.new.group.items ≡ []) }
@@ -167,7 +168,7 @@ impl<'e, 'a> PrefixGroups<'e, 'a> {
 
     // All entries in order.
     fn finish(mut self) -> Result<Vec<IndexedEntry<'e, 'a>>, AllocError>
-        ensures { IfOk result (λ done. (seen : List At)
+        ensures { IfOk result (λ done. (seen : List SpecEntry)
             → IsPrefixGroup seen self.entry.done.items self.entry.group.items self.entry.prefix
             → IsArranged seen done.items) }
     {
@@ -176,136 +177,141 @@ impl<'e, 'a> PrefixGroups<'e, 'a> {
     }
 }
 
-// Longer groups are mostly of one email.
-const FEW: usize = 8;
+// Up to this length a group is sorted by whole keys. Longer groups are mostly of one email.
+const SMALL_GROUP: usize = 8;
 
-// Puts a group in order.
+// Puts a group in order. In a long group of several emails, the last sort finds almost all of them in order.
 fn sort_group(group: &mut Vec<IndexedEntry<'_, '_>>) -> Result<(), AllocError>
     ensures { OnOk result (IsArranged group.old.items group.new.items) }
 {
-    if group.len() <= FEW {
+    if group.len() <= SMALL_GROUP {
         return group.sort_by(compare);
     }
     if email_group_len(group, group[0].entry.old_email()) == group.len() {
         return sort_names(group);
     }
-    sort_by_long_prefixes(group)
+    sort_names(group)?;
+    sort_next_bytes(group)?;
+    group.sort_by(compare)
 }
 
-// Puts entries whose emails begin alike in order. Most emails differ in the sixteen bytes that follow.
-fn sort_by_long_prefixes(group: &mut Vec<IndexedEntry<'_, '_>>) -> Result<(), AllocError>
-    ensures { OnOk result (IsArranged group.old.items group.new.items) }
+// Puts entries in the order of the sixteen bytes after those that all their emails begin with.
+fn sort_next_bytes(group: &mut Vec<IndexedEntry<'_, '_>>) -> Result<(), AllocError>
+    ensures { OnOk result (KeepsKeys group.old.items group.new.items) }
 {
     let alloc = *group.allocator();
-    let mut long_prefixed = with_long_prefixes(alloc, group)?;
-    long_prefixed.sort_by(compare_long_prefixes)?;
-    *group = without_long_prefixes(alloc, &long_prefixed)?;
+    let mut numbered = with_next_bytes(alloc, group, common_len(group))?;
+    numbered.sort_by(compare_numbers)?;
+    *group = without_numbers(alloc, &numbered)?;
     Ok(())
 }
 
-// An entry with its index, the prefix of its old email, and the prefix of what is after that.
+// An entry with its index, and a number of some bytes of its old email.
 #[derive(Drop)]
-struct LongPrefixEntry<'e, 'a> {
-    prefix: u128,
-    next_prefix: u128,
+struct NumberedEntry<'e, 'a> {
+    number: u128,
     indexed: IndexedEntry<'e, 'a>,
 }
 
-impl<'e, 'a> Model for LongPrefixEntry<'e, 'a> {
-    ghost Value = { At };
-
-    ghost view = { λ f. f.indexed };
-
-    ghost invariant = { λ f. IsKeyPrefix f.prefix (email_text (mapping_at f.indexed))
-        × (f.next_prefix ≡ key_prefix 16 (drop 16 (email_text (mapping_at f.indexed)))) };
+// How many bytes all emails begin with, in which the case of letters doesn't count.
+fn common_len(group: &[IndexedEntry<'_, '_>]) -> usize {
+    let Some(first) = group.first() else {
+        return 0;
+    };
+    let mut len = usize::MAX;
+    for indexed in group {
+        len = len.min(common_len_of(first.entry.old_email(), indexed.entry.old_email()));
+    }
+    len
 }
 
-// The entries with both prefixes.
-fn with_long_prefixes<'e, 'a>(
+fn common_len_of(a: &[u8], b: &[u8]) -> usize {
+    let mut len: usize = 0;
+    for (x, y) in a.iter().zip(b) {
+        if x.to_ascii_lowercase() != y.to_ascii_lowercase() {
+            return len;
+        }
+        len = len.saturating_add(1);
+    }
+    len
+}
+
+// The entries with the numbers of the sixteen bytes that follow the first `skipped` ones.
+fn with_next_bytes<'e, 'a>(
     alloc: Global,
     group: &[IndexedEntry<'e, 'a>],
-) -> Result<Vec<LongPrefixEntry<'e, 'a>>, AllocError>
-    ensures { IfOk result (λ long_prefixed. long_prefixed.items ≡ group.now) }
+    skipped: usize,
+) -> Result<Vec<NumberedEntry<'e, 'a>>, AllocError>
+    ensures { IfOk result (λ numbered. numbered.items ≡ map (numbered_after skipped) group.now) }
 {
-    let mut long_prefixed = Vec::with_capacity(alloc, group.len())?;
+    let mut numbered = Vec::with_capacity(alloc, group.len())?;
     for indexed in group {
-        long_prefixed.push(with_long_prefix(*indexed))?;
+        numbered.push(with_next_number(*indexed, skipped))?;
     }
-    Ok(long_prefixed)
+    Ok(numbered)
 }
 
-fn with_long_prefix<'e, 'a>(indexed: IndexedEntry<'e, 'a>) -> LongPrefixEntry<'e, 'a>
-    ensures { result ≡ indexed.entry }
+fn with_next_number<'e, 'a>(indexed: IndexedEntry<'e, 'a>, skipped: usize) -> NumberedEntry<'e, 'a>
+    ensures { result ≡ numbered_after skipped indexed.entry }
 {
-    let email = indexed.entry.old_email();
-    let prefix = key_prefix(email);
-    let next_prefix = key_prefix(after_prefix(email));
-    LongPrefixEntry {
-        prefix,
-        next_prefix,
-        indexed,
-    }
+    let number = key_prefix(bytes_after(indexed.entry.old_email(), skipped));
+    NumberedEntry { number, indexed }
 }
 
-// What is after the first sixteen bytes.
-fn after_prefix(text: &[u8]) -> &[u8]
-    ensures { folded result.now ≡ drop 16 (folded text.now) }
+// What is after the first `len` bytes.
+fn bytes_after(text: &[u8], len: usize) -> &[u8]
+    ensures { folded result.now ≡ drop len (folded text.now) }
 {
-    if text.len() < 16 {
+    if text.len() < len {
         return &[];
     }
-    &text[16..]
+    &text[len..]
 }
 
 // Only the entries.
-fn without_long_prefixes<'e, 'a>(
+fn without_numbers<'e, 'a>(
     alloc: Global,
-    long_prefixed: &[LongPrefixEntry<'e, 'a>],
+    numbered: &[NumberedEntry<'e, 'a>],
 ) -> Result<Vec<IndexedEntry<'e, 'a>>, AllocError>
-    ensures { IfOk result (λ group. group.items ≡ long_prefixed.now) }
+    ensures { IfOk result (λ group. group.items ≡ map (λ n. n.indexed) numbered.now) }
 {
-    let mut group = Vec::with_capacity(alloc, long_prefixed.len())?;
-    for entry in long_prefixed {
+    let mut group = Vec::with_capacity(alloc, numbered.len())?;
+    for entry in numbered {
         group.push(entry.indexed)?;
     }
     Ok(group)
 }
 
-// By both prefixes, and then by the whole keys.
 #[inline(always)]
-fn compare_long_prefixes(a: &LongPrefixEntry, b: &LongPrefixEntry) -> Ordering
-    ensures { result ≡ key_cmp (key (mapping_at a.now)) (key (mapping_at b.now)) }
+fn compare_numbers(a: &NumberedEntry, b: &NumberedEntry) -> Ordering
+    ensures { result ≡ nat_cmp a.now.number b.now.number }
 {
-    match a.prefix.cmp(&b.prefix) {
-        Ordering::Equal => match a.next_prefix.cmp(&b.next_prefix) {
-            Ordering::Equal => compare(&a.indexed, &b.indexed),
-            unequal => unequal,
-        },
-        unequal => unequal,
-    }
+    a.number.cmp(&b.number)
 }
 
-// Puts entries of one email in order. Most names differ in their first bytes.
+// Puts entries in the order of their names. Most names differ in their first bytes.
 fn sort_names(group: &mut Vec<IndexedEntry<'_, '_>>) -> Result<(), AllocError>
-    requires { (email : Text) × AllByRecursion (λ p. email_text (mapping_at p) ≡ email) group.old.items }
-    ensures { OnOk result (IsArranged group.old.items group.new.items) }
+    ensures kept { OnOk result (KeepsKeys group.old.items group.new.items) }
+    ensures one_email { OnOk result
+        ((email : Text) → AllByRecursion (λ p. email_text (mapping_at p) ≡ email) group.old.items
+        → IsArranged group.old.items group.new.items) }
 {
     let alloc = *group.allocator();
-    let mut named = with_names(alloc, group)?;
-    named.sort_by(compare_named)?;
-    *group = without_names(alloc, &named)?;
+    let mut prefixed = with_name_prefixes(alloc, group)?;
+    prefixed.sort_by(compare_old_names)?;
+    *group = without_name_prefixes(alloc, &prefixed)?;
     Ok(())
 }
 
 // An entry with its index, and the prefix of its old name, 0 if there is none.
 #[derive(Drop)]
-struct NamedEntry<'e, 'a> {
+struct NamePrefixEntry<'e, 'a> {
     prefix: u128,
     indexed: IndexedEntry<'e, 'a>,
 }
 
-impl<'e, 'a> Model for NamedEntry<'e, 'a> {
-    ghost Value = { At };
+impl<'e, 'a> Model for NamePrefixEntry<'e, 'a> {
+    ghost Value = { SpecEntry };
 
     ghost view = { λ f. f.indexed };
 
@@ -313,35 +319,35 @@ impl<'e, 'a> Model for NamedEntry<'e, 'a> {
 }
 
 // The entries with the prefixes of their names.
-fn with_names<'e, 'a>(
+fn with_name_prefixes<'e, 'a>(
     alloc: Global,
     group: &[IndexedEntry<'e, 'a>],
-) -> Result<Vec<NamedEntry<'e, 'a>>, AllocError>
-    ensures { IfOk result (λ named. named.items ≡ group.now) }
+) -> Result<Vec<NamePrefixEntry<'e, 'a>>, AllocError>
+    ensures { IfOk result (λ prefixed. prefixed.items ≡ group.now) }
 {
-    let mut named = Vec::with_capacity(alloc, group.len())?;
+    let mut prefixed = Vec::with_capacity(alloc, group.len())?;
     for indexed in group {
-        named.push(with_name(*indexed))?;
+        prefixed.push(with_name_prefix(*indexed))?;
     }
-    Ok(named)
+    Ok(prefixed)
 }
 
-fn with_name<'e, 'a>(indexed: IndexedEntry<'e, 'a>) -> NamedEntry<'e, 'a>
+fn with_name_prefix<'e, 'a>(indexed: IndexedEntry<'e, 'a>) -> NamePrefixEntry<'e, 'a>
     ensures { result ≡ indexed.entry }
 {
     let prefix = key_prefix(indexed.entry.old_name().unwrap_or(&[]));
-    NamedEntry { prefix, indexed }
+    NamePrefixEntry { prefix, indexed }
 }
 
 // Only the entries.
-fn without_names<'e, 'a>(
+fn without_name_prefixes<'e, 'a>(
     alloc: Global,
-    named: &[NamedEntry<'e, 'a>],
+    prefixed: &[NamePrefixEntry<'e, 'a>],
 ) -> Result<Vec<IndexedEntry<'e, 'a>>, AllocError>
-    ensures { IfOk result (λ group. group.items ≡ named.now) }
+    ensures { IfOk result (λ group. group.items ≡ prefixed.now) }
 {
-    let mut group = Vec::with_capacity(alloc, named.len())?;
-    for entry in named {
+    let mut group = Vec::with_capacity(alloc, prefixed.len())?;
+    for entry in prefixed {
         group.push(entry.indexed)?;
     }
     Ok(group)
@@ -349,7 +355,7 @@ fn without_names<'e, 'a>(
 
 // Only by old name, and first by its prefix.
 #[inline(always)]
-fn compare_named(a: &NamedEntry, b: &NamedEntry) -> Ordering
+fn compare_old_names(a: &NamePrefixEntry, b: &NamePrefixEntry) -> Ordering
     ensures { result ≡ option_cmp text_cmp (key (mapping_at a.now)).1 (key (mapping_at b.now)).1 }
 {
     match a.prefix.cmp(&b.prefix) {

@@ -1,5 +1,5 @@
-//! Entries of a batch that belong together: those of one email, and among them those of one name. In a sorted batch they
-//! are neighbours.
+//! Entries of a batch that belong together: those of one email, and among them those of one name. In a sorted batch
+//! they are neighbours.
 ghost use Rattle.std.specs.Prelude.{◌≡◌, ◌≢◌, ◌<◌, ◌≤◌, IsTrue, None, ◌↔◌, drop, length, map, take};
 ghost use Rattle.std.specs.List.{AllByRecursion, HoldsAt, fold};
 ghost use Rattle.mailmap_entries.specs.Folding.{folded};

@@ -13,9 +13,9 @@ use Rattle.mailmap_histories.specs.Histories.{IsNormal, is_accepted, key}
 use Rattle.mailmap_redundancy.specs.Redundancy.{IsReduced, LocatedMapping, entries, last_position}
 use Rattle.mailmap_redundancy.specs.declared.located.Position.{Position}
 use Rattle.mailmap_redundancy.proofs.Kept.{last_stays, one_reduced, reduced_normal, reduced_sublist, some_reduced}
-use Rattle.mailmap_findings.specs.Findings.{AreFindings, Contact, Finding, IsPruned, Reported, contact, findings, has_no_effect, ignored, ignored_text, is_redundant, is_left, mapped, no_effect, same_contact, reported_of_contact, reported_of_entry, reported_of_line, reported_of_reading, itself_mapped}
-use Rattle.mailmap_findings.specs.Positions.{Line, entry, lines, located, same_position, stands_at}
-use Rattle.mailmap_findings.specs.Steps.{AreApart}
+use Rattle.mailmap_findings.specs.Findings.{AreFindings, Contact, Finding, IsPruned, Reported, contact, findings, has_no_effect, ignored, ignored_text, is_redundant, is_line_kept, mapped, no_effect, same_contact, reported_of_contact, reported_of_entry, reported_of_line, reported_of_reading, itself_mapped}
+use Rattle.mailmap_findings.specs.Positions.{Line, entry, lines, located, same_position, has_entry_at}
+use Rattle.mailmap_findings.specs.Marked.{AreApart}
 use Rattle.mailmap_findings.proofs.Accepted.{located_accepted}
 use Rattle.mailmap_findings.proofs.Placing.{apart_lines}
 use Rattle.mailmap_findings.proofs.Pruned.{located_left}
@@ -88,9 +88,9 @@ module _ (h : List Mapping) (kept : List LocatedMapping) where
   entry_any true e beside = contact_none (contact e) (mapped h (contact e))
   entry_any false e beside = position_some (last_position kept (key e)) beside
 
-  line_any : (l : Line) → IfStays kept (entry l) → list_any has_no_effect (reported_of_line h kept (stands_at kept l.position) l) ≡ not (is_left kept l)
+  line_any : (l : Line) → IfStays kept (entry l) → list_any has_no_effect (reported_of_line h kept (has_entry_at kept l.position) l) ≡ not (is_line_kept kept l)
   line_any l beside =
-      let stays = stands_at kept l.position in
+      let stays = has_entry_at kept l.position in
       list_any-append has_no_effect (option_to_list (reported_of_reading l.text (strict_reading l.position.line l.text))) (option_to_list (option_and_then (reported_of_entry h kept stays) (entry l)))
       ∙ ap (λ b. b || list_any has_no_effect (option_to_list (option_and_then (reported_of_entry h kept stays) (entry l)))) (reading_none l.text (strict_reading l.position.line l.text))
       ∙ elim (entry l) as (λ o. IfStays kept o → list_any has_no_effect (option_to_list (option_and_then (reported_of_entry h kept stays) o)) ≡ not (is_none o || stays)) [
@@ -102,33 +102,33 @@ module _ (h : List Mapping) (kept : List LocatedMapping) where
   none_elsewhere position [] all = refl
   none_elsewhere position (l ∷ ls) all =
       list_any-append (redundant_at position) (findings h kept l) (flat_map (findings h kept) ls)
-      ∙ ap (λ b. b || list_any (redundant_at position) (flat_map (findings h kept) ls)) (none_there position l.position (reported_of_line h kept (stands_at kept l.position) l) all.0)
+      ∙ ap (λ b. b || list_any (redundant_at position) (flat_map (findings h kept) ls)) (none_there position l.position (reported_of_line h kept (has_entry_at kept l.position) l) all.0)
       ∙ none_elsewhere position ls all.1
 
   after_line : (l : Line) (fs : List Finding) (ls : List Line) → AllByRecursion (λ m. m.position ≢ l.position) ls
-      → AllByRecursion (λ m. list_any (redundant_at m.position) fs ≡ not (is_left kept m)) ls → AllByRecursion (λ m. list_any (redundant_at m.position) (findings h kept l ++ fs) ≡ not (is_left kept m)) ls
+      → AllByRecursion (λ m. list_any (redundant_at m.position) fs ≡ not (is_line_kept kept m)) ls → AllByRecursion (λ m. list_any (redundant_at m.position) (findings h kept l ++ fs) ≡ not (is_line_kept kept m)) ls
   after_line l fs [] apart all = tt
   after_line l fs (m ∷ ls) apart all = (
     list_any-append (redundant_at m.position) (findings h kept l) fs
-        ∙ ap (λ b. b || list_any (redundant_at m.position) fs) (none_there m.position l.position (reported_of_line h kept (stands_at kept l.position) l) (λ e. apart.0 (sym e)))
+        ∙ ap (λ b. b || list_any (redundant_at m.position) fs) (none_there m.position l.position (reported_of_line h kept (has_entry_at kept l.position) l) (λ e. apart.0 (sym e)))
         ∙ all.0,
     after_line l fs ls apart.1 all.1,
   )
 
-  reported_redundant : (ls : List Line) → AreApart ls → AllByRecursion (λ l. IfStays kept (entry l)) ls → AllByRecursion (λ l. list_any (redundant_at l.position) (flat_map (findings h kept) ls) ≡ not (is_left kept l)) ls
+  reported_redundant : (ls : List Line) → AreApart ls → AllByRecursion (λ l. IfStays kept (entry l)) ls → AllByRecursion (λ l. list_any (redundant_at l.position) (flat_map (findings h kept) ls) ≡ not (is_line_kept kept l)) ls
   reported_redundant [] apart stay = tt
   reported_redundant (l ∷ ls) apart stay = (
     list_any-append (redundant_at l.position) (findings h kept l) (flat_map (findings h kept) ls)
         ∙ ap (λ b. list_any (redundant_at l.position) (findings h kept l) || b) (none_elsewhere l.position ls apart.0)
         ∙ or_false (list_any (redundant_at l.position) (findings h kept l))
-        ∙ any_here l.position (reported_of_line h kept (stands_at kept l.position) l)
+        ∙ any_here l.position (reported_of_line h kept (has_entry_at kept l.position) l)
         ∙ line_any l stay.0,
     after_line l (flat_map (findings h kept) ls) ls apart.0 (reported_redundant ls apart.1 stay.1),
   )
 
-  not_reported : (fs : List Finding) (ls : List Line) → AllByRecursion (λ l. list_any (redundant_at l.position) fs ≡ not (is_left kept l)) ls → AllByRecursion (λ l. not (list_any (redundant_at l.position) fs) ≡ is_left kept l) ls
+  not_reported : (fs : List Finding) (ls : List Line) → AllByRecursion (λ l. list_any (redundant_at l.position) fs ≡ not (is_line_kept kept l)) ls → AllByRecursion (λ l. not (list_any (redundant_at l.position) fs) ≡ is_line_kept kept l) ls
   not_reported fs [] all = tt
-  not_reported fs (l ∷ ls) all = (ap not all.0 ∙ not_not (is_left kept l), not_reported fs ls all.1)
+  not_reported fs (l ∷ ls) all = (ap not all.0 ∙ not_not (is_line_kept kept l), not_reported fs ls all.1)
 
 -- ---- the lines that are not reported
 
@@ -149,14 +149,14 @@ each_stays xs kept reduced accepted = both xs (recursion_from_All (Contains xs) 
     both [] inside good = tt
     both (y ∷ ys) inside good = (last_stays xs kept y reduced inside.0 good.0, both ys inside.1 good.1)
 
-pub left_lines : (buffers : List Text) (found : List Finding) (are : AreFindings buffers found) → filter (λ l. not (is_redundant found l)) (lines buffers) ≡ filter (is_left are.kept) (lines buffers)
+pub left_lines : (buffers : List Text) (found : List Finding) (are : AreFindings buffers found) → filter (λ l. not (is_redundant found l)) (lines buffers) ≡ filter (is_line_kept are.kept) (lines buffers)
 left_lines buffers found are =
     let ls = lines buffers in
     let h = entries (located ls) in
     let all : List Finding = flat_map (findings h are.kept) ls in
     let stay = lines_stay are.kept ls (each_stays (located ls) are.kept are.reduced (located_accepted ls)) in
     ap (λ fs. filter (λ (l : Line). not (is_redundant fs l)) ls) are.whole
-    ∙ filter_same (λ (l : Line). not (is_redundant all l)) (is_left are.kept) ls (not_reported h are.kept all ls (reported_redundant h are.kept ls (apart_lines 0 buffers) stay))
+    ∙ filter_same (λ (l : Line). not (is_redundant all l)) (is_line_kept are.kept) ls (not_reported h are.kept all ls (reported_redundant h are.kept ls (apart_lines 0 buffers) stay))
 
 left_entries : (buffers : List Text) (found : List Finding) (are : AreFindings buffers found) → located (filter (λ l. not (is_redundant found l)) (lines buffers)) ≡ are.kept
 left_entries buffers found are =
@@ -179,7 +179,7 @@ pub pruned_reported : (buffer text : Text) (found : List Finding) → AreFinding
 pruned_reported buffer text found are pruned =
     let ls = lines (buffer ∷ []) in
     pruned.whole
-    ∙ ap (λ kept. flat_map (λ (l : Line). l.text) (filter (is_left kept) ls)) (one_reduced (located ls) pruned.kept are.kept pruned.reduced are.reduced)
+    ∙ ap (λ kept. flat_map (λ (l : Line). l.text) (filter (is_line_kept kept) ls)) (one_reduced (located ls) pruned.kept are.kept pruned.reduced are.reduced)
     ∙ ap (flat_map (λ (l : Line). l.text)) (sym (left_lines (buffer ∷ []) found are))
 
 -- ---- there is one answer
@@ -199,9 +199,9 @@ pub some_pruned : (buffer : Text) → (text : Text) × IsPruned buffer text
 some_pruned buffer =
     let ls = lines (buffer ∷ []) in
     let reduced = some_reduced (located ls) in
-    (flat_map (λ (l : Line). l.text) (filter (is_left reduced.0) ls), record { kept = reduced.0; reduced = reduced.1; whole = refl })
+    (flat_map (λ (l : Line). l.text) (filter (is_line_kept reduced.0) ls), record { kept = reduced.0; reduced = reduced.1; whole = refl })
 
 pub one_pruned : (buffer text other : Text) → IsPruned buffer text → IsPruned buffer other → text ≡ other
 one_pruned buffer text other a b =
     let ls = lines (buffer ∷ []) in
-    a.whole ∙ ap (λ kept. flat_map (λ (l : Line). l.text) (filter (is_left kept) ls)) (one_reduced (located ls) a.kept b.kept a.reduced b.reduced) ∙ sym b.whole
+    a.whole ∙ ap (λ kept. flat_map (λ (l : Line). l.text) (filter (is_line_kept kept) ls)) (one_reduced (located ls) a.kept b.kept a.reduced b.reduced) ∙ sym b.whole

@@ -1,11 +1,11 @@
 pub mod Strict
 pub mod WholeLines
 pub mod Placing
-pub mod Entries
 pub mod Accepted
 pub mod Mapped
 pub mod Walking
 pub mod Meeting
+pub mod Kept
 pub mod Wholes
 pub mod Read
 pub mod Renumbered

@@ -1,12 +1,12 @@
--- Lines with their positions: one more line, one more buffer, and that no two lines are at one position.
-use Rattle.std.proofs.Common.{◌≡◌, ◌≢◌, ◌+◌, ◌<◌, ◌≤◌, ℕ, suc, List, [], ◌∷◌, ◌++◌, length, map, take, get_or, Bor, length-take-le, append-nil, append_assoc, refl, sym, ap, ◌∙◌, arith}
+-- Lines with their positions: the lines that are left, and that no two lines are at one position.
+use Rattle.std.proofs.Common.{◌≡◌, ◌≢◌, ◌+◌, ◌<◌, ◌≤◌, ℕ, suc, List, [], ◌∷◌, ◌++◌, length, map, drop, get_or, Bor, ap, ◌∙◌, arith}
 use Rattle.std.specs.List.{AllByRecursion}
-use Rattle.std.proofs.lemmas.List.{length-map, map_push, take_more}
+use Rattle.std.proofs.Math.Seq.{drop-cons}
+use Rattle.std.proofs.lemmas.List.{drop_all}
 use Rattle.mailmap_entries.specs.Folding.{Text}
 use Rattle.mailmap_redundancy.specs.declared.located.Position.{Position}
-use Rattle.mailmap_findings.specs.declared.verify.lines.Line.{Line as the_line}
-use Rattle.mailmap_findings.specs.Positions.{Line, line_of, whole_lines, located_from, buffer_lines, lines_from, lines}
-use Rattle.mailmap_findings.specs.Steps.{AreApart}
+use Rattle.mailmap_findings.specs.Positions.{Line, whole_lines, located_from, buffer_lines, lines_from}
+use Rattle.mailmap_findings.specs.Marked.{AreApart}
 
 abbrev pub position_at : ℕ → ℕ → Position
 position_at buffer line = record { buffer = buffer; line = line }
@@ -14,49 +14,32 @@ position_at buffer line = record { buffer = buffer; line = line }
 abbrev pub line_at : ℕ → ℕ → Text → Line
 line_at buffer line t = record { position = position_at buffer line; text = t }
 
--- one more line that was found, and those that are left
-pub line_more : (found : List the_line) (l : the_line) (buffer line : ℕ) (left rest : List Text) (all : List Line)
-    → map line_of found ++ located_from buffer (line + 1) left ≡ all → left ≡ l.text.now ∷ rest → line_of l ≡ line_at buffer (line + 1) l.text.now
-    → map line_of (found ++ l ∷ []) ++ located_from buffer (line + 1 + 1) rest ≡ all
+-- the lines that are left of one buffer from a line on, and those of the buffers after the first so many
+abbrev pub lines_left : ℕ → ℕ → List Text → ℕ → List (Bor Text) → List Line
+lines_left buffer line ts reached bufs = located_from buffer (line + 1) ts ++ lines_from reached (map (λ b. b.now) (drop reached bufs))
+
+-- the first of them
+pub left_first : (buffer line reached : ℕ) (bufs : List (Bor Text)) (ts rest : List Text) (t : Text) → ts ≡ t ∷ rest
+    → lines_left buffer line ts reached bufs ≡ line_at buffer (line + 1) t ∷ lines_left buffer (line + 1) rest reached bufs
 unfolding located_from
-line_more found l buffer line left rest all so_far first is =
-    ap (λ ls. ls ++ located_from buffer (line + 1 + 1) rest) (map_push line_of found l)
-    ∙ append_assoc (map line_of found) (line_of l ∷ []) (located_from buffer (line + 1 + 1) rest)
-    ∙ ap (λ x. map line_of found ++ x ∷ located_from buffer (line + 1 + 1) rest) is
-    ∙ ap (λ ts. map line_of found ++ located_from buffer (line + 1) ts) (sym first)
-    ∙ so_far
+left_first buffer line reached bufs ts rest t is = ap (λ xs. located_from buffer (line + 1) xs ++ lines_from reached (map (λ b. b.now) (drop reached bufs))) is
 
--- no line is left
-pub line_none : (found : List Line) (buffer line : ℕ) (left : List Text) (all : List Line) → found ++ located_from buffer line left ≡ all → left ≡ [] → found ≡ all
-unfolding located_from
-line_none found buffer line left all so_far none = sym (append-nil found) ∙ ap (λ ts. found ++ located_from buffer line ts) (sym none) ∙ so_far
+-- the first of them, if none of the one buffer is left
+pub left_next : (buffer line reached : ℕ) (bufs : List (Bor Text)) (ts : List Text) (d : Bor Text) → ts ≡ [] → reached < length bufs
+    → lines_left buffer line ts reached bufs ≡ lines_left reached 0 (whole_lines (get_or bufs reached d).now) (reached + 1) bufs
+unfolding located_from lines_from
+left_next buffer line reached bufs ts d none within =
+    let e : suc reached ≡ reached + 1 = omega arith in
+    ap (λ xs. located_from buffer (line + 1) xs ++ lines_from reached (map (λ b. b.now) (drop reached bufs))) none
+    ∙ ap (λ bs. lines_from reached (map (λ b. b.now) bs)) (drop-cons bufs reached d within)
+    ∙ ap (λ n. buffer_lines reached (get_or bufs reached d).now ++ lines_from (reached + 1) (map (λ b. b.now) (drop n bufs))) e
 
-pub lines_from-nil : (buffer : ℕ) → lines_from buffer [] ≡ []
-unfolding lines_from
-lines_from-nil buffer = refl
-
--- one more buffer
-pub lines_from-push : (buffer : ℕ) (ss : List Text) (s : Text) → lines_from buffer (ss ++ s ∷ []) ≡ lines_from buffer ss ++ buffer_lines (buffer + length ss) s
-unfolding lines_from
-lines_from-push buffer [] s =
-    let e : buffer ≡ buffer + 0 = omega arith in
-    append-nil (buffer_lines buffer s) ∙ ap (λ n. buffer_lines n s) e
-lines_from-push buffer (t ∷ ss) s =
-    let e : buffer + 1 + length ss ≡ buffer + suc (length ss) = omega arith in
-    ap (λ ls. buffer_lines buffer t ++ ls) (lines_from-push (buffer + 1) ss s)
-    ∙ sym (append_assoc (buffer_lines buffer t) (lines_from (buffer + 1) ss) (buffer_lines (buffer + 1 + length ss) s))
-    ∙ ap (λ n. (buffer_lines buffer t ++ lines_from (buffer + 1) ss) ++ buffer_lines n s) e
-
--- one more buffer of the code's
-pub buffers_more : (bufs : List (Bor Text)) (i : ℕ) (d : Bor Text) → i < length bufs
-    → lines (map (λ b. b.now) (take (i + 1) bufs)) ≡ lines (map (λ b. b.now) (take i bufs)) ++ buffer_lines i (get_or bufs i d).now
-buffers_more bufs i d within =
-    let front = map (λ b. b.now) (take i bufs) in
-    let long : length front ≡ i = length-map (take i bufs) (λ b. b.now) ∙ length-take-le i bufs (omega arith) in
-    ap (λ l. lines (map (λ b. b.now) l)) (take_more bufs i d within)
-    ∙ ap lines (map_push (λ b. b.now) (take i bufs) (get_or bufs i d))
-    ∙ lines_from-push 0 front (get_or bufs i d).now
-    ∙ (let e : 0 + length front ≡ i = omega (arith, long) in ap (λ n. lines front ++ buffer_lines n (get_or bufs i d).now) e)
+-- nothing is left
+pub left_none : (buffer line reached : ℕ) (bufs : List (Bor Text)) (ts : List Text) → ts ≡ [] → length bufs ≤ reached → lines_left buffer line ts reached bufs ≡ []
+unfolding located_from lines_from
+left_none buffer line reached bufs ts none all =
+    ap (λ xs. located_from buffer (line + 1) xs ++ lines_from reached (map (λ b. b.now) (drop reached bufs))) none
+    ∙ ap (λ bs. lines_from reached (map (λ b. b.now) bs)) (drop_all reached bufs all)
 
 -- ---- apart
 

@@ -12,40 +12,40 @@ use Rattle.mailmap_histories.specs.Histories.{IsNormal}
 use Rattle.mailmap_redundancy.specs.Redundancy.{LocatedMapping, IsPass, done, stays, IsReduced, settled, IsSublist, none, IsRedundant, entries}
 use Rattle.mailmap_redundancy.proofs.Kept.{none_can_go, reduced_normal, reduced_sublist}
 use Rattle.mailmap_redundancy.proofs.Sublists.{sublist_all}
-use Rattle.mailmap_findings.specs.Findings.{IsPruned, is_left}
-use Rattle.mailmap_findings.specs.Positions.{Line, entry, located, same_position, stands_at, whole_lines, located_from, lines_from, lines}
-use Rattle.mailmap_findings.specs.Steps.{AreApart, stands_first, left_after}
+use Rattle.mailmap_findings.specs.Findings.{IsPruned, is_line_kept}
+use Rattle.mailmap_findings.specs.Positions.{Line, entry, located, same_position, has_entry_at, whole_lines, located_from, lines_from, lines}
+use Rattle.mailmap_findings.specs.Marked.{AreApart}
 use Rattle.mailmap_findings.proofs.Placing.{apart_lines}
 use Rattle.mailmap_findings.proofs.Read.{good-lines}
 use Rattle.mailmap_findings.proofs.Renumbered.{entries-renumbered, texts-located}
-use Rattle.mailmap_findings.proofs.Walking.{InStep, First, passes, meets, first_met, step_by, starts, none_stands, located_elsewhere, same_itself}
+use Rattle.mailmap_findings.proofs.Walking.{InStep, First, is_first_at, without_first_at, passes, meets, first_met, step_by, starts, no_entry_at, located_elsewhere, same_itself}
 use Rattle.mailmap_findings.proofs.Wholes.{joined, joined-whole_lines, are_whole, whole_lines-joined, texts, some_whole, AreWhole}
 
 -- ---- of the lines that are left the entries are those that stay
 
-by_first : (kept left : List LocatedMapping) (l : Line) (ls : List Line) → ((xs : List LocatedMapping) → InStep kept xs ls → located (filter (is_left kept) ls) ≡ xs)
-    → First l ls left → AllByRecursion (λ x. stands_at kept x.position ≡ stands_at left x.position) (l ∷ ls) → AreApart (l ∷ ls) → located (filter (is_left kept) (l ∷ ls)) ≡ left
+by_first : (kept left : List LocatedMapping) (l : Line) (ls : List Line) → ((xs : List LocatedMapping) → InStep kept xs ls → located (filter (is_line_kept kept) ls) ≡ xs)
+    → First l ls left → AllByRecursion (λ x. has_entry_at kept x.position ≡ has_entry_at left x.position) (l ∷ ls) → AreApart (l ∷ ls) → located (filter (is_line_kept kept) (l ∷ ls)) ≡ left
 by_first kept _ l ls after (passes left s) same apart =
     let elsewhere = sublist_all (λ x. x.position ≢ l.position) left (located ls) s (located_elsewhere l.position ls apart.0) in
-    let goes : stands_at kept l.position ≡ false = same.0 ∙ none_stands l.position left elsewhere in
-    let rest : located (filter (is_left kept) ls) ≡ left = after left (record { same = same.1; walk = record { sublist = s; apart = apart.1 } }) in
-    elim (entry l) as (λ o. entry l ≡ o → located (if is_none o || stands_at kept l.position then l ∷ filter (is_left kept) ls else filter (is_left kept) ls) ≡ left) [
-      | None ↦ λ is. ap (λ o. cons_option (option_map (λ e. record { position = l.position; entry = e }) o) (located (filter (is_left kept) ls))) is ∙ rest
-      | Some e ↦ λ is. ap (λ b. located (if b then l ∷ filter (is_left kept) ls else filter (is_left kept) ls)) goes ∙ rest
+    let goes : has_entry_at kept l.position ≡ false = same.0 ∙ no_entry_at l.position left elsewhere in
+    let rest : located (filter (is_line_kept kept) ls) ≡ left = after left (record { same = same.1; walk = record { sublist = s; apart = apart.1 } }) in
+    elim (entry l) as (λ o. entry l ≡ o → located (if is_none o || has_entry_at kept l.position then l ∷ filter (is_line_kept kept) ls else filter (is_line_kept kept) ls) ≡ left) [
+      | None ↦ λ is. ap (λ o. cons_option (option_map (λ e. record { position = l.position; entry = e }) o) (located (filter (is_line_kept kept) ls))) is ∙ rest
+      | Some e ↦ λ is. ap (λ b. located (if b then l ∷ filter (is_line_kept kept) ls else filter (is_line_kept kept) ls)) goes ∙ rest
     ] refl
 by_first kept _ l ls after (meets x left here given s) same apart =
     let st = step_by kept (x ∷ left) l ls (meets x left here given s) same apart in
-    let first : stands_first (x ∷ left) l.position ≡ true = ap (λ p. same_position p l.position) here ∙ same_itself l.position in
-    let left_is : left_after (x ∷ left) l.position ≡ left = cond-true _ _ _ first in
-    let test : is_left kept l ≡ true = or_right (is_none (entry l)) (stands_at kept l.position) (st.stays ∙ first) in
-    ap (λ b. located (if b then l ∷ filter (is_left kept) ls else filter (is_left kept) ls)) test
-    ∙ ap (λ o. cons_option o (located (filter (is_left kept) ls))) given
-    ∙ ap (λ xs. x ∷ xs) (after (left_after (x ∷ left) l.position) st.next ∙ left_is)
+    let first : is_first_at (x ∷ left) l.position ≡ true = ap (λ p. same_position p l.position) here ∙ same_itself l.position in
+    let left_is : without_first_at (x ∷ left) l.position ≡ left = cond-true _ _ _ first in
+    let test : is_line_kept kept l ≡ true = or_right (is_none (entry l)) (has_entry_at kept l.position) (st.stays ∙ first) in
+    ap (λ b. located (if b then l ∷ filter (is_line_kept kept) ls else filter (is_line_kept kept) ls)) test
+    ∙ ap (λ o. cons_option o (located (filter (is_line_kept kept) ls))) given
+    ∙ ap (λ xs. x ∷ xs) (after (without_first_at (x ∷ left) l.position) st.next ∙ left_is)
 
 none_in : (left : List LocatedMapping) → IsSublist left [] → [] ≡ left
 none_in _ none = refl
 
-pub located_left : (kept : List LocatedMapping) (ls : List Line) (left : List LocatedMapping) → InStep kept left ls → located (filter (is_left kept) ls) ≡ left
+pub located_left : (kept : List LocatedMapping) (ls : List Line) (left : List LocatedMapping) → InStep kept left ls → located (filter (is_line_kept kept) ls) ≡ left
 located_left kept [] left s = none_in left s.walk.sublist
 located_left kept (l ∷ ls) left s = by_first kept left l ls (located_left kept ls) (first_met l ls left s.walk.sublist) s.same s.walk.apart
 
@@ -65,12 +65,12 @@ lines_whole s = subst AreWhole (sym (ap texts (one_buffer s) ∙ texts-located 0
 -- the text is whole lines again, and their entries are those that stay
 module _ (buffer text : Text) (pruned : IsPruned buffer text) where
   abbrev kept_lines : List Line
-  kept_lines = filter (is_left pruned.kept) (lines (buffer ∷ []))
+  kept_lines = filter (is_line_kept pruned.kept) (lines (buffer ∷ []))
 
   text_lines : whole_lines text ≡ texts kept_lines
   text_lines =
       ap whole_lines (pruned.whole ∙ joined-texts kept_lines)
-      ∙ whole_lines-joined (texts kept_lines) (some_whole (is_left pruned.kept) (lines (buffer ∷ [])) (lines_whole buffer))
+      ∙ whole_lines-joined (texts kept_lines) (some_whole (is_line_kept pruned.kept) (lines (buffer ∷ [])) (lines_whole buffer))
 
   kept_entries : located kept_lines ≡ pruned.kept
   kept_entries =
@@ -116,21 +116,21 @@ none_goes ys kept a (x ∷ c) b (y ∷ d) reduced parts front after =
     stays b y d (b ++ y ∷ d) busy (subst (IsPass (b ++ y ∷ []) d) (append_assoc b (y ∷ []) d) next)
 
 -- each entry is at its position
-one_more : (x : LocatedMapping) (xs ys : List LocatedMapping) → AllByRecursion (λ y. stands_at xs y.position ≡ true) ys → AllByRecursion (λ y. stands_at (x ∷ xs) y.position ≡ true) ys
+one_more : (x : LocatedMapping) (xs ys : List LocatedMapping) → AllByRecursion (λ y. has_entry_at xs y.position ≡ true) ys → AllByRecursion (λ y. has_entry_at (x ∷ xs) y.position ≡ true) ys
 one_more x xs [] all = tt
-one_more x xs (y ∷ ys) all = (or_right (same_position x.position y.position) (stands_at xs y.position) all.0, one_more x xs ys all.1)
+one_more x xs (y ∷ ys) all = (or_right (same_position x.position y.position) (has_entry_at xs y.position) all.0, one_more x xs ys all.1)
 
-all_stand : (xs : List LocatedMapping) → AllByRecursion (λ x. stands_at xs x.position ≡ true) xs
+all_stand : (xs : List LocatedMapping) → AllByRecursion (λ x. has_entry_at xs x.position ≡ true) xs
 all_stand [] = tt
-all_stand (x ∷ xs) = (ap (λ b. b || stands_at xs x.position) (same_itself x.position), one_more x xs xs (all_stand xs))
+all_stand (x ∷ xs) = (ap (λ b. b || has_entry_at xs x.position) (same_itself x.position), one_more x xs xs (all_stand xs))
 
-all_left : (kept : List LocatedMapping) (ls : List Line) → AllByRecursion (λ x. stands_at kept x.position ≡ true) (located ls) → filter (is_left kept) ls ≡ ls
+all_left : (kept : List LocatedMapping) (ls : List Line) → AllByRecursion (λ x. has_entry_at kept x.position ≡ true) (located ls) → filter (is_line_kept kept) ls ≡ ls
 all_left kept [] = λ all. refl
 all_left kept (l ∷ ls) =
-    elim (entry l) as (λ o. AllByRecursion (λ x. stands_at kept x.position ≡ true) (cons_option (option_map (λ e. record { position = l.position; entry = e }) o) (located ls))
-    → (if is_none o || stands_at kept l.position then l ∷ filter (is_left kept) ls else filter (is_left kept) ls) ≡ l ∷ ls) [
+    elim (entry l) as (λ o. AllByRecursion (λ x. has_entry_at kept x.position ≡ true) (cons_option (option_map (λ e. record { position = l.position; entry = e }) o) (located ls))
+    → (if is_none o || has_entry_at kept l.position then l ∷ filter (is_line_kept kept) ls else filter (is_line_kept kept) ls) ≡ l ∷ ls) [
       | None ↦ λ all. ap (λ xs. l ∷ xs) (all_left kept ls all)
-      | Some e ↦ λ all. ap (λ b. if b then l ∷ filter (is_left kept) ls else filter (is_left kept) ls) all.0 ∙ ap (λ xs. l ∷ xs) (all_left kept ls all.1)
+      | Some e ↦ λ all. ap (λ b. if b then l ∷ filter (is_line_kept kept) ls else filter (is_line_kept kept) ls) all.0 ∙ ap (λ xs. l ∷ xs) (all_left kept ls all.1)
     ]
 
 pub nothing_to_prune : (buffer text : Text) → IsPruned buffer text → IsPruned text text

@@ -1,20 +1,17 @@
--- A walk over lines meets the entries that stay in step.
-use Rattle.std.proofs.Common.{◌≡◌, ◌≢◌, ◌<◌, ◌+◌, ℕ, suc, Bool, true, false, if◌then◌else◌, Some, None, List, [], ◌∷◌, ◌++◌, map, take, drop, get_or, length, filter, append-nil, ⊎_elim, refl, sym, ap, subst, ◌∙◌, arith}
+-- A walk over lines meets the kept entries in step.
+use Rattle.std.proofs.Common.{◌≡◌, ◌≢◌, ◌+◌, ◌<◌, ◌≤◌, ℕ, suc, Bool, true, false, if◌then◌else◌, Some, None, List, [], ◌∷◌, Bor, drop, get_or, length, map, ⊎_elim, arith, refl, sym, ap, subst, ◌∙◌}
 use Rattle.std.specs.Prelude.{◌||◌}
-use Rattle.std.specs.List.{AllByRecursion, cons_option, flat_map}
+use Rattle.std.specs.List.{AllByRecursion, cons_option}
 use Rattle.std.specs.Option.{option_map}
+use Rattle.std.proofs.Math.Seq.{drop-cons}
+use Rattle.std.proofs.lemmas.List.{drop_all}
 use Rattle.std.proofs.lemmas.Bool.{cases_Bool, cond-true, cond-false, and_parts, and_from, eqb-true, eq-eqb}
-use Rattle.mailmap_redundancy.specs.Redundancy.{LocatedMapping, IsSublist, skips, keeps}
+use Rattle.mailmap_redundancy.specs.Redundancy.{LocatedMapping, IsSublist, located_of_reference, skips, keeps}
+use Rattle.mailmap_redundancy.specs.declared.located.LocatedEntry.{LocatedEntry}
 use Rattle.mailmap_redundancy.specs.declared.located.Position.{Position}
 use Rattle.mailmap_redundancy.proofs.Sublists.{sublist_all}
-use Rattle.std.proofs.Math.Seq.{drop-cons}
-use Rattle.std.proofs.lemmas.List.{flat_map_more}
-use Rattle.std.proofs.lemmas.List.Concat.{flat_map-append}
-use Rattle.std.proofs.lemmas.List.Elements.{filter-append}
-use Rattle.mailmap_findings.specs.declared.verify.lines.Line.{Line as the_line}
-use Rattle.mailmap_findings.specs.Positions.{line_of, Line, entry, located, located_entry, same_position, stands_at}
-use Rattle.mailmap_findings.proofs.Entries.{lines_more}
-use Rattle.mailmap_findings.specs.Steps.{AreApart, IsWalk, left_after, stands_first}
+use Rattle.mailmap_findings.specs.Positions.{Line, entry, located, located_entry, same_position, has_entry_at}
+use Rattle.mailmap_findings.specs.Marked.{AreApart, IsWalk, marked}
 
 pub same_itself : (a : Position) → same_position a a ≡ true
 same_itself a = and_from _ _ (eq-eqb a.buffer a.buffer refl) (eq-eqb a.line a.line refl)
@@ -29,7 +26,19 @@ same_is a b same =
 pub differs : (a b : Position) → a ≢ b → same_position a b ≡ false
 differs a b other = ⊎_elim (λ yes. absurd (other (same_is a b yes))) (λ no. no) (cases_Bool (same_position a b))
 
--- ---- if no entry stands
+-- ---- the first entry
+
+-- whether the first of the entries is at this position
+abbrev pub is_first_at : List LocatedMapping → Position → Bool
+is_first_at [] position = false
+is_first_at (x ∷ xs) position = same_position x.position position
+
+-- the entries without the first, if that is at this position
+abbrev pub without_first_at : List LocatedMapping → Position → List LocatedMapping
+without_first_at [] position = []
+without_first_at (x ∷ xs) position = if same_position x.position position then xs else x ∷ xs
+
+-- ---- if no entry is there
 
 -- none of the entries is at this position
 abbrev pub Elsewhere : Position → List LocatedMapping → Type 0
@@ -43,26 +52,26 @@ located_elsewhere position (l ∷ ls) a =
       | Some e ↦ (a.0, located_elsewhere position ls a.1)
     ]
 
-pub none_stands : (position : Position) (xs : List LocatedMapping) → Elsewhere position xs → stands_at xs position ≡ false
-none_stands position [] a = refl
-none_stands position (x ∷ xs) a = ap (λ b. b || stands_at xs position) (differs x.position position a.0) ∙ none_stands position xs a.1
+pub no_entry_at : (position : Position) (xs : List LocatedMapping) → Elsewhere position xs → has_entry_at xs position ≡ false
+no_entry_at position [] a = refl
+no_entry_at position (x ∷ xs) a = ap (λ b. b || has_entry_at xs position) (differs x.position position a.0) ∙ no_entry_at position xs a.1
 
-none_first : (position : Position) (xs : List LocatedMapping) → Elsewhere position xs → stands_first xs position ≡ false
+none_first : (position : Position) (xs : List LocatedMapping) → Elsewhere position xs → is_first_at xs position ≡ false
 none_first position [] a = refl
 none_first position (x ∷ xs) a = differs x.position position a.0
 
-pub none_passed : (position : Position) (xs : List LocatedMapping) → Elsewhere position xs → left_after xs position ≡ xs
+pub none_passed : (position : Position) (xs : List LocatedMapping) → Elsewhere position xs → without_first_at xs position ≡ xs
 none_passed position [] a = refl
 none_passed position (x ∷ xs) a = cond-false _ _ _ (differs x.position position a.0)
 
 -- ---- a walk
 
--- of all the entries that stay those are left that are on the lines that are left
+-- of all kept entries those are left that are on the lines that are left
 pub record InStep (kept left : List LocatedMapping) (ls : List Line) : Type 0 where
-  pub same : AllByRecursion (λ l. stands_at kept l.position ≡ stands_at left l.position) ls
+  pub same : AllByRecursion (λ l. has_entry_at kept l.position ≡ has_entry_at left l.position) ls
   pub walk : IsWalk left ls
 
-all_same : (kept : List LocatedMapping) (ls : List Line) → AllByRecursion (λ l. stands_at kept l.position ≡ stands_at kept l.position) ls
+all_same : (kept : List LocatedMapping) (ls : List Line) → AllByRecursion (λ l. has_entry_at kept l.position ≡ has_entry_at kept l.position) ls
 all_same kept [] = tt
 all_same kept (l ∷ ls) = (refl, all_same kept ls)
 
@@ -85,31 +94,31 @@ first_met l ls left =
       | Some e ↦ λ is s. first_some l ls left (record { position = l.position; entry = e }) refl (ap (option_map (λ m. record { position = l.position; entry = m })) is) s
     ] refl
 
--- beside a first entry that stands elsewhere, the same stand
+-- without a first entry that is elsewhere, there are entries at the same lines
 without_first : (kept left : List LocatedMapping) (x : LocatedMapping) (ls : List Line) → AllByRecursion (λ l. l.position ≢ x.position) ls
-    → AllByRecursion (λ l. stands_at kept l.position ≡ stands_at (x ∷ left) l.position) ls → AllByRecursion (λ l. stands_at kept l.position ≡ stands_at left l.position) ls
+    → AllByRecursion (λ l. has_entry_at kept l.position ≡ has_entry_at (x ∷ left) l.position) ls → AllByRecursion (λ l. has_entry_at kept l.position ≡ has_entry_at left l.position) ls
 without_first kept left x [] apart same = tt
 without_first kept left x (l ∷ ls) apart same = (
-  same.0 ∙ ap (λ b. b || stands_at left l.position) (differs x.position l.position (λ e. apart.0 (sym e))),
+  same.0 ∙ ap (λ b. b || has_entry_at left l.position) (differs x.position l.position (λ e. apart.0 (sym e))),
   without_first kept left x ls apart.1 same.1,
 )
 
--- one step: whether the entry of the line stays shows in the first of those left
+-- one step: whether the entry of the line is kept shows in the first of those left
 pub record Step (kept left : List LocatedMapping) (l : Line) (ls : List Line) : Type 0 where
-  pub stays : stands_at kept l.position ≡ stands_first left l.position
-  pub next : InStep kept (left_after left l.position) ls
+  pub stays : has_entry_at kept l.position ≡ is_first_at left l.position
+  pub next : InStep kept (without_first_at left l.position) ls
 
-pub step_by : (kept left : List LocatedMapping) (l : Line) (ls : List Line) → First l ls left → AllByRecursion (λ x. stands_at kept x.position ≡ stands_at left x.position) (l ∷ ls) → AreApart (l ∷ ls) → Step kept left l ls
+pub step_by : (kept left : List LocatedMapping) (l : Line) (ls : List Line) → First l ls left → AllByRecursion (λ x. has_entry_at kept x.position ≡ has_entry_at left x.position) (l ∷ ls) → AreApart (l ∷ ls) → Step kept left l ls
 step_by kept _ l ls (passes left s) same apart =
     let elsewhere = sublist_all (λ x. x.position ≢ l.position) left (located ls) s (located_elsewhere l.position ls apart.0) in
     record {
-      stays = same.0 ∙ none_stands l.position left elsewhere ∙ sym (none_first l.position left elsewhere);
+      stays = same.0 ∙ no_entry_at l.position left elsewhere ∙ sym (none_first l.position left elsewhere);
       next = subst (λ xs. InStep kept xs ls) (sym (none_passed l.position left elsewhere)) (record { same = same.1; walk = record { sublist = s; apart = apart.1 } });
     }
 step_by kept _ l ls (meets x left is given s) same apart =
     let here : same_position x.position l.position ≡ true = ap (λ p. same_position p l.position) is ∙ same_itself l.position in
     record {
-      stays = same.0 ∙ ap (λ b. b || stands_at left l.position) here ∙ sym here;
+      stays = same.0 ∙ ap (λ b. b || has_entry_at left l.position) here ∙ sym here;
       next = subst (λ xs. InStep kept xs ls) (sym (cond-true _ _ _ here))
           (record {
             same = without_first kept left x ls (subst (λ p. AllByRecursion (λ y. y.position ≢ p) ls) (sym is) apart.0) same.1;
@@ -120,31 +129,56 @@ step_by kept _ l ls (meets x left is given s) same apart =
 pub step : (kept left : List LocatedMapping) (l : Line) (ls : List Line) → InStep kept left (l ∷ ls) → Step kept left l ls
 step kept left l ls s = step_by kept left l ls (first_met l ls left s.walk.sublist) s.same s.walk.apart
 
--- ---- the code's lines, of which those before a position were walked over
+-- ---- marked lines
 
-module _ (ls : List the_line) (i : ℕ) (d : the_line) (within : i < length ls) where
-  pub lines_left : map line_of (drop i ls) ≡ line_of (get_or ls i d) ∷ map line_of (drop (i + 1) ls)
-  lines_left = let e : suc i ≡ i + 1 = omega arith in ap (map line_of) (drop-cons ls i d within ∙ ap (λ n. get_or ls i d ∷ drop n ls) e)
+same_marked : (kept left : List LocatedMapping) (ls : List Line) → AllByRecursion (λ l. has_entry_at kept l.position ≡ has_entry_at left l.position) ls → map (marked kept) ls ≡ map (marked left) ls
+same_marked kept left [] all = refl
+same_marked kept left (l ∷ ls) all = λ i. (l, all.0 i) ∷ same_marked kept left ls all.1 i
 
-  pub line_step : (kept left : List LocatedMapping) → InStep kept left (map line_of (drop i ls)) → Step kept left (line_of (get_or ls i d)) (map line_of (drop (i + 1) ls))
-  line_step kept left s = step kept left _ _ (subst (InStep kept left) lines_left s)
+-- the first line, marked, and the walk after it
+pub record IsFirstMarked (kept left : List LocatedMapping) (l : Line) (is_kept : Bool) (ls : List Line) : Type 0 where
+  pub whole : map (marked kept) (l ∷ ls) ≡ (l, is_kept) ∷ map (marked left) ls
+  pub walk : IsWalk left ls
 
-  -- what is reported of one more line
-  pub reported_more : {X : Type 0} (f : Line → List X) → flat_map f (map line_of (take (i + 1) ls)) ≡ flat_map f (map line_of (take i ls)) ++ f (line_of (get_or ls i d))
-  reported_more f = ap (flat_map f) (lines_more ls i d within) ∙ sym (flat_map_more f [] (map line_of (take i ls)) (line_of (get_or ls i d)))
+pub first_marked : (kept left : List LocatedMapping) (l : Line) (is_kept : Bool) (ls : List Line) → IsWalk kept (l ∷ ls)
+    → is_first_at kept l.position ≡ is_kept → without_first_at kept l.position ≡ left → IsFirstMarked kept left l is_kept ls
+first_marked kept left l is_kept ls walk first rest =
+    let one = step kept kept l ls (starts kept (l ∷ ls) walk) in
+    let next = subst (λ xs. InStep kept xs ls) rest one.next in
+    record { whole = λ i. (l, (one.stays ∙ first) i) ∷ same_marked kept left ls next.same i; walk = next.walk }
 
-  module _ {X : Type 0} (f : Line → List X) (test : Line → Bool) where
-    one_left : (b : Bool) → test (line_of (get_or ls i d)) ≡ b
-        → flat_map f (filter test (map line_of (take (i + 1) ls))) ≡ flat_map f (filter test (map line_of (take i ls))) ++ flat_map f (if b then line_of (get_or ls i d) ∷ [] else [])
-    one_left b is =
-        let front = map line_of (take i ls) in
-        let l = line_of (get_or ls i d) in
-        ap (λ xs. flat_map f (filter test xs)) (lines_more ls i d within)
-        ∙ ap (flat_map f) (filter-append test front (l ∷ []) ∙ ap (λ t. filter test front ++ (if t then l ∷ [] else [])) is)
-        ∙ flat_map-append f (filter test front) (if b then l ∷ [] else [])
+-- ---- the code's walk, which has passed the first i of the kept entries
 
-    pub left_more : test (line_of (get_or ls i d)) ≡ true → flat_map f (filter test (map line_of (take (i + 1) ls))) ≡ flat_map f (filter test (map line_of (take i ls))) ++ f (line_of (get_or ls i d))
-    left_more is = one_left true is ∙ ap (λ t. flat_map f (filter test (map line_of (take i ls))) ++ t) (append-nil (f (line_of (get_or ls i d))))
+abbrev pub kept_from : ℕ → List (Bor LocatedEntry) → List LocatedMapping
+kept_from i kept = map located_of_reference (drop i kept)
 
-    pub left_same : test (line_of (get_or ls i d)) ≡ false → flat_map f (filter test (map line_of (take (i + 1) ls))) ≡ flat_map f (filter test (map line_of (take i ls)))
-    left_same is = one_left false is ∙ append-nil (flat_map f (filter test (map line_of (take i ls))))
+module _ (kept : List (Bor LocatedEntry)) (i : ℕ) (ls rest : List Line) (l : Line) (first : ls ≡ l ∷ rest) (walk : IsWalk (kept_from i kept) ls) where
+  marked_by : (left : List LocatedMapping) (is_kept : Bool) → is_first_at (kept_from i kept) l.position ≡ is_kept → without_first_at (kept_from i kept) l.position ≡ left
+      → (map (marked (kept_from i kept)) ls ≡ (l, is_kept) ∷ map (marked left) rest) × IsWalk left rest
+  marked_by left is_kept test others =
+      let one = first_marked (kept_from i kept) left l is_kept rest (subst (IsWalk (kept_from i kept)) first walk) test others in
+      (ap (map (marked (kept_from i kept))) first ∙ one.whole, one.walk)
+
+  -- no entry is left
+  pub none_marked : length kept ≤ i → (map (marked (kept_from i kept)) ls ≡ (l, false) ∷ map (marked (kept_from i kept)) rest) × IsWalk (kept_from i kept) rest
+  none_marked past =
+      let none : kept_from i kept ≡ [] = ap (map located_of_reference) (drop_all i kept past) in
+      marked_by (kept_from i kept) false (ap (λ xs. is_first_at xs l.position) none) (ap (λ xs. without_first_at xs l.position) none ∙ sym none)
+
+  module _ (x : Bor LocatedEntry) (within : i < length kept) (here : x ≡ get_or kept i x) where
+    parts : kept_from i kept ≡ located_of_reference x ∷ kept_from (i + 1) kept
+    parts =
+        let e : suc i ≡ i + 1 = omega arith in
+        ap (map located_of_reference) (drop-cons kept i x within) ∙ (λ j. located_of_reference (sym here j) ∷ kept_from (e j) kept)
+
+    -- the next one is of another line
+    pub other_marked : same_position x.now.position l.position ≡ false → (map (marked (kept_from i kept)) ls ≡ (l, false) ∷ map (marked (kept_from i kept)) rest) × IsWalk (kept_from i kept) rest
+    other_marked other =
+        marked_by (kept_from i kept) false (ap (λ xs. is_first_at xs l.position) parts ∙ other)
+        (ap (λ xs. without_first_at xs l.position) parts ∙ cond-false _ _ _ other ∙ sym parts)
+
+    -- the next one is of this line
+    pub kept_marked : same_position x.now.position l.position ≡ true → (map (marked (kept_from i kept)) ls ≡ (l, true) ∷ map (marked (kept_from (i + 1) kept)) rest) × IsWalk (kept_from (i + 1) kept) rest
+    kept_marked same =
+        marked_by (kept_from (i + 1) kept) true (ap (λ xs. is_first_at xs l.position) parts ∙ same)
+        (ap (λ xs. without_first_at xs l.position) parts ∙ cond-true _ _ _ same)

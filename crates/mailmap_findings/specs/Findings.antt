@@ -1,4 +1,4 @@
--- What is found in mailmaps, and what is left of one that is pruned.
+-- What is found in mailmaps, and what is kept of one that is pruned.
 use Rattle.std.specs.Prelude.{◌≡◌, ◌<◌, ◌≤◌, ◌⊎◌, ◌++◌, ◌∷◌, ◌||◌, ◌&&◌, Bool, true, false, if◌then◌else◌, Option, Some, None, List, [], Ok, Err, map, filter, is_none, nat_eq, unwrap_or}
 use Rattle.std.specs.List.{AllByRecursion, flat_map, list_any}
 use Rattle.std.specs.Option.{option_and_then, option_copied, option_map, option_or, option_to_list}
@@ -11,7 +11,7 @@ use Rattle.mailmap_histories.specs.Histories.{Fields, fields_for, key}
 use Rattle.mailmap_histories.specs.Listings.{same_optional}
 use Rattle.mailmap_redundancy.specs.Redundancy.{LocatedMapping, IsReduced, entries, last_position}
 use Rattle.mailmap_redundancy.specs.declared.located.Position.{Position}
-use Rattle.mailmap_findings.specs.Positions.{Line, entry, lines, located, same_position, stands_at}
+use Rattle.mailmap_findings.specs.Positions.{Line, entry, lines, located, same_position, has_entry_at}
 use Rattle.mailmap_findings.specs.declared.verify.Contact as the_contact
 use Rattle.mailmap_findings.specs.declared.verify.Finding as the_finding
 use Rattle.mailmap_findings.specs.declared.verify.Kind as the_kind
@@ -81,26 +81,26 @@ same_contact a b = same_optional a.name b.name && pointwise nat_eq a.email b.ema
 abbrev pub reported_of_contact : Contact → Contact → Option Reported
 reported_of_contact c to = if same_contact c to then None else Some (itself_mapped c to)
 
--- what is reported of an entry that stays, and of one that does not, of which the last of its key that stays is named
+-- what is reported of an entry that is kept, and of one that is not, of which the last kept one of its key is named
 abbrev pub reported_of_entry : List Mapping → List LocatedMapping → Bool → Mapping → Option Reported
 reported_of_entry h kept true e = reported_of_contact (contact e) (mapped h (contact e))
 reported_of_entry h kept false e = option_map no_effect (last_position kept (key e))
 
 -- ---- both, for all lines
 
--- what is reported of a line where the history has the entries of all lines, those of `kept` stay, and its own does or
--- not
+-- what is reported of a line, if the history has the entries of all lines, `kept` those that are kept, and its own is
+-- kept or not
 abbrev pub reported_of_line : List Mapping → List LocatedMapping → Bool → Line → List Reported
-reported_of_line h kept stays l =
+reported_of_line h kept is_kept l =
     option_to_list (reported_of_reading l.text (strict_reading l.position.line l.text)) ++
-    option_to_list (option_and_then (reported_of_entry h kept stays) (entry l))
+    option_to_list (option_and_then (reported_of_entry h kept is_kept) (entry l))
 
 abbrev pub line_findings : List Mapping → List LocatedMapping → Bool → Line → List Finding
-line_findings h kept stays l = map (λ t. record { position = l.position; reported = t }) (reported_of_line h kept stays l)
+line_findings h kept is_kept l = map (λ t. record { position = l.position; reported = t }) (reported_of_line h kept is_kept l)
 
--- the same; its entry stays if it is one of `kept`
+-- the same; its entry is kept if it is one of `kept`
 abbrev pub findings : List Mapping → List LocatedMapping → Line → List Finding
-findings h kept l = line_findings h kept (stands_at kept l.position) l
+findings h kept l = line_findings h kept (has_entry_at kept l.position) l
 
 -- what is reported of the lines of these buffers, line by line: each defect that there is, and nothing else
 pub record AreFindings (buffers : List Text) (found : List Finding) : Type 0 where
@@ -117,7 +117,7 @@ abbrev pub AreInOrder : List Finding → Type 0
 AreInOrder [] = Unit {0}
 AreInOrder (f ∷ fs) = AllByRecursion (λ g. IsUpTo f.position g.position) fs × AreInOrder fs
 
--- ---- what is left
+-- ---- what is kept
 
 -- whether a line is reported to have no effect
 abbrev pub has_no_effect : Reported → Bool
@@ -129,12 +129,12 @@ has_no_effect (itself_mapped c to) = false
 abbrev pub is_redundant : List Finding → Line → Bool
 is_redundant found l = list_any (λ f. has_no_effect f.reported && same_position f.position l.position) found
 
--- whether a line is left: it gives no entry, or one that stays
-abbrev pub is_left : List LocatedMapping → Line → Bool
-is_left kept l = is_none (entry l) || stands_at kept l.position
+-- whether a line is kept: it gives no entry, or one that is kept
+abbrev pub is_line_kept : List LocatedMapping → Line → Bool
+is_line_kept kept l = is_none (entry l) || has_entry_at kept l.position
 
 -- the text has the lines of the buffer as they are, but those whose entries go
 pub record IsPruned (buffer text : Text) : Type 0 where
   pub kept : List LocatedMapping
   pub reduced : IsReduced (located (lines (buffer ∷ []))) kept
-  pub whole : text ≡ flat_map (λ l. l.text) (filter (is_left kept) (lines (buffer ∷ [])))
+  pub whole : text ≡ flat_map (λ l. l.text) (filter (is_line_kept kept) (lines (buffer ∷ [])))

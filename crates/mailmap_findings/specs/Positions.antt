@@ -62,5 +62,5 @@ abbrev pub same_position : Position → Position → Bool
 same_position a b = a.buffer == b.buffer && a.line == b.line
 
 -- whether one of the entries is at this position
-abbrev pub stands_at : List LocatedMapping → Position → Bool
-stands_at xs position = list_any (λ x. same_position x.position position) xs
+abbrev pub has_entry_at : List LocatedMapping → Position → Bool
+has_entry_at xs position = list_any (λ x. same_position x.position position) xs

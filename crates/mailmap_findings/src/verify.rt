@@ -10,7 +10,16 @@
 //!
 //! [`verify`] finds that the third line ends with text that nobody reads. The first line gives `JD@x` its spelling, so
 //! it has an effect, although the second one replaces both of its fields.
-ghost use Rattle.std.specs.Prelude.{map, IfOk};
+//!
+//! A mailmap may have many more findings than entries. [`Findings`] makes them one by one, and takes no memory:
+//!
+//! ```text
+//! let mailmaps = Mailmaps::read(alloc, &buffers)?;
+//! let verification = Verification::new(alloc, &mailmaps)?;
+//! for finding in verification.findings() { .. }
+//! ```
+ghost use Rattle.std.specs.Prelude.{◌≡◌, map, IfOk};
+ghost use Rattle.std.specs.Iterator.{YieldsFirstBy, item_count};
 ghost use Rattle.mailmap_findings.specs.Findings.{AreFindings, IsPruned, finding_of};
 
 mod contacts;
@@ -18,12 +27,13 @@ mod lines;
 mod reading;
 mod walk;
 
-use lines::{located_entries, read_lines};
+use lines::located_entries;
 use mailmap_grammar::lines::Error;
 pub use mailmap_redundancy::Position;
-use mailmap_redundancy::without_redundant;
-use reading::{LinesRead, readings};
+use mailmap_redundancy::{LocatedEntry, Reduced, without_redundant};
 use std::alloc::{AllocError, Global};
+use std::marker::Model;
+use walk::{MarkedLines, line_findings, pruned_text};
 
 /// What is wrong with one line, and which line it is.
 #[derive(Debug, PartialEq, Eq, Drop)]
@@ -71,19 +81,149 @@ pub struct Contact<'a> {
 pub fn verify<'a>(alloc: Global, buffers: &[&'a [u8]]) -> Result<Vec<Finding<'a>>, AllocError>
     ensures { IfOk result (λ findings. AreFindings (map (λ b. b.now) buffers.now) (map finding_of findings.items)) }
 {
-    let lines = read_lines(alloc, buffers)?;
-    let LinesRead { reported, located } = readings(alloc, &lines)?;
-    let reduced = without_redundant(alloc, &located)?;
-    walk::findings(alloc, &lines, reported, &located, &reduced)
+    let mailmaps = Mailmaps::read(alloc, buffers)?;
+    let verification = Verification::new(alloc, &mailmaps)?;
+    verification.findings().collect(alloc)
 }
 
-/// The buffer without the lines whose entries have no effect. All other lines stay byte for byte, even comments and
+/// The buffer without the lines whose entries have no effect. All other lines are kept byte for byte, even comments and
 /// lines with faults.
 pub fn prune(alloc: Global, buffer: &[u8]) -> Result<Vec<u8>, AllocError>
     ensures { IfOk result (λ text. IsPruned buffer.now text.items) }
 {
-    let lines = read_lines(alloc, &[buffer])?;
-    let located = located_entries(alloc, &lines)?;
+    let buffers = [buffer];
+    let located = located_entries(alloc, &buffers)?;
     let reduced = without_redundant(alloc, &located)?;
-    walk::text_left(alloc, &lines, &located, reduced.kept())
+    let lines = MarkedLines::new(&buffers, reduced.kept());
+    pruned_text(alloc, buffer.len(), lines)
+}
+
+/// Mailmaps, each in a buffer, and the entries of their lines. A [`Verification`] borrows them.
+///
+/// To a contract it is the list of the buffers' texts.
+#[derive(Drop)]
+pub struct Mailmaps<'b, 'a> {
+    buffers: &'b [&'a [u8]],
+    entries: Vec<LocatedEntry<'a>>,
+}
+
+impl<'b, 'a> Model for Mailmaps<'b, 'a> {
+    ghost use Rattle.std.specs.Prelude.{◌≡◌, List, map};
+    ghost use Rattle.mailmap_entries.specs.Folding.{Text};
+    ghost use Rattle.mailmap_redundancy.specs.Redundancy.{located_of};
+    ghost use Rattle.mailmap_findings.specs.Positions.{lines, located};
+
+    ghost Value = { List Text };
+
+    ghost view = { λ s. map (λ b. b.now) s.buffers.now };
+
+    ghost invariant = { λ s. map located_of s.entries.items ≡ located (lines (map (λ b. b.now) s.buffers.now)) };
+}
+
+impl<'b, 'a> Mailmaps<'b, 'a> {
+    /// Reads the lines of the buffers and keeps their entries. Other lines take no memory.
+    pub fn read(alloc: Global, buffers: &'b [&'a [u8]]) -> Result<Mailmaps<'b, 'a>, AllocError>
+        ensures { IfOk result (λ mailmaps. mailmaps ≡ map (λ b. b.now) buffers.now) }
+    {
+        Ok(Mailmaps {
+            buffers,
+            entries: located_entries(alloc, buffers)?,
+        })
+    }
+}
+
+/// What is wrong with the lines of mailmaps, as [`verify`] reports it, but to be made one by one.
+///
+/// To a contract it is the list of all findings.
+#[derive(Drop)]
+pub struct Verification<'m, 'a> {
+    buffers: &'m [&'a [u8]],
+    reduced: Reduced<'m, 'a>,
+}
+
+impl<'m, 'a> Model for Verification<'m, 'a> {
+    ghost use Rattle.std.specs.Prelude.{List, map};
+    ghost use Rattle.std.specs.List.{flat_map};
+    ghost use Rattle.mailmap_redundancy.specs.Redundancy.{IsSublist, entries};
+    ghost use Rattle.mailmap_findings.specs.Findings.{Finding, findings};
+    ghost use Rattle.mailmap_findings.specs.Positions.{lines, located};
+
+    ghost Value = { List Finding };
+
+    ghost view = { λ s. flat_map (findings (entries s.reduced.history) s.reduced.kept)
+        (lines (map (λ b. b.now) s.buffers.now)) };
+
+    ghost invariant = { λ s. IsSublist s.reduced.kept (located (lines (map (λ b. b.now) s.buffers.now))) };
+}
+
+impl<'m, 'a> Verification<'m, 'a> {
+    /// Finds out which entries have an effect, and takes all the memory that the findings need.
+    pub fn new(
+        alloc: Global,
+        mailmaps: &'m Mailmaps<'_, 'a>,
+    ) -> Result<Verification<'m, 'a>, AllocError>
+        ensures { IfOk result (λ verification. AreFindings mailmaps.now verification) }
+    {
+        Ok(Verification {
+            buffers: mailmaps.buffers,
+            reduced: without_redundant(alloc, &mailmaps.entries)?,
+        })
+    }
+
+    /// All findings, in the order of the lines. Each line is read when its turn comes, and nothing is allocated.
+    pub fn findings(&self) -> Findings<'_, 'a>
+        ensures { result ≡ self.now }
+    {
+        Findings {
+            lines: MarkedLines::new(self.buffers, self.reduced.kept()),
+            reduced: &self.reduced,
+            second: None,
+        }
+    }
+}
+
+/// The findings of a [`Verification`], made on demand: the iterator that [`findings`](Verification::findings()) makes.
+///
+/// To a contract it is the list of the findings that are left.
+#[derive(Drop)]
+pub struct Findings<'v, 'a> {
+    lines: MarkedLines<'v, 'a>,
+    reduced: &'v Reduced<'v, 'a>,
+    // the second finding of the last line, until it is given
+    second: Option<Finding<'a>>,
+}
+
+impl<'v, 'a> Model for Findings<'v, 'a> {
+    ghost use Rattle.std.specs.Prelude.{◌++◌, List, option_to_list};
+    ghost use Rattle.std.specs.List.{flat_map};
+    ghost use Rattle.std.specs.Option.{option_map};
+    ghost use Rattle.mailmap_redundancy.specs.Redundancy.{entries};
+    ghost use Rattle.mailmap_findings.specs.Findings.{Finding, finding_of, line_findings};
+
+    ghost Value = { List Finding };
+
+    ghost view = { λ s. option_to_list (option_map finding_of s.second)
+        ++ flat_map (λ m. line_findings (entries s.reduced.now.history) s.reduced.now.kept m.1 m.0) s.lines };
+}
+
+impl<'v, 'a> Iterator for Findings<'v, 'a> {
+    type Item = Finding<'a>;
+
+    ghost next_gives = { YieldsFirstBy finding_of (λ s. s) };
+
+    ghost remaining = { item_count (λ s. s) };
+
+    fn next(&mut self) -> Option<Finding<'a>> {
+        loop {
+            if let Some(finding) = self.second.take() {
+                return Some(finding);
+            }
+            let (line, is_kept) = self.lines.next()?;
+            let (first, second) = line_findings(self.reduced, &line, is_kept);
+            self.second = second;
+            if let Some(finding) = first {
+                return Some(finding);
+            }
+        }
+    }
 }

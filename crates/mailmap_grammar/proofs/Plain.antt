@@ -1,9 +1,9 @@
 -- What the bytes at the ends of a text say of its trimming.
-use Rattle.std.proofs.Common.{◌≡◌, ◌⊎◌, ◌+◌, ◌-◌, ◌/◌, ◌<◌, ◌≤◌, ℕ, suc, true, List, [], ◌∷◌, ◌++◌, length, take, drop, get_or, length-append, refl, sym, ap, subst, ◌∙◌, arith, ⊎_elim}
-use Rattle.std.proofs.Common.{take-append-drop}
+use Rattle.std.proofs.Common.{◌≡◌, ◌⊎◌, ◌+◌, ◌-◌, ◌/◌, ◌<◌, ◌≤◌, ℕ, suc, true, List, [], ◌∷◌, ◌++◌, length, take, drop, get_or, length-append, refl, sym, ap, ap₂, subst, ◌∙◌, arith, ⊎_elim}
+use Rattle.std.proofs.Common.{append_assoc}
 use Rattle.std.proofs.lemmas.Bool.{cases_lt}
 use Rattle.std.proofs.lemmas.Bool.Decides.{nat_tests}
-use Rattle.std.proofs.lemmas.List.{take_rest, drop_all, get_or-append-add}
+use Rattle.std.proofs.lemmas.List.{take_more, get_or-append-add}
 use Rattle.std.proofs.lemmas.Str.{encode_ascii}
 use Rattle.std.proofs.Math.Seq.{drop-cons}
 use Rattle.bstr.specs.Trim.{trim_end_by}
@@ -14,20 +14,45 @@ use Rattle.mailmap_grammar.proofs.Trimmed.{trim-white_start, trim-white_end, sta
 blank : encode_utf8 32 ≡ 32 ∷ []
 blank = encode_ascii 32 (omega arith)
 
--- a blank at the front goes
-pub first-blank : (s : List ℕ) → 0 < length s → get_or s 0 0 ≡ 32 → trim (take (length s - 1) (drop 1 s)) ≡ trim s
-first-blank [] some is = absurd (omega arith)
-first-blank (b ∷ r) some is =
-    ap trim (take_rest (b ∷ r) 1) ∙ sym (trim-white_start 32 r refl) ∙ ap (λ e. trim (e ++ r)) blank ∙ ap (λ x. trim (x ∷ r)) (sym is)
+wide : encode_utf8 12288 ≡ 227 ∷ 128 ∷ 128 ∷ []
+unfolding encode_utf8
+wide = refl
 
--- a blank at the end goes
-pub last-blank : (s : List ℕ) → 0 < length s → get_or s (length s - 1) 0 ≡ 32 → trim (take (length s - 1) s) ≡ trim s
-last-blank s some is =
-    let n = length s - 1 in
-    let none : drop (suc n) s ≡ [] = drop_all (suc n) s (omega arith) in
-    let one : drop n s ≡ 32 ∷ [] = drop-cons s n 0 (omega arith) ∙ ap (λ x. x ∷ drop (suc n) s) is ∙ ap (λ r. 32 ∷ r) none in
-    let parts : take n s ++ encode_utf8 32 ≡ s = ap (λ r. take n s ++ r) (blank ∙ sym one) ∙ take-append-drop n s in
-    sym (trim-white_end 32 (take n s) refl) ∙ ap trim parts
+first_at : (s : List ℕ) (i j x : ℕ) → i < length s → j ≡ i + 1 → get_or s i 0 ≡ x → drop i s ≡ x ∷ drop j s
+first_at s i j x lt next is =
+    let after : suc i ≡ j = omega (arith, next) in
+    drop-cons s i 0 lt ∙ ap₂ (λ y k. y ∷ drop k s) is after
+
+last_at : (s : List ℕ) (i j x : ℕ) → i < length s → j ≡ i + 1 → get_or s i 0 ≡ x → take j s ≡ take i s ++ x ∷ []
+last_at s i j x lt next is = ap (λ k. take k s) next ∙ take_more s i 0 lt ∙ ap (λ y. take i s ++ y ∷ []) is
+
+-- white space at the front goes
+white-first : (c : ℕ) (white s rest : List ℕ) → is_whitespace c ≡ true → encode_utf8 c ≡ white → s ≡ white ++ rest → trim rest ≡ trim s
+white-first c white s rest is spelled whole = sym (trim-white_start c rest is) ∙ ap trim (ap (λ e. e ++ rest) spelled ∙ sym whole)
+
+pub first-blank : (s : List ℕ) (i : ℕ) → i < length s → get_or s i 0 ≡ 32 → trim (drop (i + 1) s) ≡ trim (drop i s)
+first-blank s i lt is = white-first 32 (32 ∷ []) (drop i s) (drop (i + 1) s) refl blank (first_at s i (i + 1) 32 lt refl is)
+
+pub first-wide : (s : List ℕ) (i : ℕ) → i + 2 < length s → get_or s i 0 ≡ 227 → get_or s (i + 1) 0 ≡ 128 → get_or s (i + 2) 0 ≡ 128 → trim (drop (i + 3) s) ≡ trim (drop i s)
+first-wide s i lt a b c =
+    white-first 12288 (227 ∷ 128 ∷ 128 ∷ []) (drop i s) (drop (i + 3) s) refl wide
+    (first_at s i (i + 1) 227 (omega arith) refl a
+    ∙ ap (λ r. 227 ∷ r) (first_at s (i + 1) (i + 2) 128 (omega arith) (omega arith) b ∙ ap (λ r. 128 ∷ r) (first_at s (i + 2) (i + 3) 128 lt (omega arith) c)))
+
+-- white space at the end goes
+white-last : (c : ℕ) (white s rest : List ℕ) → is_whitespace c ≡ true → encode_utf8 c ≡ white → s ≡ rest ++ white → trim rest ≡ trim s
+white-last c white s rest is spelled whole = sym (trim-white_end c rest is) ∙ ap trim (ap (λ e. rest ++ e) spelled ∙ sym whole)
+
+pub last-blank : (s : List ℕ) (n : ℕ) → 0 < n → n ≤ length s → get_or s (n - 1) 0 ≡ 32 → trim (take (n - 1) s) ≡ trim (take n s)
+last-blank s n some within is = white-last 32 (32 ∷ []) (take n s) (take (n - 1) s) refl blank (last_at s (n - 1) n 32 (omega arith) (omega arith) is)
+
+pub last-wide : (s : List ℕ) (n : ℕ) → 2 < n → n ≤ length s → get_or s (n - 3) 0 ≡ 227 → get_or s (n - 2) 0 ≡ 128 → get_or s (n - 1) 0 ≡ 128 → trim (take (n - 3) s) ≡ trim (take n s)
+last-wide s n some within a b c =
+    let front = take (n - 3) s in
+    white-last 12288 (227 ∷ 128 ∷ 128 ∷ []) (take n s) front refl wide
+    (last_at s (n - 1) n 128 (omega arith) (omega arith) c
+    ∙ ap (λ r. r ++ 128 ∷ []) (last_at s (n - 2) (n - 1) 128 (omega arith) (omega arith) b ∙ ap (λ r. r ++ 128 ∷ []) (last_at s (n - 3) (n - 2) 227 (omega arith) (omega arith) a))
+    ∙ append_assoc (front ++ 227 ∷ []) (128 ∷ []) (128 ∷ []) ∙ append_assoc front (227 ∷ []) (128 ∷ 128 ∷ []))
 
 -- past ASCII, characters begin and end with bytes past ASCII
 high-last : (c : ℕ) → 128 ≤ c → 128 ≤ get_or (encode_utf8 c) (length (encode_utf8 c) - 1) 0

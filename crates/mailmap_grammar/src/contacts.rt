@@ -45,33 +45,63 @@ pub fn parse_name_and_email(text: &[u8]) -> ParsedContact<'_>
 pub fn trim(text: &[u8]) -> &[u8]
     ensures { result.now ≡ spec_trim text.now }
 {
-    // Most texts have at most one blank at each end, and then a byte that shows that there is no more to trim.
-    let inner = without_last_blank(without_first_blank(text));
+    // Most texts have at each end, after some blanks, a byte that shows that there is no more to trim.
+    let inner = without_last_blanks(without_first_blanks(text));
     if is_plain(inner) {
         return inner;
     }
-    inner.trim()
+    without_last_wide_blanks(without_first_wide_blanks(inner)).trim()
 }
 
 #[inline(always)]
-fn without_first_blank(text: &[u8]) -> &[u8]
+fn without_first_blanks(text: &[u8]) -> &[u8]
     ensures { spec_trim result.now ≡ spec_trim text.now }
 {
-    if text.is_empty() || text[0] != b' ' {
-        return text;
+    let mut start = 0;
+    while start < text.len() && text[start] == b' ' {
+        start += 1;
     }
-    &text[1..]
+    &text[start..]
 }
 
 #[inline(always)]
-fn without_last_blank(text: &[u8]) -> &[u8]
+fn without_last_blanks(text: &[u8]) -> &[u8]
     ensures { spec_trim result.now ≡ spec_trim text.now }
 {
-    let len = text.len();
-    if len == 0 || text[len - 1] != b' ' {
-        return text;
+    let mut end = text.len();
+    while end > 0 && text[end - 1] == b' ' {
+        end -= 1;
     }
-    &text[..len - 1]
+    &text[..end]
+}
+
+// The same for the ideographic space, U+3000.
+fn without_first_wide_blanks(text: &[u8]) -> &[u8]
+    ensures { spec_trim result.now ≡ spec_trim text.now }
+{
+    let mut start = 0;
+    while start + 2 < text.len() && is_wide_blank(text[start], text[start + 1], text[start + 2]) {
+        start += 3;
+    }
+    &text[start..]
+}
+
+fn without_last_wide_blanks(text: &[u8]) -> &[u8]
+    ensures { spec_trim result.now ≡ spec_trim text.now }
+{
+    let mut end = text.len();
+    while end > 2 && is_wide_blank(text[end - 3], text[end - 2], text[end - 1]) {
+        end -= 3;
+    }
+    &text[..end]
+}
+
+// Whether three bytes are the UTF-8 of U+3000.
+#[inline(always)]
+fn is_wide_blank(first: u8, second: u8, third: u8) -> bool
+    ensures { IsTrue result → (first ≡ 0xE3) × (second ≡ 0x80) × (third ≡ 0x80) }
+{
+    first == 0xE3 && second == 0x80 && third == 0x80
 }
 
 // Whether the bytes at both ends show that there is nothing to trim.

@@ -74,7 +74,8 @@ pub fn parse_strict(buf: &[u8]) -> StrictLines<'_>
     }
 }
 
-/// Parses `buf` as [`parse`] does and leaves out the lines that don't parse, as git does.
+/// Parses `buf` as [`parse`] does, and leaves out the lines that have a fault. git skips most such lines without a word,
+/// too, but it takes an email of blanks: `Jane < > <b@x>` maps `b@x` there.
 ///
 /// The buffer `<a@x>\nJane <j@x>\nplain` gives only the entry of `Jane` by `j@x`.
 pub fn parse_ignore_errors(buf: &[u8]) -> GoodLines<'_>

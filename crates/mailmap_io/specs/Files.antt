@@ -1,5 +1,7 @@
 -- What reading files by their paths gives.
-use Rattle.std.specs.Prelude.{◌≡◌, ℕ, suc, ◌<◌, List, [], IfSome, Option, EachIndex, length, slice_index_or}
+use Rattle.std.specs.Prelude.{◌≡◌, ℕ, suc, ◌<◌, ◌≤◌, ⊤, List, [], IfSome, Option, EachIndex, length, slice_index_or}
+use Rattle.mailmap_io.specs.declared.read_error.ReadError.{ReadError}
+use Rattle.mailmap_io.specs.declared.read_error.ReadError.TheVariants.{File, Memory}
 
 -- These are all the bytes of a file that may be opened, where its bytes are known.
 abbrev pub IsRead : (List ℕ → Type 0) → (List ℕ → Option (List ℕ)) → List ℕ → List ℕ → Type 0
@@ -12,3 +14,8 @@ AreRead may_open known paths contents = (length contents ≡ length paths) × Ea
 -- The files before that of a number, which counts from 1, may all be opened.
 abbrev pub MayOpenBefore : (List ℕ → Type 0) → ℕ → List (List ℕ) → Type 0
 MayOpenBefore may_open number paths = (k : ℕ) → suc k < number → may_open (slice_index_or paths k [])
+
+-- Reading broke off at a file of the paths, and those before it may all be opened; or there was no memory for the list.
+abbrev pub BreaksOff : (List ℕ → Type 0) → List (List ℕ) → ReadError → Type 0
+BreaksOff may_open paths Memory = ⊤
+BreaksOff may_open paths (File number cause) = (0 < number) × (number ≤ length paths) × MayOpenBefore may_open number paths

@@ -1,11 +1,10 @@
 -- The exit status of a program.
 use Rattle.std.specs.Prelude.{ℕ, Result, Ok, Err}
-use Rattle.mailmap_io.specs.declared.failure.Failure.{Failure}
 use Rattle.mailmap_io.specs.declared.outcome.Outcome.{Outcome}
 use Rattle.mailmap_io.specs.declared.outcome.Outcome.TheVariants.{Clean, Found}
 
 -- 0 if nothing was found that is wrong, 1 if something was, 2 at a failure
-abbrev pub status_of : Result Outcome Failure → ℕ
+abbrev pub status_of : {E : Type 0} → Result Outcome E → ℕ
 status_of (Ok Clean) = 0
 status_of (Ok Found) = 1
 status_of (Err failure) = 2

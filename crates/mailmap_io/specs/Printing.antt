@@ -1,5 +1,5 @@
 -- What a run writes.
-use Rattle.std.specs.Prelude.{ℕ, List, Option, take}
+use Rattle.std.specs.Prelude.{◌≡◌, ◌++◌, ℕ, List, Option, take}
 use Rattle.std.specs.Io.KnownBytes.{Appends}
 
 -- what a writer holds has grown by such a text
@@ -9,3 +9,7 @@ Prints IsText old new = (text : List ℕ) × IsText text × Appends old new text
 -- what a writer holds has grown by the beginning of such a text
 abbrev pub PrintsFront : (List ℕ → Type 0) → Option (List ℕ) → Option (List ℕ) → Type 0
 PrintsFront IsText old new = (text : List ℕ) × IsText text × ((count : ℕ) × Appends old new (take count text))
+
+-- of a text the beginning was written, and the rest is held
+abbrev pub IsUnderway : List ℕ → Option (List ℕ) → Option (List ℕ) → List ℕ → Type 0
+IsUnderway text old new held = (written : List ℕ) × Appends old new written × (text ≡ written ++ held)

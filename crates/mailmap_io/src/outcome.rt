@@ -3,7 +3,6 @@ ghost use Rattle.std.specs.Prelude.{◌≡◌};
 ghost use Rattle.std.specs.Process.{exit_status};
 ghost use Rattle.mailmap_io.specs.Outcome.{status_of};
 
-use crate::failure::Failure;
 use std::process::ExitCode;
 
 /// How a run ended that no failure met.
@@ -16,7 +15,7 @@ pub enum Outcome {
 }
 
 /// The exit status: 0 if nothing is wrong, 1 if something was found, and 2 at a failure.
-pub fn exit_code(ended: Result<Outcome, Failure>) -> ExitCode
+pub fn exit_code<E: Drop>(ended: Result<Outcome, E>) -> ExitCode
     ensures { exit_status result ≡ status_of ended }
 {
     match ended {

@@ -1,6 +1,6 @@
 // All that a reader has, and a text to a writer.
 ghost use Rattle.std.specs.Prelude.{ℕ, IfOk, IsOkUnless, OnErr, OnOk, take};
-ghost use Rattle.std.specs.Io.KnownBytes.{Appends, Consumes, IsAtEnd};
+ghost use Rattle.std.specs.Io.KnownBytes.{Appends, Consumes, IsAtEnd, Keeps};
 
 use crate::failure::Failure;
 use std::alloc::Global;
@@ -18,10 +18,21 @@ pub fn read_all<R: Read>(
     ensures end { OnOk result (IsAtEnd (R.remaining reader.new)) }
     ensures only { IsOkUnless result failure }
 {
+    match read_to_end(alloc, reader) {
+        Ok(bytes) => Ok(bytes),
+        Err(_) => Err(failure),
+    }
+}
+
+/// All that a reader has left, or what kept it from being read to its end, no memory for what was read too.
+pub fn read_to_end<R: Read>(alloc: Global, reader: &mut R) -> Result<Vec<u8>, ErrorKind>
+    ensures all { IfOk result (λ bytes. Consumes (R.remaining reader.old) (R.remaining reader.new) bytes.items) }
+    ensures end { OnOk result (IsAtEnd (R.remaining reader.new)) }
+{
     let mut bytes = Vec::new(alloc);
     match reader.read_to_end(&mut bytes) {
         Ok(_) => Ok(bytes),
-        Err(_) => Err(failure),
+        Err(e) => Err(e.kind()),
     }
 }
 
@@ -34,10 +45,21 @@ pub fn write_all<W: Write>(writer: &mut W, text: &[u8]) -> Result<(), Failure>
         (take count text.now)) }
     ensures only { IsOkUnless result Failure.Output }
 {
+    write_unflushed(writer, text)?;
+    flush(writer)
+}
+
+/// Writes a text to its end, and doesn't flush. At an error what was written is the beginning of the text.
+pub fn write_unflushed<W: Write>(writer: &mut W, text: &[u8]) -> Result<(), Failure>
+    ensures ok { OnOk result (Appends (W.contents writer.old) (W.contents writer.new) text.now) }
+    ensures err { OnErr result ((count : ℕ) × Appends (W.contents writer.old) (W.contents writer.new)
+        (take count text.now)) }
+    ensures only { IsOkUnless result Failure.Output }
+{
     let mut written = 0;
     for _ in 0..u64::MAX {
         if written == text.len() {
-            return writer.flush().map_err(|_| Failure::Output);
+            return Ok(());
         }
         match writer.write(&text[written..]) {
             Ok(0) => return Err(Failure::Output),
@@ -47,4 +69,12 @@ pub fn write_all<W: Write>(writer: &mut W, text: &[u8]) -> Result<(), Failure>
         }
     }
     Err(Failure::Output)
+}
+
+/// Flushes a writer. What it holds stays as it is.
+pub fn flush<W: Write>(writer: &mut W) -> Result<(), Failure>
+    ensures keeps { Keeps (W.contents writer.old) (W.contents writer.new) }
+    ensures only { IsOkUnless result Failure.Output }
+{
+    writer.flush().map_err(|_| Failure::Output)
 }

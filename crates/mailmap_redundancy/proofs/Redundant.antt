@@ -20,7 +20,7 @@ use Rattle.mailmap_histories.proofs.Joined.{alike_trans}
 use Rattle.mailmap_histories.proofs.Keys.{keys_exact}
 use Rattle.mailmap_histories.proofs.Normal.{alike_normal, known}
 use Rattle.mailmap_redundancy.specs.Redundancy.{IsRedundant}
-use Rattle.mailmap_redundancy.specs.Summaries.{KeySummary, Summary, later_of, key_summary, summary, own_summary, joined_summary, is_last_kept, same_fields, is_value_kept, is_redundant}
+use Rattle.mailmap_redundancy.specs.Summaries.{KeySummary, Summary, later_of, key_summary, summary, own_summary, joined_summary, is_last_unchanged, same_fields, is_value_unchanged, is_redundant}
 use Rattle.mailmap_redundancy.proofs.Summaries.{summary_parts, spelling_parts, of_key_without, summary_without, spelling_without, summary_around, spelling_around}
 
 -- ---- redundant entries leave an alike history
@@ -40,7 +40,7 @@ first_decides : (before : Option Text) (own : Text) (after : Option Text) → De
 first_decides (Some x) own after = (λ e. refl, λ e. refl)
 first_decides None own after = optional_decides (Some own) after
 
-last_decides : (before own after : Option Text) → Decides (is_last_kept before own (is_some after)) (option_or (option_or after own) before ≡ option_or after before)
+last_decides : (before own after : Option Text) → Decides (is_last_unchanged before own (is_some after)) (option_or (option_or after own) before ≡ option_or after before)
 last_decides before own (Some x) = (λ e. refl, λ e. refl)
 last_decides before None None = (λ e. refl, λ e. refl)
 last_decides before (Some x) None = optional_decides (Some x) before
@@ -62,13 +62,13 @@ SameValue None s t = (s.name ≡ t.name) × (s.email ≡ t.email)
 SameValue (Some name) s t = (s.old_name ≡ t.old_name) × (s.last ≡ t.last)
 
 value_decides : (s : KeySummary) (e : Mapping) (after : Summary)
-    → Decides (is_value_kept s e (later_of e after)) (SameValue e.old_name (joined_summary s (joined_summary (own_summary e) after.of_key)) (joined_summary s after.of_key))
+    → Decides (is_value_unchanged s e (later_of e after)) (SameValue e.old_name (joined_summary s (joined_summary (own_summary e) after.of_key)) (joined_summary s after.of_key))
 value_decides s e after = by after.of_key e.old_name
   where
     by : (t : KeySummary) (o : Option Text)
-        → Decides (if is_some o then (is_some s.old_name || same_optional o t.old_name) && (is_some t.last || same_fields (new_fields e) s.last) else (is_last_kept s.name e.new_name (is_some t.name) && is_last_kept s.email e.new_email (is_some t.email)))
+        → Decides (if is_some o then (is_some s.old_name || same_optional o t.old_name) && (is_some t.last || same_fields (new_fields e) s.last) else (is_last_unchanged s.name e.new_name (is_some t.name) && is_last_unchanged s.email e.new_email (is_some t.email)))
         (SameValue o (joined_summary s (joined_summary (record { old_name = o; name = e.new_name; email = e.new_email; last = Some (new_fields e) }) t)) (joined_summary s t))
-    by t None = Decides-and (is_last_kept s.name e.new_name (is_some t.name)) (is_last_kept s.email e.new_email (is_some t.email)) (last_decides s.name e.new_name t.name) (last_decides s.email e.new_email t.email)
+    by t None = Decides-and (is_last_unchanged s.name e.new_name (is_some t.name)) (is_last_unchanged s.email e.new_email (is_some t.email)) (last_decides s.name e.new_name t.name) (last_decides s.email e.new_email t.email)
     by t (Some w) = Decides-and (is_some s.old_name || same_optional (Some w) t.old_name) (is_some t.last || same_fields (new_fields e) s.last) (first_decides s.old_name w t.old_name) (last_fields_decide s.last (new_fields e) t.last)
 
 -- ---- what is alike at one key

@@ -16,7 +16,7 @@ use Rattle.mailmap_histories.proofs.Keys.{keys_total}
 use Rattle.mailmap_redundancy.specs.Repeats.{AreUnrepeated, has_repeats, number_of, those_of}
 use Rattle.mailmap_redundancy.specs.Numbers.{ArePositions, IsNumber, IsNumbered, IsTable, email_key, entry_of}
 use Rattle.mailmap_redundancy.specs.Redundancy.{IsRedundant, LocatedMapping, entries}
-use Rattle.mailmap_redundancy.specs.Summaries.{later_of, is_value_kept, key_summary, summary}
+use Rattle.mailmap_redundancy.specs.Summaries.{later_of, is_value_unchanged, key_summary, summary}
 use Rattle.mailmap_redundancy.specs.declared.numbers.NumberedEntry.{NumberedEntry}
 use Rattle.mailmap_redundancy.specs.declared.table.Table.{Table}
 use Rattle.mailmap_redundancy.proofs.Redundant.{redundant_decides}
@@ -168,4 +168,4 @@ module _ (keys : List Key) (repeated : List Bool) (a : List Mapping) (e : Mappin
     unrepeated_has_effect redundant =
         true≢false (sym ((redundant_decides a e c good).1 redundant)
         ∙ ap₂ (λ l m. (is_some (option_map new_fields (last l)) || is_some (option_map new_fields (last m)))
-        && ((is_some (spelling a (key e).0) || same_optional (Some e.old_email) (spelling c (key e).0)) && is_value_kept (key_summary a (key e)) e (later_of e (summary c (key e))))) none_before none_after)
+        && ((is_some (spelling a (key e).0) || same_optional (Some e.old_email) (spelling c (key e).0)) && is_value_unchanged (key_summary a (key e)) e (later_of e (summary c (key e))))) none_before none_after)

@@ -51,12 +51,15 @@ same_keys (k ∷ ks) = ap (λ l. k ∷ l) (same_keys ks)
 pub parted : (ks : List Key) (q : Key) → IsStrictlySortedBy key_cmp ks → IsPartitioned (map (λ k. key_cmp k q) ks)
 parted ks q up = IsPartitioned-from_ascending keys_total (λ (k : Key). k) q ks (subst (IsStrictlySortedBy key_cmp) (sym (same_keys ks)) up)
 
+pub number_found : (keys : List Key) (q : Key) (i : ℕ) → slice_get (map (λ k. key_cmp k q) keys) i ≡ Some Equal → IsNumber keys q i
+number_found keys q i is =
+    let at = found-key key_cmp (λ (k : Key). k) q keys_exact keys i is in
+    slice_get-get_or keys i q at.0 ∙ ap (λ k. Some k) (at.1 q)
+
 -- what a search says
 pub mappings_by_search : (keys : List Key) (q : Key) (r : Result ℕ ℕ) → IsSearchInRange r (length keys) → IfOk r (λ i. slice_get (map (λ k. key_cmp k q) keys) i ≡ Some Equal)
     → IfErr r (λ i. IsPartitionPoint (λ a. a ≡ Less) (λ a. a ≡ Greater) (map (λ k. key_cmp k q) keys) i) → IfSome (result_ok r) (IsNumber keys q) × IfNone (result_ok r) (Contains keys q → ⊥)
-mappings_by_search keys q (Ok i) within is missing =
-    let at = found-key key_cmp (λ (k : Key). k) q keys_exact keys i is in
-    (slice_get-get_or keys i q at.0 ∙ ap (λ k. Some k) (at.1 q), tt)
+mappings_by_search keys q (Ok i) within is missing = (number_found keys q i is, tt)
 mappings_by_search keys q (Err i) within is missing =
     let all = missing-all key_cmp (λ (k : Key). k) q keys i within missing in
     (tt, λ has. all has.0 q has.1 (ap (λ k. key_cmp k q) has.2 ∙ tied_itself keys_total q))
@@ -121,13 +124,11 @@ module _ (ks : List Key) (up : IsStrictlySortedBy key_cmp ks) (number : ℕ) (q 
       (λ more. ap is_lt (keys_total.antisymm q next ∙ ap ordering_reverse (below ks (number + 1) position next q up stands_next there more))))
       (cases_order position (number + 1))
 
-  pub next_within : (prefixes : List ℕ) → ArePrefixes ks prefixes → number + 1 < length prefixes
-  next_within prefixes so = omega (arith, within, ap length so.are, length-map ks (λ (k : Key). key_prefix 16 k.0))
+  pub next_within : number + 1 < length ks
+  next_within = within
 
-  pub next_prefix : (prefixes : List ℕ) → ArePrefixes ks prefixes → (n : ℕ) → IsKeyPrefix n q.0 → slice_get prefixes (number + 1) ≡ Some n
-  next_prefix prefixes so n prefix =
-      let of_key : Key → ℕ = λ k. key_prefix 16 k.0 in
-      let same : next.0 ≡ q.0 = of_one_email q next (below ks number (number + 1) (email_key q.0) next up is stands_next (omega arith)) reached in
-      ap (λ l. slice_get l (number + 1)) so.are
-      ∙ slice_get-get_or (map of_key ks) (number + 1) n (omega (arith, within, length-map ks of_key))
-      ∙ ap (λ f. Some f) (get_or-map of_key ks (number + 1) q n within ∙ ap (key_prefix 16) same ∙ sym prefix.is)
+  pub not_above : slice_get (map (λ k. key_cmp k q) ks) (number + 1) ≡ Some Greater → ⊥
+  not_above is =
+      let above : key_cmp next q ≡ Greater = some_out _ _ (sym (answer_at ks (number + 1) q within q) ∙ is) in
+      let less : key_cmp q next ≡ Less = keys_total.antisymm q next ∙ ap ordering_reverse above in
+      true≢false (sym (ap is_lt less) ∙ reached)

@@ -54,40 +54,40 @@ joined_summary a b =
 
 -- ---- whether an entry between two stretches changes anything
 
--- what the entry has to know of the stretch after it
+-- what decides, of the stretch after the entry, whether the entry changes anything
 abbrev pub later_of : Mapping → Summary → Later
 later_of e s =
     record {
-      key = is_some s.of_key.last;
-      name = is_some s.of_key.name;
-      email = is_some s.of_key.email;
-      same_name = same_optional e.old_name s.of_key.old_name;
-      same_spelling = same_optional (Some e.old_email) s.spelling;
+      has_key = is_some s.of_key.last;
+      gives_name = is_some s.of_key.name;
+      gives_email = is_some s.of_key.email;
+      same_old_name = same_optional e.old_name s.of_key.old_name;
+      same_old_email = same_optional (Some e.old_email) s.spelling;
     }
 
 -- the text that was given last is the same without the entry: a later entry gives one, the entry gives none, or the same
 -- one was given before
-abbrev pub is_last_kept : Option Text → Option Text → Bool → Bool
-is_last_kept before own after = after || (is_none own || same_optional own before)
+abbrev pub is_last_unchanged : Option Text → Option Text → Bool → Bool
+is_last_unchanged before field given_later = given_later || (is_none field || same_optional field before)
 
 abbrev pub same_fields : Fields → Option Fields → Bool
-same_fields own None = false
-same_fields own (Some f) = same_optional own.name f.name && same_optional own.email f.email
+same_fields fields None = false
+same_fields fields (Some last) = same_optional fields.name last.name && same_optional fields.email last.email
 
 -- The value of the key is the same without the entry, apart from the spelling of its email. With an old name: an earlier
 -- entry gives the old name, or the next one spells it alike; and a later entry gives the fields, or the last earlier one
 -- gave the same.
-abbrev pub is_value_kept : KeySummary → Mapping → Later → Bool
-is_value_kept before e after =
-    if is_some e.old_name then (is_some before.old_name || after.same_name) && (after.key || same_fields (new_fields e) before.last)
-    else (is_last_kept before.name e.new_name after.name && is_last_kept before.email e.new_email after.email)
+abbrev pub is_value_unchanged : KeySummary → Mapping → Later → Bool
+is_value_unchanged before e later =
+    if is_some e.old_name then (is_some before.old_name || later.same_old_name) && (later.has_key || same_fields (new_fields e) before.last)
+    else (is_last_unchanged before.name e.new_name later.gives_name && is_last_unchanged before.email e.new_email later.gives_email)
 
 -- the key is there without the entry, its email is spelled the same, and its value is the same
 abbrev pub is_redundant_before : Summary → Mapping → Later → Bool
-is_redundant_before before e after =
-    (is_some before.of_key.last || after.key)
-    && ((is_some before.spelling || after.same_spelling)
-    && is_value_kept before.of_key e after)
+is_redundant_before before e later =
+    (is_some before.of_key.last || later.has_key)
+    && ((is_some before.spelling || later.same_old_email)
+    && is_value_unchanged before.of_key e later)
 
 abbrev pub is_redundant : Summary → Mapping → Summary → Bool
 is_redundant before e after = is_redundant_before before e (later_of e after)

@@ -111,7 +111,7 @@ impl<'p, 'a> KeySummary<'p, 'a> {
     }
 
     /// The summary of this stretch and the one that comes after it.
-    pub(crate) fn joined(self, after: KeySummary<'p, 'a>) -> KeySummary<'p, 'a>
+    pub(crate) fn then(self, after: KeySummary<'p, 'a>) -> KeySummary<'p, 'a>
         ensures summary { key_summary_of result
             ≡ spec.joined_summary (key_summary_of self.entry) (key_summary_of after.entry) }
         ensures position { position_of result ≡ option_or (position_of after.entry) (position_of self.entry) }

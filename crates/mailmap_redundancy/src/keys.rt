@@ -3,13 +3,14 @@ ghost use Rattle.std.specs.Prelude.{◌≡◌, ◌≢◌, [], ℕ, IfOk, OnOk, S
 ghost use Rattle.std.specs.Option.{option_copied, option_map, option_cmp};
 ghost use Rattle.std.specs.Ordering.{eq_by_cmp};
 ghost use Rattle.mailmap_entries.specs.Entries.{mapping_of};
-ghost use Rattle.mailmap_entries.specs.Prefixes.{IsKeyPrefix};
+ghost use Rattle.mailmap_entries.specs.Prefixes.{IsKeyPrefix, key_prefix as spec_key_prefix};
 ghost use Rattle.mailmap_entries.specs.Folding.{folded, text_cmp};
 ghost use Rattle.mailmap_histories.specs.Histories.{Key, key, key_cmp};
 ghost use Rattle.mailmap_redundancy.specs.Numbers.{AreAscending, ArePrefixes, IsNumber, IsReached, email_key, last_email, last_key};
 
+use crate::guesses::key_hash;
 use mailmap_entries::Entry;
-use mailmap_entries::fold::prefix::Prefixed;
+use mailmap_entries::fold::prefix::{Prefixed, key_prefix};
 use mailmap_entries::fold::{Steps, cmp_ignore_ascii_case};
 use std::alloc::{AllocError, Global};
 use std::cmp::Ordering;
@@ -61,6 +62,11 @@ impl<'a> PrefixedKey<'a> {
     {
         self.email.prefix
     }
+
+    /// The hash by which its number is guessed.
+    pub(crate) fn hash(&self) -> u64 {
+        key_hash(self.email.prefix, self.email.text, self.name)
+    }
 }
 
 /// The key of an entry, or the key of its email. It borrows the entry, since many keys are kept.
@@ -99,6 +105,12 @@ impl<'p, 'a> KeptKey<'p, 'a> {
         }
     }
 
+    /// The hash by which its number is guessed.
+    pub(crate) fn hash(&self) -> u64 {
+        let email = self.entry.old_email();
+        key_hash(key_prefix(email), email, self.name())
+    }
+
     fn name(&self) -> Option<&'a [u8]>
         ensures { option_map folded (option_copied result) ≡ self.now.1 }
     {
@@ -109,11 +121,15 @@ impl<'p, 'a> KeptKey<'p, 'a> {
         }
     }
 
-    /// The same key with the prefix of its email.
-    pub(crate) fn prefixed(&self) -> PrefixedKey<'a>
+    /// The same key with the prefix of its email, which is known already.
+    pub(crate) fn with_prefix(&self, prefix: u128) -> PrefixedKey<'a>
+        requires { prefix ≡ spec_key_prefix 16 self.now.0 }
         ensures { result ≡ self.now }
     {
-        PrefixedKey::new(self.entry.old_email(), self.name())
+        PrefixedKey {
+            email: Prefixed::with_prefix(self.entry.old_email(), prefix),
+            name: self.name(),
+        }
     }
 }
 

@@ -4,6 +4,7 @@
 
 mod answers;
 mod fields;
+mod guesses;
 mod key_summary;
 mod keys;
 pub mod laws;

@@ -92,7 +92,7 @@ fn pass<'p, 'a>(
     Ok(kept)
 }
 
-// For each entry whose email has repeats, what it has to know of the later ones; that of the last entry comes first.
+// For each entry whose email has repeats, what decides of the later ones; that of the last entry comes first.
 // The table begins empty, and ends with all of these entries.
 fn each_later<'p, 'a>(
     alloc: Global,

@@ -98,7 +98,7 @@ fn reduce_numbered<'p, 'a>(
     let mut table = Table::none(alloc, &keys)?;
     let len = settle(alloc, &keys, rows, &mut table)?;
     let kept = without_numbers(alloc, &rows[..len])?;
-    let keys = SearchedKeys::new(keys, prefixes);
+    let keys = SearchedKeys::new(alloc, keys, prefixes)?;
     Ok(Reduced {
         history: entries,
         keys,

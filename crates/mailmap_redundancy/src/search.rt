@@ -1,11 +1,13 @@
 //! Searches for a key among keys in ascending order.
-ghost use Rattle.std.specs.Prelude.{◌≡◌, ◌<◌, List, Contains, IfSome, IfNone, IsSome, Some, length, map, slice_get};
+ghost use Rattle.std.specs.Prelude.{◌≡◌, ◌<◌, List, Contains, IfOk, IfSome, IfNone, IsSome, Some, length, map, slice_get, true};
 ghost use Rattle.std.specs.List.Sorted.{IsStrictlySortedBy};
 ghost use Rattle.mailmap_histories.specs.Histories.{Key, key_cmp};
 ghost use Rattle.mailmap_redundancy.specs.Numbers.{ArePrefixes, IsNumber, email_key};
 
+use crate::guesses::{Guesses, TRIES};
 use crate::keys::{KeptKey, PrefixedKey, compare};
 use mailmap_entries::fold::{Probe, search};
+use std::alloc::{AllocError, Global};
 use std::cmp::Ordering;
 use std::marker::Model;
 
@@ -15,6 +17,7 @@ use std::marker::Model;
 pub(crate) struct SearchedKeys<'p, 'a> {
     keys: Vec<KeptKey<'p, 'a>>,
     prefixes: Vec<u128>,
+    guesses: Guesses,
 }
 
 impl<'p, 'a> Model for SearchedKeys<'p, 'a> {
@@ -27,11 +30,49 @@ impl<'p, 'a> Model for SearchedKeys<'p, 'a> {
 
 impl<'p, 'a> SearchedKeys<'p, 'a> {
     /// The keys with their prefixes.
-    pub(crate) fn new(keys: Vec<KeptKey<'p, 'a>>, prefixes: Vec<u128>) -> SearchedKeys<'p, 'a>
+    pub(crate) fn new(
+        alloc: Global,
+        keys: Vec<KeptKey<'p, 'a>>,
+        prefixes: Vec<u128>,
+    ) -> Result<SearchedKeys<'p, 'a>, AllocError>
         requires { ArePrefixes keys.items prefixes.items }
-        ensures { result ≡ keys.entry.items }
+        ensures { IfOk result (λ searched. searched ≡ keys.entry.items) }
     {
-        SearchedKeys { keys, prefixes }
+        let guesses = Guesses::new(alloc, &keys, &prefixes)?;
+        Ok(SearchedKeys {
+            keys,
+            prefixes,
+            guesses,
+        })
+    }
+
+    // Whether the key with this number is a key.
+    fn has_at(&self, number: usize, key: &PrefixedKey<'_>) -> bool
+        requires { number < length self.now }
+        ensures { result ≡ true → IsNumber self.now key.now number }
+    {
+        match self.compare_at(number, key) {
+            Ordering::Equal => true,
+            _ => false,
+        }
+    }
+
+    // The number of a key, if it is guessed.
+    fn guessed(&self, key: &PrefixedKey<'_>) -> Option<usize>
+        ensures { IfSome result (IsNumber self.now key.now) }
+    {
+        if self.guesses.is_empty() {
+            return None;
+        }
+        let len = self.keys.len();
+        let hash = key.hash();
+        for index in 0..TRIES {
+            let number = self.guesses.number(hash, index)?;
+            if number < len && self.has_at(number, key) {
+                return Some(number);
+            }
+        }
+        None
     }
 
     // How the key with this number compares to a key.
@@ -41,7 +82,7 @@ impl<'p, 'a> SearchedKeys<'p, 'a> {
     {
         let prefix = key.prefix();
         match self.prefixes[number].cmp(&prefix) {
-            Ordering::Equal => compare(&self.keys[number].prefixed(), key),
+            Ordering::Equal => compare(&self.keys[number].with_prefix(prefix), key),
             unequal => unequal,
         }
     }
@@ -72,6 +113,9 @@ pub(crate) fn find<'p>(keys: &SearchedKeys<'p, 'p>, key: &PrefixedKey<'_>) -> Op
     ensures some { IfSome result (IsNumber keys.now key.now) }
     ensures none { IfNone result (Contains keys.now key.now → ⊥) }
 {
+    if let Some(number) = keys.guessed(key) {
+        return Some(number);
+    }
     let mut probe = KeyProbe {
         keys,
         key,
@@ -81,7 +125,7 @@ pub(crate) fn find<'p>(keys: &SearchedKeys<'p, 'p>, key: &PrefixedKey<'_>) -> Op
 }
 
 /// The same for a key with a name, if the number of its email's key is known. All keys of an email follow its own key.
-/// So if the next key's email has another prefix, the email has no key with a name, and there is nothing to search for.
+/// So if the next key is above this one, there is nothing to search for: most emails have no key with a name.
 pub(crate) fn find_named<'p>(
     keys: &SearchedKeys<'p, 'p>,
     number: usize,
@@ -93,8 +137,14 @@ pub(crate) fn find_named<'p>(
     ensures some { IfSome result (IsNumber keys.now key.now) }
     ensures none { IfNone result (Contains keys.now key.now → ⊥) }
 {
-    match keys.prefixes.get(number + 1) {
-        Some(prefix) if *prefix == key.prefix() => find(keys, key),
-        _ => None,
+    let len = keys.keys.len();
+    let next = number + 1;
+    if next >= len {
+        return None;
+    }
+    match keys.compare_at(next, key) {
+        Ordering::Less => find(keys, key),
+        Ordering::Equal => Some(next),
+        Ordering::Greater => None,
     }
 }

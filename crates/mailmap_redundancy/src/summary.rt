@@ -36,7 +36,7 @@ impl<'p, 'a> EmailSummary<'p, 'a> {
     }
 
     /// The summary of this stretch and the one that comes after it.
-    pub(crate) fn joined(self, after: EmailSummary<'p, 'a>) -> EmailSummary<'p, 'a>
+    pub(crate) fn then(self, after: EmailSummary<'p, 'a>) -> EmailSummary<'p, 'a>
         ensures { spelling_of result ≡ option_or (spelling_of self.entry) (spelling_of after.entry) }
     {
         EmailSummary {
@@ -62,63 +62,64 @@ pub(crate) struct Summary<'p, 'a> {
     pub(crate) of_email: EmailSummary<'p, 'a>,
 }
 
-/// What an entry has to know of the later ones to be redundant: whether one has its key (`key`), whether one of that
-/// key gives a new name (`name`) or a new email (`email`), whether the first of that key that has an old name spells it
-/// as this entry does (`same_name`), and whether the first of its email spells the email as it does (`same_spelling`).
+/// What decides, of the entries after one, whether it is redundant: whether one has its key (`has_key`), whether one of
+/// that key gives a new name or a new email (`gives_name`, `gives_email`), whether the first of that key spells its old
+/// name as this entry does (`same_old_name`), and whether the first of its email spells the email as this entry does
+/// (`same_old_email`).
 #[derive(Clone, Copy)]
 pub(crate) struct Later {
-    pub(crate) key: bool,
-    pub(crate) name: bool,
-    pub(crate) email: bool,
-    pub(crate) same_name: bool,
-    pub(crate) same_spelling: bool,
+    pub(crate) has_key: bool,
+    pub(crate) gives_name: bool,
+    pub(crate) gives_email: bool,
+    pub(crate) same_old_name: bool,
+    pub(crate) same_old_email: bool,
 }
 
 impl Later {
-    /// What a summary of the later entries says to an entry.
+    /// What a summary of the later entries means for an entry.
     pub(crate) fn of(entry: &Entry, summary: &Summary) -> Later
         ensures { result ≡ spec.later_of (mapping_of entry.now) (summary_of summary.now) }
     {
         Later {
-            key: summary.of_key.last.is_some(),
-            name: summary.of_key.name.is_some(),
-            email: summary.of_key.email.is_some(),
-            same_name: is_same_text(entry.old_name(), summary.of_key.old_name()),
-            same_spelling: is_same_text(Some(entry.old_email()), summary.of_email.spelling()),
+            has_key: summary.of_key.last.is_some(),
+            gives_name: summary.of_key.name.is_some(),
+            gives_email: summary.of_key.email.is_some(),
+            same_old_name: is_same_text(entry.old_name(), summary.of_key.old_name()),
+            same_old_email: is_same_text(Some(entry.old_email()), summary.of_email.spelling()),
         }
     }
 }
 
-/// Whether an entry is redundant between the entries that were kept before it and those after it. Without it, its key
-/// has to be there all the same, its email has to be spelled as with it, and its key has to map to the same fields.
-pub(crate) fn is_redundant(before: &Summary, entry: &Entry, after: Later) -> bool
-    ensures { result ≡ spec.is_redundant_before (summary_of before.now) (mapping_of entry.now) after }
+/// Whether an entry is redundant between the earlier entries that stay and the later ones. Without it, its key has to
+/// be there all the same, its email has to be spelled as with it, and its key has to map to the same fields.
+pub(crate) fn is_redundant(before: &Summary, entry: &Entry, later: Later) -> bool
+    ensures { result ≡ spec.is_redundant_before (summary_of before.now) (mapping_of entry.now) later }
 {
-    (before.of_key.last.is_some() || after.key)
-        && (before.of_email.first.is_some() || after.same_spelling)
-        && is_value_kept(&before.of_key, entry, after)
+    (before.of_key.last.is_some() || later.has_key)
+        && (before.of_email.first.is_some() || later.same_old_email)
+        && is_value_unchanged(&before.of_key, entry, later)
 }
 
 // Whether the key keeps its fields and the spelling of its old name without the entry. With an old name, the last entry
 // of the key decides on both fields; without one, the last that gives a field decides on that field.
-fn is_value_kept(before: &KeySummary, entry: &Entry, after: Later) -> bool
-    ensures { result ≡ spec.is_value_kept (key_summary_of before.now) (mapping_of entry.now) after }
+fn is_value_unchanged(before: &KeySummary, entry: &Entry, later: Later) -> bool
+    ensures { result ≡ spec.is_value_unchanged (key_summary_of before.now) (mapping_of entry.now) later }
 {
     if entry.old_name().is_some() {
-        (before.old_name.is_some() || after.same_name)
-            && (after.key || are_same_fields(entry, before.last))
+        (before.old_name.is_some() || later.same_old_name)
+            && (later.has_key || are_same_fields(entry, before.last))
     } else {
-        is_last_kept(before.name(), entry.new_name(), after.name)
-            && is_last_kept(before.email(), entry.new_email(), after.email)
+        is_last_unchanged(before.name(), entry.new_name(), later.gives_name)
+            && is_last_unchanged(before.email(), entry.new_email(), later.gives_email)
     }
 }
 
-// Whether the field that was given last stays the same without this entry's own one: a later entry gives the field
-// anyway, this entry doesn't give it, or the same text was given before.
-fn is_last_kept(before: Option<&[u8]>, own: Option<&[u8]>, after: bool) -> bool
-    ensures { result ≡ spec.is_last_kept (option_copied before.entry) (option_copied own.entry) after }
+// Whether the text that is given last for a field stays the same without this entry: a later entry gives one anyway,
+// this entry gives none (`field` is `None`), or the same text was given before.
+fn is_last_unchanged(before: Option<&[u8]>, field: Option<&[u8]>, given_later: bool) -> bool
+    ensures { result ≡ spec.is_last_unchanged (option_copied before.entry) (option_copied field.entry) given_later }
 {
-    after || own.is_none() || is_same_text(own, before)
+    given_later || field.is_none() || is_same_text(field, before)
 }
 
 // Whether the last entry has the same new fields as this one.

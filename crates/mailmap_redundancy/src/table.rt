@@ -66,8 +66,8 @@ impl<'p, 'a> Table<'p, 'a> {
             → IsNumbered keys x.now → ArePositions keys xs self.old
             → ArePositions keys (xs ++ located_entry_of x.now ∷ []) self.new }
     {
-        self.summaries[x.key] = self.summaries[x.key].joined(KeySummary::of(x.located));
-        self.spellings[x.email] = self.spellings[x.email].joined(EmailSummary::of(x.located));
+        self.summaries[x.key] = self.summaries[x.key].then(KeySummary::of(x.located));
+        self.spellings[x.email] = self.spellings[x.email].then(EmailSummary::of(x.located));
     }
 
     /// Adds an entry before the others.
@@ -77,7 +77,7 @@ impl<'p, 'a> Table<'p, 'a> {
         ensures { (keys : List Key) (h : List Mapping) → IsStrictlySortedBy key_cmp keys → IsNumbered keys x.now
             → IsTable keys h self.old → IsTable keys (entry_of x.now ∷ h) self.new }
     {
-        self.summaries[x.key] = KeySummary::of(x.located).joined(self.summaries[x.key]);
+        self.summaries[x.key] = KeySummary::of(x.located).then(self.summaries[x.key]);
         self.spellings[x.email] = EmailSummary::of(x.located);
     }
 }

@@ -1,5 +1,5 @@
 -- What findings look like: a line for each.
-use Rattle.std.specs.Prelude.{ℕ, List, [], ◌∷◌, ◌++◌, codes, decimal, slice_index_or, unwrap_or}
+use Rattle.std.specs.Prelude.{ℕ, ◌+◌, ◌/◌, ◌%◌, nat_lt, ◌==◌, ◌||◌, if◌then◌else◌, List, [], ◌∷◌, ◌++◌, codes, decimal, slice_index_or, unwrap_or}
 use Rattle.std.specs.List.{flat_map}
 use Rattle.gix_mailmap.specs.Folding.{Text}
 use Rattle.gix_mailmap.specs.Lines.{Kind, no_email, missing_closing_bracket, empty_email, nothing_to_map, unclosed_second}
@@ -7,6 +7,18 @@ use Rattle.gix_mailmap.specs.Contacts.{contact}
 use Rattle.gix_mailmap.specs.Findings.{Contact, Finding, Reported, fault, ignored_text, no_effect, itself_mapped}
 use Rattle.mailmap_io.specs.declared.outcome.Outcome.{Outcome}
 use Rattle.mailmap_io.specs.declared.outcome.Outcome.TheVariants.{Clean, Found}
+
+-- a hexadecimal digit: `0` to `9`, and `a` to `f`
+abbrev pub hex_digit : ℕ → ℕ
+hex_digit value = if nat_lt value 10 then 48 + value else 87 + value
+
+-- a control byte, below 32 or 127, as `\x` and its two hexadecimal digits, and any other byte as it is
+abbrev pub shown_byte : ℕ → Text
+shown_byte byte = if nat_lt byte 32 || byte == 127 then 92 ∷ 120 ∷ hex_digit (byte / 16) ∷ hex_digit (byte % 16) ∷ [] else byte ∷ []
+
+-- a text as it is shown at a terminal
+abbrev pub shown : Text → Text
+shown text = flat_map shown_byte text
 
 -- how the file of a buffer is shown: by its path, or if no path is given as standard input
 abbrev pub file_name : List Text → ℕ → Text
@@ -36,9 +48,13 @@ reported_text paths (ignored_text text) = codes "warning: ignored text: " ++ tex
 reported_text paths (no_effect beside) = codes "warning: no effect beside " ++ position_text paths beside.buffer beside.line
 reported_text paths (itself_mapped c to) = codes "warning: " ++ contact_text c ++ codes " is itself mapped, to " ++ contact_text to
 
--- the line of a finding, with its line feed
+-- what a finding says, as it is in the mailmaps
+abbrev pub finding_text : List Text → Finding → Text
+finding_text paths f = position_text paths f.position.buffer f.position.line ++ codes ": " ++ reported_text paths f.reported
+
+-- the line of a finding, with its control bytes shown and its line feed
 abbrev pub finding_line : List Text → Finding → Text
-finding_line paths f = position_text paths f.position.buffer f.position.line ++ codes ": " ++ reported_text paths f.reported ++ 10 ∷ []
+finding_line paths f = shown (finding_text paths f) ++ 10 ∷ []
 
 -- the lines of all findings, in their order
 abbrev pub report : List Text → List Finding → Text

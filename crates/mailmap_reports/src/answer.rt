@@ -1,116 +1,98 @@
-//! What is printed, made whole before any of it is.
-ghost use Rattle.std.specs.Prelude.{◌≡◌, ◌≢◌, ◌↔◌, ◌<◌, ◌≤◌, ◌⊎◌, ◌∷◌, [], ℕ, IfErr, IfOk, IsErrOf, length, map, string_bytes};
-ghost use Rattle.mailmap_io.specs.Files.{MayOpenBefore};
+//! What is printed.
+ghost use Rattle.std.specs.Prelude.{◌≡◌, ◌≢◌, ◌<◌, ◌⊎◌, ◌∷◌, [], IfErr, IfOk, IsErrOf, OnErr, OnOk, length, map};
+ghost use Rattle.std.specs.Io.KnownBytes.{Consumes, IsAtEnd};
 ghost use Rattle.gix_mailmap.specs.Findings.{IsPruned};
-ghost use Rattle.mailmap_reports.specs.Task.{AreMailmaps, IsAnswer, IsReport};
+ghost use Rattle.mailmap_io.specs.Printing.{Prints, PrintsFront};
+ghost use Rattle.mailmap_io.specs.declared.outcome.Outcome.{Outcome as TheOutcome};
+ghost use Rattle.mailmap_reports.specs.Task.{AreMailmaps, FailsFor, IsAnswer, IsOfInput, IsReport};
 
-use crate::report::{judge, report_of};
+use crate::failure::Failure;
+use crate::report::print_findings;
 use crate::task::{Mode, Task, USAGE};
-use gix_mailmap::verify::{prune, verify};
-use mailmap_io::failure::Failure;
-use mailmap_io::files::{FileSystem, list_of, read_file, read_files};
+use gix_mailmap::verify::{Mailmaps, Verification, prune};
+use mailmap_io::files::{FileSystem, list_of, read_each, read_file};
 use mailmap_io::outcome::Outcome;
-use mailmap_io::streams::read_all;
+use mailmap_io::read_error::ReadError;
+use mailmap_io::streams::read_to_end;
 use std::alloc::{AllocError, Global};
-use std::io::Read;
+use std::io::{Read, Write};
 
-/// What is printed, and whether something was found.
-#[derive(Drop)]
-pub struct Answer {
-    /// What is printed.
-    pub text: Vec<u8>,
-    /// Whether something was found.
-    pub outcome: Outcome,
-}
-
-/// What a task prints.
+/// What a task prints, if it isn't to verify: the usage, or the one mailmap without its lines of no effect.
 ///
-/// Files are read in their order, and standard input only if no path is given. The first failure ends the reading.
+/// Standard input is read only if no path is given.
 pub fn answer_to<F: FileSystem, R: Read>(
     system: &F,
     alloc: Global,
     task: Task<'_>,
     input: &mut R,
-) -> Result<Answer, Failure>
-    ensures ok { IfOk result (λ answer. IsAnswer (F.may_open system.now) (F.bytes system.now) (R.remaining input.old)
-        task.entry.mode (map string_bytes task.entry.paths.now) answer.outcome answer.text.items) }
+) -> Result<Vec<u8>, Failure>
+    ensures ok { task.entry.mode ≢ Mode.Verify
+        → IfOk result (λ text. IsAnswer (F.may_open system.now) (F.bytes system.now) (R.remaining input.old)
+        task.entry.mode (map (λ path. path.items) task.entry.paths.now) Outcome.Clean text.items) }
     ensures unread { task.entry.paths.now ≢ [] → input.new ≡ input.old }
     ensures unread_for_help { task.entry.mode ≡ Mode.Help → input.new ≡ input.old }
-    ensures too_many { IsErrOf result Failure.TooManyFiles
-        ↔ ((task.entry.mode ≡ Mode.Prune) × (1 < length task.entry.paths.now)) }
-    ensures file { (number : ℕ) → IsErrOf result (Failure.File number) → (0 < number)
-        × (number ≤ length task.entry.paths.now)
-        × MayOpenBefore (F.may_open system.now) number (map string_bytes task.entry.paths.now) }
-    ensures input { IsErrOf result Failure.Input → (task.entry.mode ≢ Mode.Help) × (task.entry.paths.now ≡ []) }
+    ensures fails { task.entry.mode ≢ Mode.Verify → IfErr result (FailsFor (F.may_open system.now) task.entry.mode
+        (map (λ path. path.items) task.entry.paths.now)) }
+    ensures too_many { task.entry.mode ≡ Mode.Prune → 1 < length task.entry.paths.now
+        → IsErrOf result Failure.TooManyFiles }
     ensures no_output { ¬ IsErrOf result Failure.Output }
 {
-    match task.mode {
-        Mode::Help => Ok(usage(alloc)?),
-        Mode::Verify => {
-            let mailmaps = read_mailmaps(system, alloc, task.paths, input)?;
-            Ok(findings_in(alloc, task.paths, mailmaps.as_slice())?)
-        }
-        Mode::Prune => {
-            let mailmap = read_mailmap(system, alloc, task.paths, input)?;
-            Ok(pruned(alloc, mailmap.as_slice())?)
-        }
+    if task.mode == Mode::Help {
+        return Ok(Vec::from_slice(alloc, USAGE.as_bytes())?);
     }
+    let mailmap = read_mailmap(system, alloc, task.paths, input)?;
+    Ok(prune(alloc, mailmap.as_slice())?)
 }
 
-// The usage.
-fn usage(alloc: Global) -> Result<Answer, AllocError>
-    ensures text { IfOk result (λ answer. answer.text.items ≡ USAGE.now) }
-    ensures outcome { IfOk result (λ answer. answer.outcome ≡ Outcome.Clean) }
-{
-    Ok(Answer {
-        text: Vec::from_slice(alloc, USAGE.as_bytes())?,
-        outcome: Outcome::Clean,
-    })
-}
-
-// What is found in mailmaps.
-fn findings_in(alloc: Global, paths: &[String], mailmaps: &[Vec<u8>]) -> Result<Answer, AllocError>
-    ensures { IfOk result (λ answer. IsReport (map string_bytes paths.now)
-        (map (λ m. m.items) mailmaps.now) answer.outcome answer.text.items) }
+/// Prints what is found in mailmaps, and says whether something was.
+///
+/// At a failure the output is as it was, or what was written is the beginning of the report.
+pub fn print_report<W: Write>(
+    alloc: Global,
+    paths: &[Vec<u8>],
+    mailmaps: &[Vec<u8>],
+    output: &mut W,
+) -> Result<Outcome, Failure>
+    ensures prints { IfOk result (λ outcome. Prints
+        (IsReport (map (λ path. path.items) paths.now) (map (λ m. m.items) mailmaps.now) outcome)
+        (W.contents output.old) (W.contents output.new)) }
+    ensures breaks_off { IsErrOf result Failure.Output → (outcome : TheOutcome) × PrintsFront
+        (IsReport (map (λ path. path.items) paths.now) (map (λ m. m.items) mailmaps.now) outcome)
+        (W.contents output.old) (W.contents output.new) }
+    ensures memory { IsErrOf result Failure.Memory → (output.new ≡ output.old)
+        ⊎ ((outcome : TheOutcome) × PrintsFront
+        (IsReport (map (λ path. path.items) paths.now) (map (λ m. m.items) mailmaps.now) outcome)
+        (W.contents output.old) (W.contents output.new)) }
+    ensures only { IfErr result (λ e. (e ≡ Failure.Memory) ⊎ (e ≡ Failure.Output)) }
 {
     let buffers = list_of(alloc, mailmaps)?;
-    let findings = verify(alloc, buffers.as_slice())?;
-    Ok(Answer {
-        text: report_of(alloc, paths, findings.as_slice())?,
-        outcome: judge(findings.as_slice()),
-    })
+    let mailmaps = Mailmaps::read(alloc, buffers.as_slice())?;
+    let verification = Verification::new(alloc, &mailmaps)?;
+    print_findings(alloc, paths, verification.findings(), output)
 }
 
-// A mailmap without its lines of no effect.
-fn pruned(alloc: Global, mailmap: &[u8]) -> Result<Answer, AllocError>
-    ensures text { IfOk result (λ answer. IsPruned mailmap.now answer.text.items) }
-    ensures outcome { IfOk result (λ answer. answer.outcome ≡ Outcome.Clean) }
-{
-    Ok(Answer {
-        text: prune(alloc, mailmap)?,
-        outcome: Outcome::Clean,
-    })
-}
-
-// The mailmaps at the paths, or if there is none that of the input.
-fn read_mailmaps<F: FileSystem, R: Read>(
+/// The mailmaps at the paths, or if there is none that of the input. The first failure ends the reading.
+pub fn read_mailmaps<F: FileSystem, R: Read>(
     system: &F,
     alloc: Global,
-    paths: &[String],
+    paths: &[Vec<u8>],
     input: &mut R,
 ) -> Result<Vec<Vec<u8>>, Failure>
     ensures ok { IfOk result (λ mailmaps. AreMailmaps (F.may_open system.now) (F.bytes system.now)
-        (map string_bytes paths.now) (R.remaining input.old) (map (λ m. m.items) mailmaps.items)) }
+        (map (λ path. path.items) paths.now) (R.remaining input.old) (map (λ m. m.items) mailmaps.items)) }
     ensures unread { paths.now ≢ [] → input.new ≡ input.old }
-    ensures err { IfErr result (λ e. (e ≡ Failure.Memory) ⊎ ((e ≡ Failure.Input) × (paths.now ≡ []))
-        ⊎ ((number : ℕ) × (e ≡ Failure.File number) × (0 < number) × (number ≤ length paths.now)
-        × MayOpenBefore (F.may_open system.now) number (map string_bytes paths.now))) }
+    ensures fails { IfErr result (FailsFor (F.may_open system.now) Mode.Verify (map (λ path. path.items) paths.now)) }
+    ensures no_output { ¬ IsErrOf result Failure.Output }
 {
     if !paths.is_empty() {
-        return read_files(system, alloc, paths);
+        return match read_each(system, alloc, paths) {
+            Ok(mailmaps) => Ok(mailmaps),
+            Err(ReadError::File { number, cause }) => Err(Failure::File { number, cause }),
+            Err(ReadError::Memory) => Err(Failure::Memory),
+        };
     }
     let mut mailmaps = Vec::new(alloc);
-    mailmaps.push(read_all(alloc, input, Failure::Input)?)?;
+    mailmaps.push(read_input(alloc, input)?)?;
     Ok(mailmaps)
 }
 
@@ -118,19 +100,34 @@ fn read_mailmaps<F: FileSystem, R: Read>(
 fn read_mailmap<F: FileSystem, R: Read>(
     system: &F,
     alloc: Global,
-    paths: &[String],
+    paths: &[Vec<u8>],
     input: &mut R,
 ) -> Result<Vec<u8>, Failure>
     ensures ok { IfOk result (λ mailmap. AreMailmaps (F.may_open system.now) (F.bytes system.now)
-        (map string_bytes paths.now) (R.remaining input.old) (mailmap.items ∷ [])) }
+        (map (λ path. path.items) paths.now) (R.remaining input.old) (mailmap.items ∷ [])) }
     ensures unread { paths.now ≢ [] → input.new ≡ input.old }
-    ensures too_many { IsErrOf result Failure.TooManyFiles ↔ (1 < length paths.now) }
-    ensures err { IfErr result (λ e. (e ≡ Failure.TooManyFiles) ⊎ ((e ≡ Failure.Input) × (paths.now ≡ []))
-        ⊎ ((e ≡ Failure.File 1) × (length paths.now ≡ 1))) }
+    ensures fails { IfErr result (FailsFor (F.may_open system.now) Mode.Prune (map (λ path. path.items) paths.now)) }
+    ensures too_many { 1 < length paths.now → IsErrOf result Failure.TooManyFiles }
+    ensures no_output { ¬ IsErrOf result Failure.Output }
 {
     match paths {
-        [] => read_all(alloc, input, Failure::Input),
-        [path] => read_file(system, alloc, path.as_str(), 1),
+        [] => read_input(alloc, input),
+        [path] => match read_file(system, alloc, path.as_slice()) {
+            Ok(mailmap) => Ok(mailmap),
+            Err(cause) => Err(Failure::File { number: 1, cause }),
+        },
         _ => Err(Failure::TooManyFiles),
+    }
+}
+
+// All of the input.
+fn read_input<R: Read>(alloc: Global, input: &mut R) -> Result<Vec<u8>, Failure>
+    ensures all { IfOk result (λ bytes. Consumes (R.remaining input.old) (R.remaining input.new) bytes.items) }
+    ensures end { OnOk result (IsAtEnd (R.remaining input.new)) }
+    ensures err { IfErr result IsOfInput }
+{
+    match read_to_end(alloc, input) {
+        Ok(bytes) => Ok(bytes),
+        Err(cause) => Err(Failure::Input { cause }),
     }
 }

@@ -3,5 +3,7 @@
 #![tactic(auto)]
 
 pub mod answer;
+pub mod failure;
 pub mod report;
+pub mod shown;
 pub mod task;

@@ -1,20 +1,27 @@
 //! What is found in mailmaps as text: a line for each finding.
-ghost use Rattle.std.specs.Prelude.{◌≡◌, ◌++◌, codes, map, string_bytes, IfOk, OnOk};
+ghost use Rattle.std.specs.Prelude.{◌≡◌, ◌++◌, ◌⊎◌, ℕ, codes, map, take, IfErr, IfOk, OnErr, OnOk};
+ghost use Rattle.std.specs.Io.KnownBytes.{Appends};
 ghost use Rattle.gix_mailmap.specs.Findings.{contact_of, finding_of, reported_of};
 ghost use Rattle.gix_mailmap.specs.Lines.{fault_of};
-ghost use Rattle.mailmap_reports.specs.Report.{contact_text, reported_text, fault_text, file_name, finding_line, outcome_of, position_text, report};
+ghost use Rattle.mailmap_io.specs.Printing.{IsUnderway};
+ghost use Rattle.mailmap_reports.specs.Report.{contact_text, finding_text, reported_text, fault_text, file_name, finding_line, outcome_of, position_text, report, shown};
 
+use crate::failure::Failure;
+use crate::shown::{has_control, push_shown};
 use gix_mailmap::check::push_contact;
 use gix_mailmap::lines::Error;
-use gix_mailmap::verify::{Contact, Finding, Kind, Position};
+use gix_mailmap::verify::{Contact, Finding, Findings, Kind, Position};
 use itoa::Buffer;
 use mailmap_io::outcome::Outcome;
+use mailmap_io::printer::Printer;
 use std::alloc::{AllocError, Global};
+use std::io::Write;
 
-/// The lines of the findings, each with its line feed.
+/// Prints the lines of the findings, each with its line feed.
 ///
 /// `paths` are those of the buffers that the findings are of; if there is none, the one buffer is standard input.
-/// Paths, names, emails and ignored text are shown byte for byte. A finding on line 3 of the file `team` is one of these:
+/// Control bytes are shown as `\x1b`, all other bytes as they are. A finding on line 3 of the file `team` is one of
+/// these:
 ///
 /// ```text
 /// team:3: error: no email in brackets
@@ -22,75 +29,125 @@ use std::alloc::{AllocError, Global};
 /// team:3: warning: no effect beside team:7
 /// team:3: warning: Jane <jane@x> is itself mapped, to Jane Doe <jane@y>
 /// ```
-pub fn report_of(
+///
+/// Each line is made when its turn comes, so only one is in memory, beside what the printer holds. The outcome says
+/// whether there is a finding. At an error what was written is the beginning of the lines.
+pub fn print_findings<W: Write>(
     alloc: Global,
-    paths: &[String],
-    findings: &[Finding<'_>],
-) -> Result<Vec<u8>, AllocError>
-    ensures { IfOk result (λ text. text.items ≡ report (map string_bytes paths.now) (map finding_of findings.now)) }
+    paths: &[Vec<u8>],
+    findings: Findings<'_, '_>,
+    output: &mut W,
+) -> Result<Outcome, Failure>
+    ensures ok { IfOk result (λ outcome. (outcome ≡ outcome_of findings.entry)
+        × Appends (W.contents output.old) (W.contents output.new)
+        (report (map (λ path. path.items) paths.now) findings.entry)) }
+    ensures err { OnErr result ((count : ℕ) × Appends (W.contents output.old) (W.contents output.new)
+        (take count (report (map (λ path. path.items) paths.now) findings.entry))) }
+    ensures only { IfErr result (λ e. (e ≡ Failure.Memory) ⊎ (e ≡ Failure.Output)) }
+{
+    let mut printer = Printer::new(alloc)?;
+    let mut outcome = Outcome::Clean;
+    for finding in findings {
+        outcome = Outcome::Found;
+        print_finding(alloc, paths, &finding, &mut printer, output)?;
+    }
+    match printer.flush(output) {
+        Ok(()) => Ok(outcome),
+        Err(_) => Err(Failure::Output),
+    }
+}
+
+// Prints the line of a finding.
+fn print_finding<W: Write>(
+    alloc: Global,
+    paths: &[Vec<u8>],
+    finding: &Finding<'_>,
+    printer: &mut Printer,
+    output: &mut W,
+) -> Result<(), Failure>
+    ensures ok { OnOk result (IsUnderway
+        (printer.old ++ finding_line (map (λ path. path.items) paths.now) (finding_of finding.now))
+        (W.contents output.old) (W.contents output.new) printer.new) }
+    ensures err { OnErr result ((count : ℕ) × Appends (W.contents output.old) (W.contents output.new)
+        (take count (printer.old ++ finding_line (map (λ path. path.items) paths.now) (finding_of finding.now)))) }
+    ensures only { IfErr result (λ e. (e ≡ Failure.Memory) ⊎ (e ≡ Failure.Output)) }
+{
+    let line = line_of(alloc, paths, finding)?;
+    printer
+        .print(output, line.as_slice())
+        .map_err(|_| Failure::Output)
+}
+
+// The line of a finding, with its line feed.
+fn line_of(alloc: Global, paths: &[Vec<u8>], finding: &Finding<'_>) -> Result<Vec<u8>, AllocError>
+    ensures { IfOk result (λ line. line.items
+        ≡ finding_line (map (λ path. path.items) paths.now) (finding_of finding.now)) }
 {
     let mut text = Vec::new(alloc);
-    for finding in findings {
-        push_finding(&mut text, paths, finding)?;
-    }
-    Ok(text)
+    push_finding(&mut text, paths, finding)?;
+    let mut line = shown_text(alloc, text)?;
+    line.push(b'\n')?;
+    Ok(line)
 }
 
-/// Whether something was found.
-pub fn judge(findings: &[Finding<'_>]) -> Outcome
-    ensures { result ≡ outcome_of (map finding_of findings.now) }
+// A text as it is shown. Few have control bytes.
+fn shown_text(alloc: Global, text: Vec<u8>) -> Result<Vec<u8>, AllocError>
+    ensures { IfOk result (λ line. line.items ≡ shown text.items) }
 {
-    if findings.is_empty() {
-        Outcome::Clean
-    } else {
-        Outcome::Found
+    if !has_control(text.as_slice()) {
+        return Ok(text);
     }
+    let mut line = Vec::new(alloc);
+    push_shown(&mut line, text.as_slice())?;
+    Ok(line)
 }
 
-// Appends the line of a finding.
+// Appends what a finding says, before its control bytes are shown.
 fn push_finding(
     text: &mut Vec<u8>,
-    paths: &[String],
+    paths: &[Vec<u8>],
     finding: &Finding<'_>,
 ) -> Result<(), AllocError>
     ensures { OnOk result (text.new.items
-        ≡ text.old.items ++ finding_line (map string_bytes paths.now) (finding_of finding.now)) }
+        ≡ text.old.items ++ finding_text (map (λ path. path.items) paths.now) (finding_of finding.now)) }
 {
     push_position(text, paths, finding.position)?;
     text.extend_from_slice(b": ")?;
-    push_kind(text, paths, &finding.kind)?;
-    text.push(b'\n')?;
-    Ok(())
+    push_kind(text, paths, &finding.kind)
 }
 
 // Appends the file and the line of a position, with a colon between them.
-fn push_position(text: &mut Vec<u8>, paths: &[String], position: Position) -> Result<(), AllocError>
+fn push_position(
+    text: &mut Vec<u8>,
+    paths: &[Vec<u8>],
+    position: Position,
+) -> Result<(), AllocError>
     ensures { OnOk result (text.new.items
-        ≡ text.old.items ++ position_text (map string_bytes paths.now) position.buffer position.line) }
+        ≡ text.old.items ++ position_text (map (λ path. path.items) paths.now) position.buffer position.line) }
 {
     let mut digits = Buffer::new();
-    text.extend_from_slice(name_of(paths, position.buffer).as_bytes())?;
+    text.extend_from_slice(name_of(paths, position.buffer))?;
     text.push(b':')?;
     text.extend_from_slice(digits.format(position.line).as_bytes())
 }
 
 // How the file of a buffer is shown.
-fn name_of(paths: &[String], buffer: usize) -> &str
-    ensures { result.now ≡ file_name (map string_bytes paths.now) buffer }
+fn name_of(paths: &[Vec<u8>], buffer: usize) -> &[u8]
+    ensures { result.now ≡ file_name (map (λ path. path.items) paths.now) buffer }
 {
     if paths.is_empty() {
-        return "<stdin>";
+        return b"<stdin>";
     }
     match paths.get(buffer) {
-        Some(path) => path.as_str(),
-        None => "",
+        Some(path) => path.as_slice(),
+        None => &[],
     }
 }
 
 // Appends what was found.
-fn push_kind(text: &mut Vec<u8>, paths: &[String], kind: &Kind<'_>) -> Result<(), AllocError>
+fn push_kind(text: &mut Vec<u8>, paths: &[Vec<u8>], kind: &Kind<'_>) -> Result<(), AllocError>
     ensures { OnOk result (text.new.items
-        ≡ text.old.items ++ reported_text (map string_bytes paths.now) (reported_of kind.now)) }
+        ≡ text.old.items ++ reported_text (map (λ path. path.items) paths.now) (reported_of kind.now)) }
 {
     match kind {
         Kind::Fault(fault) => {
@@ -107,10 +164,10 @@ fn push_kind(text: &mut Vec<u8>, paths: &[String], kind: &Kind<'_>) -> Result<()
 }
 
 // Appends that a line has no effect beside another.
-fn push_no_effect(text: &mut Vec<u8>, paths: &[String], beside: Position) -> Result<(), AllocError>
+fn push_no_effect(text: &mut Vec<u8>, paths: &[Vec<u8>], beside: Position) -> Result<(), AllocError>
     ensures { OnOk result (text.new.items ≡ text.old.items
         ++ (codes "warning: no effect beside "
-        ++ position_text (map string_bytes paths.now) beside.buffer beside.line)) }
+        ++ position_text (map (λ path. path.items) paths.now) beside.buffer beside.line)) }
 {
     text.extend_from_slice(b"warning: no effect beside ")?;
     push_position(text, paths, beside)

@@ -1,5 +1,5 @@
 //! What the arguments of `mailmap_check` ask for, and the doing of it.
-ghost use Rattle.std.specs.Prelude.{◌≡◌, ◌↔◌, ◌<◌, ◌≤◌, ℕ, IsErr, IsErrOf, OnOk, drop, length, map, string_bytes};
+ghost use Rattle.std.specs.Prelude.{◌≡◌, ◌↔◌, ◌<◌, ◌≤◌, ℕ, IsErr, IsErrOf, OnOk, drop, length, map};
 ghost use Rattle.mailmap_io.specs.Files.{MayOpenBefore};
 ghost use Rattle.mailmap_io.specs.Printing.{Prints, PrintsFront};
 ghost use Rattle.mailmap_runs.specs.Run.{AnswersContacts, IsMailmap, bytes_of};
@@ -26,20 +26,20 @@ pub struct Task<'a> {
     /// What is done with the mailmaps.
     pub mode: Mode,
     /// The paths of their files. If there is none, standard input has the mailmap.
-    pub paths: &'a [String],
+    pub paths: &'a [Vec<u8>],
 }
 
 /// What the arguments ask for, of which the first is the program's own name.
 ///
 /// `--compact` counts only right after that name; elsewhere it is a path.
-pub fn task_of(arguments: &[String]) -> Task<'_>
-    ensures compact { (result.mode ≡ Mode.Compact) ↔ AsksToCompact (map string_bytes arguments.now) }
+pub fn task_of(arguments: &[Vec<u8>]) -> Task<'_>
+    ensures compact { (result.mode ≡ Mode.Compact) ↔ AsksToCompact (map (λ a. a.items) arguments.now) }
     ensures answer_paths { result.mode ≡ Mode.Answer → result.paths.now ≡ drop 1 arguments.now }
     ensures compact_paths { result.mode ≡ Mode.Compact → result.paths.now ≡ drop 2 arguments.now }
 {
     let mode = Mode::Answer;
     match arguments {
-        [_, first, paths @ ..] if first.as_str() == "--compact" => Task {
+        [_, first, paths @ ..] if first.as_slice() == b"--compact".as_slice() => Task {
             mode: Mode::Compact,
             paths,
         },
@@ -63,29 +63,29 @@ pub fn perform<F: FileSystem, R: Read, W: Write>(
 ) -> Result<(), Failure>
     // What is written is made of the files where some are given, and else of the input.
     ensures answers { task.entry.mode ≡ Mode.Answer → OnOk result (Prints
-        (OfFiles (F.may_open system.now) (F.bytes system.now) (map string_bytes task.entry.paths.now)
+        (OfFiles (F.may_open system.now) (F.bytes system.now) (map (λ path. path.items) task.entry.paths.now)
         (λ files. AnswersContacts files (R.remaining input.old)))
         (W.contents output.old) (W.contents output.new)) }
     ensures mailmap { task.entry.mode ≡ Mode.Compact → OnOk result (Prints
-        (OfFiles (F.may_open system.now) (F.bytes system.now) (map string_bytes task.entry.paths.now)
+        (OfFiles (F.may_open system.now) (F.bytes system.now) (map (λ path. path.items) task.entry.paths.now)
         (λ files. IsMailmap files (R.remaining input.old)))
         (W.contents output.old) (W.contents output.new)) }
 
     // The number of a file that can't be read is its number among the paths, from 1 on.
     ensures file { (number : ℕ) → IsErrOf result (Failure.File number) → (0 < number)
         × (number ≤ length task.entry.paths.now)
-        × MayOpenBefore (F.may_open system.now) number (map string_bytes task.entry.paths.now) }
+        × MayOpenBefore (F.may_open system.now) number (map (λ path. path.items) task.entry.paths.now) }
 
     // Any number of files will do.
     ensures any_number { ¬ IsErrOf result Failure.TooManyFiles }
 
     // Output that breaks off is the beginning of it; at the other failures nothing is written.
     ensures answers_break_off { task.entry.mode ≡ Mode.Answer → IsErrOf result Failure.Output → PrintsFront
-        (OfFiles (F.may_open system.now) (F.bytes system.now) (map string_bytes task.entry.paths.now)
+        (OfFiles (F.may_open system.now) (F.bytes system.now) (map (λ path. path.items) task.entry.paths.now)
         (λ files. AnswersContacts files (R.remaining input.old)))
         (W.contents output.old) (W.contents output.new) }
     ensures mailmap_breaks_off { task.entry.mode ≡ Mode.Compact → IsErrOf result Failure.Output → PrintsFront
-        (OfFiles (F.may_open system.now) (F.bytes system.now) (map string_bytes task.entry.paths.now)
+        (OfFiles (F.may_open system.now) (F.bytes system.now) (map (λ path. path.items) task.entry.paths.now)
         (λ files. IsMailmap files (R.remaining input.old)))
         (W.contents output.old) (W.contents output.new) }
     ensures silent { IsErr result → ¬ IsErrOf result Failure.Output → output.new ≡ output.old }

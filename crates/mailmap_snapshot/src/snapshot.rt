@@ -21,8 +21,8 @@ pub use text::WriteError;
 /// What a history of entries maps: for each old email, and for each old name of it, the name and the email that stand
 /// in their place. Case is ignored where it is that of ASCII letters.
 ///
-/// Contracts see a snapshot as the list of its entries in ascending order of their keys, as [`Snapshot::iter`] gives it.
-/// It keeps the allocator that it was made with.
+/// Contracts see a snapshot as the list of its entries in ascending order of their keys, as [`Snapshot::iter`] gives
+/// it. It keeps the allocator that it was made with.
 #[derive(Drop)]
 pub struct Snapshot {
     tables: Tables,

@@ -55,7 +55,7 @@ says_something h x xs n good alike none =
 pub record EmailsState (gs0 : List EmailGroup) (ps0 : List Item) (pool0 : Text) (gs : List EmailGroup) (ps : List Item) (c : Contents) : Type 0 where
   pub done : List EmailGroup
   pub taken : List Item
-  pub standing_is : gs0 ≡ done ++ gs
+  pub groups_are : gs0 ≡ done ++ gs
   pub batch_is : ps0 ≡ taken ++ ps
   pub pool : Extends pool0 c.pool
   pub none_pending : c.pending ≡ []
@@ -69,7 +69,7 @@ emails_start gs ps c pool0 are up is =
     subst (EmailsState gs ps pool0 gs ps) (sym is) (record {
       done = [];
       taken = [];
-      standing_is = refl;
+      groups_are = refl;
       batch_is = refl;
       pool = extends_itself pool0 pool0 refl;
       none_pending = refl;
@@ -182,14 +182,14 @@ module _ (gs0 : List EmailGroup) (ps0 : List Item) (pool0 : Text) (are : AreGrou
 
   module _ (rest : List EmailGroup) (parted : gs ≡ passed ++ rest) where
     below_all : AreBelowAll (map by st.taken) (map email_key passed ++ map email_key rest)
-    below_all = subst (AreBelowAll (map by st.taken)) (ap (map email_key) parted ∙ map-append email_key passed rest) st.order.taken_standing
+    below_all = subst (AreBelowAll (map by st.taken)) (ap (map email_key) parted ∙ map-append email_key passed rest) st.order.taken_remaining
 
     after_passed : (s : Text → Text) → IsSpelling gs0 ps0 s → Alike (listing (st.done ++ passed) ++ spelt s st.taken) (listing (c.groups ++ passed))
     after_passed s sp = step_copied st.done passed c.groups (spelt s st.taken) (st.alike s sp)
         (below_groups s passed st.taken (same_taken s sp) (turned (map by st.taken) (map email_key passed) (each_head (map by st.taken) (map email_key passed) (map email_key rest) below_all)))
 
     passed_groups : AllByRecursion IsGroup passed
-    passed_groups = all_head IsGroup passed rest (subst (AllByRecursion IsGroup) parted (all_tail IsGroup st.done gs (subst (AllByRecursion IsGroup) st.standing_is are.each)))
+    passed_groups = all_head IsGroup passed rest (subst (AllByRecursion IsGroup) parted (all_tail IsGroup st.done gs (subst (AllByRecursion IsGroup) st.groups_are are.each)))
 
   spelt-append : (s : Text → Text) → spelt s (st.taken ++ members) ≡ spelt s st.taken ++ spelt s members
   spelt-append s = map-append (λ p. spelled_by s p.1) st.taken members
@@ -203,7 +203,7 @@ module _ (gs0 : List EmailGroup) (ps0 : List Item) (pool0 : Text) (are : AreGrou
       record {
         done = st.done ++ fresh;
         taken = st.taken ++ members;
-        standing_is = st.standing_is ∙ ap (λ l. st.done ++ l) parted ∙ sym (append_assoc st.done fresh left);
+        groups_are = st.groups_are ∙ ap (λ l. st.done ++ l) parted ∙ sym (append_assoc st.done fresh left);
         batch_is = st.batch_is ∙ ap (λ l. st.taken ++ l) whole ∙ sym (append_assoc st.taken members later);
         pool = extends_through pool0 c.pool out.pool st.pool put.pool;
         none_pending = put.none_pending;
@@ -225,7 +225,7 @@ module _ (gs0 : List EmailGroup) (ps0 : List Item) (pool0 : Text) (are : AreGrou
       (all_tail _ (map email_key c.groups) (map email_key passed ++ f ∷ []) (subst (λ l. AreBelowAll l (map by later)) (append_assoc (map email_key c.groups) (map email_key passed) (f ∷ [])) order3.out_batch)) in
       next (passed ++ existing ∷ []) (parted ∙ sym (append_assoc passed (existing ∷ []) left)) (ap folded put.joined.old_email ∙ key_is) order3 fresh_below (passed_groups (existing ∷ left) parted)
       (λ s sp.
-      let at : s f ≡ existing.old_email = ap s (sym key_is) ∙ existing_at s gs0 st.done passed left existing (st.standing_is ∙ ap (λ l. st.done ++ l) parted) sp.existing in
+      let at : s f ≡ existing.old_email = ap s (sym key_is) ∙ existing_at s gs0 st.done passed left existing (st.groups_are ∙ ap (λ l. st.done ++ l) parted) sp.existing in
       let below = below_group s existing st.taken (same_taken s sp) (turned (map by st.taken) (email_key existing ∷ map email_key left) (each_back (map by st.taken) (map email_key passed) (email_key existing ∷ map email_key left) (below_all (existing ∷ left) parted))).0 in
       let joined = step_joined (st.done ++ passed) (c.groups ++ passed) existing group (spelt s st.taken) (spelt s members) (after_passed (existing ∷ left) parted s sp) below (group_alike s at) in
       shaped s (passed ++ existing ∷ []) ((st.done ++ passed) ++ existing ∷ []) (append_assoc st.done passed (existing ∷ [])) joined)
@@ -235,10 +235,10 @@ module _ (gs0 : List EmailGroup) (ps0 : List Item) (pool0 : Text) (are : AreGrou
           (subst (λ js. Alike (listing (st.done ++ fresh) ++ js) (listing ((c.groups ++ passed) ++ group ∷ []))) (sym (spelt-append s))
           (subst (λ d. Alike (listing d ++ (spelt s st.taken ++ spelt s members)) (listing ((c.groups ++ passed) ++ group ∷ []))) e a))
 
-  -- a new email: no standing one has it, and its earliest entry is the earliest of the batch
+  -- a new email: no old one has it, and its earliest entry is the earliest of the batch
   nowhere : gs ≡ passed ++ left → AllByRecursion (λ k. text_cmp (email_key k) f ≡ Less) passed → AllByRecursion (λ k. text_cmp f (email_key k) ≡ Less) left → (t : Text) → t ≡ f → AllByRecursion (λ g. email_key g ≡ t → ⊥) gs0
   nowhere parted low high t is =
-      subst (λ u. AllByRecursion (λ g. email_key g ≡ u → ⊥) gs0) (sym is) (subst (AllByRecursion (λ g. email_key g ≡ f → ⊥)) (sym (st.standing_is ∙ ap (λ l. st.done ++ l) parted))
+      subst (λ u. AllByRecursion (λ g. email_key g ≡ u → ⊥) gs0) (sym is) (subst (AllByRecursion (λ g. email_key g ≡ f → ⊥)) (sym (st.groups_are ∙ ap (λ l. st.done ++ l) parted))
       (all_append _ st.done (passed ++ left) (lower st.done done_low) (all_append _ passed left (lower passed low) (higher left high))))
     where
       lower : (xs : List EmailGroup) → AllByRecursion (λ k. text_cmp (email_key k) f ≡ Less) xs → AllByRecursion (λ g. email_key g ≡ f → ⊥) xs
@@ -314,7 +314,7 @@ pub emails_are : (gs0 : List EmailGroup) (ps0 : List Item) (pool0 : Text) → Ar
 emails_are gs0 ps0 pool0 are gs ps c st =
     record {
       ascending = subst (IsStrictlySortedBy text_cmp) (sym (map-append email_key c.groups gs)) (order_end (map email_key c.groups) (map email_key gs) (map by ps) (map by st.taken) st.order);
-      each = all_append IsGroup c.groups gs st.each (all_tail IsGroup st.done gs (subst (AllByRecursion IsGroup) st.standing_is are.each));
+      each = all_append IsGroup c.groups gs st.each (all_tail IsGroup st.done gs (subst (AllByRecursion IsGroup) st.groups_are are.each));
     }
 
 pub emails_end : (gs0 : List EmailGroup) (ps0 : List Item) (pool0 : Text) (are : AreGroups gs0) (gs : List EmailGroup) (c out : Contents) → EmailsState gs0 ps0 pool0 gs [] c → out ≡ record c { groups = c.groups ++ gs } → AllJoined gs0 ps0 out.groups
@@ -324,9 +324,9 @@ emails_end gs0 ps0 pool0 are gs c out st is =
       groups = emails_are gs0 ps0 pool0 are gs [] c st;
       alike = λ s sp.
           let same = subst (AreSame s) whole sp.same in
-          let a = step_copied st.done gs c.groups (spelt s st.taken) (st.alike s sp) (below_groups s gs st.taken same (turned (map by st.taken) (map email_key gs) st.order.taken_standing)) in
+          let a = step_copied st.done gs c.groups (spelt s st.taken) (st.alike s sp) (below_groups s gs st.taken same (turned (map by st.taken) (map email_key gs) st.order.taken_remaining)) in
           subst (λ js. Alike (listing gs0 ++ js) (listing (c.groups ++ gs))) (sym (ap (spelt s) whole))
-          (subst (λ ds. Alike (listing ds ++ spelt s st.taken) (listing (c.groups ++ gs))) (sym st.standing_is) a);
+          (subst (λ ds. Alike (listing ds ++ spelt s st.taken) (listing (c.groups ++ gs))) (sym st.groups_are) a);
     })
 
 -- ---- a group at the start of a batch

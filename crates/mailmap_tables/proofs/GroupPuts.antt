@@ -1,4 +1,4 @@
--- The email of one group of the batch, after the standing emails before it.
+-- The email of one group of the batch, after the old emails before it.
 use Rattle.std.proofs.Common.{◌≡◌, ◌+◌, ◌-◌, ◌<◌, ℕ, List, [], ◌∷◌, ◌++◌, map, take, drop, get_or, length, Some, append_assoc, refl, sym, ap, subst, ◌∙◌, arith}
 use Rattle.std.specs.List.{slice_get}
 use Rattle.std.specs.List.Sorted.{IsStrictlySortedBy}
@@ -19,7 +19,7 @@ pub first_email_at : (xs : List IndexedEntry) (d : IndexedEntry) → 0 < length 
 first_email_at [] d some = absurd (omega arith)
 first_email_at (x ∷ xs) d some = refl
 
--- a standing email's names ascend
+-- a old email's names ascend
 pub names_of_index : (gs : List EmailGroup) (index : ℕ) (g : EmailGroup) → AreGroups gs → slice_get gs index ≡ Some g → IsStrictlySortedBy text_cmp (map name_key g.names)
 names_of_index gs index g are read =
     let group : IsGroup (get_or gs index g) = all_at IsGroup gs index g are.each (slice_get_within gs index g read) in

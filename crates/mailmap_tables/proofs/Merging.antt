@@ -1,4 +1,4 @@
--- A sorted batch joined with standing groups, email by email and name by name.
+-- A sorted batch joined with old groups, email by email and name by name.
 use Rattle.std.proofs.Common.{◌≡◌, ◌||◌, if◌then◌else◌, true, true≢false, List, [], ◌∷◌, ◌++◌, map, append-nil, append_assoc, is_some, option_map, Option, Some, None, Less, Greater, is_eq, refl, sym, ap, subst, ◌∙◌}
 use Rattle.std.specs.Cmp.Lexicographic.{nat_list_cmp_total, options_total}
 use Rattle.std.specs.Option.{option_cmp}
@@ -39,7 +39,7 @@ module _ (a b c : List Mapping) (apart : AllByRecursion (λ x. AllByRecursion (�
 put_more : (a c d o m : List Mapping) → Alike (a ++ c) o → Alike d m → Alike (a ++ (c ++ d)) (o ++ m)
 put_more a c d o m done more = subst (λ l. Alike l (o ++ m)) (append_assoc a c d) (alike_joined (a ++ c) d o m done more)
 
--- ---- email by email: ds are the standing groups that are done, js is the head of the batch, os are the groups that
+-- ---- email by email: ds are the old groups that are done, js is the head of the batch, os are the groups that
 -- come out
 
 -- the emails of js are below that of g
@@ -58,14 +58,14 @@ apart_below x y less =
 rows_apart : (g : EmailGroup) (js : List Mapping) → AreBelow js g → AllByRecursion (λ x. AllByRecursion (λ y. IsApart x y) js) (rows g)
 rows_apart g js below = all_weaker (rows g) (λ x same. all_weaker js (λ y less. apart_below x y (ap (λ t. text_cmp (folded y.old_email) (folded t)) same ∙ less)) below) (rows_spelled g)
 
--- standing groups above the batch so far go over as they are
+-- old groups above the batch so far go over as they are
 pub step_copied : (ds group os : List EmailGroup) (js : List Mapping) → Alike (listing ds ++ js) (listing os) → AllByRecursion (AreBelow js) group → Alike (listing (ds ++ group) ++ js) (listing (os ++ group))
 step_copied ds group os js done below =
     subst (λ l. Alike (l ++ js) (listing (os ++ group))) (sym (listing-append ds group))
     (subst (Alike ((listing ds ++ listing group) ++ js)) (sym (listing-append os group))
     (put_alone (listing ds) (listing group) js (listing_all _ group (all_weaker group (λ g low. rows_apart g js low) below)) (listing os) done))
 
--- a standing group with the entries of its email in the batch
+-- a old group with the entries of its email in the batch
 pub step_joined : (ds os : List EmailGroup) (g c : EmailGroup) (js more : List Mapping) → Alike (listing ds ++ js) (listing os) → AreBelow js g → Alike (rows g ++ more) (rows c)
     → Alike (listing (ds ++ g ∷ []) ++ (js ++ more)) (listing (os ++ c ∷ []))
 step_joined ds os g c js more done below joined =
@@ -76,7 +76,7 @@ step_joined ds os g c js more done below joined =
 pub step_made : (ds os : List EmailGroup) (c : EmailGroup) (js more : List Mapping) → Alike (listing ds ++ js) (listing os) → Alike more (rows c) → Alike (listing ds ++ (js ++ more)) (listing (os ++ c ∷ []))
 step_made ds os c js more done new = subst (Alike (listing ds ++ (js ++ more))) (sym (listing-push os c)) (put_more (listing ds) js more (listing os) (rows c) done new)
 
--- ---- the names of one email e: ds are the standing names that are done, js is the head of its named batch entries, os
+-- ---- the names of one email e: ds are the old names that are done, js is the head of its named batch entries, os
 -- are the names that come out
 
 abbrev pub name_rows : Text → List NameGroup → List Mapping
@@ -110,7 +110,7 @@ name_combined e n m y same_email same_name given =
     subst (λ o. Alike (name_row e n ∷ m ∷ []) (mapping_with (record { name = m.new_name; email = o }) (Some n.old_name) e ∷ [])) given
     (alike_combined (name_row e n) m (λ i. (folded (sym same_email i), sym same_name i)) (sym same_email) (or_right (is_some n.new_name) true refl) (or_right (is_some m.new_name) (is_some m.new_email) (ap is_some given)))
 
--- standing names above those so far go over as they are
+-- old names above those so far go over as they are
 pub names_copied : (e : Text) (ds group os : List NameGroup) (js : List Mapping) → AllByRecursion (λ y. y.old_email ≡ e) js → Alike (name_rows e ds ++ js) (name_rows e os)
     → AllByRecursion (AreNamedBelow js) group → Alike (name_rows e (ds ++ group) ++ js) (name_rows e (os ++ group))
 names_copied e ds group os js mailed done below =
@@ -122,7 +122,7 @@ names_copied e ds group os js mailed done below =
     each [] a = tt
     each (n ∷ ns) a = (names_apart e n js mailed a.0, each ns a.1)
 
--- an entry with a standing name
+-- an entry with a old name
 pub names_found : (e : Text) (ds os : List NameGroup) (n : NameGroup) (js : List Mapping) (m : Mapping) (y : Text) → AllByRecursion (λ y. y.old_email ≡ e) js → Alike (name_rows e ds ++ js) (name_rows e os)
     → AreNamedBelow js n → m.old_email ≡ e → (key m).1 ≡ Some (name_key n) → m.new_email ≡ Some y
     → Alike (name_rows e (ds ++ n ∷ []) ++ (js ++ m ∷ [])) (name_rows e (os ++ renewed n.old_name m y ∷ []))
@@ -182,7 +182,7 @@ own_joined e f (u ∷ us) own =
 
 -- ---- an email whole
 
--- a standing email with its entries without an old name and those with one
+-- a old email with its entries without an old name and those with one
 pub group_joined : (g c : EmailGroup) (us js : List Mapping) → AllByRecursion (IsOwn g.old_email) us → Alike (own_rows g ++ us) (own_rows c)
     → Alike (name_rows g.old_email g.names ++ js) (name_rows c.old_email c.names) → Alike (rows g ++ (us ++ js)) (rows c)
 group_joined g c us js own own_part names_part =

@@ -195,7 +195,7 @@ module _ (ks0 : List NameGroup) (ms0 : List Mapping) (c0 : Contents) (named0 : A
 
   module _ (rest : List NameGroup) (parted : ks ≡ put.passed ++ rest) where
     below_rest : AreBelowAll (map name_text s.taken) (map name_key put.passed ++ map name_key rest)
-    below_rest = subst (AreBelowAll (map name_text s.taken)) (ap (map name_key) parted ∙ map-append name_key put.passed rest) s.order.taken_standing
+    below_rest = subst (AreBelowAll (map name_text s.taken)) (ap (map name_key) parted ∙ map-append name_key put.passed rest) s.order.taken_remaining
 
     after_passed : (e : Text) → Alike (name_rows e (s.done ++ put.passed) ++ map (with_email e) s.taken) (name_rows e (s.names ++ put.passed))
     after_passed e = copied e s.done put.passed s.names s.taken named_taken (s.alike e) (each_head (map name_text s.taken) (map name_key put.passed) (map name_key rest) below_rest)
@@ -221,7 +221,7 @@ module _ (ks0 : List NameGroup) (ms0 : List Mapping) (c0 : Contents) (named0 : A
       let all = replaced e (s.done ++ put.passed) (s.names ++ put.passed) (map (with_email e) s.taken) (renewed n.old_name (with_email e group.head) y.0) group.head group.more n.new_email pushed refl y.1 named_group.1 group.same group.new_email in
       reshaped e (s.done ++ put.passed) s.names (renewed n.old_name final n.new_email) (final_is n.old_name kept) all
 
-  -- the state that follows, but for what is done of the standing names
+  -- the state that follows, but for what is done of the old names
   next : (more : List NameGroup) → ks ≡ more ++ left → name_key one ≡ f → InOrder ((map name_key s.names ++ map name_key put.passed) ++ f ∷ []) (map name_key left) (map name_text later) (map name_text s.taken ++ f ∷ map name_text group.more)
       → ((e : Text) → Alike (name_rows e (s.done ++ more) ++ map (with_email e) (s.taken ++ group.head ∷ group.more)) (name_rows e (s.names ++ (put.passed ++ one ∷ []))))
       → NamesState ks0 ms0 c0 left later out
@@ -244,16 +244,16 @@ module _ (ks0 : List NameGroup) (ms0 : List Mapping) (c0 : Contents) (named0 : A
   names_step = elim put.lookup [
     | known k parted same kept ↦
         let whole : ks ≡ (put.passed ++ k ∷ []) ++ left = parted ∙ sym (append_assoc put.passed (k ∷ []) left) in
-        let standing : map name_key ks ≡ map name_key put.passed ++ f ∷ map name_key left = ap (map name_key) parted ∙ map-append name_key put.passed (k ∷ left) ∙ ap (λ t. map name_key put.passed ++ t ∷ map name_key left) same in
+        let remaining_are : map name_key ks ≡ map name_key put.passed ++ f ∷ map name_key left = ap (map name_key) parted ∙ map-append name_key put.passed (k ∷ left) ∙ ap (λ t. map name_key put.passed ++ t ∷ map name_key left) same in
         next (put.passed ++ k ∷ []) whole (ap folded kept ∙ same)
         (order_found (map name_key s.names) (map name_key put.passed) (map name_key left) (map name_text group.more) (map name_text later) (map name_text s.taken) f
-        (subst (λ g. InOrder (map name_key s.names) g (f ∷ map name_text group.more ++ map name_text later) (map name_text s.taken)) standing order1) (same_keys group.more group.same) above)
+        (subst (λ g. InOrder (map name_key s.names) g (f ∷ map name_text group.more ++ map name_text later) (map name_text s.taken)) remaining_are order1) (same_keys group.more group.same) above)
         (λ e. alike_known e k parted same kept)
     | unknown parted low high kept ↦
-        let standing : map name_key ks ≡ map name_key put.passed ++ map name_key left = ap (map name_key) parted ∙ map-append name_key put.passed left in
+        let remaining_are : map name_key ks ≡ map name_key put.passed ++ map name_key left = ap (map name_key) parted ∙ map-append name_key put.passed left in
         next put.passed parted (ap folded kept)
         (order_missing (map name_key s.names) (map name_key put.passed) (map name_key left) (map name_text group.more) (map name_text later) (map name_text s.taken) f
-        (subst (λ g. InOrder (map name_key s.names) g (f ∷ map name_text group.more ++ map name_text later) (map name_text s.taken)) standing order1) (same_keys group.more group.same) above
+        (subst (λ g. InOrder (map name_key s.names) g (f ∷ map name_text group.more ++ map name_text later) (map name_text s.taken)) remaining_are order1) (same_keys group.more group.same) above
         (keys_of put.passed (λ x. text_cmp x f ≡ Less) low) (keys_of left (λ x. text_cmp f x ≡ Less) high))
         (λ e. alike_unknown e parted kept)
   ]
@@ -276,7 +276,7 @@ names_end ks0 ms0 c0 named0 ks c out s is =
         ascending = subst (IsStrictlySortedBy text_cmp) (sym (map-append name_key s.names ks)) (order_end (map name_key s.names) (map name_key ks) [] (map name_text s.taken) s.order);
         alike = λ e.
             let named = subst (AllByRecursion IsNamed) whole named0 in
-            let a = copied e s.done ks s.names s.taken named (s.alike e) s.order.taken_standing in
+            let a = copied e s.done ks s.names s.taken named (s.alike e) s.order.taken_remaining in
             subst (λ js. Alike (name_rows e ks0 ++ map (with_email e) js) (name_rows e (s.names ++ ks))) (sym whole)
             (subst (λ ds. Alike (name_rows e ds ++ map (with_email e) s.taken) (name_rows e (s.names ++ ks))) (sym s.kept_is) a);
       };

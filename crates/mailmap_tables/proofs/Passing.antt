@@ -1,4 +1,4 @@
--- Standing emails that are passed on.
+-- Old emails that are passed on.
 use Rattle.std.proofs.Common.{◌≡◌, ◌+◌, ◌-◌, ◌≤◌, ◌<◌, ℕ, suc, List, [], ◌∷◌, ◌++◌, take, drop, get_or, length, map, Some, unwrap_or, length-drop, sym, ap, subst, ◌∙◌, arith}
 use Rattle.std.specs.List.{slice_get, flat_map}
 use Rattle.std.proofs.Math.Seq.{drop-cons, take-append_seam, drop-append_seam}

@@ -83,22 +83,22 @@ ascending_back (x ∷ xs) ys s = ascending_back xs ys s.1
 
 -- ---- the order of a join
 
-pub order_start : (standing batch : List Text) → IsStrictlySortedBy text_cmp standing → IsAscending text_cmp batch → InOrder [] standing batch []
-order_start standing batch s t = record { out_ascends = none_sorted; standing_ascends = s; batch_ascends = t; out_standing = tt; out_batch = tt; taken_standing = tt; taken_batch = tt }
+pub order_start : (remaining batch : List Text) → IsStrictlySortedBy text_cmp remaining → IsAscending text_cmp batch → InOrder [] remaining batch []
+order_start remaining batch s t = record { out_ascends = none_sorted; remaining_ascend = s; batch_ascends = t; out_remaining = tt; out_batch = tt; taken_remaining = tt; taken_batch = tt }
 
--- the standing texts below f come out, and then f, which is that of the batch's next ones
-pub order_missing : (out group standing fs batch taken : List Text) (f : Text) → InOrder out (group ++ standing) (f ∷ fs ++ batch) taken → AllByRecursion (λ x. x ≡ f) fs → AllByRecursion (λ y. text_cmp f y ≡ Less) batch
-    → AllByRecursion (λ x. text_cmp x f ≡ Less) group → AllByRecursion (λ y. text_cmp f y ≡ Less) standing → InOrder (out ++ group ++ f ∷ []) standing batch (taken ++ f ∷ fs)
-order_missing out group standing fs batch taken f o same below_batch group_below below_standing =
+-- the old texts below f come out, and then f, which is that of the batch's next ones
+pub order_missing : (out group remaining fs batch taken : List Text) (f : Text) → InOrder out (group ++ remaining) (f ∷ fs ++ batch) taken → AllByRecursion (λ x. x ≡ f) fs → AllByRecursion (λ y. text_cmp f y ≡ Less) batch
+    → AllByRecursion (λ x. text_cmp x f ≡ Less) group → AllByRecursion (λ y. text_cmp f y ≡ Less) remaining → InOrder (out ++ group ++ f ∷ []) remaining batch (taken ++ f ∷ fs)
+order_missing out group remaining fs batch taken f o same below_batch group_below below_remaining =
     let out_f : AllByRecursion (λ x. text_cmp x f ≡ Less) out = each_first out f (fs ++ batch) o.out_batch in
     let out_group : AreBelowAll (out ++ group) (f ∷ []) = all_append _ out group (single out out_f) (single group group_below) in
     record {
-      out_ascends = sorted_join (out ++ group) (f ∷ []) (sorted_join out group o.out_ascends (sorted_initial group standing o.standing_ascends) (each_head out group standing o.out_standing)) (sorted_one f) out_group;
-      standing_ascends = sorted_back group standing o.standing_ascends;
+      out_ascends = sorted_join (out ++ group) (f ∷ []) (sorted_join out group o.out_ascends (sorted_initial group remaining o.remaining_ascend) (each_head out group remaining o.out_remaining)) (sorted_one f) out_group;
+      remaining_ascend = sorted_back group remaining o.remaining_ascend;
       batch_ascends = ascending_back (f ∷ fs) batch o.batch_ascends;
-      out_standing = all_append _ (out ++ group) (f ∷ []) (all_append _ out group (each_back out group standing o.out_standing) (sorted_across group standing o.standing_ascends)) (below_standing, tt);
+      out_remaining = all_append _ (out ++ group) (f ∷ []) (all_append _ out group (each_back out group remaining o.out_remaining) (sorted_across group remaining o.remaining_ascend)) (below_remaining, tt);
       out_batch = all_append _ (out ++ group) (f ∷ []) (all_append _ out group (each_back out (f ∷ fs) batch o.out_batch) (all_below_through group f group_below batch below_batch)) (below_batch, tt);
-      taken_standing = all_append _ taken (f ∷ fs) (each_back taken group standing o.taken_standing) (below_standing, same_below f fs same standing below_standing);
+      taken_remaining = all_append _ taken (f ∷ fs) (each_back taken group remaining o.taken_remaining) (below_remaining, same_below f fs same remaining below_remaining);
       taken_batch = all_append _ taken (f ∷ fs) (each_back taken (f ∷ fs) batch o.taken_batch) (below_batch, same_below f fs same batch below_batch);
     }
   where
@@ -106,26 +106,26 @@ order_missing out group standing fs batch taken f o same below_batch group_below
     single [] a = tt
     single (x ∷ xs) a = ((a.0, tt), single xs a.1)
 
--- the same where f is the next standing text, too
-pub order_found : (out group standing fs batch taken : List Text) (f : Text) → InOrder out (group ++ f ∷ standing) (f ∷ fs ++ batch) taken → AllByRecursion (λ x. x ≡ f) fs → AllByRecursion (λ y. text_cmp f y ≡ Less) batch
-    → InOrder (out ++ group ++ f ∷ []) standing batch (taken ++ f ∷ fs)
-order_found out group standing fs batch taken f o same below_batch =
-    let s = o.standing_ascends in
-    let less : InOrder out (group ++ standing) (f ∷ fs ++ batch) taken = record {
+-- the same where f is the next old text, too
+pub order_found : (out group remaining fs batch taken : List Text) (f : Text) → InOrder out (group ++ f ∷ remaining) (f ∷ fs ++ batch) taken → AllByRecursion (λ x. x ≡ f) fs → AllByRecursion (λ y. text_cmp f y ≡ Less) batch
+    → InOrder (out ++ group ++ f ∷ []) remaining batch (taken ++ f ∷ fs)
+order_found out group remaining fs batch taken f o same below_batch =
+    let s = o.remaining_ascend in
+    let less : InOrder out (group ++ remaining) (f ∷ fs ++ batch) taken = record {
       out_ascends = o.out_ascends;
-      standing_ascends = sorted_join group standing (sorted_initial group (f ∷ standing) s) (sorted_tail text_cmp f standing (sorted_back group (f ∷ standing) s)) (each_rest group f standing (sorted_across group (f ∷ standing) s));
+      remaining_ascend = sorted_join group remaining (sorted_initial group (f ∷ remaining) s) (sorted_tail text_cmp f remaining (sorted_back group (f ∷ remaining) s)) (each_rest group f remaining (sorted_across group (f ∷ remaining) s));
       batch_ascends = o.batch_ascends;
-      out_standing = without out o.out_standing;
+      out_remaining = without out o.out_remaining;
       out_batch = o.out_batch;
-      taken_standing = without taken o.taken_standing;
+      taken_remaining = without taken o.taken_remaining;
       taken_batch = o.taken_batch;
     } in
-    order_missing out group standing fs batch taken f less same below_batch (each_first group f standing (sorted_across group (f ∷ standing) s)) (sorted_head text_cmp f standing (sorted_back group (f ∷ standing) s))
+    order_missing out group remaining fs batch taken f less same below_batch (each_first group f remaining (sorted_across group (f ∷ remaining) s)) (sorted_head text_cmp f remaining (sorted_back group (f ∷ remaining) s))
   where
-    without : (xs : List Text) → AreBelowAll xs (group ++ f ∷ standing) → AreBelowAll xs (group ++ standing)
+    without : (xs : List Text) → AreBelowAll xs (group ++ f ∷ remaining) → AreBelowAll xs (group ++ remaining)
     without [] a = tt
-    without (x ∷ xs) a = (all_append _ group standing (all_head _ group (f ∷ standing) a.0) (all_tail _ group (f ∷ standing) a.0).1, without xs a.1)
+    without (x ∷ xs) a = (all_append _ group remaining (all_head _ group (f ∷ remaining) a.0) (all_tail _ group (f ∷ remaining) a.0).1, without xs a.1)
 
--- in the end the rest of the standing texts comes out
-pub order_end : (out standing batch taken : List Text) → InOrder out standing batch taken → IsStrictlySortedBy text_cmp (out ++ standing)
-order_end out standing batch taken o = sorted_join out standing o.out_ascends o.standing_ascends o.out_standing
+-- in the end the rest of the old texts comes out
+pub order_end : (out remaining batch taken : List Text) → InOrder out remaining batch taken → IsStrictlySortedBy text_cmp (out ++ remaining)
+order_end out remaining batch taken o = sorted_join out remaining o.out_ascends o.remaining_ascend o.out_remaining

@@ -1,4 +1,4 @@
--- How a sorted batch is joined with standing groups.
+-- How a sorted batch is joined with old groups.
 use Rattle.std.specs.Prelude.{◌≡◌, ◌≤◌, ◌++◌, ℕ, true, List, [], ◌∷◌, All, Contains, map}
 use Rattle.std.specs.List.{AllByRecursion}
 use Rattle.std.specs.List.Sorted.{IsStrictlySortedBy}
@@ -18,13 +18,13 @@ AreBelowAll xs ys = AllByRecursion (λ x. AllByRecursion (λ y. text_cmp x y ≡
 
 -- the keys that have come out of two ascending lists lie below what is left of them,
 -- and so do the keys that were taken from the second below what is left of the first
-pub record InOrder (out standing batch taken : List Text) : Type 0 where
+pub record InOrder (out remaining batch taken : List Text) : Type 0 where
   pub out_ascends : IsStrictlySortedBy text_cmp out
-  pub standing_ascends : IsStrictlySortedBy text_cmp standing
+  pub remaining_ascend : IsStrictlySortedBy text_cmp remaining
   pub batch_ascends : IsAscending text_cmp batch
-  pub out_standing : AreBelowAll out standing
+  pub out_remaining : AreBelowAll out remaining
   pub out_batch : AreBelowAll out batch
-  pub taken_standing : AreBelowAll taken standing
+  pub taken_remaining : AreBelowAll taken remaining
   pub taken_batch : AreBelowAll taken batch
 
 -- ---- names

@@ -20,8 +20,8 @@ use mailmap_entries::Entry;
 use std::alloc::{AllocError, Global};
 use std::mem;
 
-/// Merges entries into the tables in place, as later than all that is there. All memory is taken first: when there is not
-/// enough, the tables stay as they were.
+/// Merges entries into the tables in place, as later than all that is there. All memory is taken first: when there is
+/// not enough, the tables stay as they were.
 pub(crate) fn merge_in_place(
     alloc: Global,
     tables: &mut Tables,
@@ -97,6 +97,7 @@ fn named<'a>(entry: &Entry<'a>, old_name: &'a [u8]) -> Named<'a>
     ensures { Says (mapping_of entry.now) (named_group result) }
 {
     let Some(new_email) = entry.new_email() else {
+        // An entry with an old name has a new email: so it was made.
         unreachable!()
     };
     Named {

@@ -16,8 +16,8 @@ use mailmap_entries::Entry;
 use std::alloc::AllocError;
 
 impl Tables {
-    /// Puts the accepted entries that an iterator gives after those that the tables have. A few are put in place, once all
-    /// memory is taken. For any others new tables are built aside, which replace these at the end. So when memory
+    /// Puts the accepted entries that an iterator gives after those that the tables have. A few are put in place, once
+    /// all memory is taken. For any others new tables are built aside, which replace these at the end. So when memory
     /// runs out, the tables stay as they were.
     pub fn merge<'a, I: Iterator<Item = Entry<'a>> + Drop>(
         &mut self,
@@ -37,7 +37,7 @@ impl Tables {
     {
         let alloc = self.allocator();
         let collected = accepted_of(alloc, self, entries)?;
-        if collected.is_joined() {
+        if collected.is_batch_empty() {
             collected.put_into(self);
             return Ok(());
         }

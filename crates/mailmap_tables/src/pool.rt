@@ -31,7 +31,7 @@ impl Pool {
         }
     }
 
-    /// The same bytes in memory of their own, with room for so many more.
+    /// The same bytes in memory of their own, with room for `more` more.
     pub(crate) fn try_clone(&self, alloc: Global, more: usize) -> Result<Pool, AllocError>
         ensures { IfOk result (λ copy. copy.bytes.items ≡ self.now.bytes.items) }
     {
@@ -44,7 +44,7 @@ impl Pool {
         })
     }
 
-    /// Puts a text at the end, in place of one of so many bytes.
+    /// Puts a text at the end, in place of one of `replaced` bytes.
     pub(crate) fn push_text(&mut self, text: &[u8], replaced: usize) -> Result<Span, AllocError>
         ensures grown { Extends self.old.bytes.items self.new.bytes.items }
         ensures text { OnOk result (self.new.bytes.items ≡ self.old.bytes.items ++ text.now) }
@@ -116,7 +116,7 @@ impl Pool {
         Ok(texts)
     }
 
-    /// The row of a name with the fields that are given for it, in place of fields of so many bytes.
+    /// The row of a name with the fields that are given for it, in place of fields of `replaced` bytes.
     pub(crate) fn name_row(
         &mut self,
         old_name: Span,
@@ -161,7 +161,7 @@ impl Pool {
         self.together(texts.old(), new_name, new_email)
     }
 
-    /// Whether less than half of the bytes would be unused if so many more were.
+    /// Whether less than half of the bytes would be unused if `more` more were.
     pub(crate) fn stays_in_use(&self, more: usize) -> bool
         ensures { IsTrue result → more < usize.MAX }
     {

@@ -8,57 +8,60 @@ ghost use Rattle.mailmap_histories.specs.Histories.{accepted, is_accepted};
 ghost use Rattle.mailmap_tables.specs.Groups.{IsComplete};
 ghost use Rattle.mailmap_tables.specs.Collecting.{IsCollected};
 
-use crate::join::{joined, without_unused_texts};
+use crate::join::{joined, rewritten_if_half_unused};
 use crate::tables::Tables;
 use mailmap_entries::Entry;
-use mailmap_entries::fold::prefix::key_prefix;
 use std::alloc::{AllocError, Global};
 
 // The least number of entries in a portion.
-const PORTION: usize = 16_384;
+const MIN_PORTION: usize = 16_384;
 
 // How many entries of a portion are looked at, to see whether their keys come again and again.
 const SAMPLE: usize = 4_096;
 
 // About as many bytes of the pool are copied in the time that joining one entry takes, or more.
-const BYTES_AN_ENTRY: usize = 256;
+const BYTES_PER_ENTRY: usize = 256;
 
-// The size of the table of numbers that were seen. It is prime, so that keys with like beginnings or endings go to
-// different slots.
-const SLOTS: usize = 8_191;
+// The size of the table of hashes that were seen.
+const SLOTS: usize = 8_192;
+
+// Where a hash starts, and what it is multiplied by for each byte.
+const HASH_START: u64 = 0xcbf2_9ce4_8422_2325;
+
+const HASH_FACTOR: u64 = 0x0000_0100_0000_01b3;
 
 /// Accepted entries on their way into tables.
 #[derive(Drop)]
 pub(crate) struct Collected<'a> {
-    // the old tables with all portions joined, `None` before the first portion
+    // the old tables joined with all portions so far, `None` before the first portion
     pub(crate) made: Option<Tables>,
     // the accepted entries after those
     pub(crate) batch: Vec<Entry<'a>>,
-    // with how many entries the batch is a portion
+    // how many entries make the batch a portion
     portion: usize,
 }
 
 /// The accepted entries that an iterator gives, to be put after the old tables.
 pub(crate) fn accepted_of<'a, I: Iterator<Item = Entry<'a>> + Drop>(
     alloc: Global,
-    standing: &Tables,
+    old_tables: &Tables,
     entries: I,
 ) -> Result<Collected<'a>, AllocError>
     requires can { I.can_next entries }
     requires finite { IsFinite (I.remaining entries) }
-    requires complete { IsComplete standing.now }
+    requires complete { IsComplete old_tables.now }
     ensures ok { IfOk result
         (λ c. (xs : List Item) × Drains I.next_gives entries xs
-        × IsCollected standing.now (map mapping_of xs) c.made (map mapping_of c.batch.items)) }
+        × IsCollected old_tables.now (map mapping_of xs) c.made (map mapping_of c.batch.items)) }
 
     // Memory is asked for only once an entry is accepted.
     ensures out_of_memory { OnErr result
         ((xs : List Item) × (rest : I) × Yields I.next_gives entries xs rest × (accepted (map mapping_of xs) ≢ [])) }
 {
-    let mut collected = Collected::none(alloc, standing);
+    let mut collected = Collected::none(alloc, old_tables);
     for entry in entries {
         if maps(&entry) {
-            collected.push(standing, entry)?;
+            collected.push(old_tables, entry)?;
         }
     }
     Ok(collected)
@@ -73,55 +76,56 @@ fn maps(entry: &Entry) -> bool
 
 impl<'a> Collected<'a> {
     // No entry yet.
-    fn none(alloc: Global, standing: &Tables) -> Collected<'a>
-        requires { IsComplete standing.now }
-        ensures { IsCollected standing.now [] result.made (map mapping_of result.batch.items) }
+    fn none(alloc: Global, old_tables: &Tables) -> Collected<'a>
+        requires { IsComplete old_tables.now }
+        ensures { IsCollected old_tables.now [] result.made (map mapping_of result.batch.items) }
     {
         Collected {
             made: None,
             batch: Vec::new(alloc),
-            portion: portion_after(standing),
+            portion: portion_after(old_tables),
         }
     }
 
     // Puts an accepted entry after the others.
     #[inline(always)]
-    fn push(&mut self, standing: &Tables, entry: Entry<'a>) -> Result<(), AllocError>
+    fn push(&mut self, old_tables: &Tables, entry: Entry<'a>) -> Result<(), AllocError>
         requires accepted { is_accepted (mapping_of entry) ≡ true }
         requires collected { (h : List Mapping)
-            × IsCollected standing.now h self.old.made (map mapping_of self.old.batch.items) }
+            × IsCollected old_tables.now h self.old.made (map mapping_of self.old.batch.items) }
         ensures { OnOk result
-            ((h : List Mapping) → IsCollected standing.now h self.old.made (map mapping_of self.old.batch.items)
-            → IsCollected standing.now (h ++ mapping_of entry.entry ∷ []) self.new.made
+            ((h : List Mapping) → IsCollected old_tables.now h self.old.made (map mapping_of self.old.batch.items)
+            → IsCollected old_tables.now (h ++ mapping_of entry.entry ∷ []) self.new.made
             (map mapping_of self.new.batch.items)) }
     {
         self.batch.push(entry)?;
         if self.batch.len() < self.portion {
             return Ok(());
         }
-        self.end_portion(standing)
+        self.end_portion(old_tables)
     }
 
     // Joins the batch with the tables, if its keys come again and again. Else all that follows is one batch.
-    fn end_portion(&mut self, standing: &Tables) -> Result<(), AllocError>
-        requires { (h : List Mapping) × IsCollected standing.now h self.old.made (map mapping_of self.old.batch.items) }
+    fn end_portion(&mut self, old_tables: &Tables) -> Result<(), AllocError>
+        requires { (h : List Mapping)
+            × IsCollected old_tables.now h self.old.made (map mapping_of self.old.batch.items) }
         ensures { OnOk result
-            ((h : List Mapping) → IsCollected standing.now h self.old.made (map mapping_of self.old.batch.items)
-            → IsCollected standing.now h self.new.made (map mapping_of self.new.batch.items)) }
+            ((h : List Mapping) → IsCollected old_tables.now h self.old.made (map mapping_of self.old.batch.items)
+            → IsCollected old_tables.now h self.new.made (map mapping_of self.new.batch.items)) }
     {
         self.portion = usize::MAX;
         if !come_again(*self.batch.allocator(), &self.batch)? {
             return Ok(());
         }
-        let made = self.tables(standing)?;
+        let made = self.tables(old_tables)?;
         self.portion = portion_after(&made);
         self.made = Some(made);
         self.batch.clear();
         Ok(())
     }
 
-    /// Whether there is no entry after the tables.
-    pub(crate) fn is_joined(&self) -> bool
+    /// Whether all entries are in the tables.
+    pub(crate) fn is_batch_empty(&self) -> bool
         ensures all { result ≡ true → self.now.batch.items ≡ [] }
         ensures some { result ≡ false → self.now.batch.items ≢ [] }
     {
@@ -129,53 +133,54 @@ impl<'a> Collected<'a> {
     }
 
     /// Puts the tables that were made in place of the old ones.
-    pub(crate) fn put_into(self, standing: &mut Tables)
-        ensures { standing.new ≡ unwrap_or self.entry.made standing.old }
+    pub(crate) fn put_into(self, old_tables: &mut Tables)
+        ensures { old_tables.new ≡ unwrap_or self.entry.made old_tables.old }
     {
         let Collected { made, .. } = self;
         if let Some(made) = made {
-            *standing = made;
+            *old_tables = made;
         }
     }
 
     /// The old tables with all entries after them.
-    pub(crate) fn tables(&self, standing: &Tables) -> Result<Tables, AllocError>
-        requires { (h : List Mapping) × IsCollected standing.now h self.now.made (map mapping_of self.now.batch.items) }
+    pub(crate) fn tables(&self, old_tables: &Tables) -> Result<Tables, AllocError>
+        requires { (h : List Mapping)
+            × IsCollected old_tables.now h self.now.made (map mapping_of self.now.batch.items) }
         ensures { IfOk result
-            (λ t. (h : List Mapping) → IsCollected standing.now h self.now.made (map mapping_of self.now.batch.items)
-            → IsCollected standing.now h (Some t) []) }
+            (λ t. (h : List Mapping) → IsCollected old_tables.now h self.now.made (map mapping_of self.now.batch.items)
+            → IsCollected old_tables.now h (Some t) []) }
     {
         let alloc = *self.batch.allocator();
-        without_unused_texts(joined(alloc, self.base(standing), &self.batch)?)
+        rewritten_if_half_unused(joined(alloc, self.base(old_tables), &self.batch)?)
     }
 
     // The tables that the batch goes after.
-    fn base<'t>(&'t self, standing: &'t Tables) -> &'t Tables
-        ensures { result.now ≡ unwrap_or self.now.made standing.now }
+    fn base<'t>(&'t self, old_tables: &'t Tables) -> &'t Tables
+        ensures { result.now ≡ unwrap_or self.now.made old_tables.now }
     {
         match &self.made {
             Some(made) => made,
-            None => standing,
+            None => old_tables,
         }
     }
 }
 
-// How many entries are to be joined at once after tables. A portion passes on all their rows and copies their pool, so it
-// has so many entries that joining them costs more.
+// How many entries are to be joined at once after tables. A portion passes on all their rows and copies their pool, so
+// it has to have enough entries that joining them costs more.
 fn portion_after(tables: &Tables) -> usize {
     let view = tables.view();
     let rows = view.row_count().saturating_mul(4);
-    PORTION.max(rows).max(view.pool.len() / BYTES_AN_ENTRY)
+    MIN_PORTION.max(rows).max(view.pool.len() / BYTES_PER_ENTRY)
 }
 
 // Whether the keys of entries come again and again, as far as a look at the first ones can tell.
 fn come_again(alloc: Global, entries: &[Entry<'_>]) -> Result<bool, AllocError> {
     let sample = &entries[..entries.len().min(SAMPLE)];
     let mut known: usize = 0;
-    let mut seen = vec![in alloc; 0u128; SLOTS]?;
+    let mut seen = vec![in alloc; 0u64; SLOTS]?;
     for entry in sample {
-        let number = key_number(entry);
-        let index = (number % SLOTS as u128) as usize;
+        let number = key_hash(entry);
+        let index = (number % SLOTS as u64) as usize;
         if seen[index] == number {
             known = known.saturating_add(1);
         }
@@ -185,7 +190,16 @@ fn come_again(alloc: Global, entries: &[Entry<'_>]) -> Result<bool, AllocError> 
 }
 
 // A number that entries of one key share, and few others.
-fn key_number(entry: &Entry<'_>) -> u128 {
-    let name = key_prefix(entry.old_name().unwrap_or(&[]));
-    key_prefix(entry.old_email()) ^ (name >> 3)
+fn key_hash(entry: &Entry<'_>) -> u64 {
+    let email = hash_after(HASH_START, entry.old_email());
+    hash_after(email, entry.old_name().unwrap_or(&[]))
+}
+
+// The hash of what came before a text and of the text without its case: 64-bit FNV-1a.
+fn hash_after(before: u64, text: &[u8]) -> u64 {
+    let mut hash = before;
+    for byte in text {
+        hash = (hash ^ byte.to_ascii_lowercase() as u64).wrapping_mul(HASH_FACTOR);
+    }
+    hash
 }

@@ -48,8 +48,8 @@ impl ReservedTables {
     ghost use Rattle.mailmap_tables.specs.Texts.{old_span};
     ghost use Rattle.mailmap_tables.specs.Reserved.{Reserved, TookReserved, fields_reserved, own_reserved, with_email_at};
 
-    /// Reserves memory for so many more rows of each table, and for so many bytes. If memory runs out, the tables come
-    /// back as they were.
+    /// Reserves memory for `rows` more rows of each table, and for `bytes` more bytes of texts. If memory runs out, the
+    /// tables come back as they were.
     pub(crate) fn new(tables: Tables, rows: usize, bytes: usize) -> Result<ReservedTables, Tables>
         ensures held { IfOk result (λ reserved. reserved.held ≡ tables) }
         ensures bytes { IfOk result (λ reserved. bytes ≤ reserved.bytes) }
@@ -129,7 +129,7 @@ impl ReservedTables {
         self.pool.push_text(text, replaced).unwrap()
     }
 
-    /// The row of a name with the fields that are given for it, in place of fields of so many bytes.
+    /// The row of a name with the fields that are given for it, in place of fields of `replaced` bytes.
     pub(crate) fn name_row(&mut self, old_name: Span, named: Named<'_>, replaced: usize) -> NameRow
         requires lies { LiesIn (length self.old.held.pool) old_name }
         requires reserved { old_name.len + fields_reserved (named_group named) ≤ self.old.bytes }

@@ -66,25 +66,25 @@ impl Tables {
         }
     }
 
-    /// The pool of `standing` with its texts where they are, and no email and no name. There is room for the rows of
-    /// `standing` and some more, and for so many bytes more in the pool.
+    /// The pool of `old_tables` with its texts where they are, and no email and no name. There is room for the rows of
+    /// `old_tables` and for `rows` more, and in the pool for `bytes` more.
     pub fn over_pool(
         alloc: Global,
-        standing: &Tables,
+        old_tables: &Tables,
         rows: usize,
         bytes: usize,
     ) -> Result<Tables, AllocError>
-        ensures { IfOk result (λ made. made ≡ record { pool = standing.now.pool; groups = []; pending = [] }) }
+        ensures { IfOk result (λ made. made ≡ record { pool = old_tables.now.pool; groups = []; pending = [] }) }
     {
         Ok(Tables {
-            pool: standing.pool.try_clone(alloc, bytes)?,
-            emails: Vec::with_capacity(alloc, with_more(standing.emails.len(), rows))?,
-            names: Vec::with_capacity(alloc, with_more(standing.names.len(), rows))?,
-            prefixes: Vec::with_capacity(alloc, with_more(standing.emails.len(), rows))?,
+            pool: old_tables.pool.try_clone(alloc, bytes)?,
+            emails: Vec::with_capacity(alloc, with_more(old_tables.emails.len(), rows))?,
+            names: Vec::with_capacity(alloc, with_more(old_tables.names.len(), rows))?,
+            prefixes: Vec::with_capacity(alloc, with_more(old_tables.emails.len(), rows))?,
         })
     }
 
-    /// Puts a text at the end of the pool. So many bytes that were there are out of use then.
+    /// Puts a text at the end of the pool. `replaced` is how many bytes that were there no row uses then.
     pub fn push_text(&mut self, text: &[u8], replaced: usize) -> Result<Span, AllocError>
         ensures grown { OnOk result (self.new ≡ record self.old { pool = self.old.pool ++ text.now }) }
         ensures lies { IfOk result (LiesIn (length self.new.pool)) }
@@ -93,7 +93,7 @@ impl Tables {
         self.pool.push_text(text, replaced)
     }
 
-    /// The row of a name with the fields that are given for it, in place of fields of so many bytes.
+    /// The row of a name with the fields that are given for it. They replace fields of `replaced` bytes.
     pub(crate) fn name_row(
         &mut self,
         old_name: Span,
@@ -159,7 +159,7 @@ impl Tables {
         Ok(())
     }
 
-    /// Puts an email with its prefix after the others, which takes so many of the names that no email has taken yet.
+    /// Puts an email with its prefix after the others. It takes `count` of the names that no email has taken yet.
     pub fn pass_email(&mut self, texts: Texts, count: usize, prefix: u128) -> Result<(), AllocError>
         requires lies { TextsLie (length self.old.pool) texts }
         requires prefix { IsKeyPrefix prefix (folded (spelled self.old.pool (old_span texts))) }

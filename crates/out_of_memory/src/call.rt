@@ -29,6 +29,8 @@ pub enum Call {
     Check,
     Compact,
     Verify,
+    ReadMailmaps,
+    Verification,
     Prune,
     /// The calls that accept or write nothing, and so take no memory, and the others that take none.
     Nothing,
@@ -64,6 +66,8 @@ impl fmt::Display for Call {
             Call::Check => "check::check",
             Call::Compact => "check::compact",
             Call::Verify => "verify::verify",
+            Call::ReadMailmaps => "verify::Mailmaps::read",
+            Call::Verification => "verify::Verification::new",
             Call::Prune => "verify::prune",
             Call::Nothing => "a call that accepts or writes nothing",
             Call::Unrefusable => "a call that takes no memory",

@@ -4,7 +4,7 @@ use gix_mailmap::actor::SignatureRef;
 use gix_mailmap::date::Time;
 use gix_mailmap::lines::Error;
 use gix_mailmap::snapshot::Signature;
-use gix_mailmap::verify::{Contact, Finding, Kind, Position};
+use gix_mailmap::verify::{Contact, Finding, Findings, Kind, Position};
 use gix_mailmap::{Entry, actor};
 use std::borrow::CowSlice;
 
@@ -63,6 +63,18 @@ pub fn are_of_faulty(findings: &[Finding<'_>]) -> bool {
                 contact: contact(b"Bob", email),
                 to: contact(b"Ann Lee", email),
             }
+}
+
+/// Whether these findings, made one by one, are of the lines of that mailmap, each in its turn.
+pub fn walk_over_faulty(findings: Findings<'_, '_>) -> bool {
+    let mut findings = findings;
+    for line in [1, 2, 3, 4] {
+        match findings.next() {
+            Some(finding) if is_on(&finding, line) => {}
+            _ => return false,
+        }
+    }
+    findings.next().is_none()
 }
 
 fn at(line: usize) -> Position {

@@ -5,12 +5,15 @@
 use crate::call::Call;
 use crate::refusable;
 use crate::run::{Run, Wrong, lists, wants};
-use crate::samples::{BOB, JANE, JANES_TIME, NOBODY, is_jane, owns_jane, team};
+use crate::samples::{
+    BOB, FAULTY, JANE, JANES_TIME, NOBODY, TEAM, is_jane, owns_jane, team, walk_over_faulty,
+};
 use gix_mailmap::actor::SignatureRef;
 use gix_mailmap::date::Time;
 use gix_mailmap::fold::{Steps, cmp_ignore_ascii_case};
 use gix_mailmap::lines::Error;
 use gix_mailmap::snapshot::{ResolvedSignature, Signature, Source, WriteError};
+use gix_mailmap::verify::{Mailmaps, Verification};
 use gix_mailmap::{Entry, Snapshot, actor, check, parse, parse_ignore_errors, parse_strict};
 use std::alloc::{AllocError, Global};
 use std::borrow::CowSlice;
@@ -25,8 +28,21 @@ pub fn judge(run: &mut Run, alloc: Global, team: &Snapshot) -> Result<(), Wrong>
         || team.resolve_cow(alloc, JANE),
         owns_jane,
     )?;
+    let buffers: [&[u8]; 2] = [TEAM, FAULTY];
+    let mailmaps = run.judge(
+        Call::ReadMailmaps,
+        || Mailmaps::read(alloc, &buffers),
+        |_| true,
+    )?;
+    let verification = run.judge(
+        Call::Verification,
+        || Verification::new(alloc, &mailmaps),
+        |_| true,
+    )?;
     accept_and_write_nothing(run, alloc, team)?;
-    let answers = moves(jane, alloc) && are_right(team, &respelled, alloc);
+    let answers = moves(jane, alloc)
+        && are_right(team, &respelled, alloc)
+        && walk_over_faulty(verification.findings());
     wants(Call::Unrefusable, answers)
 }
 

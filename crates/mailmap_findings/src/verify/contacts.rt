@@ -1,6 +1,6 @@
 //! What is reported of a line because of what its entry does.
 ghost use Rattle.std.specs.Prelude.{◌≡◌, [], unwrap_or};
-ghost use Rattle.std.specs.Option.{option_map};
+ghost use Rattle.std.specs.Option.{option_and_then, option_map};
 ghost use Rattle.mailmap_entries.specs.Entries.{mapping_of};
 ghost use Rattle.mailmap_redundancy.specs.Numbers.{fields_of};
 ghost use Rattle.mailmap_redundancy.specs.Redundancy.{entries};
@@ -10,19 +10,21 @@ use crate::verify::{Contact, Kind};
 use mailmap_entries::Entry;
 use mailmap_redundancy::{Fields, Reduced};
 
-/// That the entry has no effect, if it does not stay; else that its contact is itself mapped, if it is.
+/// That the entry of a line has no effect, if it is not kept; else that its contact is itself mapped, if it is.
 pub(crate) fn reported_of_entry<'a>(
     reduced: &Reduced<'_, 'a>,
-    entry: &Entry<'a>,
-    stays: bool,
+    entry: Option<Entry<'a>>,
+    is_kept: bool,
 ) -> Option<Kind<'a>>
     ensures { option_map reported_of result
-        ≡ spec_reported (entries reduced.now.history) reduced.now.kept stays (mapping_of entry.now) }
+        ≡ option_and_then (spec_reported (entries reduced.now.history) reduced.now.kept is_kept)
+        (option_map mapping_of entry.entry) }
 {
-    if stays {
-        return reported_of_contact(reduced, proper_contact(entry));
+    let entry = entry?;
+    if is_kept {
+        return reported_of_contact(reduced, proper_contact(&entry));
     }
-    let beside = reduced.beside(entry)?;
+    let beside = reduced.beside(&entry)?;
     Some(Kind::NoEffect { beside })
 }
 

@@ -1,15 +1,17 @@
-//! The lines of buffers with their positions.
-ghost use Rattle.std.specs.Prelude.{◌≡◌, ◌++◌, map, option_to_list, IfOk, OnOk};
+//! The lines of buffers with their positions, and their entries.
+ghost use Rattle.std.specs.Prelude.{◌≡◌, ◌<◌, ◌^◌, ◌++◌, length, map, option_to_list, IfOk, OnOk};
+ghost use Rattle.std.specs.Iterator.{YieldsFirstBy, item_count};
 ghost use Rattle.std.specs.Option.{option_map};
 ghost use Rattle.mailmap_entries.specs.Entries.{mapping_of};
 ghost use Rattle.mailmap_redundancy.specs.Redundancy.{located_of};
-ghost use Rattle.mailmap_findings.specs.Positions.{buffer_lines, entry as spec_entry, line_of, lines, located};
+ghost use Rattle.mailmap_findings.specs.Positions.{line_of, lines, located, whole_lines};
 
-use bstr::ByteSlice;
+use crate::verify::reading::entry_of;
+use bstr::{ByteSlice, LinesWithTerminator};
 use mailmap_entries::Entry;
-use mailmap_grammar::lines::{Strictness, read_line};
 use mailmap_redundancy::{LocatedEntry, Position};
 use std::alloc::{AllocError, Global};
+use std::marker::Model;
 
 /// A line of a buffer, with its line feed.
 #[derive(Clone, Copy)]
@@ -18,58 +20,98 @@ pub(crate) struct Line<'a> {
     pub(crate) text: &'a [u8],
 }
 
-/// The lines of the buffers, one buffer after another.
-pub(crate) fn read_lines<'a>(
-    alloc: Global,
-    buffers: &[&'a [u8]],
-) -> Result<Vec<Line<'a>>, AllocError>
-    ensures { IfOk result (λ found. map line_of found.items ≡ lines (map (λ b. b.now) buffers.now)) }
-{
-    let mut found = Vec::new(alloc);
-    for (number, buffer) in buffers.iter().enumerate() {
-        push_lines(&mut found, number, buffer)?;
-    }
-    Ok(found)
+/// The lines of buffers, one buffer after another.
+///
+/// To a contract it is the list of the lines that are left.
+#[derive(Drop)]
+pub(crate) struct BufferLines<'b, 'a> {
+    buffers: &'b [&'a [u8]],
+    // how many buffers were reached
+    reached: usize,
+    // the last of them, the number of its line that was given last, and the lines of it that are left
+    buffer: usize,
+    line: usize,
+    lines: LinesWithTerminator<'a>,
 }
 
-// Appends the lines of one buffer, numbered from 1.
-fn push_lines<'a>(
-    found: &mut Vec<Line<'a>>,
-    number: usize,
-    buffer: &'a [u8],
-) -> Result<(), AllocError>
-    ensures { OnOk result (map line_of found.new.items
-        ≡ map line_of found.old.items ++ buffer_lines number buffer.now) }
-{
-    let mut line = 0;
-    for text in buffer.lines_with_terminator() {
-        line += 1;
-        let position = Position {
-            buffer: number,
-            line,
-        };
-        found.push(Line { position, text })?;
+impl<'b, 'a> Model for BufferLines<'b, 'a> {
+    ghost use Rattle.std.specs.Prelude.{◌++◌, ◌+◌, ◌^◌, ◌<◌, List, drop, length, map};
+    ghost use Rattle.mailmap_findings.specs.Positions.{Line, lines_from, located_from};
+
+    ghost Value = { List Line };
+
+    ghost view = { λ s. located_from s.buffer (s.line + 1) s.lines
+        ++ lines_from s.reached (map (λ b. b.now) (drop s.reached s.buffers.now)) };
+
+    ghost invariant = { λ s. s.line + length s.lines < 2 ^ 64 };
+}
+
+impl<'b, 'a> BufferLines<'b, 'a> {
+    pub(crate) fn of(buffers: &'b [&'a [u8]]) -> BufferLines<'b, 'a>
+        ensures { result ≡ lines (map (λ b. b.now) buffers.now) }
+    {
+        let none: &[u8] = b"";
+        BufferLines {
+            buffers,
+            reached: 0,
+            buffer: 0,
+            line: 0,
+            lines: none.lines_with_terminator(),
+        }
     }
-    Ok(())
+}
+
+impl<'b, 'a> Iterator for BufferLines<'b, 'a> {
+    type Item = Line<'a>;
+
+    ghost next_gives = { YieldsFirstBy line_of (λ s. s) };
+
+    ghost remaining = { item_count (λ s. s) };
+
+    fn next(&mut self) -> Option<Line<'a>> {
+        loop {
+            if let Some(text) = self.lines.next() {
+                self.line += 1;
+                let position = Position {
+                    buffer: self.buffer,
+                    line: self.line,
+                };
+                return Some(Line { position, text });
+            }
+            let text = self.buffers.get(self.reached)?;
+            self.buffer = self.reached;
+            self.reached += 1;
+            self.line = 0;
+            self.lines = lines_in(*text);
+        }
+    }
+}
+
+// The lines of one buffer.
+fn lines_in<'a>(text: &'a [u8]) -> LinesWithTerminator<'a>
+    ensures value { result ≡ whole_lines text.now }
+    ensures countable { length result < 2 ^ 64 }
+{
+    text.lines_with_terminator()
 }
 
 /// The entries of the lines that give one.
 pub(crate) fn located_entries<'a>(
     alloc: Global,
-    lines: &[Line<'a>],
+    buffers: &[&'a [u8]],
 ) -> Result<Vec<LocatedEntry<'a>>, AllocError>
-    ensures { IfOk result (λ found. map located_of found.items ≡ located (map line_of lines.now)) }
+    ensures { IfOk result (λ found. map located_of found.items ≡ located (lines (map (λ b. b.now) buffers.now))) }
 {
-    let mut found = Vec::with_capacity(alloc, lines.len())?;
-    for line in lines {
-        push_entry(&mut found, line.position, entry_of(line))?;
+    let mut found = Vec::new(alloc);
+    for line in BufferLines::of(buffers) {
+        push_entry(&mut found, line.position, entry_of(&line))?;
     }
     Ok(found)
 }
 
-/// Appends the entry of the line at this position, if it gives one.
+// Appends the entry of the line at this position, if it gives one.
 #[inline]
-pub(crate) fn push_entry<'a>(
+fn push_entry<'a>(
     found: &mut Vec<LocatedEntry<'a>>,
     position: Position,
     given: Option<Entry<'a>>,
@@ -83,12 +125,4 @@ pub(crate) fn push_entry<'a>(
         found.push(LocatedEntry { position, entry })?;
     }
     Ok(())
-}
-
-/// The entry that a line gives, read leniently as for lookups.
-#[inline]
-pub(crate) fn entry_of<'a>(line: &Line<'a>) -> Option<Entry<'a>>
-    ensures { option_map mapping_of result ≡ spec_entry (line_of line.now) }
-{
-    read_line(line.text, line.position.line, Strictness::Lenient)?.ok()
 }

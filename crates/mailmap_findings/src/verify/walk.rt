@@ -1,201 +1,134 @@
-//! A walk over the lines, in step with what was reported of them, with their entries, and with the entries that stay.
-ghost use Rattle.std.specs.Prelude.{◌≡◌, ◌++◌, ◌||◌, map, filter, is_none, option_to_list, IfOk, OnOk};
-ghost use Rattle.std.specs.List.{filter_map, flat_map};
+//! A walk over lines, of which it is known whether their entries are kept, and what is done with each line.
+ghost use Rattle.std.specs.Prelude.{◌≡◌, ◌++◌, ◌||◌, map, filter, is_none, option_to_list, IfOk};
+ghost use Rattle.std.specs.Iterator.{YieldsFirstBy, item_count};
+ghost use Rattle.std.specs.List.{flat_map};
 ghost use Rattle.std.specs.Option.{option_map};
-ghost use Rattle.mailmap_redundancy.specs.Redundancy.{located_of, located_of_reference, entries};
-ghost use Rattle.mailmap_findings.specs.Positions.{line_of, located as spec_located};
-ghost use Rattle.mailmap_findings.specs.Findings.{finding_of, findings as spec_findings, is_left as spec_is_left, reported_of};
-ghost use Rattle.mailmap_findings.specs.Steps.{IsWalk, after_first as spec_after, first_at as spec_first, left_after as spec_left, stands_first as spec_stands, reported_by_reading, reported_of_met};
+ghost use Rattle.mailmap_redundancy.specs.Redundancy.{IsSublist, entries, located_of_reference};
+ghost use Rattle.mailmap_findings.specs.Findings.{finding_of, line_findings as spec_line_findings, reported_of};
+ghost use Rattle.mailmap_findings.specs.Marked.{marked, marked_of};
+ghost use Rattle.mailmap_findings.specs.Positions.{entry, line_of, lines, located, same_position};
 
 use crate::verify::contacts::reported_of_entry;
-use crate::verify::lines::Line;
+use crate::verify::lines::{BufferLines, Line};
+use crate::verify::reading::{entry_of, read_strictly};
 use crate::verify::{Finding, Kind};
 use mailmap_redundancy::{LocatedEntry, Position, Reduced};
 use std::alloc::{AllocError, Global};
-use std::collections::VecDeque;
+use std::marker::Model;
 
-/// All findings: `reported` has those that follow from what the lines say, and the others follow from what the entries
-/// do.
-pub(crate) fn findings<'a>(
-    alloc: Global,
-    lines: &[Line<'a>],
-    reported: VecDeque<Finding<'a>>,
-    located: &[LocatedEntry<'a>],
-    reduced: &Reduced<'_, 'a>,
-) -> Result<Vec<Finding<'a>>, AllocError>
-    requires walk { IsWalk reduced.now.kept (map line_of lines.now) }
-    requires reported { map finding_of reported.items ≡ filter_map reported_by_reading (map line_of lines.now) }
-    requires entries { map located_of located.now ≡ spec_located (map line_of lines.now) }
-    ensures { IfOk result (λ found. map finding_of found.items
-        ≡ flat_map (spec_findings (entries reduced.now.history) reduced.now.kept) (map line_of lines.now)) }
-{
-    let mut found = Vec::new(alloc);
-    let mut reported = reported;
-    let mut located = located;
-    let mut kept = reduced.kept();
-    for line in lines {
-        let stays = stands_first(kept, line.position);
-        kept = left_after(kept, line.position);
-        let met = first_at(located, line.position);
-        located = after_first(located, line.position);
-        push_first(&mut found, &mut reported, line.position)?;
-        push_reported(&mut found, reduced, met, stays)?;
-    }
-    Ok(found)
+/// The lines of buffers, each with whether it has an entry that is kept.
+///
+/// To a contract it is the list of what is left.
+#[derive(Drop)]
+pub(crate) struct MarkedLines<'v, 'a> {
+    lines: BufferLines<'v, 'a>,
+    // the kept entries, and how many of them are of lines that were given
+    kept: &'v [&'v LocatedEntry<'a>],
+    passed: usize,
 }
 
-/// The text without the lines whose entries are redundant.
-pub(crate) fn text_left(
-    alloc: Global,
-    lines: &[Line<'_>],
-    located: &[LocatedEntry<'_>],
-    kept: &[&LocatedEntry<'_>],
-) -> Result<Vec<u8>, AllocError>
-    requires walk { IsWalk (map located_of_reference kept.now) (map line_of lines.now) }
-    requires entries { map located_of located.now ≡ spec_located (map line_of lines.now) }
-    ensures { IfOk result (λ text. text.items
-        ≡ flat_map (λ l. l.text) (filter (spec_is_left (map located_of_reference kept.now)) (map line_of lines.now))) }
+impl<'v, 'a> Model for MarkedLines<'v, 'a> {
+    ghost use Rattle.std.specs.Prelude.{List, drop, map};
+    ghost use Rattle.mailmap_redundancy.specs.Redundancy.{located_of_reference};
+    ghost use Rattle.mailmap_findings.specs.Marked.{IsWalk, MarkedLine, marked};
+
+    ghost Value = { List MarkedLine };
+
+    ghost view = { λ s. map (marked (map located_of_reference (drop s.passed s.kept.now))) s.lines };
+
+    ghost invariant = { λ s. IsWalk (map located_of_reference (drop s.passed s.kept.now)) s.lines };
+}
+
+impl<'v, 'a> MarkedLines<'v, 'a> {
+    pub(crate) fn new(
+        buffers: &'v [&'a [u8]],
+        kept: &'v [&'v LocatedEntry<'a>],
+    ) -> MarkedLines<'v, 'a>
+        requires { IsSublist (map located_of_reference kept.now) (located (lines (map (λ b. b.now) buffers.now))) }
+        ensures { result ≡ map (marked (map located_of_reference kept.now)) (lines (map (λ b. b.now) buffers.now)) }
+    {
+        MarkedLines {
+            lines: BufferLines::of(buffers),
+            kept,
+            passed: 0,
+        }
+    }
+}
+
+impl<'v, 'a> Iterator for MarkedLines<'v, 'a> {
+    type Item = (Line<'a>, bool);
+
+    ghost next_gives = { YieldsFirstBy marked_of (λ s. s) };
+
+    ghost remaining = { item_count (λ s. s) };
+
+    fn next(&mut self) -> Option<(Line<'a>, bool)> {
+        let line = self.lines.next()?;
+        let Some(entry) = self.kept.get(self.passed) else {
+            return Some((line, false));
+        };
+        if !is_at(entry, line.position) {
+            return Some((line, false));
+        }
+        self.passed += 1;
+        Some((line, true))
+    }
+}
+
+// Whether an entry is at this position.
+fn is_at(entry: &LocatedEntry<'_>, position: Position) -> bool
+    ensures { result ≡ same_position entry.now.position position }
 {
-    let mut text = Vec::new(alloc);
-    let mut located = located;
-    let mut kept = kept;
-    for line in lines {
-        let stays = stands_first(kept, line.position);
-        kept = left_after(kept, line.position);
-        let met = first_at(located, line.position);
-        located = after_first(located, line.position);
-        if is_left(met, stays) {
+    entry.position == position
+}
+
+/// What is found of a line by what it says, and then by what its entry does.
+pub(crate) fn line_findings<'a>(
+    reduced: &Reduced<'_, 'a>,
+    line: &Line<'a>,
+    is_kept: bool,
+) -> (Option<Finding<'a>>, Option<Finding<'a>>)
+    ensures { option_to_list (option_map finding_of result.0) ++ option_to_list (option_map finding_of result.1)
+        ≡ spec_line_findings (entries reduced.now.history) reduced.now.kept is_kept (line_of line.now) }
+{
+    let (of_text, entry) = read_strictly(line);
+    let of_entry = reported_of_entry(reduced, entry, is_kept);
+    (
+        finding_at(line.position, of_text),
+        finding_at(line.position, of_entry),
+    )
+}
+
+// The finding of this kind, if there is one.
+fn finding_at<'a>(position: Position, kind: Option<Kind<'a>>) -> Option<Finding<'a>>
+    ensures { option_map finding_of result
+        ≡ option_map (λ t. record { position = position; reported = t }) (option_map reported_of kind.entry) }
+{
+    let kind = kind?;
+    Some(Finding { position, kind })
+}
+
+/// The text of the lines that give no entry, or one that is kept. `bytes` is room for it.
+pub(crate) fn pruned_text(
+    alloc: Global,
+    bytes: usize,
+    lines: MarkedLines<'_, '_>,
+) -> Result<Vec<u8>, AllocError>
+    ensures { IfOk result (λ text. text.items
+        ≡ flat_map (λ m. m.0.text) (filter (λ m. is_none (entry m.0) || m.1) lines.entry)) }
+{
+    let mut text = Vec::with_capacity(alloc, bytes)?;
+    for (line, is_kept) in lines {
+        if is_line_kept(&line, is_kept) {
             text.extend_from_slice(line.text)?;
         }
     }
     Ok(text)
 }
 
-// Whether a line stays: it gives no entry, or its entry stays.
-fn is_left(met: Option<&LocatedEntry<'_>>, stays: bool) -> bool
-    ensures { result ≡ (is_none (option_map located_of_reference met.entry) || stays) }
+// Whether a line is kept: it gives no entry, or one that is kept.
+fn is_line_kept(line: &Line<'_>, is_kept: bool) -> bool
+    ensures { result ≡ (is_none (entry (line_of line.now)) || is_kept) }
 {
-    met.is_none() || stays
-}
-
-// Appends the first of the findings that were reported, if it is at this position.
-fn push_first<'a>(
-    found: &mut Vec<Finding<'a>>,
-    reported: &mut VecDeque<Finding<'a>>,
-    position: Position,
-) -> Result<(), AllocError>
-    ensures found { OnOk result (map finding_of found.new.items
-        ≡ map finding_of found.old.items
-        ++ option_to_list (spec_first (λ f. f.position) (map finding_of reported.old.items) position)) }
-    ensures left { OnOk result (map finding_of reported.new.items
-        ≡ spec_after (λ f. f.position) (map finding_of reported.old.items) position) }
-{
-    if let Some(finding) = take_first(reported, position) {
-        found.push(finding)?;
-    }
-    Ok(())
-}
-
-// Takes the first of the findings, if it is at this position.
-#[inline]
-fn take_first<'a>(reported: &mut VecDeque<Finding<'a>>, position: Position) -> Option<Finding<'a>>
-    ensures first { option_map finding_of result
-        ≡ spec_first (λ f. f.position) (map finding_of reported.old.items) position }
-    ensures left { map finding_of reported.new.items
-        ≡ spec_after (λ f. f.position) (map finding_of reported.old.items) position }
-{
-    let first = reported.front()?;
-    if first.position != position {
-        return None;
-    }
-    reported.pop_front()
-}
-
-// Appends what is reported of an entry that stays or not, if there is one.
-fn push_reported<'a>(
-    found: &mut Vec<Finding<'a>>,
-    reduced: &Reduced<'_, 'a>,
-    met: Option<&LocatedEntry<'a>>,
-    stays: bool,
-) -> Result<(), AllocError>
-    ensures { OnOk result (map finding_of found.new.items
-        ≡ map finding_of found.old.items
-        ++ reported_of_met (entries reduced.now.history) reduced.now.kept stays
-        (option_map located_of_reference met.entry)) }
-{
-    let Some(located) = met else {
-        return Ok(());
-    };
-    let kind = reported_of_entry(reduced, &located.entry, stays);
-    push_kind(found, located.position, kind)
-}
-
-/// Appends a finding, if there is one.
-#[inline]
-pub(crate) fn push_kind<'a>(
-    found: &mut Vec<Finding<'a>>,
-    position: Position,
-    kind: Option<Kind<'a>>,
-) -> Result<(), AllocError>
-    ensures { OnOk result (map finding_of found.new.items
-        ≡ map finding_of found.old.items
-        ++ map (λ t. record { position = position; reported = t })
-        (option_to_list (option_map reported_of kind.entry))) }
-{
-    if let Some(kind) = kind {
-        found.push(Finding { position, kind })?;
-    }
-    Ok(())
-}
-
-// Whether the first of the entries is at this position.
-fn stands_first(entries: &[&LocatedEntry<'_>], position: Position) -> bool
-    ensures { result ≡ spec_stands (map located_of_reference entries.now) position }
-{
-    match entries.first() {
-        Some(first) => first.position == position,
-        None => false,
-    }
-}
-
-// The entries without the first, if that is at this position.
-fn left_after<'k, 'p, 'a>(
-    entries: &'k [&'p LocatedEntry<'a>],
-    position: Position,
-) -> &'k [&'p LocatedEntry<'a>]
-    ensures { map located_of_reference result.now ≡ spec_left (map located_of_reference entries.now) position }
-{
-    if !stands_first(entries, position) {
-        return entries;
-    }
-    &entries[1..]
-}
-
-// The first of the entries, if it is at this position.
-fn first_at<'p, 'a>(
-    located: &'p [LocatedEntry<'a>],
-    position: Position,
-) -> Option<&'p LocatedEntry<'a>>
-    ensures { option_map located_of_reference result
-        ≡ spec_first (λ x. x.position) (map located_of located.now) position }
-{
-    let first = located.first()?;
-    if first.position == position {
-        Some(first)
-    } else {
-        None
-    }
-}
-
-// The entries without the first, if that is at this position.
-fn after_first<'p, 'a>(
-    located: &'p [LocatedEntry<'a>],
-    position: Position,
-) -> &'p [LocatedEntry<'a>]
-    ensures { map located_of result.now ≡ spec_after (λ x. x.position) (map located_of located.now) position }
-{
-    if first_at(located, position).is_none() {
-        return located;
-    }
-    &located[1..]
+    is_kept || entry_of(line).is_none()
 }

@@ -13,7 +13,7 @@ use mailmap_grammar::parse_ignore_errors;
 use std::alloc::{AllocError, Global};
 
 impl Snapshot {
-    /// A snapshot of the entries of `buf`, lines that can't be read left out, as git leaves them out.
+    /// A snapshot of the entries of `buf`. Lines with a fault are left out; `parse` reports them.
     pub fn from_bytes(alloc: Global, buf: &[u8]) -> Result<Snapshot, AllocError>
         ensures ok { IfOk result (IsNormal (good buf.now)) }
 

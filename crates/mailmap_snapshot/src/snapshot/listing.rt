@@ -16,9 +16,9 @@ impl Snapshot {
     /// The entries that say what the snapshot maps, one for each key: for an old email itself, where a field was given
     /// without an old name, and for each old name of it.
     ///
-    /// They come in ascending order of the old emails and, in each, of the old names, both without regard to the case of
-    /// ASCII letters, an email's own entry first. All entries of an email have its kept spelling. They lend their texts
-    /// from the snapshot. It takes no memory.
+    /// They come in ascending order of the old emails and, in each, of the old names, both without regard to the case
+    /// of ASCII letters, an email's own entry first. All entries of an email have its kept spelling. They lend their
+    /// texts from the snapshot. It takes no memory.
     pub fn iter(&self) -> Iter<'_>
         ensures listing { result ≡ self.now }
 

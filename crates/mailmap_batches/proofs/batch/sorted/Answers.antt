@@ -16,8 +16,8 @@ by_prefix p q = is_lt (nat_cmp (email_prefix p) (email_prefix q))
 order : IsStrictWeakOrder by_prefix
 order = ranks_by nat_cmp_total email_prefix
 
-pub in_groups-requires : goal.in_groups-requires
-in_groups-requires g c =
+pub sorted_by_groups-requires : goal.sorted_by_groups-requires
+sorted_by_groups-requires g c =
     let compares = answers_always _ (λ a r. is_lt r ≡ by_prefix a.0.now a.1.0.now) _ (λ f a r f' k. let e : r ≡ nat_cmp (email_prefix a.0.now) (email_prefix a.1.0.now) = search rules in ap is_lt e) in
     subst (λ l. IsAscending nat_cmp (map email_prefix l)) (sym c.deref.ensures.value) (prefixes_ascend c.sort_by.new.self.items (c.in_ok-sort_by.ensures.sorted by_prefix order compares))
 
@@ -27,6 +27,6 @@ returns g c =
     let old = c.in_ok-batch-2.batch.items in
     let mid = c.sort_by.new.self.items in
     let compares = answers_always _ (λ a r. is_lt r ≡ by_prefix a.0.now a.1.0.now) _ (λ f a r f' k. let e : r ≡ nat_cmp (email_prefix a.0.now) (email_prefix a.1.0.now) = search rules in ap is_lt e) in
-    if_ok_map c.in_groups.result _ (λ batch. IsSorted xs (map indexed_mapping batch.items))
+    if_ok_map c.sorted_by_groups.result _ (λ batch. IsSorted xs (map indexed_mapping batch.items))
     (λ batch arranged. sorted_from xs old batch.items c.in_ok-batch-2.ensures (arranged_by_prefixes old mid batch.items c.sort_by.ensures.permutation (c.sort_by.ensures.stable by_prefix order compares) (subst (λ l. IsArranged l batch.items) c.deref.ensures.value arranged)))
-    c.in_groups.ensures
+    c.sorted_by_groups.ensures

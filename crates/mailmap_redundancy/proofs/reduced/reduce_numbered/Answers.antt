@@ -14,7 +14,7 @@ invariant_of-result c =
     let lent = c.deref-2.ensures.value in
     let n = subst (λ l. All (IsNumbered l) kept) lent c.in_ok-len.ensures.numbered in
     let same : map located_of_reference c.in_ok-kept.kept.items ≡ mappings kept = c.in_ok-kept.ensures in
-    subst (λ l. IsReducedState l history (map located_of_reference c.in_ok-kept.kept.items) table) (sym c.new-keys.ensures) (record {
+    subst (λ l. IsReducedState l history (map located_of_reference c.in_ok-kept.kept.items) table) (sym c.in_ok-keys-2.ensures) (record {
       ascending = c.in_ok-keys.ensures.ascending;
       reduced = subst (IsReduced history) (sym same) (subst (λ l. IsReduced l (mappings kept)) c.in_ok-keys.ensures.located c.in_ok-len.ensures.reduced);
       known = subst (λ l. AreKnown keys (entries l)) (sym same) (known_numbered keys kept n);

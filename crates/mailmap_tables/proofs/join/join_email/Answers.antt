@@ -38,8 +38,8 @@ join_names-requires-clause-lie c =
     let grown = c.in_ok-own.ensures.grown in
     names_lie_on _ _ (grown.0, ap (λ (v : Contents). v.pool) grown.1) _ c.requires.lie.names_lie
 
-pub join_names-requires-clause-kept_ascend : goal.join_names-requires-clause-kept_ascend
-join_names-requires-clause-kept_ascend c =
+pub join_names-requires-clause-old_names_ascend : goal.join_names-requires-clause-old_names_ascend
+join_names-requires-clause-old_names_ascend c =
     let grown = c.in_ok-own.ensures.grown in
     subst (λ (ns : List NameGroup). IsStrictlySortedBy text_cmp (map name_key ns)) (name_groups_on _ _ (grown.0, ap (λ (v : Contents). v.pool) grown.1) _ c.requires.lie.names_lie) c.requires.ascending
 

@@ -8,8 +8,8 @@ use Rattle.mailmap_tables.proofs.join.join_names.Given as goal
 
 abbrev pub invariant-loop-left : goal.invariant-loop-left
 invariant-loop-left l =
-    NamesState (map (name_group l.fn.out.pool) l.fn.kept) (map mapping_at l.fn.named) l.fn.out (map (name_group l.out.pool) l.standing) (map mapping_at l.left) l.out
-    × AllByRecursion (NameLies (length l.out.pool)) l.standing
+    NamesState (map (name_group l.fn.out.pool) l.fn.old_names) (map mapping_at l.fn.named) l.fn.out (map (name_group l.out.pool) l.old_names) (map mapping_at l.left) l.out
+    × AllByRecursion (NameLies (length l.out.pool)) l.old_names
     × AllByRecursion (λ p. IsNamed (mapping_at p)) l.left
 
 abbrev pub decreases-loop-left : goal.decreases-loop-left

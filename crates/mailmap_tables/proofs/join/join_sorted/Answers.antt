@@ -10,7 +10,7 @@ use Rattle.mailmap_tables.proofs.join.join_sorted.Goals as goal
 pub loop-left-init : goal.loop-left-init
 loop-left-init c =
     let batch : IsBatch c.args.batch.now = record { accepted = c.requires.accepted; ascending = c.requires.ascending } in
-    (emails_start c.args.standing.now.groups (map indexed_mapping c.args.batch.now) c.args.out c.args.standing.now.pool c.requires.standing (batch_emails c.args.batch.now batch) c.requires.out, omega arith, batch)
+    (emails_start c.args.old_tables.now.groups (map indexed_mapping c.args.batch.now) c.args.out c.args.old_tables.now.pool c.requires.old_tables (batch_emails c.args.batch.now batch) c.requires.out, omega arith, batch)
 
 pub join_group-requires-clause-group : goal.join_group-requires-clause-group
 join_group-requires-clause-group c =
@@ -19,15 +19,15 @@ join_group-requires-clause-group c =
 
 pub loop-left-preserved : goal.loop-left-preserved
 loop-left-preserved c =
-    let standing = c.args.standing.now in
+    let old_tables = c.args.old_tables.now in
     let left = c.loop-left.left.now in
     let len = c.email_group_len-len.result in
     let some : 0 < length left = some_left left c.loop-left-test.ensures in
     let good = good_items c.args.batch.now c.requires.accepted in
-    let put = subst (λ (l : List IndexedEntry). GroupPut (drop c.loop-left.from standing.groups) (drop c.in_ok-from.from standing.groups) (map indexed_mapping l) (first_email (map mapping_at l)) c.loop-left.out c.join_group.new.out) c.before-in-loop-left.ensures c.in_ok-from.ensures.put in
-    subst (λ (l : List IndexedEntry). EmailsState standing.groups (map indexed_mapping c.args.batch.now) standing.pool (drop c.in_ok-from.from standing.groups) (map indexed_mapping l) c.join_group.new.out × (c.in_ok-from.from ≤ length standing.groups) × IsBatch l)
+    let put = subst (λ (l : List IndexedEntry). GroupPut (drop c.loop-left.from old_tables.groups) (drop c.in_ok-from.from old_tables.groups) (map indexed_mapping l) (first_email (map mapping_at l)) c.loop-left.out c.join_group.new.out) c.before-in-loop-left.ensures c.in_ok-from.ensures.put in
+    subst (λ (l : List IndexedEntry). EmailsState old_tables.groups (map indexed_mapping c.args.batch.now) old_tables.pool (drop c.in_ok-from.from old_tables.groups) (map indexed_mapping l) c.join_group.new.out × (c.in_ok-from.from ≤ length old_tables.groups) × IsBatch l)
     (sym c.after-left.ensures) (
-      step_at standing.groups (map indexed_mapping c.args.batch.now) standing.pool c.requires.standing good (drop c.loop-left.from standing.groups) (drop c.in_ok-from.from standing.groups) left len _ (folded c.old_email.result.now) c.loop-left.out c.join_group.new.out
+      step_at old_tables.groups (map indexed_mapping c.args.batch.now) old_tables.pool c.requires.old_tables good (drop c.loop-left.from old_tables.groups) (drop c.in_ok-from.from old_tables.groups) left len _ (folded c.old_email.result.now) c.loop-left.out c.join_group.new.out
           c.loop-left.invariant.0 some (sym (ap folded c.old_email.ensures)) c.email_group_len-len.ensures.within c.email_group_len-len.ensures.same c.email_group_len-len.ensures.other put,
       c.in_ok-from.ensures.within,
       batch_after left len c.loop-left.invariant.2,
@@ -42,10 +42,10 @@ loop-left-smaller c =
 
 pub returns-clause-joined : goal.returns-clause-joined
 returns-clause-joined c =
-    let standing = c.args.standing.now in
+    let old_tables = c.args.old_tables.now in
     let left = c.loop-left.left.now in
     let from = c.loop-left.from in
-    let state = subst (λ (l : List IndexedEntry). EmailsState standing.groups (map indexed_mapping c.args.batch.now) standing.pool (drop from standing.groups) (map indexed_mapping l) c.loop-left.out) (none_left left c.loop-left-test.ensures) c.loop-left.invariant.0 in
-    let all : take (c.len.result - from) (drop from standing.groups) ≡ drop from standing.groups = take_all (c.len.result - from) (drop from standing.groups) (omega (arith, length-drop from standing.groups, c.len.ensures)) in
-    emails_end standing.groups (map indexed_mapping c.args.batch.now) standing.pool c.requires.standing (drop from standing.groups) c.loop-left.out c.pass_emails.new.out state
+    let state = subst (λ (l : List IndexedEntry). EmailsState old_tables.groups (map indexed_mapping c.args.batch.now) old_tables.pool (drop from old_tables.groups) (map indexed_mapping l) c.loop-left.out) (none_left left c.loop-left-test.ensures) c.loop-left.invariant.0 in
+    let all : take (c.len.result - from) (drop from old_tables.groups) ≡ drop from old_tables.groups = take_all (c.len.result - from) (drop from old_tables.groups) (omega (arith, length-drop from old_tables.groups, c.len.ensures)) in
+    emails_end old_tables.groups (map indexed_mapping c.args.batch.now) old_tables.pool c.requires.old_tables (drop from old_tables.groups) c.loop-left.out c.pass_emails.new.out state
     (c.in_ok-pass_emails.ensures ∙ (λ i. record { pool = c.loop-left.out.pool; groups = c.loop-left.out.groups ++ all i; pending = c.loop-left.out.pending }))

@@ -14,7 +14,7 @@ push_names-requires c = names_lie_on _ _ c.requires.pool _ c.names_between.ensur
 
 pub loop-index-init : goal.loop-index-init
 loop-index-init c =
-    let standing = c.args.standing.now in
+    let old_tables = c.args.old_tables.now in
     let old = c.args.out.now in
     let from = c.args.from in
     let rows = c.names_between.result.now in
@@ -22,49 +22,49 @@ loop-index-init c =
     c.in_ok-push_names.ensures
     ∙ (λ i. record {
       pool = old.pool;
-      groups = sym (ap (λ k. old.groups ++ take k (drop from standing.groups)) none ∙ append-nil old.groups) i;
+      groups = sym (ap (λ k. old.groups ++ take k (drop from old_tables.groups)) none ∙ append-nil old.groups) i;
       pending = (ap (λ l. l ++ map (name_group old.pool) rows) c.requires.none_pending
-          ∙ sym (name_groups_on standing.pool old.pool c.requires.pool rows c.names_between.ensures.lie)
+          ∙ sym (name_groups_on old_tables.pool old.pool c.requires.pool rows c.names_between.ensures.lie)
           ∙ c.names_between.ensures.names) i;
     })
 
 pub pass_email-requires-clause-lies : goal.pass_email-requires-clause-lies
 pass_email-requires-clause-lies c =
     let row = c.email.result.0 in
-    subst (λ (v : Contents). TextsLie (length v.pool) row) (sym c.loop-index.invariant) (texts_lie_on c.args.standing.now.pool c.args.out.now.pool c.requires.pool row c.email.ensures.lie.email_lies)
+    subst (λ (v : Contents). TextsLie (length v.pool) row) (sym c.loop-index.invariant) (texts_lie_on c.args.old_tables.now.pool c.args.out.now.pool c.requires.pool row c.email.ensures.lie.email_lies)
 
 pub pass_email-requires-clause-prefix : goal.pass_email-requires-clause-prefix
 pass_email-requires-clause-prefix c =
-    let standing = c.args.standing.now in
+    let old_tables = c.args.old_tables.now in
     let row = c.email.result.0 in
     let known = c.email_text.result in
     subst (λ (v : Contents). IsKeyPrefix known.prefix (folded (spelled v.pool (old_span row)))) (sym c.loop-index.invariant)
-    (prefix_on standing.pool c.args.out.now.pool c.requires.pool standing.groups c.loop-index.index known.prefix known.text.now row c.email.result.1.now
+    (prefix_on old_tables.pool c.args.out.now.pool c.requires.pool old_tables.groups c.loop-index.index known.prefix known.text.now row c.email.result.1.now
     c.email.ensures.lie.email_lies c.email.ensures.group c.email_text.ensures known.is_prefix)
 
 pub pass_email-requires-clause-pending : goal.pass_email-requires-clause-pending
 pass_email-requires-clause-pending c =
-    let standing = c.args.standing.now in
+    let old_tables = c.args.old_tables.now in
     let row = c.email.result.0 in
     let names = c.email.result.1.now in
     let index = c.loop-index.index in
-    let g = group_of standing.pool row names in
-    let ahead = names_ahead standing.groups index c.args.to g c.loop-index-test.true c.email.ensures.group in
-    let more = names_of_all (take (c.args.to - (index + 1)) (drop (index + 1) standing.groups)) in
-    omega (arith, ap (λ (v : Contents). length v.pending) c.loop-index.invariant, ap length ahead, length-append g.names more, length-map names (name_group standing.pool))
+    let g = group_of old_tables.pool row names in
+    let ahead = names_ahead old_tables.groups index c.args.to g c.loop-index-test.true c.email.ensures.group in
+    let more = names_of_all (take (c.args.to - (index + 1)) (drop (index + 1) old_tables.groups)) in
+    omega (arith, ap (λ (v : Contents). length v.pending) c.loop-index.invariant, ap length ahead, length-append g.names more, length-map names (name_group old_tables.pool))
 
 pub loop-index-preserved : goal.loop-index-preserved
 loop-index-preserved c =
-    let standing = c.args.standing.now in
+    let old_tables = c.args.old_tables.now in
     let old = c.args.out.now in
     let row = c.email.result.0 in
     let names = c.email.result.1.now in
     let index = c.loop-index.index in
     let count = length names in
-    let g = group_of standing.pool row names in
-    let group = take (index - c.args.from) (drop c.args.from standing.groups) in
-    let more = names_of_all (take (c.args.to - (index + 1)) (drop (index + 1) standing.groups)) in
-    let ahead = names_ahead standing.groups index c.args.to g c.loop-index-test.true c.email.ensures.group in
+    let g = group_of old_tables.pool row names in
+    let group = take (index - c.args.from) (drop c.args.from old_tables.groups) in
+    let more = names_of_all (take (c.args.to - (index + 1)) (drop (index + 1) old_tables.groups)) in
+    let ahead = names_ahead old_tables.groups index c.args.to g c.loop-index-test.true c.email.ensures.group in
     let put : Contents → Contents = λ v. record {
       pool = v.pool;
       groups = v.groups ++ record (group_of v.pool row []) { names = take count v.pending } ∷ [];
@@ -79,18 +79,18 @@ loop-index-preserved c =
     })
     ∙ (λ i. record {
       pool = old.pool;
-      groups = (old.groups ++ group) ++ passed_group standing.pool old.pool c.requires.pool row names more count c.email.ensures.lie refl i ∷ [];
-      pending = left_after standing.pool row names more count refl i;
+      groups = (old.groups ++ group) ++ passed_group old_tables.pool old.pool c.requires.pool row names more count c.email.ensures.lie refl i ∷ [];
+      pending = left_after old_tables.pool row names more count refl i;
     })
     ∙ (λ i. record {
       pool = old.pool;
-      groups = (append_assoc old.groups group (g ∷ []) ∙ ap (λ l. old.groups ++ l) (sym (passed_more standing.groups c.args.from index g c.loop-index.auto.index c.email.ensures.group))) i;
+      groups = (append_assoc old.groups group (g ∷ []) ∙ ap (λ l. old.groups ++ l) (sym (passed_more old_tables.groups c.args.from index g c.loop-index.auto.index c.email.ensures.group))) i;
       pending = more;
     })
 
 pub returns : goal.returns
 returns c =
-    let standing = c.args.standing.now in
+    let old_tables = c.args.old_tables.now in
     let old = c.args.out.now in
     let index = c.loop-index.index in
     let at : index ≡ c.args.to = omega (arith, c.loop-index-test.false, c.loop-index.auto.index-end c.requires.up) in
@@ -98,6 +98,6 @@ returns c =
     c.loop-index.invariant
     ∙ (λ i. record {
       pool = old.pool;
-      groups = old.groups ++ take (at i - c.args.from) (drop c.args.from standing.groups);
-      pending = (ap (λ k. names_of_all (take k (drop index standing.groups))) none ∙ sym c.requires.none_pending) i;
+      groups = old.groups ++ take (at i - c.args.from) (drop c.args.from old_tables.groups);
+      pending = (ap (λ k. names_of_all (take k (drop index old_tables.groups))) none ∙ sym c.requires.none_pending) i;
     })

@@ -6,6 +6,6 @@ use Rattle.mailmap_tables.proofs.join.pass_emails.Given as goal
 abbrev pub invariant-loop-index : goal.invariant-loop-index
 invariant-loop-index l = l.out ≡ record {
   pool = l.fn.out.pool;
-  groups = l.fn.out.groups ++ take (l.index - l.from) (drop l.from l.standing.groups);
-  pending = names_of_all (take (l.to - l.index) (drop l.index l.standing.groups));
+  groups = l.fn.out.groups ++ take (l.index - l.from) (drop l.from l.old_tables.groups);
+  pending = names_of_all (take (l.to - l.index) (drop l.index l.old_tables.groups));
 }

@@ -9,8 +9,8 @@ use Rattle.mailmap_tables.proofs.Complete.{no_groups}
 use Rattle.mailmap_tables.proofs.Grouped.{groups_accepted, groups_normal}
 use Rattle.mailmap_tables.proofs.join.rewritten.Goals as goal
 
-pub joined-requires-clause-standing : goal.joined-requires-clause-standing
-joined-requires-clause-standing c = subst (λ (t : Contents). AreGroups t.groups) (sym c.new.ensures) no_groups
+pub joined-requires-clause-old_tables : goal.joined-requires-clause-old_tables
+joined-requires-clause-old_tables c = subst (λ (t : Contents). AreGroups t.groups) (sym c.new.ensures) no_groups
 
 pub joined-requires-clause-accepted : goal.joined-requires-clause-accepted
 joined-requires-clause-accepted c =

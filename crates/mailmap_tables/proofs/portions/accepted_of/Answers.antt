@@ -25,7 +25,7 @@ loop-entry-preserved-in-Continue-1 g c =
     record {
       can = search rules;
       finite = search rules;
-      kept = subst (λ h. IsCollected c.args.standing.now h c.push.new.self.made (map mapping_of c.push.new.self.batch.items)) (sym (map_push mapping_of xs x)) kept;
+      kept = subst (λ h. IsCollected c.args.old_tables.now h c.push.new.self.made (map mapping_of c.push.new.self.batch.items)) (sym (map_push mapping_of xs x)) kept;
     }
 
 pub returns-in_err-push-clause-out_of_memory : goal.returns-in_err-push-clause-out_of_memory
@@ -45,10 +45,10 @@ pub loop-entry-preserved : goal.loop-entry-preserved
 loop-entry-preserved g c =
     let x = c.in-Some.entry in
     let xs = c.loop-entry.yielded in
-    let same = collected_same c.args.standing.now (map mapping_of xs) c.loop-entry.collected.made (map mapping_of c.loop-entry.collected.batch.items) c.loop-entry.invariant.kept (mapping_of x)
+    let same = collected_same c.args.old_tables.now (map mapping_of xs) c.loop-entry.collected.made (map mapping_of c.loop-entry.collected.batch.items) c.loop-entry.invariant.kept (mapping_of x)
     (accepted-ignored (map mapping_of xs) (mapping_of x) (sym c.maps.ensures ∙ c.if-maps.false)) in
     record {
       can = search rules;
       finite = search rules;
-      kept = subst (λ h. IsCollected c.args.standing.now h c.loop-entry.collected.made (map mapping_of c.loop-entry.collected.batch.items)) (sym (map_push mapping_of xs x)) same;
+      kept = subst (λ h. IsCollected c.args.old_tables.now h c.loop-entry.collected.made (map mapping_of c.loop-entry.collected.batch.items)) (sym (map_push mapping_of xs x)) same;
     }

@@ -11,7 +11,7 @@ returns c = λ keys h up n t.
     let e = entry_of c.args.x.now in
     record {
       summaries = row_changed keys (λ k. k) key_summary_of (key_summary h) (key_summary (e ∷ h)) _ (key e) _ _ up (λ a b e. e) t.summaries n.own
-          (c.joined.ensures.summary ∙ ap₂ joined_summary c.of.ensures.summary (ap key_summary_of c.index.ensures ∙ (t.summaries _ _ n.own).1 c.index.result.now) ∙ sym (prepended h e n.accepted))
+          (c.then.ensures.summary ∙ ap₂ joined_summary c.of.ensures.summary (ap key_summary_of c.index.ensures ∙ (t.summaries _ _ n.own).1 c.index.result.now) ∙ sym (prepended h e n.accepted))
           (not_prepended h e);
       spellings = row_changed keys email_key spelling_of (spelling h) (spelling (e ∷ h)) _ (folded e.old_email) _ _ up email_keys t.spellings n.of_email
           (c.of-2.ensures ∙ sym (spelled_before h e n.accepted))

@@ -5,4 +5,4 @@ use Rattle.mailmap_tables.proofs.Joining.{collected_none}
 use Rattle.mailmap_tables.proofs.portions.Collected.none.Goals as goal
 
 pub returns : goal.returns
-returns c = subst (IsCollected c.args.standing.now [] None) (ap (map mapping_of) (sym c.new.ensures.items)) (collected_none c.args.standing.now c.requires)
+returns c = subst (IsCollected c.args.old_tables.now [] None) (ap (map mapping_of) (sym c.new.ensures.items)) (collected_none c.args.old_tables.now c.requires)

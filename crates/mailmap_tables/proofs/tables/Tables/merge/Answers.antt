@@ -13,12 +13,12 @@ use Rattle.mailmap_tables.proofs.tables.Tables.merge.Goals as goal
 pub tables-requires : goal.tables-requires
 tables-requires g c = let w = c.in_ok-collected.ensures.ok in (map mapping_of w.0, w.2)
 
-pub returns-then-is_joined-clause-ok : goal.returns-then-is_joined-clause-ok
-returns-then-is_joined-clause-ok g c =
+pub returns-then-is_batch_empty-clause-ok : goal.returns-then-is_batch_empty-clause-ok
+returns-then-is_batch_empty-clause-ok g c =
     let w = c.in_ok-collected.ensures.ok in
     let existing = c.args.self.now in
     let made = c.in_ok-collected.collected.made in
-    let all = subst (λ (l : List Item). IsCollected existing (map mapping_of w.0) made (map mapping_of l)) (c.is_joined.ensures.all c.if-is_joined.true) w.2 in (
+    let all = subst (λ (l : List Item). IsCollected existing (map mapping_of w.0) made (map mapping_of l)) (c.is_batch_empty.ensures.all c.if-is_batch_empty.true) w.2 in (
       w.0,
       w.1,
       subst IsComplete (sym c.put_into.ensures) all.complete,
@@ -45,14 +45,14 @@ returns-in-Some-clause-ok g c =
 pub returns-in-Some-clause-out_of_memory : goal.returns-in-Some-clause-out_of_memory
 returns-in-Some-clause-out_of_memory g c =
     let w = c.in_ok-collected.ensures.ok in
-    let some = collected_some mapping_of c.args.self.now (map mapping_of w.0) c.in_ok-collected.collected.made _ w.2 (c.is_joined.ensures.some c.if-is_joined.false) in
+    let some = collected_some mapping_of c.args.self.now (map mapping_of w.0) c.in_ok-collected.collected.made _ w.2 (c.is_batch_empty.ensures.some c.if-is_batch_empty.false) in
     let why : (ys : List Item) × (rest : _) × Yields g.I.Iterator.next_gives c.args.entries ys rest × (accepted (map mapping_of ys) ≢ []) = (w.0, w.1.1.0, w.1.1.1, some) in
     on_err _ _ why
 
 pub returns-in_err-self-clause-out_of_memory : goal.returns-in_err-self-clause-out_of_memory
 returns-in_err-self-clause-out_of_memory g c =
     let w = c.in_ok-collected.ensures.ok in
-    let some = collected_some mapping_of c.args.self.now (map mapping_of w.0) c.in_ok-collected.collected.made _ w.2 (c.is_joined.ensures.some c.if-is_joined.false) in
+    let some = collected_some mapping_of c.args.self.now (map mapping_of w.0) c.in_ok-collected.collected.made _ w.2 (c.is_batch_empty.ensures.some c.if-is_batch_empty.false) in
     let why : (ys : List Item) × (rest : _) × Yields g.I.Iterator.next_gives c.args.entries ys rest × (accepted (map mapping_of ys) ≢ []) = (w.0, w.1.1.0, w.1.1.1, some) in
     on_err _ _ why
 

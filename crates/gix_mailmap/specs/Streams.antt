@@ -1,0 +1,18 @@
+-- Contacts that come in parts: what is answered of them, and what is kept.
+use Rattle.std.specs.Prelude.{◌≡◌, List, ◌++◌}
+use Rattle.mailmap_entries.specs.Entries.{Mapping}
+use Rattle.mailmap_entries.specs.Folding.{Text}
+use Rattle.gix_mailmap.specs.Contacts.{answers}
+use Rattle.gix_mailmap.specs.Parts.{EndsLine}
+
+-- a stream of contacts: what its mailmaps say together, and the beginning of a line that has not ended yet
+pub record Stream : Type 0 where
+  pub mappings : List Mapping
+  pub kept : Text
+
+-- the text answers whole lines at the front of these bytes, and this is the rest of them
+pub record AnswersFront (mappings : List Mapping) (bytes text rest : Text) : Type 0 where
+  pub whole : Text
+  pub ends : EndsLine whole
+  pub bytes_are : bytes ≡ whole ++ rest
+  pub text_is : text ≡ answers mappings whole

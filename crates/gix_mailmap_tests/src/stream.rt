@@ -1,0 +1,91 @@
+use crate::check::assert_bytes;
+use gix_mailmap::check::{ContactStream, check};
+use std::alloc::{AllocError, Global};
+use std::process::Abort;
+
+/// The answers to contacts that come in parts of so many bytes, put together.
+fn answers_in_parts(
+    alloc: Global,
+    buffers: &[&[u8]],
+    contacts: &[u8],
+    size: usize,
+) -> Result<Vec<u8>, AllocError> {
+    let mut stream = ContactStream::new(alloc, buffers)?;
+    let mut text = Vec::new(alloc);
+    let mut part = Vec::new(alloc);
+    for byte in contacts {
+        part.push(*byte)?;
+        if part.len() >= size {
+            push_all(&mut stream, part.as_slice(), &mut text)?;
+            part.clear();
+        }
+    }
+    push_all(&mut stream, part.as_slice(), &mut text)?;
+    stream.finish(&mut text)?;
+    Ok(text)
+}
+
+/// Gives the stream all of a part.
+fn push_all(stream: &mut ContactStream, part: &[u8], text: &mut Vec<u8>) -> Result<(), AllocError> {
+    let mut left = part;
+    for _ in 0..part.len() {
+        let taken = stream.push(left, text)?;
+        left = &left[taken..];
+    }
+    Ok(())
+}
+
+/// Whatever the parts, the answers are those to all contacts at once: of lines with each kind of end, and without one.
+#[test]
+fn parts_of_every_size_are_answered_alike(rt: HostRuntime) -> Result<(), AllocError> {
+    static ROWS: [&[u8]; 4] = [
+        b"jane <JANE@x>\njoe <q@z>\r\n\n\nnot a contact\n",
+        b"jane <JANE@x>\r\njane <jane@x> rest",
+        b"x\r",
+        b"",
+    ];
+    let map: &[u8] = b"Jane Doe <jane@x>";
+    for contacts in &ROWS {
+        let whole = check(rt.alloc(), &[map], contacts)?;
+        for size in 1..50 {
+            let text = answers_in_parts(rt.alloc(), &[map], contacts, size)?;
+            assert_bytes(&rt, text.as_slice(), whole.as_slice());
+        }
+    }
+    Ok(())
+}
+
+/// Each line is answered as soon as its line feed comes, and the last one at the end.
+#[test]
+fn a_line_is_answered_with_its_line_feed(rt: HostRuntime) -> Result<(), AllocError> {
+    let mut stream = ContactStream::new(rt.alloc(), &[b"Jane Doe <jane@x>".as_slice()])?;
+    let mut text = Vec::new(rt.alloc());
+    let _ = stream.push(b"jane <JANE@x>\njan", &mut text)?;
+    assert_bytes(&rt, text.as_slice(), b"Jane Doe <jane@x>\n");
+    let _ = stream.push(b"e <q@x>", &mut text)?;
+    assert_bytes(&rt, text.as_slice(), b"Jane Doe <jane@x>\n");
+    stream.finish(&mut text)?;
+    assert_bytes(&rt, text.as_slice(), b"Jane Doe <jane@x>\njane <q@x>\n");
+    Ok(())
+}
+
+/// One call stops after 64 KiB of answers, so that few long answers are in memory at once.
+#[test]
+fn a_call_stops_after_64_kib_of_answers(rt: HostRuntime) -> Result<(), AllocError> {
+    let mut map = Vec::new(rt.alloc());
+    for _ in 0..70000 {
+        map.push(b'n')?;
+    }
+    map.extend_from_slice(b" <a@x>")?;
+    let mut stream = ContactStream::new(rt.alloc(), &[map.as_slice()])?;
+    let mut text = Vec::new(rt.alloc());
+    let taken = stream.push(b"<a@x>\n<a@x>\n<a@x>\n", &mut text)?;
+    assert_count(&rt, taken, 6);
+    assert_count(&rt, text.len(), 70007);
+    Ok(())
+}
+
+/// Wants this number.
+fn assert_count(rt: &impl Abort, count: usize, want: usize) {
+    assert_eq!(rt; count, want);
+}

@@ -1,0 +1,27 @@
+-- Lines, each with whether its entry is kept.
+use Rattle.std.specs.Prelude.{◌≢◌, Bool, List, [], ◌∷◌}
+use Rattle.std.specs.List.{AllByRecursion}
+use Rattle.mailmap_redundancy.specs.Redundancy.{LocatedMapping, IsSublist}
+use Rattle.mailmap_findings.specs.Positions.{Line, has_entry_at, line_of, located}
+use Rattle.mailmap_findings.specs.declared.verify.lines.Line.{Line as the_line}
+
+-- a line, and whether one of the kept entries is at its position
+abbrev pub MarkedLine : Type 0
+MarkedLine = Line × Bool
+
+abbrev pub marked : List LocatedMapping → Line → MarkedLine
+marked kept l = (l, has_entry_at kept l.position)
+
+-- the code's
+abbrev pub marked_of : the_line × Bool → MarkedLine
+marked_of m = (line_of m.0, m.1)
+
+-- no two lines are at one position
+abbrev pub AreApart : List Line → Type 0
+AreApart [] = Unit {0}
+AreApart (l ∷ ls) = AllByRecursion (λ x. x.position ≢ l.position) ls × AreApart ls
+
+-- the lines of a walk, and some of their entries
+pub record IsWalk (kept : List LocatedMapping) (ls : List Line) : Type 0 where
+  pub sublist : IsSublist kept (located ls)
+  pub apart : AreApart ls
