@@ -18,13 +18,14 @@ PYTHONDIR ?= $(PREFIX)/share/gix_mailmap/python
 VERSION := $(shell cat VERSION)
 # The number of the shared library's binary interface. A program runs with any library of the number that it was linked
 # with, so this is to grow with each change after which one would not.
-ABI = 0
+ABI = 1
 
 PROGRAM = crates/mailmap_check/out/mailmap_check
 VERIFIER = crates/mailmap_verify/out/mailmap_verify
 DUMP = crates/mailmap_dump/out/mailmap_dump
 # the libraries for C, and the part of the toolchain's that they stand on
 LIB = crates/gix_mailmap_c/out
+PROVED = $(LIB)/libgix_mailmap_c.a
 HEAP = $(dir $(shell rt doc))c/liblibc_c.a
 # the shared library: its name, the one that the loader looks for, and the one that the linker looks for
 SHARED = libgix_mailmap.so.$(VERSION)
@@ -57,21 +58,30 @@ run: $(PROGRAM)
 
 lib: $(LIB)/c/libgix_mailmap.a $(LIB)/c/$(SHARED)
 
-# the static library, whole by itself
-$(LIB)/c/libgix_mailmap.a: $(SOURCES)
+# the proved calls
+$(PROVED): $(SOURCES)
 	@echo 'Proving and building the libraries for C.'
 	cd crates/gix_mailmap_c && rt lib > /dev/null
-	rm -rf $(LIB)/c && mkdir $(LIB)/c
-	cp $(LIB)/libgix_mailmap_c.a $@
-	cd $(LIB)/c && ar x $(HEAP) && ar rs libgix_mailmap.a *.o 2> /dev/null
+	touch $@
 
-# the shared one, made of it; the Makefile has its number
+# The static library: the proved calls, what they need of the toolchain, and the functions before them, in one object
+# that shows only the calls of the header.
+$(LIB)/c/libgix_mailmap.a: $(PROVED) $(wildcard c/*) include/gix_mailmap.h include/gix_mailmap.map
+	rm -rf $(LIB)/c && mkdir $(LIB)/c
+	$(CC) -std=c11 -O2 -fPIC -Wall -Wextra -Wpedantic -Werror -Iinclude -c c/gix_mailmap.c -o $(LIB)/c/calls.o
+	$(LD) -r -o $(LIB)/c/gix_mailmap.o $(LIB)/c/calls.o $(PROVED) $(HEAP)
+	sed -n 's/^ *\(gix_mailmap_[a-z_]*\);$$/\1/p' include/gix_mailmap.map > $(LIB)/c/shown
+	objcopy --keep-global-symbols=$(LIB)/c/shown $(LIB)/c/gix_mailmap.o
+	ar rcsD $@ $(LIB)/c/gix_mailmap.o
+
+# The shared one, made of it; the Makefile has its number. Its other names are no symbolic links here, since rt stops at
+# such in out.
 $(LIB)/c/$(SHARED): $(LIB)/c/libgix_mailmap.a include/gix_mailmap.map VERSION Makefile
 	rm -f $(LIB)/c/$(LINKED)*
 	$(CC) -shared -o $@ -Wl,-soname,$(SONAME) -Wl,--version-script,include/gix_mailmap.map \
 	    -Wl,--whole-archive $< -Wl,--no-whole-archive
-	ln -s $(SHARED) $(LIB)/c/$(SONAME)
-	ln -s $(SONAME) $(LIB)/c/$(LINKED)
+	ln $@ $(LIB)/c/$(SONAME)
+	ln $@ $(LIB)/c/$(LINKED)
 	ln -sf ../../$(LIB)/c/$(LINKED) python/gix_mailmap/$(LINKED)
 
 # the package for Python, with the shared library in it: what pip builds, without pip
@@ -89,6 +99,7 @@ test:
 	tests/original/compare.py $(PROGRAM) $(DUMP)
 	tests/verify/run.py $(VERIFIER)
 	tests/failures.sh $(PROGRAM) $(VERIFIER)
+	tests/memory.py $(PROGRAM) $(VERIFIER)
 	tests/examples.py $(PROGRAM) $(VERIFIER)
 	tests/manual.sh
 	tests/not_compiling/run.sh

@@ -1,7 +1,9 @@
 /* Times lookups in C, by gix_mailmap or by libgit2, and prints a line as mailmap_bench does.
  *
- *     c_lookups gix MAP CONTACTS [N]       gix_mailmap_lookup
- *     c_lookups libgit2 MAP CONTACTS [N]   git_mailmap_resolve
+ *     c_lookups gix MAP CONTACTS [N [THREADS]]   gix_mailmap_lookup
+ *     c_lookups libgit2 MAP CONTACTS [N]         git_mailmap_resolve
+ *
+ * Of THREADS, each looks all contacts up, in one mailmap.
  *
  * The map is opened and the contacts are cut before the clock runs. Of the name and the email that stand in the end each
  * first byte is read, and each length that is told: `texts` is their sum, as that of mailmap_bench's bench-answer. libgit2
@@ -10,6 +12,7 @@
 #define _POSIX_C_SOURCE 200809L
 #include "gix_mailmap.h"
 #include <git2.h>
+#include <pthread.h>
 #include <stdio.h>
 #include <stdlib.h>
 #include <string.h>
@@ -82,24 +85,53 @@ static contacts contacts_of(text lines)
     return found;
 }
 
-static size_t read_text(const uint8_t *bytes, size_t len)
+static size_t read_text(const char *bytes, size_t len)
 {
-    return len > 0 ? len + bytes[0] : 0;
+    return len > 0 ? len + (uint8_t)bytes[0] : 0;
 }
 
-static size_t look_up_here(gix_mailmap *map, contacts given)
+static size_t look_up_here(const gix_mailmap *map, contacts given)
 {
-    uint8_t name[4096], email[4096];
+    char name[4096], email[4096];
     gix_mailmap_field new_name = {0, false}, new_email = {0, false};
     size_t texts = 0;
     for (size_t i = 0; i < given.len; i++) {
         const contact *c = &given.all[i];
-        must(gix_mailmap_lookup(map, (const uint8_t *)c->name.bytes, c->name.len, (const uint8_t *)c->email.bytes,
-                                c->email.len, name, sizeof name, &new_name, email, sizeof email, &new_email)
-             == GIX_MAILMAP_DONE, "lookup");
+        must(gix_mailmap_lookup(map, c->name.bytes, c->name.len, c->email.bytes, c->email.len, name, sizeof name,
+                                &new_name, email, sizeof email, &new_email) == GIX_MAILMAP_OK, "lookup");
         texts += read_text(name, new_name.len) + read_text(email, new_email.len);
     }
     return texts;
+}
+
+enum { MOST_THREADS = 64 };
+
+/* what one thread has to do, and what it has read */
+typedef struct {
+    const gix_mailmap *map;
+    contacts given;
+    size_t texts;
+} job;
+
+static void *run_job(void *given)
+{
+    job *own = given;
+    own->texts = look_up_here(own->map, own->given);
+    return NULL;
+}
+
+static size_t look_up_by_threads(const gix_mailmap *map, contacts given, int threads)
+{
+    pthread_t started[MOST_THREADS];
+    job jobs[MOST_THREADS];
+    must(threads > 0 && threads <= MOST_THREADS, "1 to 64 threads");
+    for (int i = 0; i < threads; i++) {
+        jobs[i] = (job){map, given, 0};
+        must(pthread_create(&started[i], NULL, run_job, &jobs[i]) == 0, "no thread");
+    }
+    for (int i = 0; i < threads; i++)
+        must(pthread_join(started[i], NULL) == 0 && jobs[i].texts == jobs[0].texts, "other answers");
+    return jobs[0].texts;
 }
 
 static size_t look_up_there(const git_mailmap *map, contacts given)
@@ -128,25 +160,27 @@ int main(int count, char **words)
     text map = read_file(words[2]);
     contacts given = contacts_of(read_file(words[3]));
     long runs = count > 4 ? atol(words[4]) : 1;
-    gix_mailmap here = GIX_MAILMAP_INIT;
+    int threads = count > 5 ? atoi(words[5]) : 0;
+    gix_mailmap *here = NULL;
     git_mailmap *there = NULL;
     git_libgit2_init();
     if (is_here)
-        must(gix_mailmap_open(&here, (const uint8_t *)map.bytes, map.len) == GIX_MAILMAP_DONE, "open");
+        must(gix_mailmap_open(&here, map.bytes, map.len) == GIX_MAILMAP_OK, "open");
     else
         must(git_mailmap_from_buffer(&there, map.bytes, map.len) == 0, "libgit2 can't read the map");
     long long least = -1, total = 0;
     size_t texts = 0;
     for (long run = 0; run < runs; run++) {
         long long start = now();
-        texts = is_here ? look_up_here(&here, given) : look_up_there(there, given);
+        texts = !is_here ? look_up_there(there, given)
+                : threads ? look_up_by_threads(here, given, threads) : look_up_here(here, given);
         long long took = now() - start;
         total += took;
         least = least < 0 || took < least ? took : least;
     }
     printf("bench-answer iters=%ld total_ns=%lld min_ns=%lld contacts=%zu texts=%zu\n", runs, total, least, given.len,
            texts);
-    gix_mailmap_close(&here);
+    gix_mailmap_close(here);
     git_mailmap_free(there);
     return 0;
 }

@@ -3,27 +3,39 @@
  * A mailmap says which names and emails people want to be known by. These calls read one, look contacts up in it, list
  * it, and find what is wrong with it.
  *
- *     gix_mailmap map = GIX_MAILMAP_INIT;
- *     uint8_t name[256], email[256];
+ *     gix_mailmap *map;
+ *     char name[256], email[256];
  *     gix_mailmap_field new_name, new_email;
  *
- *     if (gix_mailmap_open(&map, text, text_len) == GIX_MAILMAP_DONE
- *         && gix_mailmap_lookup(&map, old_name, old_name_len, old_email, old_email_len, name, sizeof name, &new_name,
- *                               email, sizeof email, &new_email) == GIX_MAILMAP_DONE)
- *         printf("%.*s <%.*s>\n", (int)new_name.len, (char *)name, (int)new_email.len, (char *)email);
- *     gix_mailmap_close(&map);
+ *     if (gix_mailmap_open(&map, text, text_len) != GIX_MAILMAP_OK)
+ *         return 1;
+ *     if (gix_mailmap_lookup(map, "jd", 2, "jd@y", 4, name, sizeof name, &new_name, email, sizeof email, &new_email)
+ *         == GIX_MAILMAP_OK)
+ *         printf("%.*s <%.*s>\n", (int)new_name.len, name, (int)new_email.len, email);
+ *     gix_mailmap_close(map);
  *
- * Texts are bytes with a length. They need not be UTF-8. They don't end with a NUL, and may hold one. A text of length
- * 0 needs a pointer that is not NULL, too. No text is kept: a mailmap has copies of its own.
+ * Texts are bytes with a length. They need not be UTF-8. They don't end with a NUL, and may hold one. No text is kept:
+ * a mailmap has copies of its own.
  *
- * Buffers and handles belong to the caller. What a call writes must not overlap with anything else that it is given.
- * What a call doesn't write stays as it was.
+ * A text of length 0, and a buffer or an array of length 0, may be NULL. So a call that is given NULL and 0 for its
+ * buffer says how much is needed. It returns GIX_MAILMAP_TOO_SHORT, or GIX_MAILMAP_OK if that is nothing.
  *
- * Threads: calls on different handles, and calls without a handle, may run at the same time. A handle may be used from
- * any thread, but only by one call at a time. No call may be made from a signal handler, or from the forked child of a
- * process with threads.
+ *     size_t needed;
+ *     if (gix_mailmap_compact(text, text_len, NULL, 0, &needed) == GIX_MAILMAP_OUT_OF_MEMORY)
+ *         return 1;
+ *
+ * Buffers belong to the caller. What a call writes must not overlap with anything else that it is given. What a call
+ * doesn't write stays as it was.
+ *
+ * Threads: calls with a `const gix_mailmap *` read the mailmap, and any number of them may run at a time. Those with a
+ * `gix_mailmap *` change it, and no other call may have the same mailmap meanwhile. A mailmap may be opened, used and
+ * closed by different threads. Calls without a mailmap may run at any time. No call may be made from a signal handler,
+ * or from the forked child of a process with threads.
  *
  * Memory comes from the program's malloc, realloc and free.
+ *
+ * The structs and the numbers below are part of the binary interface. What lies between the members of a struct is kept
+ * for members to come; programs must not rely on it. New numbers may come at the end of an enum.
  */
 #ifndef GIX_MAILMAP_H
 #define GIX_MAILMAP_H
@@ -32,28 +44,40 @@
 #include <stddef.h>
 #include <stdint.h>
 
+/* The version of this header; gix_mailmap_version has that of the library. */
+#define GIX_MAILMAP_VERSION "0.1.0"
+#define GIX_MAILMAP_VERSION_MAJOR 0
+#define GIX_MAILMAP_VERSION_MINOR 1
+#define GIX_MAILMAP_VERSION_PATCH 0
+
+/* What compilers can check: pointers that must not be NULL, by their places among the arguments, a status that must not
+ * be dropped, and buffers that must not overlap with another argument. */
+#ifdef __GNUC__
+#define GIX_MAILMAP_NONNULL(...) __attribute__((nonnull(__VA_ARGS__)))
+#define GIX_MAILMAP_MUST_CHECK __attribute__((warn_unused_result))
+#define GIX_MAILMAP_ALONE __restrict
+#else
+#define GIX_MAILMAP_NONNULL(...)
+#define GIX_MAILMAP_MUST_CHECK
+#define GIX_MAILMAP_ALONE
+#endif
+
 #ifdef __cplusplus
 extern "C" {
 #endif
 
-/* What a call returns. */
-enum {
-    GIX_MAILMAP_DONE = 0,    /* the call did its work */
-    GIX_MAILMAP_SHORT = 1,   /* a buffer is too short; all buffers are as they were */
-    GIX_MAILMAP_REFUSED = 2, /* out of memory; buffers and handle are as they were */
-    GIX_MAILMAP_CLOSED = 3,  /* the handle is closed; nothing was written */
-    GIX_MAILMAP_OPEN = 4,    /* the handle is already open, and stays as it is */
-    GIX_MAILMAP_NO_ENTRY = 5 /* the mailmap has no entry with this number; nothing was written */
-};
+/* A mailmap: gix_mailmap_open makes one, and gix_mailmap_close frees it. */
+typedef struct gix_mailmap gix_mailmap;
 
-/* A handle of a mailmap. It begins as GIX_MAILMAP_INIT. It must never be copied, and only the calls below may change
- * it. */
-typedef struct gix_mailmap {
-    void *at;
-    bool is_open;
-} gix_mailmap;
-
-#define GIX_MAILMAP_INIT { NULL, false }
+/* What a call returns. If it isn't GIX_MAILMAP_OK, nothing changes, and nothing is written but what the call says. */
+typedef enum gix_mailmap_status {
+    GIX_MAILMAP_OK = 0,            /* the call did its work */
+    GIX_MAILMAP_TOO_SHORT = 1,     /* a buffer is too short; all buffers are as they were */
+    GIX_MAILMAP_OUT_OF_MEMORY = 2, /* the mailmap is as it was */
+    GIX_MAILMAP_NO_ENTRY = 3,      /* the mailmap has no entry with this number */
+    GIX_MAILMAP_NOT_AN_ENTRY = 4,  /* these texts make no entry */
+    GIX_MAILMAP_UNWRITABLE = 5     /* no line can hold some entry of the mailmap */
+} gix_mailmap_status;
 
 /* How long a text is, and whether the mailmap has it. */
 typedef struct gix_mailmap_field {
@@ -71,10 +95,9 @@ typedef struct gix_mailmap_listed {
     gix_mailmap_field old_email;
 } gix_mailmap_listed;
 
-/* What may be wrong with a line. With one of the first four it gives no entry. With the fifth it is read as if it
- * ended before its second contact: `Jane <jane@x> <jd@y` maps jane@x to the name Jane, and `<jane@x> <jd@y` gives no
- * entry. */
-enum {
+/* What may be wrong with a line. With one of the first four it gives no entry. With the fifth it is read as if it ended
+ * before the second `<`: `Jane <jane@x> <jd@y` maps jane@x to the name Jane, and `<jane@x> <jd@y` gives no entry. */
+typedef enum gix_mailmap_kind {
     GIX_MAILMAP_NO_EMAIL = 1,                /* there is no `<` */
     GIX_MAILMAP_MISSING_CLOSING_BRACKET = 2, /* the first `<` has no `>` after it */
     GIX_MAILMAP_EMPTY_EMAIL = 3,             /* the first email is empty or white space */
@@ -83,79 +106,115 @@ enum {
     GIX_MAILMAP_IGNORED_TEXT = 6,            /* text after the last email is ignored */
     GIX_MAILMAP_NO_EFFECT = 7,               /* removing the line changes no mapping */
     GIX_MAILMAP_ITSELF_MAPPED = 8            /* it maps to a contact that the mailmap maps to another */
-};
+} gix_mailmap_kind;
 
 /* What is wrong with a line: its number, counted from 1, and one of these kinds. For GIX_MAILMAP_NO_EFFECT `beside`
  * is the number of the last line for the same old email and old name that has an effect. For all other kinds it is
  * 0. */
 typedef struct gix_mailmap_finding {
     size_t line;
-    uint32_t kind;
+    gix_mailmap_kind kind;
     size_t beside;
 } gix_mailmap_finding;
 
-/* Opens a closed handle on the entries of a mailmap's text. Lines that can't be read are left out.
- * DONE; REFUSED; OPEN. Unless the status is DONE, the handle stays as it was. */
-uint32_t gix_mailmap_open(gix_mailmap *map, const uint8_t *text, size_t text_len);
+/* The version of the library, as `0.1.0`. */
+const char *gix_mailmap_version(void);
 
-/* Adds the entries of a text after those that are there. A later entry replaces an earlier one for the same old
- * email and old name. Without an old name it replaces only what it gives: `P <a@x>` and then `<n@y> <a@x>` map a@x
- * to P and n@y. Old emails and old names keep their first spelling.
- * DONE; REFUSED: the mailmap is as it was; CLOSED. */
-uint32_t gix_mailmap_add(gix_mailmap *map, const uint8_t *text, size_t text_len);
+/* A status in English, as `out of memory`. */
+const char *gix_mailmap_status_text(gix_mailmap_status status);
+
+/* Opens a mailmap with the entries of a text. Lines that can't be read are left out.
+ * OK; OUT_OF_MEMORY: `*map` is NULL. */
+gix_mailmap_status gix_mailmap_open(gix_mailmap **map, const char *text, size_t text_len)
+    GIX_MAILMAP_NONNULL(1) GIX_MAILMAP_MUST_CHECK;
+
+/* Frees a mailmap. NULL is none, and nothing happens. */
+void gix_mailmap_close(gix_mailmap *map);
+
+/* Adds the entries of a text after those that are there. Lines that can't be read are left out. A later entry with an
+ * old name replaces an earlier one for the same old email and old name. Without an old name it replaces only what it
+ * gives: `P <a@x>` and then `<n@y> <a@x>` map a@x to P and n@y. Old emails and old names keep their first spelling.
+ * OK; OUT_OF_MEMORY. */
+gix_mailmap_status gix_mailmap_add(gix_mailmap *map, const char *text, size_t text_len)
+    GIX_MAILMAP_NONNULL(1) GIX_MAILMAP_MUST_CHECK;
+
+/* Adds one entry, as gix_mailmap_add does. Its texts are taken as they are, and none is read as a line. A new name, a
+ * new email and an old name that are empty aren't there.
+ * OK; OUT_OF_MEMORY; NOT_AN_ENTRY: there is no new name and no new email, or an old name and no new email. */
+gix_mailmap_status gix_mailmap_add_entry(gix_mailmap *map, const char *new_name, size_t new_name_len,
+                                         const char *new_email, size_t new_email_len, const char *old_name,
+                                         size_t old_name_len, const char *old_email, size_t old_email_len)
+    GIX_MAILMAP_NONNULL(1) GIX_MAILMAP_MUST_CHECK;
 
 /* Looks a name and an email up. The proper ones are copied to the beginning of the two buffers. One that the mailmap
- * doesn't give is the one that was asked for. Their lengths are written at DONE and at SHORT.
- * DONE; SHORT: both buffers are as they were; CLOSED: nothing is written. */
-uint32_t gix_mailmap_lookup(gix_mailmap *map, const uint8_t *name, size_t name_len, const uint8_t *email,
-                            size_t email_len, uint8_t *name_out, size_t name_out_len, gix_mailmap_field *new_name,
-                            uint8_t *email_out, size_t email_out_len, gix_mailmap_field *new_email);
+ * doesn't give is the one that was asked for. Their lengths are written at OK and at TOO_SHORT.
+ * OK; TOO_SHORT. */
+gix_mailmap_status gix_mailmap_lookup(const gix_mailmap *map, const char *name, size_t name_len, const char *email,
+                                      size_t email_len, char *GIX_MAILMAP_ALONE name_out, size_t name_out_len,
+                                      gix_mailmap_field *GIX_MAILMAP_ALONE new_name,
+                                      char *GIX_MAILMAP_ALONE email_out, size_t email_out_len,
+                                      gix_mailmap_field *GIX_MAILMAP_ALONE new_email)
+    GIX_MAILMAP_NONNULL(1, 8, 11) GIX_MAILMAP_MUST_CHECK;
 
-/* Writes how many entries the mailmap lists, and how many bytes all their texts have together (SIZE_MAX if that is
- * more than a size_t holds). It goes over all entries.
- * DONE; CLOSED: nothing is written. */
-uint32_t gix_mailmap_len(gix_mailmap *map, size_t *entries_len, size_t *texts_len);
+/* Says how many entries the mailmap lists, and how many bytes all their texts have together (SIZE_MAX if that is more
+ * than a size_t holds). It goes over all entries. */
+void gix_mailmap_len(const gix_mailmap *map, size_t *GIX_MAILMAP_ALONE entries_len, size_t *GIX_MAILMAP_ALONE texts_len)
+    GIX_MAILMAP_NONNULL(1, 2, 3);
 
 /* Lists the mailmap: one entry for each old email that is mapped whatever the name, and one for each old name of it.
  * They come in ascending order of old emails, and for each of these of old names. Entry i is in entries[i], and its
  * texts are in `texts` from its `start` on. `entries_len` counts entries, `texts_len` bytes; gix_mailmap_len gives
  * how many are needed.
- * DONE; SHORT: `entries` or `texts` is too short, and both are as they were; CLOSED: nothing is written. */
-uint32_t gix_mailmap_list(gix_mailmap *map, gix_mailmap_listed *entries, size_t entries_len, uint8_t *texts,
-                          size_t texts_len);
+ * OK; TOO_SHORT: `entries` or `texts` is too short, and both are as they were. */
+gix_mailmap_status gix_mailmap_list(const gix_mailmap *map, gix_mailmap_listed *GIX_MAILMAP_ALONE entries,
+                                    size_t entries_len, char *GIX_MAILMAP_ALONE texts, size_t texts_len)
+    GIX_MAILMAP_NONNULL(1) GIX_MAILMAP_MUST_CHECK;
 
-/* Writes one entry of the list, number `place` counted from 0, and copies its texts to the beginning of `texts`, so
- * its `start` is 0. It goes over the entries before it: use gix_mailmap_list for all of them.
- * DONE; SHORT: `texts` is as it was, and the entry is written; NO_ENTRY; CLOSED: nothing is written. */
-uint32_t gix_mailmap_entry(gix_mailmap *map, size_t place, gix_mailmap_listed *entry, uint8_t *texts, size_t texts_len);
+/* Writes one entry of the list, number `place` counted from 0, and copies its texts to the beginning of `texts`, so its
+ * `start` is 0. It goes over the entries before it: use gix_mailmap_list for all of them.
+ * OK; TOO_SHORT: `texts` is as it was, and the entry is written; NO_ENTRY. */
+gix_mailmap_status gix_mailmap_entry(const gix_mailmap *map, size_t place, gix_mailmap_listed *GIX_MAILMAP_ALONE entry,
+                                     char *GIX_MAILMAP_ALONE texts, size_t texts_len)
+    GIX_MAILMAP_NONNULL(1, 3) GIX_MAILMAP_MUST_CHECK;
 
-/* Closes a handle, and frees its memory. A closed one stays closed. */
-void gix_mailmap_close(gix_mailmap *map);
+/* Writes the mailmap as a text, from which gix_mailmap_open makes the same one: a line for each entry, in their order.
+ * `needed` is its length, and 0 at OUT_OF_MEMORY. At UNWRITABLE it is the number of the first entry that no line can
+ * hold, counted from 0: only gix_mailmap_add_entry adds such ones.
+ * OK; TOO_SHORT; OUT_OF_MEMORY; UNWRITABLE. */
+gix_mailmap_status gix_mailmap_write(const gix_mailmap *map, char *GIX_MAILMAP_ALONE out, size_t out_len,
+                                     size_t *GIX_MAILMAP_ALONE needed)
+    GIX_MAILMAP_NONNULL(1, 4) GIX_MAILMAP_MUST_CHECK;
 
 /* Answers each line of `contacts`, such as `Jane <jane@x>`, by what the mailmap maps: a line for each line, with a
  * line feed after each. A line that is no contact is its own answer. `needed` is the length of all answers, and 0 at
- * REFUSED.
- * DONE; SHORT; REFUSED. */
-uint32_t gix_mailmap_check(const uint8_t *mailmap, size_t mailmap_len, const uint8_t *contacts, size_t contacts_len,
-                           uint8_t *out, size_t out_len, size_t *needed);
+ * OUT_OF_MEMORY.
+ * OK; TOO_SHORT; OUT_OF_MEMORY. */
+gix_mailmap_status gix_mailmap_check(const char *mailmap, size_t mailmap_len, const char *contacts, size_t contacts_len,
+                                     char *GIX_MAILMAP_ALONE out, size_t out_len, size_t *GIX_MAILMAP_ALONE needed)
+    GIX_MAILMAP_NONNULL(7) GIX_MAILMAP_MUST_CHECK;
 
 /* Writes the mailmap anew, without what later lines replaced; it maps as before. `needed` is its length, and 0 at
- * REFUSED.
- * DONE; SHORT; REFUSED. */
-uint32_t gix_mailmap_compact(const uint8_t *mailmap, size_t mailmap_len, uint8_t *out, size_t out_len,
-                             size_t *needed);
+ * OUT_OF_MEMORY.
+ * OK; TOO_SHORT; OUT_OF_MEMORY. */
+gix_mailmap_status gix_mailmap_compact(const char *mailmap, size_t mailmap_len, char *GIX_MAILMAP_ALONE out,
+                                       size_t out_len, size_t *GIX_MAILMAP_ALONE needed)
+    GIX_MAILMAP_NONNULL(5) GIX_MAILMAP_MUST_CHECK;
 
 /* Writes the mailmap without the lines that have no effect. All other lines stay byte for byte, comments and faulty
- * lines too. `needed` is its length, and 0 at REFUSED.
- * DONE; SHORT; REFUSED. */
-uint32_t gix_mailmap_prune(const uint8_t *mailmap, size_t mailmap_len, uint8_t *out, size_t out_len, size_t *needed);
+ * lines too. `needed` is its length, and 0 at OUT_OF_MEMORY.
+ * OK; TOO_SHORT; OUT_OF_MEMORY. */
+gix_mailmap_status gix_mailmap_prune(const char *mailmap, size_t mailmap_len, char *GIX_MAILMAP_ALONE out,
+                                     size_t out_len, size_t *GIX_MAILMAP_ALONE needed)
+    GIX_MAILMAP_NONNULL(5) GIX_MAILMAP_MUST_CHECK;
 
 /* Writes what is wrong with the lines of a mailmap, in their order. A line may have two findings. All lines of no
  * effect can be removed at once: gix_mailmap_prune does that. `out_len` counts findings. `needed` is the number of
- * all findings, and 0 at REFUSED.
- * DONE; SHORT; REFUSED. */
-uint32_t gix_mailmap_verify(const uint8_t *mailmap, size_t mailmap_len, gix_mailmap_finding *out, size_t out_len,
-                            size_t *needed);
+ * all findings, and 0 at OUT_OF_MEMORY.
+ * OK; TOO_SHORT; OUT_OF_MEMORY. */
+gix_mailmap_status gix_mailmap_verify(const char *mailmap, size_t mailmap_len,
+                                      gix_mailmap_finding *GIX_MAILMAP_ALONE out, size_t out_len,
+                                      size_t *GIX_MAILMAP_ALONE needed)
+    GIX_MAILMAP_NONNULL(5) GIX_MAILMAP_MUST_CHECK;
 
 #ifdef __cplusplus
 }

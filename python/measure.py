@@ -75,12 +75,12 @@ def lookups(kind, lock):
     """Functions that look one contact up many times, each by a mailmap of its own."""
     library = kind(_native._library._name)
     call = library.gix_mailmap_lookup
-    call.argtypes, call.restype = _native._library.gix_mailmap_lookup.argtypes, ctypes.c_uint32
+    call.argtypes = _native._library.gix_mailmap_lookup.argtypes
 
     def one():
         handle = _native.Handle()
         handle.add(mailmap_of(10_000))
-        at, buffers, held = handle._at, _native._Buffers(256), threading.RLock()
+        at, buffers, held = handle._held._owned["at"], _native._Buffers(256), threading.RLock()
         arguments = at, b"jd", 2, b"o77@example.org", 15, *buffers.arguments
 
         def with_lock():
@@ -119,11 +119,11 @@ def pause(label, kind):
     """A row: how long another thread waits at most while a mailmap of a million lines is read."""
     library, text = kind(_native._library._name), mailmap_of(1_000_000)
     call = library.gix_mailmap_add
-    call.argtypes, call.restype = _native._library.gix_mailmap_add.argtypes, ctypes.c_uint32
+    call.argtypes = _native._library.gix_mailmap_add.argtypes
     handle, longest, done = _native.Handle(), 0.0, threading.Event()
 
     def add():
-        call(handle._at, text, len(text))
+        call(handle._held._owned["at"], text, len(text))
         done.set()
 
     thread = threading.Thread(target=add)

@@ -59,8 +59,8 @@ built install DESTDIR="$root" "${folders[@]}"
 once="$(listed)"
 built install DESTDIR="$root" "${folders[@]}"
 same 'make install, for the second time,' "$(listed)" "$once"
-same 'the libraries' "$(cd "$root/srv/own/lib64" && find . ! -type d | LC_ALL=C sort | tr '\n' ' ')" \
-    "./libgix_mailmap.a ./$so ./$so.$(interface) ./$so.$version ./pkgconfig/gix_mailmap.pc "
+wanted=(libgix_mailmap.a "$so" "$so.$(interface)" "$so.$version" pkgconfig/gix_mailmap.pc)
+same 'the libraries' "$(cd "$root/srv/own/lib64" && find . ! -type d | sort)" "$(printf './%s\n' "${wanted[@]}" | sort)"
 programs_answer "$root/srv/bin"
 page_programs_answer 'make install' "$root" /srv/own/headers /srv/own/lib64 /srv/python
 built uninstall DESTDIR="$root" "${folders[@]}"

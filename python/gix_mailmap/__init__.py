@@ -15,7 +15,7 @@ All errors of the module are of the class Error. An argument of a wrong type is 
 """
 
 from ._calls import check, compact, prune, verify
-from ._errors import Closed, Error, NoEntry, OutOfMemory
+from ._errors import Closed, Error, NoEntry, NotAnEntry, OutOfMemory, Unwritable
 from ._mailmap import Mailmap
 from ._results import Answer, Entry, Finding, Kind
 
@@ -28,7 +28,9 @@ __all__ = [
     "Kind",
     "Mailmap",
     "NoEntry",
+    "NotAnEntry",
     "OutOfMemory",
+    "Unwritable",
     "check",
     "compact",
     "prune",

@@ -15,3 +15,11 @@ class OutOfMemory(Error, MemoryError):
 
 class NoEntry(Error, IndexError):
     """The mailmap has no entry at this index."""
+
+
+class NotAnEntry(Error, ValueError):
+    """Texts that make no entry: they give no new name and no new email, or an old name without a new email."""
+
+
+class Unwritable(Error, ValueError):
+    """No line can hold some entry of the mailmap, which `add_entry` has added."""

@@ -57,6 +57,35 @@ class Mailmap(Sequence[Entry[AnyStr]], Generic[AnyStr]):
         self._handle.add(as_bytes(text))
         self._changed = object()
 
+    def add_entry(self, entry: Entry[AnyStr]) -> None:
+        """Adds one entry after those that are held. Its texts are taken as they are, and none is read as a line. One
+        that is None or empty isn't there.
+
+        >>> with Mailmap("") as mailmap:
+        ...     mailmap.add_entry(Entry("Jane Doe", None, None, "jd@y"))
+        ...     mailmap.lookup("jd", "jd@y").name
+        'Jane Doe'
+
+        Raises NotAnEntry if there is no new name and no new email, or an old name without a new email, and OutOfMemory.
+        """
+        if are_str(*(text for text in entry if text is not None)) != self._is_str:
+            raise TypeError("str and bytes can't be mixed")
+        new_name, new_email, old_name = (None if text is None else as_bytes(text) for text in entry[:3])
+        self._handle.add_entry(Fields(new_name, new_email, old_name, as_bytes(entry.old_email)))
+        self._changed = object()
+
+    def write(self) -> AnyStr:
+        """The mailmap as a text, with a line for each entry. A mailmap of that text has the same entries.
+
+        >>> with Mailmap("N <a@x>\\nM <a@x>\\n") as mailmap:
+        ...     mailmap.write()
+        ' M <a@x>\\n'
+
+        Raises Unwritable if no line can hold some entry, which only `add_entry` can add, and OutOfMemory.
+        """
+        text = self._handle.write()
+        return cast(AnyStr, as_str(text) if self._is_str else text)
+
     @overload
     def lookup(self, name: str, email: str) -> Answer[str]: ...
 
@@ -95,7 +124,7 @@ class Mailmap(Sequence[Entry[AnyStr]], Generic[AnyStr]):
 
         Lines are taken in parts, so some are read ahead: 4096 at first, and later more. What is added meanwhile counts
         from a later part on, and once the mailmap is closed there is no other part. A ValueError if a line has a line
-        feed before its end. Raises OutOfMemory.
+        feed before its end. Raises Unwritable, as `write` does, and OutOfMemory.
         """
         return _stream.answers(self._as_text, len(self), lines)
 
@@ -107,7 +136,7 @@ class Mailmap(Sequence[Entry[AnyStr]], Generic[AnyStr]):
         # What is added from here on makes the text an old one, whether it is in the entries or not.
         if changed is not self._changed:
             changed = self._changed
-            text = _stream.mailmap_of(self._handle.entries())
+            text = self._handle.write()
             self._written = changed, text
         return text
 

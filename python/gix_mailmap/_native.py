@@ -1,8 +1,9 @@
 """The shared library, by ctypes. All that knows the calls of `gix_mailmap.h` is in this file; texts are bytes here.
 
 Threads: other threads run during a call. So each handle has a lock, and a call on it waits until the one before is
-done. The lock is one that a thread may take again, since the garbage collector may run a `__del__` with calls of its
-own at any time. No such call can begin while the library is at work for the same thread.
+done. The library lets calls read a mailmap at the same time, but none may close it meanwhile. The lock is one that a
+thread may take again, since the garbage collector may run a `__del__` with calls of its own at any time. No such call
+can begin while the library is at work for the same thread.
 """
 
 from __future__ import annotations
@@ -12,24 +13,20 @@ import os
 import struct
 import threading
 import weakref
-from ctypes import POINTER, Structure, byref, c_bool, c_size_t, c_uint32, c_void_p, create_string_buffer
+from ctypes import POINTER, Structure, byref, c_bool, c_char_p, c_int, c_size_t, c_void_p, create_string_buffer
 from pathlib import Path
 from typing import Any, Callable, NamedTuple, Optional
 
-from ._errors import Closed, Error, NoEntry, OutOfMemory
+from ._errors import Closed, Error, NoEntry, NotAnEntry, OutOfMemory, Unwritable
 
 _NAME = "libgix_mailmap.so"
 _VARIABLE = "GIX_MAILMAP_LIBRARY"
 
-_DONE, _SHORT, _OUT_OF_MEMORY, _CLOSED, _OPEN, _NO_ENTRY = range(6)
+_OK, _TOO_SHORT, _OUT_OF_MEMORY, _NO_ENTRY, _NOT_AN_ENTRY, _UNWRITABLE = range(6)
 
 # The buffers of a lookup that are kept for the next one have this length each. A longer text gets longer ones, for that
 # call only.
 _USUAL_LENGTH = 256
-
-
-class _Map(Structure):
-    _fields_ = [("at", c_void_p), ("is_open", c_bool)]
 
 
 class _Field(Structure):
@@ -76,45 +73,52 @@ def _load() -> ctypes.CDLL:
     """The library, with the types of its calls."""
     library = _found()
     text, room = [c_void_p, c_size_t], [c_void_p, c_size_t]
-    handle, length, field = POINTER(_Map), POINTER(c_size_t), POINTER(_Field)
-    calls: dict[str, list[Any]] = {
-        "open": [handle, *text],
-        "add": [handle, *text],
-        "lookup": [handle, *text, *text, *room, field, *room, field],
-        "len": [handle, length, length],
-        "list": [handle, *room, *room],
-        "entry": [handle, c_size_t, c_void_p, *room],
-        "check": [*text, *text, *room, length],
-        "compact": [*text, *room, length],
-        "prune": [*text, *room, length],
-        "verify": [*text, *room, length],
+    length, field = POINTER(c_size_t), POINTER(_Field)
+    calls: dict[str, tuple[list[Any], Any]] = {
+        "version": ([], c_char_p),
+        "status_text": ([c_int], c_char_p),
+        "open": ([POINTER(c_void_p), *text], c_int),
+        "close": ([c_void_p], None),
+        "add": ([c_void_p, *text], c_int),
+        "add_entry": ([c_void_p, *text, *text, *text, *text], c_int),
+        "lookup": ([c_void_p, *text, *text, *room, field, *room, field], c_int),
+        "len": ([c_void_p, length, length], None),
+        "list": ([c_void_p, *room, *room], c_int),
+        "entry": ([c_void_p, c_size_t, c_void_p, *room], c_int),
+        "write": ([c_void_p, *room, length], c_int),
+        "check": ([*text, *text, *room, length], c_int),
+        "compact": ([*text, *room, length], c_int),
+        "prune": ([*text, *room, length], c_int),
+        "verify": ([*text, *room, length], c_int),
     }
-    for name, arguments in calls.items():
+    for name, (arguments, result) in calls.items():
         call = getattr(library, f"gix_mailmap_{name}")
-        call.argtypes, call.restype = arguments, c_uint32
-    library.gix_mailmap_close.argtypes, library.gix_mailmap_close.restype = [handle], None
+        call.argtypes, call.restype = arguments, result
     return library
 
 
 _library = _load()
 
 
+# What a status raises.
+_ERRORS = {
+    _OUT_OF_MEMORY: OutOfMemory,
+    _NO_ENTRY: NoEntry,
+    _NOT_AN_ENTRY: NotAnEntry,
+    _UNWRITABLE: Unwritable,
+}
+
+
 def _is_short(status: int) -> bool:
-    """Whether a buffer was too short. Raises what a status stands for that is neither this nor DONE."""
-    if status <= _SHORT:
-        return status == _SHORT
-    if status == _OUT_OF_MEMORY:
-        raise OutOfMemory("out of memory")
-    if status == _CLOSED:
-        raise Closed("the mailmap is closed")
-    if status == _NO_ENTRY:
-        raise NoEntry("the mailmap has no entry at this index")
-    raise Error(f"the library answers with the status {status}")
+    """Whether a buffer was too short. Raises what a status stands for that is neither this nor OK."""
+    if status <= _TOO_SHORT:
+        return status == _TOO_SHORT
+    raise _ERRORS.get(status, Error)(_library.gix_mailmap_status_text(status).decode())
 
 
 def _buffer(length: int) -> ctypes.Array[ctypes.c_char]:
-    """A buffer of this length, whose address isn't NULL if that is 0."""
-    return create_string_buffer(max(length, 1))
+    """A buffer of this length."""
+    return create_string_buffer(length)
 
 
 def _head(buffer: ctypes.Array[ctypes.c_char], length: int) -> bytes:
@@ -173,9 +177,39 @@ class _Buffers:
         return self.name.raw[: name.len], self.email.raw[: email.len], name.is_given, email.is_given
 
 
-def _close(lock: threading.RLock, handle: _Map) -> None:
-    with lock:
-        _library.gix_mailmap_close(byref(handle))
+class _Held:
+    """A mailmap of the library. If it is closed during a call, it is freed as that ends."""
+
+    def __init__(self) -> None:
+        self.lock = threading.RLock()
+        self.closed = False
+        self._calls = 0
+        at = c_void_p()
+        _is_short(_library.gix_mailmap_open(byref(at), None, 0))
+        self._owned = {"at": at.value}
+
+    def called(self, call: Callable[..., Any], *arguments: object) -> Any:
+        """What a call of the library with the mailmap returns."""
+        with self.lock:
+            # Counted before anything is looked at: from here on, a `close` in a `__del__` frees nothing.
+            self._calls += 1
+            try:
+                if self.closed:
+                    raise Closed("the mailmap is closed")
+                return call(self._owned["at"], *arguments)
+            finally:
+                self._calls -= 1
+                self._free()
+
+    def close(self) -> None:
+        with self.lock:
+            self.closed = True
+            self._free()
+
+    def _free(self) -> None:
+        if self.closed and not self._calls:
+            # No other call gets what is taken out here.
+            _library.gix_mailmap_close(self._owned.pop("at", None))
 
 
 class Handle:
@@ -185,23 +219,33 @@ class Handle:
     """
 
     def __init__(self) -> None:
-        self._lock = threading.RLock()
-        self._map = _Map()
-        self._at = byref(self._map)
+        self._held = _Held()
         self._spare: list[_Buffers] = []
-        self._called(_library.gix_mailmap_open, b"", 0)
         # At the end of the process there is nothing to free, and other threads may still be at work.
-        weakref.finalize(self, _close, self._lock, self._map).atexit = False
+        weakref.finalize(self, self._held.close).atexit = False
 
     def _called(self, call: Callable[..., int], *arguments: object) -> bool:
-        """Calls the library on the handle. Whether a buffer was too short."""
-        with self._lock:
-            status = call(self._at, *arguments)
-        return _is_short(status)
+        """Calls the library with the mailmap. Whether a buffer was too short."""
+        return _is_short(self._held.called(call, *arguments))
 
     def add(self, text: bytes) -> None:
         """Adds the entries of a text after those that are held."""
         self._called(_library.gix_mailmap_add, text, len(text))
+
+    def add_entry(self, entry: Fields) -> None:
+        """Adds one entry. A text that is empty isn't there."""
+        arguments: list[object] = []
+        for text in entry:
+            arguments += text, 0 if text is None else len(text)
+        self._called(_library.gix_mailmap_add_entry, *arguments)
+
+    def write(self) -> bytes:
+        """The mailmap as a text."""
+        needed = c_size_t()
+        while True:
+            out, length = _buffer(needed.value), needed.value
+            if not self._called(_library.gix_mailmap_write, out, length, byref(needed)):
+                return _head(out, needed.value)
 
     def lookup(self, name: bytes, email: bytes) -> tuple[bytes, bytes, bool, bool]:
         """The proper name and email, and whether the mailmap gives them."""
@@ -221,7 +265,7 @@ class Handle:
     def lengths(self) -> tuple[int, int]:
         """How many entries there are, and how many bytes their texts have."""
         entries, texts = c_size_t(), c_size_t()
-        self._called(_library.gix_mailmap_len, byref(entries), byref(texts))
+        self._held.called(_library.gix_mailmap_len, byref(entries), byref(texts))
         return entries.value, texts.value
 
     def entries(self) -> list[Fields]:
@@ -247,12 +291,12 @@ class Handle:
 
     def close(self) -> None:
         """Frees the memory. A closed one stays closed."""
-        _close(self._lock, self._map)
+        self._held.close()
 
     @property
     def closed(self) -> bool:
         """Whether it is closed."""
-        return not self._map.is_open
+        return self._held.closed
 
 
 def _cut(

@@ -7,47 +7,42 @@ mailmap from its text first, and answers to lines that come again are kept.
 from __future__ import annotations
 
 from itertools import islice
+from operator import itemgetter
 from typing import AnyStr, Callable, Iterable, Iterator
 
 from . import _native
-from ._native import Fields
 from ._texts import as_bytes, as_str
 
 # The mailmap is read again for each part. So the first part is short, for an early answer, and the others grow, up to
 # a few lines for each entry of the mailmap.
 _FIRST_PART = 4096
 _GROWTH = 4
-_LONGEST_PART = 65_536
+_LONGEST_PART = 16_384
 _LINES_AN_ENTRY = 4
 
 # For how many lines the answers are kept.
 _KEPT = 262_144
 
-
-def mailmap_of(entries: Iterable[Fields]) -> bytes:
-    """A mailmap of these entries, a line for each. The blank in front keeps a name with `#` from being a comment."""
-    return b"".join([
-        b" %b%b%b<%b>\n" % (
-            b"" if new_name is None else new_name + b" ",
-            b"" if new_email is None else b"<" + new_email + b"> ",
-            b"" if old_name is None else old_name + b" ",
-            old_email,
-        )
-        for new_name, new_email, old_name, old_email in entries
-    ])
+# After a part of which most lines are new, this many parts are answered as they are.
+_PAUSE = 7
 
 
 def answers(mailmap: Callable[[], bytes], entries: int, lines: Iterable[AnyStr]) -> Iterator[AnyStr]:
     """The answer to each line, without a line feed. `mailmap` is asked before each part: the same bytes as long as
     nothing changes."""
     known: dict[AnyStr, AnyStr] = {}
-    text = b""
+    text, pause = b"", 0
     for part in _parts(lines, max(_LONGEST_PART, _LINES_AN_ENTRY * entries)):
         before, text = text, mailmap()
         if text is not before or len(known) > _KEPT:
             known.clear()
+        if pause:
+            pause -= 1
+            yield from _answered(text, part)
+            continue
         new = set(part).difference(known)
         if 2 * len(new) > len(part):
+            pause = _PAUSE
             yield from _answered(text, part)
             continue
         if new:
@@ -88,6 +83,14 @@ def _answered(mailmap: bytes, lines: list[AnyStr]) -> Iterator[AnyStr]:
 def _joined(lines: list[AnyStr], feed: AnyStr, carriage_return: AnyStr) -> AnyStr:
     """The lines with a line feed each. A carriage return counts as part of a line's end only with a line feed after
     it, so one that ends a line gets another one before the line feed."""
+    try:
+        ends = set(map(itemgetter(-1), lines))
+    except IndexError:  # of an empty line
+        ends = {feed[-1], carriage_return[-1]}
+    if ends == {feed[-1]}:
+        return feed[:0].join(lines)
+    if ends.isdisjoint((feed[-1], carriage_return[-1])):
+        return feed.join(lines) + feed
     return feed[:0].join([
         line if line.endswith(feed) else line + (carriage_return + feed if line.endswith(carriage_return) else feed)
         for line in lines

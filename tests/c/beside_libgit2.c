@@ -97,14 +97,14 @@ static void put_libgit2(const row *r)
 /* all calls of this library */
 static void put_ours(const row *r)
 {
-    gix_mailmap map = GIX_MAILMAP_INIT;
-    uint8_t name[64], email[64];
+    gix_mailmap *map;
+    char name[64], email[64];
     gix_mailmap_field new_name, new_email;
-    must(gix_mailmap_open(&map, (const uint8_t *)r->mailmap, r->mailmap_len) == GIX_MAILMAP_DONE, "open");
-    must(gix_mailmap_lookup(&map, (const uint8_t *)r->name, strlen(r->name), (const uint8_t *)r->email, strlen(r->email),
-                            name, sizeof name, &new_name, email, sizeof email, &new_email) == GIX_MAILMAP_DONE, "lookup");
+    must(gix_mailmap_open(&map, r->mailmap, r->mailmap_len) == GIX_MAILMAP_OK, "open");
+    must(gix_mailmap_lookup(map, r->name, strlen(r->name), r->email, strlen(r->email), name, sizeof name, &new_name,
+                            email, sizeof email, &new_email) == GIX_MAILMAP_OK, "lookup");
     put_contact(name, new_name.len, email, new_email.len);
-    gix_mailmap_close(&map);
+    gix_mailmap_close(map);
 }
 
 static void put_row(const row *r)

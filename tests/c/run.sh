@@ -1,8 +1,9 @@
 #!/usr/bin/env bash
-# Tests the libraries in the folder that the first argument names. The shared one has to show what the header declares, and
-# nothing else. The C tests are built against the static one and run: as they are, and under the address and
-# undefined-behaviour sanitizers where the compiler has them. Then comes a program in C++ over the header, where there is a
-# compiler for that. At last the answers are compared with those of libgit2, where it is there.
+# Tests the libraries in the folder that the first argument names. Both have to show what the header declares, and nothing
+# else, and the header has to have the version of the file VERSION. The C tests are built against the static library and
+# run: as they are, and under the sanitizers where the compiler has them; that with threads also under helgrind, where it
+# is there. Then comes a program in C++ over the header, where there is a compiler for that. At last the answers are
+# compared with those of libgit2, where it is there.
 set -euo pipefail
 library="$(cd "$1" && pwd)"
 here="$(cd "$(dirname "$0")" && pwd)"
@@ -12,14 +13,62 @@ cc="${CC:-cc}"
 strict=(-Wall -Wextra -Wpedantic -Werror -g -I "$here/../../include")
 wrapped=(-Wl,--wrap=malloc -Wl,--wrap=realloc)
 
-declared="$(grep -o '^[a-z].*gix_mailmap_[a-z]*(' "$here/../../include/gix_mailmap.h" | grep -o 'gix_mailmap_[a-z]*' | sort)"
-shown="$(nm -D --defined-only "$library/libgix_mailmap.so" | awk '{ print $NF }' | sort)"
-if [ "$declared" != "$shown" ]; then
-    printf 'the header declares:\n%s\nthe shared library shows:\n%s\n' "$declared" "$shown"
+header="$here/../../include/gix_mailmap.h"
+if ! grep -qxF "#define GIX_MAILMAP_VERSION \"$(cat "$here/../../VERSION")\"" "$header"; then
+    echo 'the header has another version than the file VERSION'
     exit 1
 fi
+declared="$(grep -v '^ \*\|^/\*\|^#' "$header" | grep -o '\bgix_mailmap_[a-z_]*(' | tr -d '(' | sort)"
+shows() {
+    if [ "$declared" != "$2" ]; then
+        printf 'the header declares:\n%s\n%s shows:\n%s\n' "$declared" "$1" "$2"
+        exit 1
+    fi
+}
+shows 'the shared library' "$(nm -D --defined-only "$library/libgix_mailmap.so" | awk '{ print $NF }' | sort)"
+shows 'the static library' "$(nm -g --defined-only "$library/libgix_mailmap.a" | awk 'NF == 3 { print $NF }' | sort)"
 
-# every call with every status, and the stored answers of the original; the words go to the compiler
+# whether the compiler takes a statement
+takes() {
+    cat > "$work/use.c" <<END
+#include "gix_mailmap.h"
+void use(gix_mailmap *map, const gix_mailmap *read, char *out, size_t *len);
+void use(gix_mailmap *map, const gix_mailmap *read, char *out, size_t *len)
+{
+    if (map != NULL && read != NULL && out != NULL && len != NULL) {
+        $1
+    }
+}
+END
+    "$cc" -std=c11 "${strict[@]}" -c "$work/use.c" -o "$work/use.o" 2> "$work/said"
+}
+# what the header has the compiler refuse
+refused() {
+    if takes "$1"; then
+        echo "the compiler takes: $1"
+        exit 1
+    fi
+}
+if ! takes 'out[0] = (char)gix_mailmap_write(read, out, 1, len);'; then
+    cat "$work/said"
+    exit 1
+fi
+refused 'gix_mailmap_add(map, "", 0);'
+refused 'out[0] = (char)gix_mailmap_write(NULL, out, 1, len);'
+refused 'out[0] = (char)gix_mailmap_write(map, out, 1, NULL);'
+refused 'out[0] = (char)gix_mailmap_add(read, "", 0);'
+refused 'gix_mailmap copy = *map;'
+if "$cc" -Q --help=warnings 2> "$work/said" | grep -q Wrestrict; then
+    refused 'out[0] = (char)gix_mailmap_compact(out, 8, out, 8, len);'
+fi
+
+# four threads; the words go to the compiler
+threads() {
+    "$cc" -std=c11 "${strict[@]}" "$@" "$here/threads.c" "$library/libgix_mailmap.a" -pthread -o "$work/threads"
+    "$work/threads" 4 10
+}
+
+# every call with every status, and the stored answers of the original
 tests() {
     "$cc" -std=c11 "${strict[@]}" "$@" "$here/calls.c" "$library/libgix_mailmap.a" "${wrapped[@]}" -o "$work/calls"
     "$work/calls"
@@ -27,13 +76,32 @@ tests() {
     "$here/../original/compare.py" "$work/stored" "$work/stored" check compact entries resolve
 }
 
+echo 'int main(void) { return 0; }' > "$work/empty.c"
+# whether the compiler has a sanitizer
+has() {
+    "$cc" "$@" "$work/empty.c" -o "$work/empty" 2> "$work/said" && "$work/empty"
+}
+
 tests
 sanitizers=(-fsanitize=address,undefined -fno-sanitize-recover=all)
-echo 'int main(void) { return 0; }' > "$work/empty.c"
-if "$cc" "${sanitizers[@]}" "$work/empty.c" -o "$work/empty" 2> "$work/said" && "$work/empty"; then
+if has "${sanitizers[@]}"; then
     tests "${sanitizers[@]}"
 else
     echo 'calls from C: no sanitizers here'
+fi
+
+threads
+# It sees what the program and the C library do. What the library's own code does, helgrind sees.
+if has -fsanitize=thread; then
+    threads -fsanitize=thread
+else
+    echo 'threads: no thread sanitizer here'
+fi
+if [ -n "$(command -v valgrind)" ]; then
+    threads -O1
+    valgrind --quiet --tool=helgrind --error-exitcode=1 "$work/threads" 4 1
+else
+    echo 'threads: no helgrind here'
 fi
 
 if [ -n "$(command -v c++)" ]; then

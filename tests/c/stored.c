@@ -12,7 +12,7 @@
 #include <string.h>
 
 typedef struct {
-    uint8_t *bytes;
+    char *bytes;
     size_t len;
 } text;
 
@@ -51,29 +51,29 @@ static text read_all(FILE *file)
     return all;
 }
 
-static gix_mailmap merged(char **paths)
+static gix_mailmap *merged(char **paths)
 {
-    gix_mailmap map = GIX_MAILMAP_INIT;
-    must(gix_mailmap_open(&map, (const uint8_t *)"", 0) == GIX_MAILMAP_DONE, "open");
+    gix_mailmap *map;
+    must(gix_mailmap_open(&map, NULL, 0) == GIX_MAILMAP_OK, "open");
     for (; *paths; paths++) {
         FILE *file = fopen(*paths, "rb");
         must(file != NULL, "cannot read a file");
         text read = read_all(file);
         fclose(file);
-        must(gix_mailmap_add(&map, read.bytes, read.len) == GIX_MAILMAP_DONE, "add");
+        must(gix_mailmap_add(map, read.bytes, read.len) == GIX_MAILMAP_OK, "add");
         free(read.bytes);
     }
     return map;
 }
 
-static void put_hex(const uint8_t *bytes, gix_mailmap_field field, char behind)
+static void put_hex(const char *bytes, gix_mailmap_field field, char behind)
 {
     if (!field.is_given)
         putchar('-');
     else if (field.len == 0)
         putchar('.');
     for (size_t i = 0; field.is_given && i < field.len; i++)
-        printf("%02x", bytes[i]);
+        printf("%02x", (unsigned char)bytes[i]);
     putchar(behind);
 }
 
@@ -83,14 +83,14 @@ typedef struct {
     text texts;
 } list;
 
-static list listed(gix_mailmap *map)
+static list listed(const gix_mailmap *map)
 {
     list made;
     size_t texts_len;
-    must(gix_mailmap_len(map, &made.len, &texts_len) == GIX_MAILMAP_DONE, "len");
+    gix_mailmap_len(map, &made.len, &texts_len);
     made.entries = malloc((made.len ? made.len : 1) * sizeof *made.entries);
     made.texts = buffer(texts_len);
-    must(gix_mailmap_list(map, made.entries, made.len, made.texts.bytes, texts_len) == GIX_MAILMAP_DONE, "list");
+    must(gix_mailmap_list(map, made.entries, made.len, made.texts.bytes, texts_len) == GIX_MAILMAP_OK, "list");
     return made;
 }
 
@@ -101,23 +101,23 @@ static void free_list(list l)
 }
 
 /* the same entry by its place alone */
-static void same_alone(gix_mailmap *map, size_t place, const gix_mailmap_listed *e, const uint8_t *texts)
+static void same_alone(const gix_mailmap *map, size_t place, const gix_mailmap_listed *e, const char *texts)
 {
     size_t len = e->new_name.len + e->new_email.len + e->old_name.len + e->old_email.len;
     text alone = buffer(len);
     gix_mailmap_listed told;
-    must(gix_mailmap_entry(map, place, &told, alone.bytes, len) == GIX_MAILMAP_DONE, "entry");
+    must(gix_mailmap_entry(map, place, &told, alone.bytes, len) == GIX_MAILMAP_OK, "entry");
     must(told.start == 0 && memcmp(alone.bytes, texts + e->start, len) == 0, "an entry and its place in the list differ");
     must(told.new_name.is_given == e->new_name.is_given && told.old_name.len == e->old_name.len, "told apart");
     free(alone.bytes);
 }
 
-static void put_entries(gix_mailmap *map)
+static void put_entries(const gix_mailmap *map)
 {
     list l = listed(map);
     for (size_t i = 0; i < l.len; i++) {
         const gix_mailmap_listed *e = &l.entries[i];
-        const uint8_t *at = l.texts.bytes + e->start;
+        const char *at = l.texts.bytes + e->start;
         same_alone(map, i, e, l.texts.bytes);
         printf("E ");
         put_hex(at, e->new_name, ' ');
@@ -130,39 +130,21 @@ static void put_entries(gix_mailmap *map)
     free_list(l);
 }
 
-/* what is listed, as a mailmap */
-static text as_mailmap(gix_mailmap *map)
+static text as_mailmap(const gix_mailmap *map)
 {
-    list l = listed(map);
-    text all = buffer(0);
-    for (size_t i = 0; i < l.len; i++) {
-        const gix_mailmap_listed *e = &l.entries[i];
-        const uint8_t *at = l.texts.bytes + e->start;
-        append(&all, " ", 1);
-        append(&all, at, e->new_name.len);
-        at += e->new_name.len;
-        if (e->new_email.is_given) {
-            append(&all, " <", 2);
-            append(&all, at, e->new_email.len);
-            append(&all, "> ", 2);
-            at += e->new_email.len;
-        }
-        append(&all, at, e->old_name.len);
-        append(&all, " <", 2);
-        append(&all, at + e->old_name.len, e->old_email.len);
-        append(&all, ">\n", 2);
-    }
-    free_list(l);
+    size_t needed;
+    must(gix_mailmap_write(map, NULL, 0, &needed) == (needed ? GIX_MAILMAP_TOO_SHORT : GIX_MAILMAP_OK), "write");
+    text all = buffer(needed);
+    must(gix_mailmap_write(map, all.bytes, all.len, &needed) == GIX_MAILMAP_OK, "write");
     return all;
 }
 
 static void put_compacted(text mailmap)
 {
     size_t needed;
-    uint8_t none;
-    gix_mailmap_compact(mailmap.bytes, mailmap.len, &none, 0, &needed);
+    must(gix_mailmap_compact(mailmap.bytes, mailmap.len, NULL, 0, &needed) != GIX_MAILMAP_OUT_OF_MEMORY, "compact");
     text out = buffer(needed);
-    must(gix_mailmap_compact(mailmap.bytes, mailmap.len, out.bytes, out.len, &needed) == GIX_MAILMAP_DONE, "compact");
+    must(gix_mailmap_compact(mailmap.bytes, mailmap.len, out.bytes, out.len, &needed) == GIX_MAILMAP_OK, "compact");
     fwrite(out.bytes, 1, out.len, stdout);
     free(out.bytes);
 }
@@ -170,11 +152,11 @@ static void put_compacted(text mailmap)
 static void put_answers(text mailmap, text contacts)
 {
     size_t needed;
-    uint8_t none;
-    gix_mailmap_check(mailmap.bytes, mailmap.len, contacts.bytes, contacts.len, &none, 0, &needed);
+    must(gix_mailmap_check(mailmap.bytes, mailmap.len, contacts.bytes, contacts.len, NULL, 0, &needed)
+         != GIX_MAILMAP_OUT_OF_MEMORY, "check");
     text out = buffer(needed);
     must(gix_mailmap_check(mailmap.bytes, mailmap.len, contacts.bytes, contacts.len, out.bytes, out.len, &needed)
-         == GIX_MAILMAP_DONE, "check");
+         == GIX_MAILMAP_OK, "check");
     fwrite(out.bytes, 1, out.len, stdout);
     free(out.bytes);
 }
@@ -186,31 +168,29 @@ static text unhexed(const char *digits)
     for (size_t i = 0; i < len; i++) {
         unsigned byte;
         must(sscanf(digits + 2 * i, "%2x", &byte) == 1, "no hex");
-        made.bytes[i] = (uint8_t)byte;
+        made.bytes[i] = (char)byte;
     }
     return made;
 }
 
-static void put_resolved(gix_mailmap *map, text name, text email)
+static void put_resolved(const gix_mailmap *map, text name, text email)
 {
     gix_mailmap_field new_name = {0, false}, new_email = {0, false};
-    uint8_t no_name, no_email;
-    uint32_t status = gix_mailmap_lookup(map, name.bytes, name.len, email.bytes, email.len, &no_name, 0, &new_name,
-                                         &no_email, 0, &new_email);
-    must(status == GIX_MAILMAP_SHORT || new_name.len + new_email.len == 0, "lookup");
+    must(gix_mailmap_lookup(map, name.bytes, name.len, email.bytes, email.len, NULL, 0, &new_name, NULL, 0, &new_email)
+         == GIX_MAILMAP_TOO_SHORT || new_name.len + new_email.len == 0, "lookup");
     text name_out = buffer(new_name.len), email_out = buffer(new_email.len);
     must(gix_mailmap_lookup(map, name.bytes, name.len, email.bytes, email.len, name_out.bytes, name_out.len, &new_name,
-                            email_out.bytes, email_out.len, &new_email) == GIX_MAILMAP_DONE, "lookup");
+                            email_out.bytes, email_out.len, &new_email) == GIX_MAILMAP_OK, "lookup");
     put_hex(name_out.bytes, new_name, ' ');
     put_hex(email_out.bytes, new_email, '\n');
     free(name_out.bytes);
     free(email_out.bytes);
 }
 
-static void put_all_resolved(gix_mailmap *map, text pairs)
+static void put_all_resolved(const gix_mailmap *map, text pairs)
 {
     append(&pairs, "", 1);
-    for (char *line = strtok((char *)pairs.bytes, "\n"); line; line = strtok(NULL, "\n")) {
+    for (char *line = strtok(pairs.bytes, "\n"); line; line = strtok(NULL, "\n")) {
         char *second = strchr(line, ' ');
         must(second != NULL, "a name and an email are wanted");
         *second++ = 0;
@@ -228,13 +208,13 @@ int main(int count, char **words)
     bool is_mode = count > 1 && (strcmp(words[1], "--compact") == 0 || strcmp(words[1], "entries") == 0
                                  || strcmp(words[1], "resolve") == 0);
     const char *mode = is_mode ? words[1] : "check";
-    gix_mailmap map = merged(words + (is_mode ? 2 : 1));
+    gix_mailmap *map = merged(words + (is_mode ? 2 : 1));
     if (strcmp(mode, "entries") == 0) {
-        put_entries(&map);
+        put_entries(map);
     } else if (strcmp(mode, "resolve") == 0) {
-        put_all_resolved(&map, read_all(stdin));
+        put_all_resolved(map, read_all(stdin));
     } else {
-        text mailmap = as_mailmap(&map);
+        text mailmap = as_mailmap(map);
         text contacts = strcmp(mode, "check") == 0 ? read_all(stdin) : buffer(0);
         if (strcmp(mode, "check") == 0)
             put_answers(mailmap, contacts);
@@ -243,6 +223,6 @@ int main(int count, char **words)
         free(contacts.bytes);
         free(mailmap.bytes);
     }
-    gix_mailmap_close(&map);
+    gix_mailmap_close(map);
     return 0;
 }

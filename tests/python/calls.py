@@ -3,7 +3,7 @@ import gc
 import unittest
 
 import gix_mailmap
-from gix_mailmap import Answer, Closed, Entry, Finding, Kind, Mailmap
+from gix_mailmap import Answer, Closed, Entry, Finding, Kind, Mailmap, NotAnEntry, Unwritable
 
 MAP = b"Jane Doe <jane@x> <jd@y>\nJoe <joe@x>\n"
 JANE = Entry(b"Jane Doe", b"jane@x", None, b"jd@y")
@@ -68,6 +68,28 @@ class Handles(unittest.TestCase):
             mailmap.add(b"J <jd@y>")
             self.assertEqual(mailmap.lookup(b"jd", b"jd@y").name, b"J")
 
+    def test_add_entry(self):
+        with Mailmap(MAP) as mailmap:
+            mailmap.add_entry(Entry(b"J", None, None, b"JOE@x"))
+            mailmap.add_entry(Entry(b"", b"b@x", b"Bo", b"b@y"))
+            self.assertEqual(mailmap.lookup(b"Bo", b"b@y"), Answer(b"Bo", b"b@x", False, True))
+            self.assertEqual(mailmap.lookup(b"joe", b"joe@x").name, b"J")
+            for fields in ((None, None, None, b"a"), (b"", b"", b"a", b"a"), (b"A", None, b"a", b"a")):
+                with self.assertRaises(NotAnEntry):
+                    mailmap.add_entry(Entry(*fields))
+            self.assertEqual(len(mailmap), 3)
+
+    def test_write(self):
+        with Mailmap(MAP) as mailmap:
+            self.assertEqual(mailmap.write(), b" Jane Doe <jane@x> <jd@y>\n Joe <joe@x>\n")
+            mailmap.add_entry(Entry(b"<", None, None, b"a\n"))
+            self.assertEqual(mailmap.lookup(b"a", b"a\n").name, b"<")
+            for call in (mailmap.write, lambda: list(mailmap.map_contacts([b"a <b>"]))):
+                with self.assertRaises(Unwritable):
+                    call()
+        with Mailmap() as mailmap:
+            self.assertEqual(mailmap.write(), b"")
+
     def test_entries(self):
         with Mailmap(MAP) as mailmap:
             self.assertEqual(mailmap.entries(), [JANE, JOE])
@@ -94,6 +116,8 @@ class Handles(unittest.TestCase):
         calls = [
             lambda: mailmap.lookup(b"jd", b"jd@y"),
             lambda: mailmap.add(MAP),
+            lambda: mailmap.add_entry(JOE),
+            mailmap.write,
             mailmap.entries,
             lambda: len(mailmap),
             lambda: mailmap[0],

@@ -2,7 +2,9 @@
 import unittest
 
 import gix_mailmap
-from gix_mailmap import Answer, Closed, Entry, Error, Finding, Kind, Mailmap, NoEntry, OutOfMemory
+from gix_mailmap import (
+    Answer, Closed, Entry, Error, Finding, Kind, Mailmap, NoEntry, NotAnEntry, OutOfMemory, Unwritable,
+)
 
 TEXT = "Jörg Doe <j@x> <jd@y>\n"
 JOERG = b"J\xf6rg <j@x>\n"
@@ -84,14 +86,19 @@ class Kinds(unittest.TestCase):
 class Errors(unittest.TestCase):
     def test_their_classes(self):
         self.assertTrue(issubclass(Error, Exception))
-        for error, usual in ((Closed, ValueError), (NoEntry, IndexError), (OutOfMemory, MemoryError)):
+        for error, usual in (
+            (Closed, ValueError), (NoEntry, IndexError), (NotAnEntry, ValueError), (OutOfMemory, MemoryError),
+            (Unwritable, ValueError),
+        ):
             self.assertTrue(issubclass(error, Error) and issubclass(error, usual))
 
     def test_what_a_status_raises(self):
         from gix_mailmap import _native
 
         self.assertEqual([_native._is_short(status) for status in (0, 1)], [False, True])
-        for status, error in ((2, OutOfMemory), (3, Closed), (4, Error), (5, NoEntry), (6, Error), (99, Error)):
+        for status, error in (
+            (2, OutOfMemory), (3, NoEntry), (4, NotAnEntry), (5, Unwritable), (6, Error), (99, Error),
+        ):
             with self.assertRaises(error):
                 _native._is_short(status)
 

@@ -228,12 +228,12 @@ class Cycles(Ending):
         maps = []
         for _ in range(100):
             mailmap = Mailmap(MAP)
-            maps.append(mailmap._handle._map)
+            maps.append(mailmap._handle._held)
             self.cycle(mailmap.close, mailmap)
             self.cycle(lambda mailmap=mailmap: mailmap.closed or mailmap.lookup("jd", "jd@y"), mailmap)
         del mailmap
         gc.collect()
-        self.assertFalse(any(held.is_open for held in maps))
+        self.assertFalse(any(held._owned for held in maps))
 
     def test_one_that_comes_back(self):
         """What a `__del__` keeps is closed or answers, and nothing else."""

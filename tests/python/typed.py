@@ -22,6 +22,8 @@ with Mailmap("") as of_str, Mailmap(b"", buffer, memoryview(buffer)) as of_bytes
     assert_type(of_bytes.entries()[0].new_name, bytes | None)
     assert_type([entry.old_email for entry in of_str], list[str])
     assert_type(of_str.closed, bool)
+    assert_type(of_str.write(), str)
+    assert_type(of_bytes.write(), bytes)
 
     assert_type(of_str.map_contacts([b""]), Iterator[bytes])
     assert_type(of_bytes.map_contacts(iter([""])), Iterator[str])
@@ -29,6 +31,8 @@ with Mailmap("") as of_str, Mailmap(b"", buffer, memoryview(buffer)) as of_bytes
     of_bytes.add(buffer)
     of_str.add("")
     of_bytes.add("")  # type: ignore[arg-type]
+    of_str.add_entry(Entry("N", None, None, "a@x"))
+    of_str.add_entry(Entry(b"N", None, None, b"a@x"))  # type: ignore[arg-type]
     of_str.lookup("", b"")  # type: ignore[call-overload]
     gix_mailmap.check("", b"")  # type: ignore[call-overload]
     Mailmap("", b"")  # type: ignore[call-overload]

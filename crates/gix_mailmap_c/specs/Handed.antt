@@ -16,14 +16,14 @@ pub record IsPut {X : Type 0} (text before after : List X) (needed status : ℕ)
   pub put : IsWrittenOrShort text before after status
 
 -- status 2: out of memory, and the buffer is as it was
-pub record IsRefused {X : Type 0} (before after : List X) (needed status : ℕ) : Type 0 where
+pub record IsOutOfMemory {X : Type 0} (before after : List X) (needed status : ℕ) : Type 0 where
   pub says : status ≡ 2
   pub none : needed ≡ 0
   pub kept : after ≡ before
 
 -- a text of which P holds is put into a buffer, or out of memory
 abbrev pub IsHanded : {X : Type 0} → (List X → Type 0) → List X → List X → ℕ → ℕ → Type 0
-IsHanded {X} P before after needed status = ((text : List X) × P text × IsPut text before after needed status) ⊎ IsRefused before after needed status
+IsHanded {X} P before after needed status = ((text : List X) × P text × IsPut text before after needed status) ⊎ IsOutOfMemory before after needed status
 
 -- status 0: each of two texts is written into its buffer; 1: one of the buffers is too short, and both are as they were
 abbrev pub ArePut : List ℕ → List ℕ → List ℕ → List ℕ → List ℕ → List ℕ → ℕ → Type 0

@@ -5,3 +5,5 @@ pub mod Handles
 pub mod Fields
 pub mod Listed
 pub mod Findings
+pub mod Adding
+pub mod Written

@@ -52,8 +52,8 @@ Lists ms e_before e_after t_before t_after status =
     ((status ≡ 0) × AreListed ms e_before e_after × IsAllWritten ms t_before t_after)
     ⊎ ((status ≡ 1) × ((length e_before < length ms) ⊎ (length t_before < length (all_text ms))) × (e_after ≡ e_before) × (t_after ≡ t_before))
 
--- the entry at an index is listed, and its texts are written if there is room for them; status 5: there is no such
+-- the entry at an index is listed, and its texts are written if there is room for them; status 3: there is no such
 -- entry, and all is as it was
 abbrev pub ListsOne : Option Mapping → Listed → Listed → Text → Text → ℕ → Type 0
-ListsOne None e_before e_after t_before t_after status = (status ≡ 5) × (e_after ≡ e_before) × (t_after ≡ t_before)
+ListsOne None e_before e_after t_before t_after status = (status ≡ 3) × (e_after ≡ e_before) × (t_after ≡ t_before)
 ListsOne (Some m) e_before e_after t_before t_after status = (e_after ≡ listed_at 0 m) × IsWrittenOrShort (entry_text m) t_before t_after status

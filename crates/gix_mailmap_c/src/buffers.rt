@@ -1,8 +1,9 @@
 //! Texts put into the caller's buffers.
+ghost use Rattle.std.specs.Prelude.{◌≡◌};
 ghost use Rattle.gix_mailmap_c.specs.Handed.{IsPut, ArePut};
 
 use crate::copies::copy;
-use crate::status::{DONE, SHORT};
+use crate::status::{OK, OUT_OF_MEMORY, TOO_SHORT};
 
 /// Copies a text to the front of `out`, if it fits, and gives its length.
 pub(crate) fn put(text: &[u8], out: &mut [u8], needed: &mut usize) -> u32
@@ -11,10 +12,18 @@ pub(crate) fn put(text: &[u8], out: &mut [u8], needed: &mut usize) -> u32
     let n = text.len();
     *needed = n;
     if n > out.len() {
-        return SHORT;
+        return TOO_SHORT;
     }
     copy(text, out);
-    DONE
+    OK
+}
+
+/// There is no text, since memory ran out.
+pub(crate) fn out_of_memory(needed: &mut usize) -> u32
+    ensures { (needed.new ≡ 0) × (result ≡ 2) }
+{
+    *needed = 0;
+    OUT_OF_MEMORY
 }
 
 /// Copies two texts to the fronts of two buffers, if both fit.
@@ -23,9 +32,9 @@ pub(crate) fn put_both(name: &[u8], name_out: &mut [u8], email: &[u8], email_out
     ensures { ArePut name.now name_out.old name_out.new email.now email_out.old email_out.new result }
 {
     if name.len() > name_out.len() || email.len() > email_out.len() {
-        return SHORT;
+        return TOO_SHORT;
     }
     copy(name, name_out);
     copy(email, email_out);
-    DONE
+    OK
 }

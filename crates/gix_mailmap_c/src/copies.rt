@@ -4,8 +4,8 @@ ghost use Rattle.gix_mailmap_c.specs.Handed.{IsWritten};
 
 use std::simd::Simd;
 
-/// Copies a text to the front of `out`. One of the usual lengths is copied here, which takes less time than the call that
-/// a copy of any length is.
+/// Copies a text to the front of `out`. One of the usual lengths is copied here, which takes less time than the call
+/// that a copy of any length is.
 #[inline(always)]
 pub(crate) fn copy(text: &[u8], out: &mut [u8])
     requires { length text.now ≤ length out.old }

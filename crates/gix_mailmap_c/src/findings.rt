@@ -5,7 +5,8 @@ ghost use Rattle.mailmap_findings.specs.Findings.{finding_of, reported_of};
 ghost use Rattle.gix_mailmap_c.specs.Findings.{all_reported, beside_line, fault_number, number, one_reported, AreReportedOf};
 ghost use Rattle.gix_mailmap_c.specs.Handed.{IsHanded, IsPut, IsWritten};
 
-use crate::status::{DONE, REFUSED, SHORT};
+use crate::buffers::out_of_memory;
+use crate::status::{OK, TOO_SHORT};
 use gix_mailmap::lines::Error;
 use gix_mailmap::verify;
 use gix_mailmap::verify::Kind;
@@ -40,10 +41,10 @@ impl Finding {
 /// Reports what is wrong with the lines of a mailmap, in their order, as [`verify`](gix_mailmap::verify::verify())
 /// does.
 ///
-/// `DONE`: the findings are at the front of `out`, and `needed` is their number. `SHORT`: `out` has too little room for
-/// them, and `needed` is their number. `REFUSED`: `needed` is 0. The rest of `out` stays as it was.
+/// `OK`: the findings are at the front of `out`, and `needed` is their number. `TOO_SHORT`: `out` has too little room
+/// for them, and `needed` is their number. `OUT_OF_MEMORY`: `needed` is 0. The rest of `out` stays as it was.
 #[unsafe(no_mangle)]
-pub extern "C" fn gix_mailmap_verify(
+pub extern "C" fn gix_mailmap_text_verify(
     alloc: Global,
     mailmap: &[u8],
     out: &mut [Finding],
@@ -53,10 +54,7 @@ pub extern "C" fn gix_mailmap_verify(
 {
     match verify::verify(alloc, &[mailmap]) {
         Ok(found) => put(found.as_slice(), out, needed),
-        Err(_) => {
-            *needed = 0;
-            REFUSED
-        }
+        Err(_) => out_of_memory(needed),
     }
 }
 
@@ -66,10 +64,10 @@ fn put(found: &[verify::Finding<'_>], out: &mut [Finding], needed: &mut usize) -
 {
     *needed = found.len();
     if found.len() > out.len() {
-        return SHORT;
+        return TOO_SHORT;
     }
     report(found, out);
-    DONE
+    OK
 }
 
 // Puts each finding at its index.

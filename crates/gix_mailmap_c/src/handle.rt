@@ -7,15 +7,15 @@ ghost use Rattle.gix_mailmap_c.specs.Handles.{contents, Opens, Adds};
 
 use crate::held::lent::snapshot;
 use crate::held::{Mailmap, Parts, closed, end, into_parts, is_open, opened};
-use crate::status::{CLOSED, DONE, OPEN, REFUSED};
+use crate::status::{CLOSED, OK, OPEN, OUT_OF_MEMORY};
 use gix_mailmap::{Snapshot, parse_ignore_errors};
 use std::alloc::{AllocError, Global};
 
 /// Opens a closed handle on the entries of `text`, lines that can't be read left out.
 ///
-/// `DONE`, `REFUSED`, or `OPEN`: the handle is open already. It stays as it was but at `DONE`.
+/// `OK`, `OUT_OF_MEMORY`, or `OPEN`: the handle is open already. Unless the status is `OK`, it stays as it was.
 #[unsafe(no_mangle)]
-pub extern "C" fn gix_mailmap_open(alloc: Global, m: &mut Mailmap, text: &[u8]) -> u32
+pub extern "C" fn gix_mailmap_handle_open(alloc: Global, m: &mut Mailmap, text: &[u8]) -> u32
     ensures { Opens (good text.now) (contents m.old) (contents m.new) result }
 {
     if is_open(m) {
@@ -24,31 +24,31 @@ pub extern "C" fn gix_mailmap_open(alloc: Global, m: &mut Mailmap, text: &[u8]) 
     match opened_box(alloc, text) {
         Ok(snapshot) => {
             put_back(m, snapshot);
-            DONE
+            OK
         }
-        Err(_) => REFUSED,
+        Err(_) => OUT_OF_MEMORY,
     }
 }
 
 /// Adds the entries of `text` after those that the mailmap has.
 ///
-/// `DONE`, `REFUSED`: the mailmap is as it was, or `CLOSED`.
+/// `OK`, `OUT_OF_MEMORY`: the mailmap is as it was, or `CLOSED`.
 #[unsafe(no_mangle)]
-pub extern "C" fn gix_mailmap_add(m: &mut Mailmap, text: &[u8]) -> u32
+pub extern "C" fn gix_mailmap_handle_add(m: &mut Mailmap, text: &[u8]) -> u32
     ensures { Adds (good text.now) (contents m.old) (contents m.new) result }
 {
     if !is_open(m) {
         return CLOSED;
     }
     match add(snapshot(m), text) {
-        Ok(()) => DONE,
-        Err(_) => REFUSED,
+        Ok(()) => OK,
+        Err(_) => OUT_OF_MEMORY,
     }
 }
 
 /// Closes a handle, and gives its memory back. A closed one stays closed.
 #[unsafe(no_mangle)]
-pub extern "C" fn gix_mailmap_close(alloc: Global, m: &mut Mailmap)
+pub extern "C" fn gix_mailmap_handle_close(alloc: Global, m: &mut Mailmap)
     ensures { contents m.new ≡ None }
 {
     drop(take(alloc, m));

@@ -9,7 +9,7 @@ mod parts;
 use gix_mailmap::Snapshot;
 pub(crate) use parts::Parts;
 use std::alloc::Global;
-use std::marker::Model;
+use std::marker::{Model, Send};
 
 /// A mailmap that C holds, open or closed. C makes one as zeros, which is a closed one.
 ///
@@ -25,6 +25,9 @@ pub struct Mailmap {
 impl Model for Mailmap {
     ghost also_owns = { λ m. held m.alloc m.is_open m.at m.entries };
 }
+
+// It may go to another thread, since the snapshot may.
+unsafe impl Send for Mailmap {}
 
 pub(crate) fn is_open(m: &mut Mailmap) -> bool
     ensures { (result ≡ m.old.is_open) × (m.new ≡ m.old) }

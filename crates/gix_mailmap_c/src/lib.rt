@@ -1,8 +1,10 @@
 //! What C and other languages call: the answers of the crate `gix_mailmap`, written into the caller's buffers.
 //!
-//! `include/gix_mailmap.h` says the same to C. Each call returns a status: those of [`status`].
+//! `c/gix_mailmap.c` has the functions that C programs call, a few lines each before these. Each call returns a status:
+//! those of [`status`].
 #![tactic(auto)]
 
+pub mod adding;
 mod buffers;
 mod copies;
 pub mod field;
@@ -13,3 +15,4 @@ pub mod listing;
 pub mod lookup;
 pub mod status;
 pub mod texts;
+pub mod writing;

@@ -10,7 +10,7 @@ use crate::field::Field;
 use crate::held::lent::snapshot;
 use crate::held::{Mailmap, is_open};
 use crate::listing::copying::{copy_entry, copy_texts, describe, len_with_texts};
-use crate::status::{CLOSED, DONE, NO_ENTRY, SHORT};
+use crate::status::{CLOSED, NO_ENTRY, OK, TOO_SHORT};
 use gix_mailmap::{Entry, Snapshot};
 
 /// An entry as it is listed: where its texts begin among those that are written, and of each how long it is and whether
@@ -43,9 +43,9 @@ impl Listed {
 /// Gives how many entries the mailmap lists, and how long all their texts are: the largest number where they are longer
 /// than that.
 ///
-/// `DONE`, or `CLOSED`: nothing is given. It goes over all entries.
+/// `OK`, or `CLOSED`: nothing is given. It goes over all entries.
 #[unsafe(no_mangle)]
-pub extern "C" fn gix_mailmap_len(
+pub extern "C" fn gix_mailmap_handle_len(
     m: &mut Mailmap,
     entries_len: &mut usize,
     texts_len: &mut usize,
@@ -54,7 +54,7 @@ pub extern "C" fn gix_mailmap_len(
     ensures listed { IfSome (contents m.old)
         (λ n. (result ≡ 0) × (entries_len.new ≡ length n) × (texts_len.new ≡ min usize.MAX (length (all_text n)))) }
     ensures closed { IfNone (contents m.old)
-        ((result ≡ 3) × (entries_len.new ≡ entries_len.old) × (texts_len.new ≡ texts_len.old)) }
+        ((result ≡ 6) × (entries_len.new ≡ entries_len.old) × (texts_len.new ≡ texts_len.old)) }
 {
     if !is_open(m) {
         return CLOSED;
@@ -62,18 +62,22 @@ pub extern "C" fn gix_mailmap_len(
     let snapshot = snapshot(m);
     *entries_len = snapshot.len();
     *texts_len = texts_len_of(snapshot).unwrap_or(usize::MAX);
-    DONE
+    OK
 }
 
 /// Lists all entries, in the order of [`Snapshot::iter`], and writes their texts, one entry's after another's.
 ///
-/// `DONE`; `SHORT`: there is too little room for the entries or for their texts, and both stay as they were; `CLOSED`:
-/// nothing is written. What is after the last entry, and after the last text, stays as it was.
+/// `OK`; `TOO_SHORT`: there is too little room for the entries or for their texts, and both stay as they were;
+/// `CLOSED`: nothing is written. What is after the last entry, and after the last text, stays as it was.
 #[unsafe(no_mangle)]
-pub extern "C" fn gix_mailmap_list(m: &mut Mailmap, entries: &mut [Listed], texts: &mut [u8]) -> u32
+pub extern "C" fn gix_mailmap_handle_list(
+    m: &mut Mailmap,
+    entries: &mut [Listed],
+    texts: &mut [u8],
+) -> u32
     ensures kept { contents m.new ≡ contents m.old }
     ensures listed { IfSome (contents m.old) (λ n. Lists n entries.old entries.new texts.old texts.new result) }
-    ensures closed { IfNone (contents m.old) ((result ≡ 3) × (entries.new ≡ entries.old) × (texts.new ≡ texts.old)) }
+    ensures closed { IfNone (contents m.old) ((result ≡ 6) × (entries.new ≡ entries.old) × (texts.new ≡ texts.old)) }
 {
     if !is_open(m) {
         return CLOSED;
@@ -83,10 +87,10 @@ pub extern "C" fn gix_mailmap_list(m: &mut Mailmap, entries: &mut [Listed], text
 
 /// Lists the entry at an index of the listing, counted from 0, and writes its texts. It goes over those before it.
 ///
-/// `DONE`; `SHORT`: there is too little room for the texts, which stay as they were, and the entry is given;
+/// `OK`; `TOO_SHORT`: there is too little room for the texts, which stay as they were, and the entry is given;
 /// `NO_ENTRY`: the mailmap lists no more than `index` entries, and nothing is written; `CLOSED`: nothing is written.
 #[unsafe(no_mangle)]
-pub extern "C" fn gix_mailmap_entry(
+pub extern "C" fn gix_mailmap_handle_entry(
     m: &mut Mailmap,
     index: usize,
     entry: &mut Listed,
@@ -95,7 +99,7 @@ pub extern "C" fn gix_mailmap_entry(
     ensures kept { contents m.new ≡ contents m.old }
     ensures entry { IfSome (contents m.old)
         (λ n. ListsOne (slice_get n index) entry.old entry.new texts.old texts.new result) }
-    ensures closed { IfNone (contents m.old) ((result ≡ 3) × (entry.new ≡ entry.old) × (texts.new ≡ texts.old)) }
+    ensures closed { IfNone (contents m.old) ((result ≡ 6) × (entry.new ≡ entry.old) × (texts.new ≡ texts.old)) }
 {
     if !is_open(m) {
         return CLOSED;
@@ -119,15 +123,15 @@ fn list(snapshot: &Snapshot, entries: &mut [Listed], texts: &mut [u8]) -> u32
     ensures { Lists snapshot.now entries.old entries.new texts.old texts.new result }
 {
     if snapshot.len() > entries.len() {
-        return SHORT;
+        return TOO_SHORT;
     }
     match texts_len_of(snapshot) {
         Some(len) if len <= texts.len() => {
             describe(snapshot, entries);
             copy_texts(snapshot, texts);
-            DONE
+            OK
         }
-        _ => SHORT,
+        _ => TOO_SHORT,
     }
 }
 
@@ -142,9 +146,9 @@ fn list_one(snapshot: &Snapshot, index: usize, listed: &mut Listed, texts: &mut 
     match len_with_texts(0, &entry) {
         Some(len) if len <= texts.len() => {
             copy_entry(&entry, texts, 0);
-            DONE
+            OK
         }
-        _ => SHORT,
+        _ => TOO_SHORT,
     }
 }
 

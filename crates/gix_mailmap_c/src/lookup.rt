@@ -15,10 +15,10 @@ use gix_mailmap::Snapshot;
 /// Looks a name and an email up: the proper ones are copied into `name_out` and `email_out`, and `new_name` and
 /// `new_email` say how long they are, and whether the mailmap gave them. One that it doesn't give is the one asked for.
 ///
-/// `DONE`; `SHORT`: one of the buffers is too short, both stay as they were, and the lengths are given; `CLOSED`:
+/// `OK`; `TOO_SHORT`: one of the buffers is too short, both stay as they were, and the lengths are given; `CLOSED`:
 /// nothing is written. What is after an answer in its buffer stays as it was.
 #[unsafe(no_mangle)]
-pub extern "C" fn gix_mailmap_lookup(
+pub extern "C" fn gix_mailmap_handle_lookup(
     m: &mut Mailmap,
     name: &[u8],
     email: &[u8],
@@ -34,7 +34,7 @@ pub extern "C" fn gix_mailmap_lookup(
         IsAnswered (fields_for n name.now email.now) name.now email.now name_out.old name_out.new
         email_out.old email_out.new result) }
     ensures closed { IfNone (contents m.old)
-        ((result ≡ 3) × (name_out.new ≡ name_out.old) × (new_name.new ≡ new_name.old)
+        ((result ≡ 6) × (name_out.new ≡ name_out.old) × (new_name.new ≡ new_name.old)
         × (email_out.new ≡ email_out.old) × (new_email.new ≡ new_email.old)) }
 {
     if !is_open(m) {

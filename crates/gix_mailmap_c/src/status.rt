@@ -1,14 +1,18 @@
-//! What a call returns.
+//! What a call returns. C is given all of these but the last two, under the same numbers.
 
 /// The call did what it says.
-pub const DONE: u32 = 0;
+pub const OK: u32 = 0;
 /// A buffer is too short for its text; all buffers are as they were.
-pub const SHORT: u32 = 1;
+pub const TOO_SHORT: u32 = 1;
 /// Out of memory; buffers and handle are as they were.
-pub const REFUSED: u32 = 2;
-/// The handle is closed, and nothing was written.
-pub const CLOSED: u32 = 3;
-/// The handle is open already, and stays as it is.
-pub const OPEN: u32 = 4;
+pub const OUT_OF_MEMORY: u32 = 2;
 /// The mailmap has no entry at this index, and nothing was written.
-pub const NO_ENTRY: u32 = 5;
+pub const NO_ENTRY: u32 = 3;
+/// Four texts make no entry, and the mailmap is as it was.
+pub const NOT_AN_ENTRY: u32 = 4;
+/// No line can hold some entry of the mailmap, and the buffer is as it was.
+pub const UNWRITABLE: u32 = 5;
+/// The handle is closed, and nothing was written.
+pub const CLOSED: u32 = 6;
+/// The handle is open already, and stays as it is.
+pub const OPEN: u32 = 7;

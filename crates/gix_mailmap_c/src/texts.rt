@@ -5,17 +5,16 @@ ghost use Rattle.mailmap_findings.specs.Findings.{IsPruned};
 ghost use Rattle.mailmap_snapshot.specs.Writing.{IsCompacted};
 ghost use Rattle.gix_mailmap_c.specs.Handed.{IsHanded};
 
-use crate::buffers::put;
-use crate::status::REFUSED;
+use crate::buffers::{out_of_memory, put};
 use gix_mailmap::{check, verify};
 use std::alloc::Global;
 
 /// Answers each line of `contacts` by what `mailmap` maps, as [`check`](gix_mailmap::check::check()) does.
 ///
-/// `DONE`: the answers are at the front of `out`, and `needed` is their length. `SHORT`: `out` is too short for them,
-/// and `needed` is their length. `REFUSED`: `needed` is 0. The rest of `out` stays as it was.
+/// `OK`: the answers are at the front of `out`, and `needed` is their length. `TOO_SHORT`: `out` is too short for them,
+/// and `needed` is their length. `OUT_OF_MEMORY`: `needed` is 0. The rest of `out` stays as it was.
 #[unsafe(no_mangle)]
-pub extern "C" fn gix_mailmap_check(
+pub extern "C" fn gix_mailmap_text_check(
     alloc: Global,
     mailmap: &[u8],
     contacts: &[u8],
@@ -26,17 +25,14 @@ pub extern "C" fn gix_mailmap_check(
 {
     match check::check(alloc, &[mailmap], contacts) {
         Ok(text) => put(text.as_slice(), out, needed),
-        Err(_) => {
-            *needed = 0;
-            REFUSED
-        }
+        Err(_) => out_of_memory(needed),
     }
 }
 
 /// Writes the mailmap that maps as `mailmap` does, as [`compact`](gix_mailmap::check::compact()) does. The status is as
-/// that of [`gix_mailmap_check`].
+/// that of [`gix_mailmap_text_check`].
 #[unsafe(no_mangle)]
-pub extern "C" fn gix_mailmap_compact(
+pub extern "C" fn gix_mailmap_text_compact(
     alloc: Global,
     mailmap: &[u8],
     out: &mut [u8],
@@ -46,17 +42,14 @@ pub extern "C" fn gix_mailmap_compact(
 {
     match check::compact(alloc, &[mailmap]) {
         Ok(text) => put(text.as_slice(), out, needed),
-        Err(_) => {
-            *needed = 0;
-            REFUSED
-        }
+        Err(_) => out_of_memory(needed),
     }
 }
 
-/// Writes the mailmap without its lines whose entries have no effect, as [`prune`](gix_mailmap::verify::prune()) does. The
-/// status is as that of [`gix_mailmap_check`].
+/// Writes the mailmap without its lines whose entries have no effect, as [`prune`](gix_mailmap::verify::prune()) does.
+/// The status is as that of [`gix_mailmap_text_check`].
 #[unsafe(no_mangle)]
-pub extern "C" fn gix_mailmap_prune(
+pub extern "C" fn gix_mailmap_text_prune(
     alloc: Global,
     mailmap: &[u8],
     out: &mut [u8],
@@ -66,9 +59,6 @@ pub extern "C" fn gix_mailmap_prune(
 {
     match verify::prune(alloc, mailmap) {
         Ok(text) => put(text.as_slice(), out, needed),
-        Err(_) => {
-            *needed = 0;
-            REFUSED
-        }
+        Err(_) => out_of_memory(needed),
     }
 }

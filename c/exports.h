@@ -1,0 +1,37 @@
+/* The proved calls, as crates/gix_mailmap_c exports them. No pointer may be NULL, and no call may have a handle that
+ * another has at that time. Each returns a number of gix_mailmap_status, or one of a handle that is closed, or is open
+ * already, which gix_mailmap.c never gives them. */
+#ifndef EXPORTS_H
+#define EXPORTS_H
+
+#include "gix_mailmap.h"
+
+/* A handle. It is closed if it is all zeros. */
+struct gix_mailmap {
+    void *at;
+    bool is_open;
+};
+
+uint32_t gix_mailmap_handle_open(gix_mailmap *map, const void *text, size_t text_len);
+void gix_mailmap_handle_close(gix_mailmap *map);
+uint32_t gix_mailmap_handle_add(gix_mailmap *map, const void *text, size_t text_len);
+uint32_t gix_mailmap_handle_add_entry(gix_mailmap *map, const void *new_name, size_t new_name_len,
+                                      const void *new_email, size_t new_email_len, const void *old_name,
+                                      size_t old_name_len, const void *old_email, size_t old_email_len);
+uint32_t gix_mailmap_handle_lookup(gix_mailmap *map, const void *name, size_t name_len, const void *email,
+                                   size_t email_len, void *name_out, size_t name_out_len, gix_mailmap_field *new_name,
+                                   void *email_out, size_t email_out_len, gix_mailmap_field *new_email);
+uint32_t gix_mailmap_handle_len(gix_mailmap *map, size_t *entries_len, size_t *texts_len);
+uint32_t gix_mailmap_handle_list(gix_mailmap *map, void *entries, size_t entries_len, void *texts,
+                                 size_t texts_len);
+uint32_t gix_mailmap_handle_entry(gix_mailmap *map, size_t place, gix_mailmap_listed *entry, void *texts,
+                                  size_t texts_len);
+uint32_t gix_mailmap_handle_write(gix_mailmap *map, void *out, size_t out_len, size_t *needed);
+
+uint32_t gix_mailmap_text_check(const void *mailmap, size_t mailmap_len, const void *contacts, size_t contacts_len,
+                                void *out, size_t out_len, size_t *needed);
+uint32_t gix_mailmap_text_compact(const void *mailmap, size_t mailmap_len, void *out, size_t out_len, size_t *needed);
+uint32_t gix_mailmap_text_prune(const void *mailmap, size_t mailmap_len, void *out, size_t out_len, size_t *needed);
+uint32_t gix_mailmap_text_verify(const void *mailmap, size_t mailmap_len, void *out, size_t out_len, size_t *needed);
+
+#endif

@@ -1,0 +1,143 @@
+/* The calls of gix_mailmap.h, each by a proved one. Three things are done here, since a proved call can't do them. A
+ * handle is handed out as a pointer. NULL is taken for what has length 0. And several calls may read a mailmap at a
+ * time: each is given a handle of its own, a copy that ends with the call, and only looks at what it leads to. */
+#include "exports.h"
+#include <stdlib.h>
+
+_Static_assert(sizeof(gix_mailmap_field) == 16 && sizeof(gix_mailmap_listed) == 72, "as in the proved calls");
+_Static_assert(sizeof(gix_mailmap_finding) == 24 && offsetof(gix_mailmap_finding, beside) == 16, "the same");
+
+/* what stands for NULL, aligned for all elements; nothing reads or writes it */
+static uint64_t nothing;
+
+static const void *text_at(const char *at)
+{
+    return at != NULL ? at : (const void *)&nothing;
+}
+
+static void *room_at(void *at)
+{
+    return at != NULL ? at : &nothing;
+}
+
+const char *gix_mailmap_version(void)
+{
+    return GIX_MAILMAP_VERSION;
+}
+
+const char *gix_mailmap_status_text(gix_mailmap_status status)
+{
+    switch (status) {
+    case GIX_MAILMAP_OK:
+        return "no error";
+    case GIX_MAILMAP_TOO_SHORT:
+        return "a buffer is too short";
+    case GIX_MAILMAP_OUT_OF_MEMORY:
+        return "out of memory";
+    case GIX_MAILMAP_NO_ENTRY:
+        return "the mailmap has no entry with this number";
+    case GIX_MAILMAP_NOT_AN_ENTRY:
+        return "these texts make no entry";
+    case GIX_MAILMAP_UNWRITABLE:
+        return "no line can hold some entry of the mailmap";
+    }
+    return "unknown status";
+}
+
+gix_mailmap_status gix_mailmap_open(gix_mailmap **map, const char *text, size_t text_len)
+{
+    *map = malloc(sizeof **map);
+    if (*map == NULL)
+        return GIX_MAILMAP_OUT_OF_MEMORY;
+    **map = (gix_mailmap){NULL, false};
+    gix_mailmap_status status = gix_mailmap_handle_open(*map, text_at(text), text_len);
+    if (status != GIX_MAILMAP_OK) {
+        free(*map);
+        *map = NULL;
+    }
+    return status;
+}
+
+void gix_mailmap_close(gix_mailmap *map)
+{
+    if (map != NULL)
+        gix_mailmap_handle_close(map);
+    free(map);
+}
+
+gix_mailmap_status gix_mailmap_add(gix_mailmap *map, const char *text, size_t text_len)
+{
+    return gix_mailmap_handle_add(map, text_at(text), text_len);
+}
+
+gix_mailmap_status gix_mailmap_add_entry(gix_mailmap *map, const char *new_name, size_t new_name_len,
+                                         const char *new_email, size_t new_email_len, const char *old_name,
+                                         size_t old_name_len, const char *old_email, size_t old_email_len)
+{
+    return gix_mailmap_handle_add_entry(map, text_at(new_name), new_name_len, text_at(new_email), new_email_len,
+                                        text_at(old_name), old_name_len, text_at(old_email), old_email_len);
+}
+
+gix_mailmap_status gix_mailmap_lookup(const gix_mailmap *map, const char *name, size_t name_len, const char *email,
+                                      size_t email_len, char *GIX_MAILMAP_ALONE name_out, size_t name_out_len,
+                                      gix_mailmap_field *GIX_MAILMAP_ALONE new_name,
+                                      char *GIX_MAILMAP_ALONE email_out, size_t email_out_len,
+                                      gix_mailmap_field *GIX_MAILMAP_ALONE new_email)
+{
+    gix_mailmap own = *map;
+    return gix_mailmap_handle_lookup(&own, text_at(name), name_len, text_at(email), email_len, room_at(name_out),
+                                     name_out_len, new_name, room_at(email_out), email_out_len, new_email);
+}
+
+void gix_mailmap_len(const gix_mailmap *map, size_t *GIX_MAILMAP_ALONE entries_len, size_t *GIX_MAILMAP_ALONE texts_len)
+{
+    gix_mailmap own = *map;
+    gix_mailmap_handle_len(&own, entries_len, texts_len);
+}
+
+gix_mailmap_status gix_mailmap_list(const gix_mailmap *map, gix_mailmap_listed *GIX_MAILMAP_ALONE entries,
+                                    size_t entries_len, char *GIX_MAILMAP_ALONE texts, size_t texts_len)
+{
+    gix_mailmap own = *map;
+    return gix_mailmap_handle_list(&own, room_at(entries), entries_len, room_at(texts), texts_len);
+}
+
+gix_mailmap_status gix_mailmap_entry(const gix_mailmap *map, size_t place, gix_mailmap_listed *GIX_MAILMAP_ALONE entry,
+                                     char *GIX_MAILMAP_ALONE texts, size_t texts_len)
+{
+    gix_mailmap own = *map;
+    return gix_mailmap_handle_entry(&own, place, entry, room_at(texts), texts_len);
+}
+
+gix_mailmap_status gix_mailmap_write(const gix_mailmap *map, char *GIX_MAILMAP_ALONE out, size_t out_len,
+                                     size_t *GIX_MAILMAP_ALONE needed)
+{
+    gix_mailmap own = *map;
+    return gix_mailmap_handle_write(&own, room_at(out), out_len, needed);
+}
+
+gix_mailmap_status gix_mailmap_check(const char *mailmap, size_t mailmap_len, const char *contacts, size_t contacts_len,
+                                     char *GIX_MAILMAP_ALONE out, size_t out_len, size_t *GIX_MAILMAP_ALONE needed)
+{
+    return gix_mailmap_text_check(text_at(mailmap), mailmap_len, text_at(contacts), contacts_len, room_at(out), out_len,
+                                  needed);
+}
+
+gix_mailmap_status gix_mailmap_compact(const char *mailmap, size_t mailmap_len, char *GIX_MAILMAP_ALONE out,
+                                       size_t out_len, size_t *GIX_MAILMAP_ALONE needed)
+{
+    return gix_mailmap_text_compact(text_at(mailmap), mailmap_len, room_at(out), out_len, needed);
+}
+
+gix_mailmap_status gix_mailmap_prune(const char *mailmap, size_t mailmap_len, char *GIX_MAILMAP_ALONE out,
+                                     size_t out_len, size_t *GIX_MAILMAP_ALONE needed)
+{
+    return gix_mailmap_text_prune(text_at(mailmap), mailmap_len, room_at(out), out_len, needed);
+}
+
+gix_mailmap_status gix_mailmap_verify(const char *mailmap, size_t mailmap_len,
+                                      gix_mailmap_finding *GIX_MAILMAP_ALONE out, size_t out_len,
+                                      size_t *GIX_MAILMAP_ALONE needed)
+{
+    return gix_mailmap_text_verify(text_at(mailmap), mailmap_len, room_at(out), out_len, needed);
+}

@@ -1,0 +1,28 @@
+use mathlib.Core.Bool.{Bool, true, false}
+use mathlib.Core.List.{List}
+use mir.Raw.{raw}
+use base.Shift.{Keyless}
+use denote.Memory.{lone}
+use denote.RawPtr.{Ptr}
+use denote.Struct.Struct.{exits_of}
+use denote.Struct.Owning.{shape, fields, to}
+use denote.Param.Send.{IsSend, AllSend, owning_send, struct_send, sendable}
+use Rattle.std.proofs.Crossing as heap
+use Rattle.std_alloc.proofs.SendSync.{quiet, lies}
+use Rattle.std_heap.proofs.Global.TheSendSync as handle
+use Rattle.std_heap.specs.contracts.Global as Heap
+use Rattle.mailmap_entries.specs.Entries.{Mapping}
+use Rattle.mailmap_snapshot.specs.contracts.snapshot.Snapshot as Snapshot
+use Rattle.mailmap_snapshot.proofs.snapshot.Snapshot.TheSendSync.{the_send as snapshot}
+use Rattle.gix_mailmap_c.specs.Held.{held}
+use Rattle.gix_mailmap_c.specs.contracts.held.Mailmap.{the_row, the_type}
+
+keyless : (alloc : Heap.the_row.Denot) (is_open : Bool) (at : Ptr) (entries : List Mapping) → Keyless (held alloc is_open at entries)
+keyless alloc true at entries = (lies Snapshot.the_row snapshot at entries, heap.frees.frees alloc (raw (lone Snapshot.the_row.mir)) at)
+keyless alloc false at entries = tt
+
+pub send : IsSend the_row
+send =
+    let all : AllSend (fields the_type) = (search sendable, (search sendable, (handle.the_field_send, tt))) in
+    owning_send the_type all (λ m. keyless m.alloc m.is_open m.at m.entries)
+    (λ k. quiet (to the_type) (exits_of k (fields the_type)) ((struct_send (shape the_type) all).leaving k))
