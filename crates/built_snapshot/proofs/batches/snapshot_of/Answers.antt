@@ -1,0 +1,18 @@
+use Rattle.std.proofs.Common.{Result, Ok, Err, List, map, subst}
+use Rattle.std.specs.Iterator.{Drains}
+use Rattle.std.specs.Result.{IfOk}
+use Rattle.std.proofs.lemmas.Iterator.{YieldsList-from_slice}
+use Rattle.std.proofs.lemmas.Iterator.Consumers.{YieldsList-from_copied}
+use Rattle.gix_mailmap.specs.Entries.{mapping_of}
+use Rattle.gix_mailmap.specs.Histories.{IsNormal}
+use Rattle.built_snapshot.proofs.Histories.{says_entries}
+use Rattle.built_snapshot.proofs.batches.snapshot_of.Goals as goal
+
+weaker : {T E : Type 0} (r : Result T E) (P Q : T → Type 0) → ((x : T) → P x → Q x) → IfOk r P → IfOk r Q
+weaker (Ok x) P Q f p = f x p
+weaker (Err e) P Q f p = tt
+
+pub returns-in-Entries : goal.returns-in-Entries
+returns-in-Entries c =
+    rw c.in-Entries.is (weaker c.new.result _ (IsNormal (map mapping_of c.in-Entries.entries.now)) (λ made d.
+    subst (λ h. IsNormal h made) ((says_entries (YieldsList-from_copied (YieldsList-from_slice c.in-Entries.entries.now (cc)))).all d.0 d.1) d.2) c.new.ensures.ok)
