@@ -1,7 +1,8 @@
 #!/usr/bin/env python3
 """Measures how the time and the memory a byte grow over the families of make_families.py.
 
-    families.py ORIGINAL [--write] [--json FILE] [--add] [--lines N ..] [--seconds S] [--only WORD] [--programs NAME ..]
+    families.py ORIGINAL [--write] [--json FILE] [--add] [--quick] [--lines N ..] [--seconds S] [--only WORD]
+                [--programs NAME ..]
     families.py --again [--write] [--json FILE]    the tables of what was measured before
 
 ORIGINAL is a program over the original crate: `ORIGINAL check MAP.. < contacts` and `ORIGINAL compact MAP..` print what
@@ -13,6 +14,9 @@ run in turn, three times and for S seconds a cell (1 if it is not given); what t
 The time is that of the processor, for the program and for the system, and the least of all runs counts. The peak is the
 largest resident set. What a program takes over an empty mailmap is taken off both. Past 60 seconds of processor time or
 8 GiB of addresses a program is stopped, and doesn't get more lines of that family.
+
+With --quick, which takes some ten minutes, families with contacts get at most 100,000 lines, programs run twice, or once
+from two seconds on, and 20 seconds are the limit.
 
 It prints the tables. With --write it puts them into docs/BENCHMARKS.md. The figures are kept after each cell in the file
 that --json names, or with --write in docs/families.json. With --add they are added to those that are in that file.
@@ -37,9 +41,20 @@ CRATES = HERE.parent / "crates"
 SIZES = [10_000, 100_000, 1_000_000]
 NAMES_MERGED = [1_000, 10_000, 32_000]
 MERGES = "one merge each"
-SECONDS, ADDRESSES = 60, 8 << 30
-# what runs so many seconds is run once
-ONCE = 3
+ADDRESSES = 8 << 30
+
+
+@dataclass(frozen=True)
+class Limits:
+    """Seconds after which a program is stopped, and from which on it runs only once; fewest runs; most contacts."""
+
+    stop: int
+    once: int
+    runs: int
+    contacts: int
+
+
+FULL, QUICK = Limits(60, 3, 3, 1_000_000), Limits(20, 2, 2, 100_000)
 CHECK, ORIGINAL, COMPACT, ORIGINAL_COMPACT, VERIFY = PROGRAMS = [
     "mailmap_check",
     "original",
@@ -88,8 +103,8 @@ class Figures:
 class Programs:
     """The programs, what measures them, and a folder for what they read."""
 
-    def __init__(self, original: str, wanted: list[str], folder: str) -> None:
-        self.folder = Path(folder)
+    def __init__(self, original: str, wanted: list[str], limits: Limits, folder: str) -> None:
+        self.folder, self.limits = Path(folder), limits
         self.measure = built("measure", folder, "-static")
         check, verify = (str(CRATES / name / "out" / name) for name in ("mailmap_check", "mailmap_verify"))
         original = str(Path(original).resolve())
@@ -106,21 +121,21 @@ class Programs:
 
     def cost(self, words: list[str], contacts: str = "/dev/null") -> Cost:
         """One run. The folder is the current one, since the names of very many files have to be short."""
-        ended = run(self.measure, words, contacts, seconds=SECONDS, cwd=self.folder)
+        ended = run(self.measure, words, contacts, seconds=self.limits.stop, cwd=self.folder)
         if ended.status == 128 + signal.SIGXCPU:
-            return Cost(fault=f"> {SECONDS} s")
+            return Cost(fault=f"> {self.limits.stop} s")
         if ended.status not in SUCCESSES:
             memory = "memory" in ended.complaints
             return Cost(fault="> 8 GiB" if memory else f"status {ended.status}")
         return Cost(ended.processor, ended.peak)
 
-    def costs(self, words: dict[str, list[str]], contacts: str, seconds: float, least: int = 3) -> dict[str, Cost]:
+    def costs(self, words: dict[str, list[str]], contacts: str, seconds: float, runs: int = 0) -> dict[str, Cost]:
         """What each command line takes, all in turn: the least time and the largest peak."""
         found: dict[str, Cost] = {}
-        for _ in rounds(seconds, least):
+        for _ in rounds(seconds, runs or self.limits.runs):
             for name, line in words.items():
                 before = found.get(name)
-                if before and (before.fault or before.time > ONCE * 1e9):
+                if before and (before.fault or before.time > self.limits.once * 1e9):
                     continue
                 cost = self.cost(line, contacts)
                 if before and not cost.fault:
@@ -141,8 +156,10 @@ def made_files(programs: Programs, made: Made) -> tuple[list[str], str, int]:
     return names, str(contacts), size + write(contacts, made.contacts)
 
 
-def measured_cell(programs: Programs, family: Family, lines: int, faults: dict[str, Cost], seconds: float) -> Cell:
+def measured_cell(programs: Programs, family: Family, lines: int, faults: dict[str, Cost], seconds: float) -> Cell | None:
     made = family.make(lines)
+    if made.contacts is not None and lines > programs.limits.contacts:
+        return None
     mailmaps, contacts, size = made_files(programs, made)
     wanted = PROGRAMS if made.contacts is None else [CHECK, ORIGINAL]
     words = {name: [*line, *mailmaps] for name, line in programs.words.items() if name in wanted and name not in faults}
@@ -174,6 +191,8 @@ def measured_families(programs: Programs, figures: Figures, given: argparse.Name
         faults: dict[str, Cost] = {}
         for lines in sorted(given.lines) if given.only in family.name else []:
             cell = measured_cell(programs, family, lines, faults, given.seconds)
+            if cell is None:
+                break
             faults = {name: cost for name, cost in cell.costs.items() if cost.fault}
             kept(figures, cell, given.json)
 
@@ -184,7 +203,7 @@ def measured_merges(programs: Programs, figures: Figures, given: argparse.Namesp
     for names in NAMES_MERGED if programs.bench.exists() and given.only in MERGES else []:
         size = write(programs.folder / "0", merged_one_by_one(names))
         words = {name: [*line, "0"] for name, line in programs.merging.items() if name not in faults}
-        costs = {**faults, **programs.costs(words, "/dev/null", given.seconds, least=2)}
+        costs = {**faults, **programs.costs(words, "/dev/null", given.seconds, 2)}
         faults = {name: cost for name, cost in costs.items() if cost.fault}
         kept(figures, Cell(MERGES, names, size, 2 * names, costs), given.json)
 
@@ -194,10 +213,10 @@ def measured(figures: Figures, given: argparse.Namespace) -> None:
     begin = time.monotonic()
     resource.setrlimit(resource.RLIMIT_AS, (ADDRESSES, ADDRESSES))
     with scratch() as folder:
-        programs = Programs(given.original, given.programs, folder)
+        programs = Programs(given.original, given.programs, QUICK if given.quick else FULL, folder)
         (programs.folder / "0").write_bytes(b"")
         empty = {name: [*line, "0"] for name, line in programs.words.items()}
-        figures.starts |= programs.costs(empty, "/dev/null", 1, least=20)
+        figures.starts |= programs.costs(empty, "/dev/null", 1, 20)
         measured_families(programs, figures, given)
         measured_merges(programs, figures, given)
     minutes = float(figures.machine.get("minutes", 0)) + (time.monotonic() - begin) / 60
@@ -321,21 +340,21 @@ def memory_column(figures: Figures, cell: Cell, program: str) -> list[str]:
 
 
 def memory_table(figures: Figures) -> str:
-    sizes = sizes_of(figures)
+    """The peaks with the most lines of each family."""
     shown = {CHECK: "check", ORIGINAL: "original", COMPACT: "compact", VERIFY: "verify"}
     head = ["bytes a byte of", " bytes", " entries"]
     for name in shown.values():
-        head += [f" {name}", f" of what is allowed"] if name != "original" else [f" {name}"]
+        head += [f" {name}", " of what is allowed"] if name != "original" else [f" {name}"]
     head += [f" {name} grows by" for name in ("check", "verify")]
+    largest = {cell.family: cell for cell in figures.cells}
     rows = []
-    for cell in figures.cells:
-        if cell.lines == max(sizes):
-            row = [cell.family, f"{cell.size:,}", f"{cell.entries:,}"]
-            for program in shown:
-                row += memory_column(figures, cell, program)[: 1 if program == ORIGINAL else 2]
-            for program in (CHECK, VERIFY):
-                row.append(Growth(figures, cell.family, program, "peak").columns(sizes, None)[-1])
-            rows.append(row)
+    for cell in largest.values():
+        row = [cell.family, f"{cell.size:,}", f"{cell.entries:,}"]
+        for program in shown:
+            row += memory_column(figures, cell, program)[: 1 if program == ORIGINAL else 2]
+        for program in (CHECK, VERIFY):
+            row.append(Growth(figures, cell.family, program, "peak").columns(sizes_of(figures), None)[-1])
+        rows.append(row)
     return table(head, rows)
 
 
@@ -378,6 +397,7 @@ def main() -> None:
     parser.add_argument("--json", type=Path)
     parser.add_argument("--lines", type=int, nargs="+", default=SIZES)
     parser.add_argument("--seconds", type=float, default=1)
+    parser.add_argument("--quick", action="store_true", help="some ten minutes: fewer runs, fewer lines")
     parser.add_argument("--only", default="", help="measure only the families whose name has this word")
     parser.add_argument("--programs", nargs="+", default=PROGRAMS, choices=PROGRAMS)
     parser.add_argument("--add", action="store_true", help="add to the figures that are in the file")
