@@ -111,6 +111,12 @@ add_cases() {
     done
 }
 
+# What each program says of a failure. mailmap_check has numbers for the files and mailmap_verify their names.
+declare -A failures=(
+    [mailmap_check]='out of memory\|cannot read standard input\|cannot read file [1-9][0-9]*'
+    [mailmap_verify]='out of memory\|empty: out of memory\|mailmap: out of memory'
+)
+
 # wants PROGRAM: judges a run of all cases. At status 0 or 1 all has to be printed, which is the text of the mode's name, and
 # at status 2 nothing, with one line on standard error.
 wants() {
@@ -127,11 +133,19 @@ wants() {
     done < <(grep '^case=' "$said") > "$work/expected"
     diff "$work/expected" "$printed" || fail "$program: other output"
     runs="$(count 'run=ended status=2 ' "$said")"
-    [ "$(count "^$program: \\(out of memory\\|cannot read standard input\\|cannot read file [1-9][0-9]*\\)\$" "$said")" = "$runs" ] \
+    [ "$(count "^$program: \\(${failures[$program]}\\)\$" "$said")" = "$runs" ] \
         || fail "$program: another line for a failure"
     [ "$(count "^$program" "$said")" = "$runs" ] || fail "$program: more than one line for a failure"
     grep "^$program: " "$said" >> "$work/lines" || true
     refusals=$((refusals + runs))
+}
+
+# says PROGRAM LINE..: the program said each of these lines for a failure.
+says() {
+    local line
+    for line in "${@:2}"; do
+        grep -qxF "$1: $line" "$work/lines" || fail "$1: never says: $line"
+    done
 }
 
 # refuse PROGRAM NUMBER..: refuses the requests of these numbers in turn. The last ones must be behind all requests of the
@@ -147,9 +161,6 @@ refuse() {
     for first in "$work/runs"/*"$files_at_least"; do
         grep -q "^case=${first##*/} run=ended status=[01] " "$said" || fail "$program: it makes more requests"
     done
-    for line in 'out of memory' 'cannot read file 1' 'cannot read file 20'; do
-        grep -qxF "$program: $line" "$work/lines" || fail "$program: never says: $line"
-    done
 }
 
 # Of the numbers the ones in a row let each request be refused from the reading of the arguments on, and behind the last
@@ -158,7 +169,7 @@ mkdir "$work/runs"
 add_cases answered ''
 add_cases compacted --compact
 refuse mailmap_check 34 35 60 61
-grep -qxF 'mailmap_check: cannot read standard input' "$work/lines" || fail 'mailmap_check: never fails to read its input'
+says mailmap_check 'out of memory' 'cannot read standard input' 'cannot read file 1' 'cannot read file 20'
 checks="$refusals"
 
 # The mailmap is given twice, and has no effect the first time.
@@ -166,6 +177,7 @@ rm -r "$work/runs"
 mkdir "$work/runs"
 add_cases told mailmap
 refuse mailmap_verify 34 35 60 61 86 87 112 113
+says mailmap_verify 'out of memory' 'empty: out of memory' 'mailmap: out of memory'
 verifies="$refusals"
 
 echo "refused memory: $calls requests of the library's calls, $checks of mailmap_check and $verifies of mailmap_verify," \
