@@ -3,9 +3,9 @@
 
     examples.py PROGRAM..
 
-The programs are called by their names in the examples. An example is a block ```console of a document. Its lines `$ COMMAND` are run one after another
-in a folder of its own, and the lines behind each are what it prints. `$ cat FILE` of a file that isn't there yet writes
-it: what is shown of it is what it holds.
+The programs are called by their names in the examples. An example is a block ```console of a document. Its lines
+`$ COMMAND` are run one after another in a folder of its own, and the lines after each are what it prints. `$ cat FILE`
+of a file that isn't there yet writes it: what is shown of it is what it holds.
 """
 import os
 import re
@@ -19,7 +19,7 @@ BLOCK = re.compile(r"^```console\n(.*?)^```$", re.MULTILINE | re.DOTALL)
 
 
 def steps(block):
-    """The commands, each with the text behind it."""
+    """The commands, each with the text after it."""
     parts = re.split(r"^\$ (.*)\n", block, flags=re.MULTILINE)
     return list(zip(parts[1::2], parts[2::2]))
 

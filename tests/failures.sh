@@ -1,7 +1,7 @@
 #!/usr/bin/env bash
 # Runs mailmap_check and mailmap_verify, the programs that the two arguments name, where files, streams or memory fail
-# them, and what they say of themselves. A run that fails must end with status 2, with the lines of its failure on standard
-# error, and with nothing on standard output.
+# them, and what they say of themselves. A run that fails must end with status 2, with the lines of its failure on
+# standard error, and with nothing on standard output.
 set -euo pipefail
 top="$(cd "$(dirname "$0")/.." && pwd)"
 work="$(mktemp -d)"

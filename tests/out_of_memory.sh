@@ -80,9 +80,9 @@ none_between \
     "the request behind the calls that accept or write nothing" \
     "the request behind the calls that take none"
 
-# Where a request was refused and no call reported it, it was that of a collect, which asks again for less: in entries, in
-# verify, and in each merge that gives texts up, which calls entries. Of so few texts half are soon out of use, so two
-# more merges than the one that is made for it give some up: that of Snapshot::merge, and that of the third source.
+# Where a request was refused and no call reported it, it was that of a collect, which asks again for less: in entries,
+# in verify, and in each merge that gives texts up, which calls entries. Of so few texts half are soon out of use, so
+# two more merges than the one that is made for it give some up: that of Snapshot::merge, and that of the third source.
 untold="$(sed -n '/^refused/p' "$printed" | sed '1,/^refused: [^n]/d' | grep -cx 'refused: nothing' || true)"
 [ "$untold" = 5 ] || fail "$untold refusals that no call reported"
 calls="$(grep '^refused' "$printed" | grep -cvx 'refused: nothing')"
@@ -117,8 +117,8 @@ declare -A failures=(
     [mailmap_verify]='out of memory\|empty: out of memory\|mailmap: out of memory'
 )
 
-# wants PROGRAM: judges a run of all cases. At status 0 or 1 all has to be printed, which is the text of the mode's name, and
-# at status 2 nothing, with one line on standard error.
+# wants PROGRAM: judges a run of all cases. At status 0 or 1 all has to be printed, which is the text of the mode's
+# name, and at status 2 nothing, with one line on standard error.
 wants() {
     local program="$1" run name runs
     while read -r run; do
@@ -148,8 +148,8 @@ says() {
     done
 }
 
-# refuse PROGRAM NUMBER..: refuses the requests of these numbers in turn. The last ones must be behind all requests of the
-# fewest files.
+# refuse PROGRAM NUMBER..: refuses the requests of these numbers in turn. The last ones must be after all requests of
+# the fewest files.
 refuse() {
     local program="$1" refused first
     refusals=0
@@ -180,5 +180,5 @@ refuse mailmap_verify 34 35 60 61 86 87 112 113
 says mailmap_verify 'out of memory' 'empty: out of memory' 'mailmap: out of memory'
 verifies="$refusals"
 
-echo "refused memory: $calls requests of the library's calls, $checks of mailmap_check and $verifies of mailmap_verify," \
-    "each refused, end as they must"
+echo "refused memory: $calls requests of the library's calls, $checks of mailmap_check and" \
+    "$verifies of mailmap_verify, each refused, end as they must"
