@@ -6,8 +6,10 @@ ghost use Rattle.std.specs.List.{AllByRecursion, enumerate_from};
 ghost use Rattle.mailmap_entries.specs.Folding.{Text, folded, text_cmp};
 ghost use Rattle.mailmap_histories.specs.Histories.{key, key_cmp};
 ghost use Rattle.mailmap_entries.specs.Prefixes.{IsKeyPrefix};
-ghost use Rattle.mailmap_batches.specs.Batches.{IsSorted, IsAscending, mapping_at, indexed_mapping, email_text, name_text};
-ghost use Rattle.mailmap_batches.specs.Sorting.{IsArranged, IsDone, IsPrefixGroup, KeepsKeys, email_prefix, numbered_after};
+ghost use Rattle.mailmap_batches.specs.Batches.{IsSorted, IsAscending, mapping_at, indexed_mapping, email_text};
+ghost use Rattle.mailmap_batches.specs.Batches.{name_text};
+ghost use Rattle.mailmap_batches.specs.Sorting.{IsArranged, IsDone, IsPrefixGroup, KeepsKeys, email_prefix};
+ghost use Rattle.mailmap_batches.specs.Sorting.{numbered_after};
 ghost use Rattle.mailmap_batches.specs.declared.indexed.IndexedEntry.{IndexedEntry as SpecEntry};
 
 use crate::groups::email_group_len;
@@ -33,7 +35,7 @@ pub fn sorted<'e, 'a, T: HasEntry<'a>>(
     sorted_by_groups(alloc, &batch)
 }
 
-// The entries in order, if the prefixes of their old emails ascend already.
+// The entries in order, if the prefixes of their old emails ascend already, and `None` if not.
 fn sorted_if_prefixes_ascend<'e, 'a, T: HasEntry<'a>>(
     alloc: Global,
     entries: &'e [T],
@@ -105,7 +107,7 @@ fn with_prefix<'e, 'a>(indexed: IndexedEntry<'e, 'a>) -> PrefixedEntry<'e, 'a>
     PrefixedEntry { prefix, indexed }
 }
 
-// Only by the first bytes of the old emails.
+// Compares only the prefixes of the old emails.
 #[inline(always)]
 fn compare_prefixes(a: &PrefixedEntry, b: &PrefixedEntry) -> Ordering
     ensures { result ≡ nat_cmp (email_prefix a.now) (email_prefix b.now) }
@@ -213,7 +215,7 @@ struct NumberedEntry<'e, 'a> {
     indexed: IndexedEntry<'e, 'a>,
 }
 
-// How many bytes all emails begin with, in which the case of letters doesn't count.
+// How many bytes all emails have in common at the beginning. The case of letters doesn't count.
 fn common_len(group: &[IndexedEntry<'_, '_>]) -> usize {
     let Some(first) = group.first() else {
         return 0;
@@ -268,7 +270,7 @@ fn bytes_after(text: &[u8], len: usize) -> &[u8]
     &text[len..]
 }
 
-// Only the entries.
+// The entries without their numbers.
 fn without_numbers<'e, 'a>(
     alloc: Global,
     numbered: &[NumberedEntry<'e, 'a>],
@@ -339,7 +341,7 @@ fn with_name_prefix<'e, 'a>(indexed: IndexedEntry<'e, 'a>) -> NamePrefixEntry<'e
     NamePrefixEntry { prefix, indexed }
 }
 
-// Only the entries.
+// The entries without the prefixes of their names.
 fn without_name_prefixes<'e, 'a>(
     alloc: Global,
     prefixed: &[NamePrefixEntry<'e, 'a>],
@@ -353,7 +355,7 @@ fn without_name_prefixes<'e, 'a>(
     Ok(group)
 }
 
-// Only by old name, and first by its prefix.
+// Compares the old names: their prefixes, and if these are equal the names.
 #[inline(always)]
 fn compare_old_names(a: &NamePrefixEntry, b: &NamePrefixEntry) -> Ordering
     ensures { result ≡ option_cmp text_cmp (key (mapping_at a.now)).1 (key (mapping_at b.now)).1 }
@@ -364,7 +366,7 @@ fn compare_old_names(a: &NamePrefixEntry, b: &NamePrefixEntry) -> Ordering
     }
 }
 
-// By old email, then without an old name first, then by old name, in the order in which case doesn't count.
+// Compares keys: the old emails, and if these are equal the old names, without regard to case.
 fn compare(a: &IndexedEntry, b: &IndexedEntry) -> Ordering
     ensures { result ≡ key_cmp (key (mapping_at a.now)) (key (mapping_at b.now)) }
 {
@@ -374,6 +376,7 @@ fn compare(a: &IndexedEntry, b: &IndexedEntry) -> Ordering
     }
 }
 
+// Compares old names. A missing one comes first.
 fn compare_names(a: Option<&[u8]>, b: Option<&[u8]>) -> Ordering
     ensures { result ≡ option_cmp text_cmp (option_map folded (option_copied a.entry))
         (option_map folded (option_copied b.entry)) }

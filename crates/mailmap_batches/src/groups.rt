@@ -9,7 +9,7 @@ ghost use Rattle.mailmap_batches.specs.Given.{IsEarliest, IsNamed, NameEntries, 
 
 use crate::indexed::IndexedEntry;
 
-/// The texts that stand for an old name.
+/// An old name, and the new name and the new email that replace it.
 #[derive(Clone, Copy)]
 pub struct Named<'a> {
     pub old_name: &'a [u8],
@@ -24,7 +24,7 @@ pub struct Given<'a> {
     pub new_email: Option<&'a [u8]>,
 }
 
-// Whether two texts are the same but for the case of their letters. Most are the same.
+// Whether two texts are the same but for the case of their letters. Most are spelled alike, so that is tried first.
 fn is_same(a: &[u8], b: &[u8]) -> bool
     ensures { IsTrue result ↔ (folded a.now ≡ folded b.now) }
 {
@@ -105,7 +105,7 @@ pub fn leading_name<'a>(batch: &[IndexedEntry<'_, 'a>]) -> (Named<'a>, usize)
     )
 }
 
-/// The fields that entries without an old name give last, each for itself.
+/// The fields that entries without an old name give last, each field by itself.
 pub fn last_given<'a>(own: &[IndexedEntry<'_, 'a>]) -> Given<'a>
     ensures { fields_given result ≡ fold give no_fields (map mapping_at own.now) }
 {

@@ -46,4 +46,5 @@ text_writes = fed.option (fed.slice fed.u8)
 
 -- what an entry feeds a hasher: its four texts in turn, and nothing of where they lie
 abbrev pub mapping_writes : Mapping → List (List ℕ)
-mapping_writes m = text_writes m.new_name ++ (text_writes m.new_email ++ (text_writes m.old_name ++ fed.slice fed.u8 m.old_email))
+mapping_writes m = text_writes m.new_name ++ (text_writes m.new_email
+    ++ (text_writes m.old_name ++ fed.slice fed.u8 m.old_email))

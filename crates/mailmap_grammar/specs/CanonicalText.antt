@@ -19,7 +19,8 @@ pub record IsWritableName (name : Text) : Type 0 where
   pub no_opening : HoldsNo 60 name
   pub one_line : HoldsNo 10 name
 
--- an entry that a line can hold: its texts stay as they are, the first email is not empty, and an old name has a new email beside it
+-- an entry that a line can hold: its texts stay as they are, the first email is not empty, and an old name has a new
+-- email beside it
 pub record IsWritable (e : Mapping) : Type 0 where
   pub names : IfSome e.new_name IsWritableName × IfSome e.old_name IsWritableName
   pub emails : IfSome e.new_email IsWritableEmail × IsWritableEmail e.old_email
@@ -43,7 +44,8 @@ email_part (Some email) = bracketed_email email ++ 32 ∷ []
 
 -- a blank, the new name, the new email, the old name, the old email and a line feed
 abbrev pub line : Mapping → Text
-line e = 32 ∷ (name_part e.new_name ++ email_part e.new_email ++ name_part e.old_name ++ bracketed_email e.old_email ++ 10 ∷ [])
+line e = 32 ∷ (name_part e.new_name ++ email_part e.new_email ++ name_part e.old_name
+    ++ bracketed_email e.old_email ++ 10 ∷ [])
 
 -- one line for each entry
 abbrev pub text : List Mapping → Text

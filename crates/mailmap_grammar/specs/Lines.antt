@@ -1,10 +1,12 @@
 -- What the lines of a mailmap say.
 use Rattle.std.specs.List.{AllByRecursion, flat_map}
 use Rattle.std.specs.Result.{result_ok}
-use Rattle.std.specs.Prelude.{◌≡◌, ◌≢◌, ◌⊎◌, ◌+◌, ◌==◌, ℕ, if◌then◌else◌, Bool, false, Option, Some, None, option_map, option_to_list, Result, Ok, Err, List, [], ◌∷◌, ◌++◌}
+use Rattle.std.specs.Prelude.{◌≡◌, ◌≢◌, ◌⊎◌, ◌+◌, ◌==◌, ℕ, if◌then◌else◌, Bool, false, Option, Some, None, option_map}
+use Rattle.std.specs.Prelude.{option_to_list, Result, Ok, Err, List, [], ◌∷◌, ◌++◌}
 use Rattle.mailmap_entries.specs.declared.entry.Entry.{Entry}
 use Rattle.mailmap_grammar.specs.declared.lines.Error.{Error}
-use Rattle.mailmap_grammar.specs.declared.lines.Error.TheVariants.{NoEmail, MissingClosingBracket, EmptyEmail, NothingToMap, UnclosedSecond}
+use Rattle.mailmap_grammar.specs.declared.lines.Error.TheVariants.{NoEmail, MissingClosingBracket, EmptyEmail}
+use Rattle.mailmap_grammar.specs.declared.lines.Error.TheVariants.{NothingToMap, UnclosedSecond}
 use Rattle.mailmap_grammar.specs.declared.contacts.ParsedContact as the_contact
 use Rattle.mailmap_grammar.specs.declared.contacts.ParsedContact.TheVariants as variant
 use Rattle.mailmap_grammar.specs.declared.trailing.WithTrailing.{WithTrailing}
@@ -108,7 +110,12 @@ fault kind line input = Err (record { kind = kind; line = line; input = input })
 
 -- what a line with two contacts maps: their names and emails, where an empty name is none
 abbrev pub by_both : Text → Text → Text → Text → Mapping
-by_both name email old_name old_email = record { new_name = non_empty name; new_email = Some email; old_name = non_empty old_name; old_email = old_email }
+by_both name email old_name old_email = record {
+  new_name = non_empty name;
+  new_email = Some email;
+  old_name = non_empty old_name;
+  old_email = old_email;
+}
 
 -- what a name and an email alone map: the name stands in for that of the email
 abbrev pub by_name : Text → Text → Mapping
@@ -137,11 +144,13 @@ first_contact both n t (Closed name (b ∷ email) rest) = both name (b ∷ email
 
 -- what the trimmed line t says, as line n
 abbrev pub line_reading : ℕ → Text → Reading
-line_reading n t = first_contact (λ name email rest. two_contacts n t name email (trimmed_contact (cut rest))) n t (trimmed_contact (cut t))
+line_reading n t = first_contact (λ name email rest. two_contacts n t name email (trimmed_contact (cut rest))) n t
+    (trimmed_contact (cut t))
 
 -- the same, read strictly
 abbrev pub strict_line_reading : ℕ → Text → Reading
-strict_line_reading n t = first_contact (λ name email rest. strict_contacts n t name email rest (trimmed_contact (cut rest))) n t (trimmed_contact (cut t))
+strict_line_reading n t = first_contact
+    (λ name email rest. strict_contacts n t name email rest (trimmed_contact (cut rest))) n t (trimmed_contact (cut t))
 
 -- a comment begins with `#`
 abbrev pub is_comment : Text → Bool
@@ -210,11 +219,12 @@ good buf = good_of (readings buf)
 abbrev pub HoldsNo : ℕ → Text → Type 0
 HoldsNo b = AllByRecursion (λ x. x ≢ b)
 
--- ls are the lines of s: none holds a line feed, and with their line feeds they are s; the last one, if it is not empty, may
--- have none
+-- ls are the lines of s: none holds a line feed, and with their line feeds they are s; the last one, if it is not
+-- empty, may have none
 pub record ArePieces (s : Text) (ls : List Text) : Type 0 where
   pub no_feed : AllByRecursion (HoldsNo 10) ls
-  pub whole : (s ≡ fed ls) ⊎ ((front : List Text) × (last : Text) × (ls ≡ front ++ last ∷ []) × (last ≢ []) × (s ≡ fed front ++ last))
+  pub whole : (s ≡ fed ls)
+      ⊎ ((front : List Text) × (last : Text) × (ls ≡ front ++ last ∷ []) × (last ≢ []) × (s ≡ fed front ++ last))
 
 -- s is a, `<`, b, `>` and c, where the `<` is the first one, and the `>` the first one after it
 pub record IsCut (s a b c : Text) : Type 0 where
@@ -245,7 +255,8 @@ NoContact s = HoldsNo 60 s ⊎ IsUnclosed s
 -- what line n, trimmed t, says whose first contact is this name and this email: a second contact, a name alone, or
 -- nothing
 pub data IsSecondRead (n : ℕ) (t name email rest : Text) (r : Reading) : Type 0 where
-  second : (old_name old_email tail : Text) → IsContact rest old_name old_email tail → r ≡ Ok (by_both name email old_name old_email) → IsSecondRead n t name email rest r
+  second : (old_name old_email tail : Text) → IsContact rest old_name old_email tail
+      → r ≡ Ok (by_both name email old_name old_email) → IsSecondRead n t name email rest r
   name_alone : NoContact rest → name ≢ [] → r ≡ Ok (by_name name email) → IsSecondRead n t name email rest r
   neither : NoContact rest → name ≡ [] → r ≡ fault nothing_to_map n t → IsSecondRead n t name email rest r
 
@@ -259,7 +270,8 @@ pub data IsFirstRead (Second : Text → Text → Text → Reading → Type 0) (n
   no_bracket : HoldsNo 60 t → r ≡ fault no_email n t → IsFirstRead Second n t r
   open_first : IsUnclosed t → r ≡ fault missing_closing_bracket n t → IsFirstRead Second n t r
   blank_email : (name rest : Text) → IsContact t name [] rest → r ≡ fault empty_email n t → IsFirstRead Second n t r
-  first : (name email rest : Text) → IsContact t name email rest → email ≢ [] → Second name email rest r → IsFirstRead Second n t r
+  first : (name email rest : Text) → IsContact t name email rest → email ≢ [] → Second name email rest r
+      → IsFirstRead Second n t r
 
 -- the line begins with `#`
 abbrev pub IsComment : Text → Type 0
@@ -269,7 +281,8 @@ IsComment line = (after : Text) × (line ≡ 35 ∷ after)
 pub data IsReadBy (Says : Text → Reading → Type 0) (line : Text) (o : Option Reading) : Type 0 where
   comment : IsComment line → o ≡ None → IsReadBy Says line o
   blank : (IsComment line → ⊥) → IsTrimmed line [] → o ≡ None → IsReadBy Says line o
-  said : (t : Text) (r : Reading) → (IsComment line → ⊥) → IsTrimmed line t → t ≢ [] → Says t r → o ≡ Some r → IsReadBy Says line o
+  said : (t : Text) (r : Reading) → (IsComment line → ⊥) → IsTrimmed line t → t ≢ [] → Says t r → o ≡ Some r
+      → IsReadBy Says line o
 
 -- what the line says as line n, by cases of which each line meets one
 abbrev pub IsRead : ℕ → Text → Option Reading → Type 0

@@ -21,7 +21,7 @@ pub enum ParsedContact<'a> {
 }
 
 /// Cuts a text at its first `<` and the first `>` after it. Both contacts of a mailmap line are read by this, and the
-/// lines that ask for a contact, too.
+/// contacts that a mailmap is asked for.
 #[inline(always)]
 pub fn parse_name_and_email(text: &[u8]) -> ParsedContact<'_>
     ensures { parsed_contact_of result ≡ trimmed_contact (cut text.now) }

@@ -1,7 +1,8 @@
 //! Laws of the definitions. Each function runs nothing: its contract is the law.
 ghost use Rattle.std.specs.Prelude.{◌≡◌, ◌↔◌, ℕ, List, Option};
 ghost use Rattle.mailmap_entries.specs.Folding.{Text};
-ghost use Rattle.mailmap_grammar.specs.Lines.{cut, Closed, Unclosed, Absent, IsCut, IsUnclosed, HoldsNo, Reading, reading, strict_reading, IsRead, IsReadStrictly, pieces, ArePieces};
+ghost use Rattle.mailmap_grammar.specs.Lines.{cut, Closed, Unclosed, Absent, IsCut, IsUnclosed, HoldsNo, Reading};
+ghost use Rattle.mailmap_grammar.specs.Lines.{reading, strict_reading, IsRead, IsReadStrictly, pieces, ArePieces};
 ghost use Rattle.mailmap_grammar.specs.Trimming.{IsTrimmed, trim};
 
 /// Trimming removes the longest stretch of white space at the start and then the longest one at the end, and there is

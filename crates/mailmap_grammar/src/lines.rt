@@ -1,9 +1,9 @@
 //! The lines of a mailmap: how a buffer is cut into lines, what each line says, and why one says nothing that can be
 //! used. The grammar is that of git's `.mailmap` files as the crate gix-mailmap reads it.
 //!
-//! A buffer is cut after each line feed. A line whose first byte is `#` is a comment, even if white space would have
-//! to go before the `#` to hide it: ` # c` is none. A line of only white space is blank. Both give nothing, but they
-//! are counted: lines are numbered from 1.
+//! A buffer is cut after each line feed. A line whose first byte is `#` is a comment; ` # c` is none, since a blank
+//! comes first. A line of only white space is blank. Both give nothing, but they are counted: lines are numbered from
+//! 1.
 //!
 //! Any other line is trimmed of Unicode's white space and read as one contact or two, each a name and an email in
 //! brackets: `Proper <proper@x> Commit <commit@x>`.
@@ -11,8 +11,8 @@
 //! - The first `<` opens the email and the first `>` after it closes it; name and email are trimmed, too. So a `>` may
 //!   stand in a name and a `<` in an email.
 //! - Either name may be missing, and the second contact as well. The second email may be empty, the first one not.
-//! - What is after the second contact is ignored. So is a second contact without its `<`, and one without its `>`,
-//!   unless lines are read strictly, by [`parse_strict`].
+//! - What is after the second contact is ignored. So is text after the first contact that has no `<`. A second `<`
+//!   without its `>` is ignored, too, unless lines are read strictly, by [`parse_strict`].
 //! - One email alone maps nothing.
 ghost use Rattle.std.specs.Prelude.{◌≡◌, ◌≤◌, IfOk, IfSome, option_map, length};
 ghost use Rattle.std.specs.Option.{option_copied};
@@ -20,7 +20,9 @@ ghost use Rattle.std.specs.Iterator.{YieldsFirstBy, item_count};
 ghost use Rattle.std.specs.List.Sorted.{IsStrictlySortedBy};
 ghost use Rattle.std.specs.Ordering.{nat_cmp};
 ghost use Rattle.mailmap_entries.specs.Entries.{mapping_of};
-ghost use Rattle.mailmap_grammar.specs.Lines.{trailing_text, cut, reading_of, reading_with_trailing, reading_by, line_reader, non_empty as spec_non_empty, by_both, readings, readings_from, strict_readings, pieces, fault_lines, good};
+ghost use Rattle.mailmap_grammar.specs.Lines.{trailing_text, cut, reading_of, reading_with_trailing, reading_by};
+ghost use Rattle.mailmap_grammar.specs.Lines.{line_reader, non_empty as spec_non_empty, by_both, readings};
+ghost use Rattle.mailmap_grammar.specs.Lines.{readings_from, strict_readings, pieces, fault_lines, good};
 ghost use Rattle.mailmap_grammar.specs.Trimming.{trim as spec_trim};
 
 mod derived;
@@ -74,8 +76,8 @@ pub fn parse_strict(buf: &[u8]) -> StrictLines<'_>
     }
 }
 
-/// Parses `buf` as [`parse`] does, and leaves out the lines that have a fault. git skips most such lines without a word,
-/// too, but it takes an email of blanks: `Jane < > <b@x>` maps `b@x` there.
+/// Parses `buf` as [`parse`] does, and leaves out the lines that have a fault. git, too, skips most such lines without
+/// a word, but it takes an email of blanks: `Jane < > <b@x>` maps `b@x` there.
 ///
 /// The buffer `<a@x>\nJane <j@x>\nplain` gives only the entry of `Jane` by `j@x`.
 pub fn parse_ignore_errors(buf: &[u8]) -> GoodLines<'_>
@@ -299,7 +301,7 @@ impl<'a> Iterator for Walk<'a> {
 
 /// What the line `text` says, as it is in its buffer; `None` for a comment and for a blank line.
 ///
-/// `line` is the number that a fault shows. A line feed or a carriage return at the end of `text` says nothing, as
+/// `line` is the number that a fault shows. A line feed or a carriage return at the end of `text` says nothing, like
 /// other white space there. Of `Jane <j@x>` this gives the entry of `Jane` by `j@x`.
 #[inline(always)]
 pub fn read_line(

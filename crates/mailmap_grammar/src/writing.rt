@@ -1,7 +1,9 @@
 //! How an entry is written: as a line, which [reads](crate::parse()) as the same entry again if a line can hold it.
-ghost use Rattle.std.specs.Prelude.{◌≡◌, ◌≢◌, ◌++◌, ◌∷◌, ◌+◌, ◌≤◌, ◌^◌, ◌↔◌, [], length, IsTrue, OnOk, IfSome, IfNone, MatchOption, option_map, unwrap_or};
+ghost use Rattle.std.specs.Prelude.{◌≡◌, ◌≢◌, ◌++◌, ◌∷◌, ◌+◌, ◌≤◌, ◌^◌, ◌↔◌, [], length, IsTrue, OnOk, IfSome, IfNone};
+ghost use Rattle.std.specs.Prelude.{MatchOption, option_map, unwrap_or};
 ghost use Rattle.std.specs.Option.{option_copied};
-ghost use Rattle.mailmap_grammar.specs.CanonicalText.{IsWritable, IsWritableName, IsWritableEmail, name_part, bracketed_email, email_part, line};
+ghost use Rattle.mailmap_grammar.specs.CanonicalText.{IsWritable, IsWritableName, IsWritableEmail, name_part};
+ghost use Rattle.mailmap_grammar.specs.CanonicalText.{bracketed_email, email_part, line};
 ghost use Rattle.mailmap_entries.specs.Entries.{mapping_of};
 ghost use Rattle.mailmap_grammar.specs.Lines.{HoldsNo};
 ghost use Rattle.mailmap_grammar.specs.Trimming.{trim as spec_trim};
@@ -66,18 +68,18 @@ fn is_line_without(text: &[u8], byte: u8) -> bool
     text.find_byteset(&[byte, b'\n']).is_none()
 }
 
-/// A length and that of the entry's line together, if a length can be that large.
+/// The sum of `len` and the length of the entry's line, `None` if it is too large for a length.
 pub fn len_with_line(len: usize, entry: &Entry<'_>) -> Option<usize>
     ensures { let all = len + length (line (mapping_of entry.now)) in MatchOption result (2 ^ 64 ≤ all) (λ n. n ≡ all) }
 {
-    // beside each text: a blank, brackets and a blank, a blank, and brackets, the first blank and the line feed
+    // What is beside each text: a blank; brackets and a blank; a blank; brackets, the blank in front and the line feed.
     let len = len_with_part(len, entry.new_name(), 1)?;
     let len = len_with_part(len, entry.new_email(), 3)?;
     let len = len_with_part(len, entry.old_name(), 1)?;
     len_with_part(len, Some(entry.old_email()), 4)
 }
 
-// A length and that of a text and of what is beside it together, if there is a text.
+// The sum of `len` and, if there is a text, of its length and `beside`. `None` if it is too large for a length.
 fn len_with_part(len: usize, text: Option<&[u8]>, beside: usize) -> Option<usize>
     ensures { let all = len + unwrap_or (option_map (λ t. length t + beside) (option_copied text.entry)) 0
         in MatchOption result (2 ^ 64 ≤ all) (λ n. n ≡ all) }

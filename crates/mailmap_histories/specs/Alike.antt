@@ -2,7 +2,8 @@
 use Rattle.std.specs.Prelude.{◌≡◌, List, Option, Some, option_map}
 use Rattle.mailmap_entries.specs.Entries.{Mapping}
 use Rattle.mailmap_entries.specs.Folding.{Text}
-use Rattle.mailmap_histories.specs.Histories.{Key, first, accepted, of_key, has_key, given_fields, last_fields, spelling}
+use Rattle.mailmap_histories.specs.Histories.{Key, first, accepted, of_key, has_key, given_fields, last_fields}
+use Rattle.mailmap_histories.specs.Histories.{spelling}
 
 -- as the first entry of a key has it
 abbrev pub first_name : List Mapping → Key → Option (Option Text)

@@ -32,7 +32,8 @@ pub data IsBuilt : List Mapping → List Mapping → Type 0 where
 
 -- what holds of each listing n that was built, and of its history h
 pub record IsHeadline (h n : List Mapping) : Type 0 where
-  -- n has one entry for each distinct key of the accepted entries, in ascending order of the keys: the one that stands for all of its key
+  -- n has one entry for each distinct key of the accepted entries, in ascending order of the keys: what all entries of
+  -- the key say together
   pub normal : IsNormal h n
   -- the entries of n rebuild n, and nothing else
   pub rebuilds : IsNormal n n × ((m : List Mapping) → IsNormal n m → m ≡ n)

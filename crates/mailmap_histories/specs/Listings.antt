@@ -13,7 +13,8 @@ same_optional = option_eq (pointwise nat_eq)
 
 -- whether two entries have the same four texts
 abbrev pub same_entry : Mapping → Mapping → Bool
-same_entry a b = same_optional a.new_name b.new_name && (same_optional a.new_email b.new_email && (same_optional a.old_name b.old_name && pointwise nat_eq a.old_email b.old_email))
+same_entry a b = same_optional a.new_name b.new_name && (same_optional a.new_email b.new_email
+    && (same_optional a.old_name b.old_name && pointwise nat_eq a.old_email b.old_email))
 
 -- whether two listings have the same entries in the same order
 abbrev pub same_entries : List Mapping → List Mapping → Bool

@@ -42,9 +42,9 @@ pub fn law_shortest()
     ensures { (l n : List Mapping) → IsNormal l n → length n ≤ length l }
 {}
 
-/// What merges build has one entry for each distinct key, in ascending order; its entries rebuild it, as no shorter list
-/// does; condensing any stretch of the accepted entries, or reordering across emails, changes nothing; and a plain scan of
-/// the history answers as the listing does.
+/// What merges build has one entry for each distinct key, in ascending order. Its entries rebuild it, and no shorter
+/// list does. Condensing any stretch of the accepted entries, or reordering across emails, changes nothing. A plain
+/// scan of the history answers as the listing does.
 pub fn law_headline()
     ensures { (h n : List Mapping) → IsBuilt h n → IsHeadline h n }
 {}
@@ -71,7 +71,7 @@ pub fn law_of_email()
         → scan h name email ≡ scan g name email }
 {}
 
-/// Signatures whose names and emails differ only in the case of letters resolve to one email, byte for byte, where the
+/// Signatures whose names and emails differ only in the case of letters resolve to one email, byte for byte, if the
 /// history has an entry for that email.
 pub fn law_one_email()
     ensures { (h : List Mapping) (name other_name email other_email : Text)

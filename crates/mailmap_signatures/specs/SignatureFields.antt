@@ -31,11 +31,13 @@ empty_fields = record { name = []; email = []; time = epoch }
 
 -- by name, email and time, the texts byte by byte and the time by its seconds and then its offset
 abbrev pub signature_cmp : SignatureFields → SignatureFields → Ordering
-signature_cmp a b = ordering_then (text_cmp a.name b.name) (ordering_then (text_cmp a.email b.email) (time_cmp a.time b.time))
+signature_cmp a b = ordering_then (text_cmp a.name b.name)
+    (ordering_then (text_cmp a.email b.email) (time_cmp a.time b.time))
 
 -- what a hash takes in
 abbrev pub signature_writes : SignatureFields → fed.HashWrites
-signature_writes s = fed.slice fed.u8 s.name ++ fed.slice fed.u8 s.email ++ (fed.i64 s.time.seconds ++ fed.i32 s.time.offset)
+signature_writes s = fed.slice fed.u8 s.name ++ fed.slice fed.u8 s.email
+    ++ (fed.i64 s.time.seconds ++ fed.i32 s.time.offset)
 
 -- no text is a copy
 pub record BorrowsBoth (s : Signature) : Type 0 where

@@ -1,5 +1,6 @@
 -- The time that a text spells, as `1711398853 +0800`.
-use Rattle.std.specs.Prelude.{◌≡◌, ◌⊎◌, ◌+◌, ◌*◌, ◌-◌, ◌^◌, ◌<◌, ◌<ℤ◌, ℕ, ℤ, pos, neg_ℤ, Bool, if◌then◌else◌, Option, MatchOption, [], ◌∷◌, ◌++◌, length, FitsSigned}
+use Rattle.std.specs.Prelude.{◌≡◌, ◌⊎◌, ◌+◌, ◌*◌, ◌-◌, ◌^◌, ◌<◌, ◌<ℤ◌, ℕ, ℤ, pos, neg_ℤ, Bool, if◌then◌else◌, Option}
+use Rattle.std.specs.Prelude.{MatchOption, [], ◌∷◌, ◌++◌, length, FitsSigned}
 use Rattle.std.specs.Char.{IsAsciiDigit}
 use Rattle.std.specs.Int.{w64}
 use Rattle.std.specs.List.{AllByRecursion}

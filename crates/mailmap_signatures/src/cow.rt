@@ -1,7 +1,8 @@
 //! Signatures whose texts are lent if nothing was mapped, and owned if something was.
 ghost use Rattle.std.specs.Prelude.{◌≡◌, ◌⊎◌, IfOk, OnErr};
 ghost use Rattle.std.specs.Cow.{cow_slice_items, IsOwnedSlice, IsBorrowedSlice};
-ghost use Rattle.mailmap_signatures.specs.SignatureFields.{owned_fields, cow_fields, empty_fields, BorrowsBoth, IsTakenFrom, IsHeldAs};
+ghost use Rattle.mailmap_signatures.specs.SignatureFields.{owned_fields, cow_fields, empty_fields, BorrowsBoth};
+ghost use Rattle.mailmap_signatures.specs.SignatureFields.{IsTakenFrom, IsHeldAs};
 
 mod derived;
 

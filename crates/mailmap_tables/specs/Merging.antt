@@ -38,9 +38,12 @@ abbrev pub Extends : Text → Text → Type 0
 Extends old new = (more : Text) × (new ≡ old ++ more)
 
 -- how a name comes out: as it is, or as it comes first, at its index among the names that stand
-pub data NameLookup (ks : List NameGroup) (passed : List NameGroup) (name : Text) (kept : Text) (left : List NameGroup) : Type 0 where
-  known : (k : NameGroup) → ks ≡ passed ++ k ∷ left → name_key k ≡ folded name → kept ≡ k.old_name → NameLookup ks passed name kept left
-  unknown : ks ≡ passed ++ left → AllByRecursion (λ k. text_cmp (name_key k) (folded name) ≡ Less) passed → AllByRecursion (λ k. text_cmp (folded name) (name_key k) ≡ Less) left → kept ≡ name → NameLookup ks passed name kept left
+pub data NameLookup (ks passed : List NameGroup) (name kept : Text) (left : List NameGroup) : Type 0 where
+  known : (k : NameGroup) → ks ≡ passed ++ k ∷ left → name_key k ≡ folded name → kept ≡ k.old_name
+      → NameLookup ks passed name kept left
+  unknown : ks ≡ passed ++ left → AllByRecursion (λ k. text_cmp (name_key k) (folded name) ≡ Less) passed
+      → AllByRecursion (λ k. text_cmp (folded name) (name_key k) ≡ Less) left → kept ≡ name
+      → NameLookup ks passed name kept left
 
 -- one name came out, after those that come before it
 pub record NamePut (ks left : List NameGroup) (n : NameGroup) (old new : Contents) : Type 0 where
@@ -90,13 +93,16 @@ abbrev pub bare : Text → EmailGroup
 bare email = record { old_email = email; own = no_fields; names = [] }
 
 -- how an email comes out: as it is, or as its earliest entry spells it
-pub data EmailLookup (gs : List EmailGroup) (passed : List EmailGroup) (ps : List (ℕ × Mapping)) (email : Text) (g : EmailGroup) (left : List EmailGroup) : Type 0 where
+pub data EmailLookup (gs passed : List EmailGroup) (ps : List (ℕ × Mapping)) (email : Text) (g : EmailGroup)
+    (left : List EmailGroup) : Type 0 where
   known : gs ≡ passed ++ g ∷ left → email_key g ≡ email → EmailLookup gs passed ps email g left
-  unknown : gs ≡ passed ++ left → AllByRecursion (λ k. text_cmp (email_key k) email ≡ Less) passed → AllByRecursion (λ k. text_cmp email (email_key k) ≡ Less) left
+  unknown : gs ≡ passed ++ left → AllByRecursion (λ k. text_cmp (email_key k) email ≡ Less) passed
+      → AllByRecursion (λ k. text_cmp email (email_key k) ≡ Less) left
       → (p : ℕ × Mapping) → IsEarliest ps p → g ≡ bare p.1.old_email → EmailLookup gs passed ps email g left
 
 -- one email came out for a group of the batch, after those that come before it
-pub record GroupPut (gs left : List EmailGroup) (ps : List (ℕ × Mapping)) (email : Text) (old new : Contents) : Type 0 where
+pub record GroupPut (gs left : List EmailGroup) (ps : List (ℕ × Mapping)) (email : Text) (old new : Contents)
+    : Type 0 where
   pub passed : List EmailGroup
   pub existing : EmailGroup
   pub group : EmailGroup
@@ -112,7 +118,8 @@ pub record GroupPut (gs left : List EmailGroup) (ps : List (ℕ × Mapping)) (em
 pub record IsSpelling (gs : List EmailGroup) (ps : List (ℕ × Mapping)) (s : Text → Text) : Type 0 where
   pub same : AllByRecursion (λ p. folded (s (email_text p.1)) ≡ email_text p.1) ps
   pub existing : AllByRecursion (λ g. s (email_key g) ≡ g.old_email) gs
-  pub new : (p : ℕ × Mapping) → AllByRecursion (λ g. email_key g ≡ email_text p.1 → ⊥) gs → Contains ps p → All (λ q. email_text q.1 ≡ email_text p.1 → p.0 ≤ q.0) ps → s (email_text p.1) ≡ p.1.old_email
+  pub new : (p : ℕ × Mapping) → AllByRecursion (λ g. email_key g ≡ email_text p.1 → ⊥) gs → Contains ps p
+      → All (λ q. email_text q.1 ≡ email_text p.1 → p.0 ≤ q.0) ps → s (email_text p.1) ≡ p.1.old_email
 
 abbrev pub spelled_by : (Text → Text) → Mapping → Mapping
 spelled_by s m = with_email (s (email_text m)) m

@@ -9,7 +9,10 @@ use Rattle.mailmap_tables.specs.declared.texts.Texts.{Texts}
 
 -- each field as it is given, and else as it stood
 abbrev pub given_or : Fields → Fields → Fields
-given_or given existing = record { name = option_or given.name existing.name; email = option_or given.email existing.email }
+given_or given existing = record {
+  name = option_or given.name existing.name;
+  email = option_or given.email existing.email;
+}
 
 -- a row spells in one pool the email that another row spells in another, and its fields with those that are given
 pub record OwnSpells (old new : Text) (existing : Texts) (given : Fields) (own : Texts) : Type 0 where

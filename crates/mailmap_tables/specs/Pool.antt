@@ -22,14 +22,26 @@ LiesIn n s = s.start + s.len ≤ n
 
 -- the fields that a row spells
 abbrev pub fields_of : Text → Texts → Fields
-fields_of pool t = record { name = option_map (spelled pool) (name_span t); email = option_map (spelled pool) (email_span t) }
+fields_of pool t = record {
+  name = option_map (spelled pool) (name_span t);
+  email = option_map (spelled pool) (email_span t);
+}
 
+-- what the row of a name spells
 abbrev pub name_group : Text → Texts → NameGroup
-name_group pool t = record { old_name = spelled pool (old_span t); new_name = (fields_of pool t).name; new_email = unwrap_or (fields_of pool t).email [] }
+name_group pool t = record {
+  old_name = spelled pool (old_span t);
+  new_name = (fields_of pool t).name;
+  new_email = unwrap_or (fields_of pool t).email [];
+}
 
 -- what a row and the rows of its names spell
 abbrev pub group_of : Text → Texts → List Texts → EmailGroup
-group_of pool t names = record { old_email = spelled pool (old_span t); own = fields_of pool t; names = map (name_group pool) names }
+group_of pool t names = record {
+  old_email = spelled pool (old_span t);
+  own = fields_of pool t;
+  names = map (name_group pool) names;
+}
 
 -- the bytes that a span names, if there is one
 abbrev pub bytes_of : Text → Option Span → Text
@@ -38,7 +50,8 @@ bytes_of pool o = unwrap_or (option_map (spelled pool) o) []
 -- a row spells in one pool what three spans spell in another
 pub record RowSpells (old new : Text) (old_text : Span) (new_name new_email : Option Span) (t : Texts) : Type 0 where
   pub old_same : spelled new (old_span t) ≡ spelled old old_text
-  pub fields : fields_of new t ≡ record { name = option_map (spelled old) new_name; email = option_map (spelled old) new_email }
+  pub fields : fields_of new t
+      ≡ record { name = option_map (spelled old) new_name; email = option_map (spelled old) new_email }
 
 -- an email's names are a range of the one table of names
 abbrev pub names_of : List Texts → EmailRow → List Texts

@@ -50,7 +50,8 @@ entry_reserved own m = entry_bytes m + (entry_bytes m + own)
 
 -- where fields are given for an email
 abbrev pub own_reserved : EmailGroup → Fields → ℕ
-own_reserved g f = let given = optional_bytes f.name + optional_bytes f.email in length g.old_email + own_bytes g + (given + given)
+own_reserved g f = let given = optional_bytes f.name + optional_bytes f.email
+    in length g.old_email + own_bytes g + (given + given)
 
 -- where fields are given for a name
 abbrev pub fields_reserved : NameGroup → ℕ
@@ -68,7 +69,8 @@ OwnWithin n gs ms = AllByRecursion (λ m. AllByRecursion (λ g. email_key g ≡ 
 
 -- so many bytes are enough for these entries: the fields of their emails grow by what the entries give
 abbrev pub HasReserved : List EmailGroup → List Mapping → ℕ → Type 0
-HasReserved gs ms bytes = (own : ℕ) × (OwnWithin own gs ms × (sum_by (entry_reserved (own + sum_by entry_bytes ms)) ms ≤ bytes))
+HasReserved gs ms bytes = (own : ℕ)
+    × (OwnWithin own gs ms × (sum_by (entry_reserved (own + sum_by entry_bytes ms)) ms ≤ bytes))
 
 -- there is room for these entries
 pub record Fits (r : Reserved) (ms : List Mapping) : Type 0 where

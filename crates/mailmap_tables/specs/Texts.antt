@@ -40,7 +40,12 @@ span_bytes (Some s) = s.len
 
 -- the row of texts with their lengths, from there on
 abbrev pub row_of : ℕ → Span → Option Span → Option Span → Texts
-row_of start old name email = record { start = start; old_len = old.len; new_name_len = len_of name; new_email_len = len_of email }
+row_of start old name email = record {
+  start = start;
+  old_len = old.len;
+  new_name_len = len_of name;
+  new_email_len = len_of email;
+}
 
 -- the texts are one after another
 pub record AreTogether (old : Span) (name email : Option Span) : Type 0 where

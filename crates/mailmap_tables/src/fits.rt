@@ -23,14 +23,14 @@ const MOST_IN_PLACE: usize = 16;
 // What tables have for the keys of entries.
 #[derive(Clone, Copy)]
 struct Existing {
-    // how many bytes the entries replace, or more
+    // how many bytes the entries replace at most
     replaced: usize,
     // how many bytes the fields of one of their emails have at most
     own_len: usize,
 }
 
-/// How many bytes of the pool entries take at most that are put one by one, if they are so few beside the rows of the
-/// tables that this moves less than a copy. After it, less than half of the pool may be unused.
+/// How many bytes of the pool are enough to put entries in place, one by one. `None` if there are so many entries,
+/// beside the rows of the tables, that a copy moves less, or if half of the pool could be unused after that.
 pub(crate) fn fits_in_place(tables: &Tables, entries: &[Entry<'_>]) -> Option<usize>
     requires { AreGroups tables.now.groups }
     ensures { ForSome result (HasReserved tables.now.groups (map mapping_of entries.now)) }

@@ -1,5 +1,6 @@
 //! Putting a few entries into the tables one by one, in place: all memory is taken first, and then no step can fail.
-ghost use Rattle.std.specs.Prelude.{◌≡◌, ◌≤◌, ◌<◌, ◌+◌, ◌++◌, [], ◌∷◌, List, Some, true, OnOk, OnErr, IfOk, IfErr, map, length, slice_get};
+ghost use Rattle.std.specs.Prelude.{◌≡◌, ◌≤◌, ◌<◌, ◌+◌, ◌++◌, [], ◌∷◌, List, Some, true, OnOk, OnErr, IfOk, IfErr, map};
+ghost use Rattle.std.specs.Prelude.{length, slice_get};
 ghost use Rattle.std.specs.List.{AllByRecursion, HoldsAt};
 ghost use Rattle.std.specs.List.Sorted.{IsStrictlySortedBy};
 ghost use Rattle.mailmap_entries.specs.Entries.{Mapping, mapping_of};
@@ -10,7 +11,8 @@ ghost use Rattle.mailmap_tables.specs.Named.{given_or};
 ghost use Rattle.mailmap_batches.specs.Given.{fields_given, named_group};
 ghost use Rattle.mailmap_tables.specs.Pool.{NameLies, name_group};
 ghost use Rattle.mailmap_tables.specs.KeySearch.{IsFound, IsMissing};
-ghost use Rattle.mailmap_tables.specs.Reserved.{EmailChanged, EmailReady, Fits, HasReserved, NameAdded, Says, TookReserved, name_reserved, own_reserved};
+ghost use Rattle.mailmap_tables.specs.Reserved.{EmailChanged, EmailReady, Fits, HasReserved, NameAdded, Says};
+ghost use Rattle.mailmap_tables.specs.Reserved.{TookReserved, name_reserved, own_reserved};
 
 use crate::reserved::ReservedTables;
 use crate::search::{find_email, find_name};
@@ -20,8 +22,9 @@ use mailmap_entries::Entry;
 use std::alloc::{AllocError, Global};
 use std::mem;
 
-/// Merges entries into the tables in place, as later than all that is there. All memory is taken first: when there is
-/// not enough, the tables stay as they were.
+/// Merges entries into the tables in place, after all that is there. `bytes` is the room in the pool that
+/// [`fits_in_place`](crate::fits::fits_in_place) found. All memory is taken first: if it runs out, the tables stay as
+/// they were.
 pub(crate) fn merge_in_place(
     alloc: Global,
     tables: &mut Tables,
@@ -97,7 +100,7 @@ fn named<'a>(entry: &Entry<'a>, old_name: &'a [u8]) -> Named<'a>
     ensures { Says (mapping_of entry.now) (named_group result) }
 {
     let Some(new_email) = entry.new_email() else {
-        // An entry with an old name has a new email: so it was made.
+        // Each constructor that takes an old name takes a new email, too.
         unreachable!()
     };
     Named {
@@ -144,7 +147,7 @@ fn put_fields(tables: &mut ReservedTables, email: usize, given: Given<'_>)
     tables.replace_texts(email, own);
 }
 
-// Puts a name among those of an email, or new fields in place of those that it has.
+// Puts a name among those of an email. A name that is there already gets new fields.
 fn put_name(tables: &mut ReservedTables, email: usize, named: Named<'_>)
     requires within { email < length tables.old.held.groups }
     requires ascending { HoldsAt (λ (g : EmailGroup). IsStrictlySortedBy text_cmp (map name_key g.names))
@@ -169,7 +172,7 @@ fn put_name(tables: &mut ReservedTables, email: usize, named: Named<'_>)
     }
 }
 
-// The index of a name among those of an email, and its row, or where it would be.
+// The index of a name among those of an email, and its row. `Err` has the index where it would be.
 fn name_index(tables: &ReservedTables, email: usize, name: &[u8]) -> Result<(usize, NameRow), usize>
     requires within { email < length tables.now.held.groups }
     requires ascending { HoldsAt (λ (g : EmailGroup). IsStrictlySortedBy text_cmp (map name_key g.names))

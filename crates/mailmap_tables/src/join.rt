@@ -27,8 +27,8 @@ use mailmap_batches::indexed::IndexedEntry;
 use mailmap_entries::Entry;
 use std::alloc::{AllocError, Global};
 
-// Appends a name to `out`, with its old name as `old_name` spells it. `replaced` is how many bytes of the pool no row
-// uses then.
+// Appends a name to `out`, with its old name as `old_name` spells it. By that `replaced` bytes of the pool go out of
+// use.
 fn push_named(
     out: &mut Tables,
     old_name: Span,
@@ -48,7 +48,7 @@ fn push_named(
     out.push_name(row)
 }
 
-// Appends a name to `out`, after the old names that come before it, and gives those that are left.
+// Appends a name to `out`, after the old names that come before it, and gives the old names that are left.
 fn join_name<'k>(
     out: &mut Tables,
     old_names: &'k [NameRow],
@@ -239,8 +239,8 @@ pub(crate) fn joined(
     join_sorted(out, &old_tables.view(), &batch)
 }
 
-// Builds the tables anew if half of the pool or more is unused, so that a pool doesn't grow without end by merges that
-// replace texts.
+// Builds the tables anew if half of the pool or more is unused. So merges that replace texts don't let a pool grow
+// without end.
 pub(crate) fn rewritten_if_half_unused(tables: Tables) -> Result<Tables, AllocError>
     requires { IsComplete tables }
     ensures { IfOk result (λ made. IsComplete made × (listing made.groups ≡ listing tables.groups)) }

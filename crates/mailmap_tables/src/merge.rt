@@ -49,7 +49,8 @@ impl Tables {
     }
 }
 
-// The room that the batch takes in place, if it is to be put there. After a portion it is not.
+// The room in the pool that the batch takes if it is put in place, `None` if it isn't to be. After a portion it never
+// is.
 fn room_in_place(collected: &Collected<'_>, tables: &Tables) -> Option<usize>
     requires { AreGroups tables.now.groups }
     ensures none { ForSome result (λ bytes. collected.now.made ≡ None) }

@@ -1,5 +1,6 @@
 //! The pool: the bytes of all texts, one after another, and how many of them no row uses any more.
-ghost use Rattle.std.specs.Prelude.{◌≡◌, ◌≤◌, ◌<◌, ◌+◌, ◌++◌, [], IfOk, IsOk, IsTrue, OnOk, length, vec_len, vec_capacity};
+ghost use Rattle.std.specs.Prelude.{◌≡◌, ◌≤◌, ◌<◌, ◌+◌, ◌++◌, [], IfOk, IsOk, IsTrue, OnOk, length, vec_len};
+ghost use Rattle.std.specs.Prelude.{vec_capacity};
 ghost use Rattle.std.specs.Option.{ForSome, option_copied, option_map, option_or};
 
 use crate::texts::{Span, Texts, fields, span_len, together};

@@ -1,6 +1,7 @@
-//! The accepted entries of an iterator on their way into tables. If few keys come again and again, they are joined in
-//! portions, so that they take the memory of their keys and of one portion, however many they are.
-ghost use Rattle.std.specs.Prelude.{◌≡◌, ◌≢◌, ◌<◌, [], ◌++◌, ◌∷◌, List, IfOk, None, OnErr, OnOk, Some, false, true, map, unwrap_or};
+//! The accepted entries of an iterator on their way into tables. If the same few keys come again and again, the entries
+//! are joined in portions. Then they take the memory of these keys and of one portion, however many entries there are.
+ghost use Rattle.std.specs.Prelude.{◌≡◌, ◌≢◌, ◌<◌, [], ◌++◌, ◌∷◌, List, IfOk, None, OnErr, OnOk, Some, false, true};
+ghost use Rattle.std.specs.Prelude.{map, unwrap_or};
 ghost use Rattle.std.specs.Iterator.{IsFinite, Drains, Yields};
 ghost use Rattle.mailmap_entries.specs.Entries.{Mapping, mapping_of};
 ghost use Rattle.mailmap_entries.specs.declared.entry.Entry.{Entry as Item};
@@ -19,7 +20,7 @@ const MIN_PORTION: usize = 16_384;
 // How many entries of a portion are looked at, to see whether their keys come again and again.
 const SAMPLE: usize = 4_096;
 
-// About as many bytes of the pool are copied in the time that joining one entry takes, or more.
+// In the time that it takes to join one entry, at least about so many bytes of the pool can be copied.
 const BYTES_PER_ENTRY: usize = 256;
 
 // The size of the table of hashes that were seen.
@@ -33,7 +34,7 @@ const HASH_FACTOR: u64 = 0x0000_0100_0000_01b3;
 /// Accepted entries on their way into tables.
 #[derive(Drop)]
 pub(crate) struct Collected<'a> {
-    // the old tables joined with all portions so far, `None` before the first portion
+    // the old tables joined with all portions so far, `None` before the first one
     pub(crate) made: Option<Tables>,
     // the accepted entries after those
     pub(crate) batch: Vec<Entry<'a>>,
@@ -132,7 +133,7 @@ impl<'a> Collected<'a> {
         self.batch.is_empty()
     }
 
-    /// Puts the tables that were made in place of the old ones.
+    /// Replaces the old tables by those that were made of the portions, if there were any.
     pub(crate) fn put_into(self, old_tables: &mut Tables)
         ensures { old_tables.new ≡ unwrap_or self.entry.made old_tables.old }
     {
@@ -165,15 +166,15 @@ impl<'a> Collected<'a> {
     }
 }
 
-// How many entries are to be joined at once after tables. A portion passes on all their rows and copies their pool, so
-// it has to have enough entries that joining them costs more.
+// How many entries make a portion to be joined with these tables. To join it passes on all rows of the tables and
+// copies their pool, so it has to have so many entries that these cost more.
 fn portion_after(tables: &Tables) -> usize {
     let view = tables.view();
     let rows = view.row_count().saturating_mul(4);
     MIN_PORTION.max(rows).max(view.pool.len() / BYTES_PER_ENTRY)
 }
 
-// Whether the keys of entries come again and again, as far as a look at the first ones can tell.
+// Whether the keys of entries come again and again, as far as the first ones show.
 fn come_again(alloc: Global, entries: &[Entry<'_>]) -> Result<bool, AllocError> {
     let sample = &entries[..entries.len().min(SAMPLE)];
     let mut known: usize = 0;

@@ -1,5 +1,6 @@
 //! Tables with memory reserved beforehand: texts and rows go in where they belong, and no step can fail.
-ghost use Rattle.std.specs.Prelude.{List, ℕ, ◌≡◌, ◌≤◌, ◌<◌, ◌+◌, ◌-◌, ◌++◌, [], length, IfOk, IfErr, OnOk, map, slice_set, vec_len, vec_capacity};
+ghost use Rattle.std.specs.Prelude.{List, ℕ, ◌≡◌, ◌≤◌, ◌<◌, ◌+◌, ◌-◌, ◌++◌, [], length, IfOk, IfErr, OnOk, map};
+ghost use Rattle.std.specs.Prelude.{slice_set, vec_len, vec_capacity};
 ghost use Rattle.std.specs.List.{AllByRecursion, HoldsAt, insert};
 ghost use Rattle.mailmap_tables.specs.Reserved.{one_later};
 
@@ -46,7 +47,8 @@ impl ReservedTables {
     ghost use Rattle.mailmap_batches.specs.Given.{fields_given, named_group};
     ghost use Rattle.mailmap_tables.specs.Pool.{spelled, LiesIn, NameLies, TextsLie, fields_of, group_of, name_group};
     ghost use Rattle.mailmap_tables.specs.Texts.{old_span};
-    ghost use Rattle.mailmap_tables.specs.Reserved.{Reserved, TookReserved, fields_reserved, own_reserved, with_email_at};
+    ghost use Rattle.mailmap_tables.specs.Reserved.{Reserved, TookReserved, fields_reserved, own_reserved};
+    ghost use Rattle.mailmap_tables.specs.Reserved.{with_email_at};
 
     /// Reserves memory for `rows` more rows of each table, and for `bytes` more bytes of texts. If memory runs out, the
     /// tables come back as they were.
@@ -118,7 +120,7 @@ impl ReservedTables {
         }
     }
 
-    /// Puts a text at the end of the pool. So many bytes that were there are out of use then.
+    /// Puts a text at the end of the pool. By that `replaced` bytes of the pool go out of use.
     pub(crate) fn push_text(&mut self, text: &[u8], replaced: usize) -> Span
         requires reserved { length text.now ≤ self.old.bytes }
         ensures held { self.new.held ≡ record self.old.held { pool = self.old.held.pool ++ text.now } }

@@ -83,7 +83,8 @@ pub(crate) fn find_name(tables: &View<'_>, names: &[NameRow], name: &[u8]) -> Re
     search_name(tables, names, name, &mut Steps::new())
 }
 
-/// As [`find_email`], and counts the comparisons: at most as many as the emails that are searched have digits.
+/// As [`find_email`], and counts the comparisons: at most as many as the number of emails from `start` on has binary
+/// digits.
 pub fn search_email(
     tables: &View<'_>,
     start: usize,
@@ -114,7 +115,7 @@ pub fn search_email(
     }
 }
 
-/// As [`find_name`], and counts the comparisons: at most as many as the number of the names has digits.
+/// As [`find_name`], and counts the comparisons: at most as many as the number of the names has binary digits.
 pub fn search_name(
     tables: &View<'_>,
     names: &[NameRow],

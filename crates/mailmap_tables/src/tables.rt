@@ -1,6 +1,7 @@
 //! The tables of a snapshot: one pool of bytes that holds each text, a flat table of emails and a flat table of names,
 //! whose rows say where their texts are in the pool.
-ghost use Rattle.std.specs.Prelude.{◌≡◌, ◌≤◌, ◌<◌, ◌++◌, [], ◌∷◌, length, ◌-◌, List, ℕ, OnOk, OnErr, IfOk, map, take, drop};
+ghost use Rattle.std.specs.Prelude.{◌≡◌, ◌≤◌, ◌<◌, ◌++◌, [], ◌∷◌, length, ◌-◌, List, ℕ, OnOk, OnErr, IfOk, map, take};
+ghost use Rattle.std.specs.Prelude.{drop};
 ghost use Rattle.std.specs.List.{AllByRecursion};
 ghost use Rattle.mailmap_entries.specs.Folding.{folded};
 ghost use Rattle.mailmap_entries.specs.Prefixes.{IsKeyPrefix};
@@ -84,7 +85,7 @@ impl Tables {
         })
     }
 
-    /// Puts a text at the end of the pool. `replaced` is how many bytes that were there no row uses then.
+    /// Puts a text at the end of the pool. By that `replaced` bytes of the pool go out of use.
     pub fn push_text(&mut self, text: &[u8], replaced: usize) -> Result<Span, AllocError>
         ensures grown { OnOk result (self.new ≡ record self.old { pool = self.old.pool ++ text.now }) }
         ensures lies { IfOk result (LiesIn (length self.new.pool)) }
@@ -199,7 +200,8 @@ fn push_row(
     Ok(())
 }
 
-// So many, and room for more, but not for more than twice as many and a few.
+// How many rows to take room for: those that are there, and `more`. A large batch may have few keys, so `more` counts
+// only up to the rows that are there and a few.
 fn with_more(len: usize, more: usize) -> usize {
     len.saturating_add(more.min(len.saturating_add(64)))
 }

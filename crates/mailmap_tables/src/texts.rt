@@ -1,9 +1,11 @@
 //! The texts of a row: an old one, and the new name and the new email that stand for it, one after another in the pool.
-ghost use Rattle.std.specs.Prelude.{◌≡◌, ◌≤◌, ◌<◌, ◌+◌, ◌++◌, None, Some, ◌-◌, min, IfOk, IsOk, IsSome, IsTrue, OnOk, OnErr, length, vec_len, vec_capacity};
+ghost use Rattle.std.specs.Prelude.{◌≡◌, ◌≤◌, ◌<◌, ◌+◌, ◌++◌, None, Some, ◌-◌, min, IfOk, IsOk, IsSome, IsTrue, OnOk};
+ghost use Rattle.std.specs.Prelude.{OnErr, length, vec_len, vec_capacity};
 ghost use Rattle.std.specs.Option.{ForSome};
 ghost use Rattle.mailmap_tables.specs.Merging.{Extends};
 ghost use Rattle.mailmap_tables.specs.Pool.{LiesIn, RowSpells, TextsLie, bytes_of};
-ghost use Rattle.mailmap_tables.specs.Texts.{AreTogether, IsBare, byte_count, email_span, len_of, name_span, old_span, row_of, span_bytes, span_of};
+ghost use Rattle.mailmap_tables.specs.Texts.{AreTogether, IsBare, byte_count, email_span, len_of, name_span, old_span};
+ghost use Rattle.mailmap_tables.specs.Texts.{row_of, span_bytes, span_of};
 
 use std::alloc::AllocError;
 
@@ -14,10 +16,10 @@ pub struct Span {
     pub len: usize,
 }
 
-/// A length that no text has: there is no text.
+/// A length that no text has. It says that there is no text.
 pub const NO_TEXT: usize = usize::MAX;
 
-/// Where the texts of a row are in the pool: the old one starts there, and after it come the new name and the new
+/// Where the texts of a row are in the pool: the old one starts at `start`, and after it come the new name and the new
 /// email, each with a length of its own or [`NO_TEXT`].
 #[derive(Clone, Copy)]
 pub struct Texts {
@@ -102,7 +104,7 @@ pub(crate) fn span_len(span: Option<Span>) -> usize {
     }
 }
 
-// A text that starts there, if it has a length.
+// The text of this length that starts there, `None` if the length is [`NO_TEXT`].
 #[tactic(auto, unfolding(crate::specs::Texts::span_of))]
 fn span_of(start: usize, len: usize) -> Option<Span>
     ensures { result ≡ span_of start len }
@@ -133,8 +135,7 @@ fn len_of(span: Option<Span>) -> usize
     }
 }
 
-/// The row of texts that are in the pool. If they are one after another, it is just that; else they are copied
-/// to the end of the pool.
+/// A row of texts that are in the pool. If they aren't one after another, they are copied to the end of the pool.
 #[inline(always)]
 pub(crate) fn together(
     pool: &mut Vec<u8>,
@@ -164,7 +165,7 @@ pub(crate) fn together(
     Ok(row(len, old, new_name, new_email))
 }
 
-// The row of texts that are one after another from there on.
+// The row of texts that are one after another from `start` on.
 #[inline(always)]
 fn row(start: usize, old: Span, new_name: Option<Span>, new_email: Option<Span>) -> Texts
     ensures { result ≡ row_of start old new_name new_email }
@@ -191,7 +192,7 @@ fn are_together(old: Span, new_name: Option<Span>, new_email: Option<Span>) -> b
     end_after(new_email, end).is_some()
 }
 
-// Where a text that is there ends, if it is there; there itself for no text.
+// Where a text ends that starts at `start`, and `start` itself if there is no text. `None` if it starts elsewhere.
 #[inline(always)]
 fn end_after(span: Option<Span>, start: usize) -> Option<usize>
     requires { ForSome span (LiesIn (usize.MAX - 1)) }
@@ -205,7 +206,7 @@ fn end_after(span: Option<Span>, start: usize) -> Option<usize>
     }
 }
 
-// Puts a text of the pool at its end once more, if there is one.
+// Copies a text of the pool to its end, if there is one.
 #[inline(never)]
 fn push_again(pool: &mut Vec<u8>, span: Option<Span>) -> Result<(), AllocError>
     requires { ForSome span (LiesIn (length pool.old.items)) }

@@ -125,7 +125,7 @@ impl<'a> View<'a> {
     }
 }
 
-// The one at an index.
+// The row at an index.
 fn at<T: Copy>(rows: &[T], index: usize) -> T
     requires { index < length rows.now }
     ensures { result ≡ get_or rows.now index result }

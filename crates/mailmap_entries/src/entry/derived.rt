@@ -1,9 +1,9 @@
 //! What the derives of [`Entry`] mean, said in the words of the definitions.
 //!
-//! A derived method has no place for a clause of ours, and what it promises is built from the fields. Each function here
-//! does nothing but call one of them, and its contract says what that comes to: the order, the equality, the hash and
-//! the default of an entry depend only on its four texts, wherever they lie in memory. A caller, in another crate too,
-//! has the same from the derive itself; these contracts keep it from changing unseen.
+//! A derived method has no place for a clause of ours, and what it promises is built from the fields. Each function
+//! here does nothing but call one of them, and its contract says what that comes to: the order, the equality, the hash
+//! and the default of an entry depend only on its four texts, wherever they are in memory. A caller has the same from
+//! the derive itself, in another crate, too; these contracts keep it from changing unseen.
 ghost use Rattle.std.specs.Prelude.{◌≡◌, ◌↔◌, IsTrue, fold};
 ghost use Rattle.mailmap_entries.specs.Entries.{mapping_of, mapping_cmp, mapping_writes, nothing};
 

@@ -1,6 +1,7 @@
 //! What the comparisons, the hash and the default of [`Signature`] compute, each at one call.
 ghost use Rattle.std.specs.Prelude.{◌≡◌, ◌↔◌, fold, IsTrue};
-ghost use Rattle.mailmap_signatures.specs.SignatureFields.{cow_fields, empty_fields, signature_cmp, signature_writes, BorrowsBoth};
+ghost use Rattle.mailmap_signatures.specs.SignatureFields.{cow_fields, empty_fields, signature_cmp, signature_writes};
+ghost use Rattle.mailmap_signatures.specs.SignatureFields.{BorrowsBoth};
 
 use crate::cow::Signature;
 use std::cmp::Ordering;
