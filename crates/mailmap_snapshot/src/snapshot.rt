@@ -18,8 +18,8 @@ use std::alloc::Global;
 use std::marker::Model;
 pub use text::WriteError;
 
-/// What a history of entries maps: for each old email, and for each old name of it, the name and the email that stand
-/// in their place. Case is ignored where it is that of ASCII letters.
+/// What a history of entries maps: for each old email, and for each old name of it, the name and the email that replace
+/// them. The case of ASCII letters is ignored.
 ///
 /// Contracts see a snapshot as the list of its entries in ascending order of their keys, as [`Snapshot::iter`] gives
 /// it. It keeps the allocator that it was made with.

@@ -19,8 +19,8 @@ pub struct ResolvedSignature<'a> {
 }
 
 impl<'a> ResolvedSignature<'a> {
-    /// What the fields that are kept for an email answer to one that is equal to it but for the case of its letters:
-    /// without a new email, the spelling that was matched stands for another one.
+    /// What the fields that are kept for `matched_email` answer to `current_email`, which is the same email, spelled in
+    /// any case. Without a new email, the kept spelling replaces another one.
     pub(crate) fn try_new(
         new_email: Option<&'a [u8]>,
         matched_email: &'a [u8],

@@ -35,7 +35,7 @@ impl Snapshot {
             → slice_get made.new i ≡ Some true }
         ensures marks { length made.new ≡ length made.old }
     {
-        // What is listed is its own normal list, by the invariant of the tables.
+        // This shows the prover the invariant of the tables: what is listed is its own normal list.
         let _ = &self.tables;
         for (i, source) in sources.iter().enumerate() {
             made[i] = self.merge_source(source).is_ok();
