@@ -1,6 +1,6 @@
 //! How long each of several runs took.
 
-use std::alloc::{AllocError, Global};
+use std::alloc::Global;
 use std::rt::Clock;
 use std::time::Instant;
 use std::{fmt, io};
