@@ -1,13 +1,13 @@
 //! Calls that take a mailmap as text, and keep nothing.
-ghost use Rattle.std.specs.Prelude.{◌≡◌, ◌∷◌, []};
+ghost use Rattle.std.specs.Prelude.{◌≡◌, ◌∷◌, [], IfOk, OnErr};
 ghost use Rattle.gix_mailmap.specs.Contacts.{answers_by};
 ghost use Rattle.mailmap_findings.specs.Findings.{IsPruned};
 ghost use Rattle.mailmap_snapshot.specs.Writing.{IsCompacted};
-ghost use Rattle.gix_mailmap_c.specs.Handed.{IsHanded};
+ghost use Rattle.gix_mailmap_c.specs.Handed.{IsHanded, IsOutOfMemory, IsPut};
 
 use crate::buffers::{out_of_memory, put};
 use gix_mailmap::{check, verify};
-use std::alloc::Global;
+use std::alloc::{AllocError, Global};
 
 /// Answers each line of `contacts` by what `mailmap` maps, as [`check`](gix_mailmap::check::check()) does.
 ///
@@ -23,10 +23,7 @@ pub extern "C" fn gix_mailmap_text_check(
 ) -> u32
     ensures { IsHanded (λ text. text ≡ answers_by (mailmap.now ∷ []) contacts.now) out.old out.new needed.new result }
 {
-    match check::check(alloc, &[mailmap], contacts) {
-        Ok(text) => put(text.as_slice(), out, needed),
-        Err(_) => out_of_memory(needed),
-    }
+    hand(check::check(alloc, &[mailmap], contacts), out, needed)
 }
 
 /// Writes the mailmap that maps as `mailmap` does, as [`compact`](gix_mailmap::check::compact()) does. The status is as
@@ -40,10 +37,7 @@ pub extern "C" fn gix_mailmap_text_compact(
 ) -> u32
     ensures { IsHanded (IsCompacted (mailmap.now ∷ [])) out.old out.new needed.new result }
 {
-    match check::compact(alloc, &[mailmap]) {
-        Ok(text) => put(text.as_slice(), out, needed),
-        Err(_) => out_of_memory(needed),
-    }
+    hand(check::compact(alloc, &[mailmap]), out, needed)
 }
 
 /// Writes the mailmap without its lines whose entries have no effect, as [`prune`](gix_mailmap::verify::prune()) does.
@@ -57,7 +51,15 @@ pub extern "C" fn gix_mailmap_text_prune(
 ) -> u32
     ensures { IsHanded (IsPruned mailmap.now) out.old out.new needed.new result }
 {
-    match verify::prune(alloc, mailmap) {
+    hand(verify::prune(alloc, mailmap), out, needed)
+}
+
+// Puts the text that a call has made at the front of `out`, if it fits, and its length.
+fn hand(made: Result<Vec<u8>, AllocError>, out: &mut [u8], needed: &mut usize) -> u32
+    ensures ok { IfOk made (λ text. IsPut text.items out.old out.new needed.new result) }
+    ensures err { OnErr made (IsOutOfMemory out.old out.new needed.new result) }
+{
+    match made {
         Ok(text) => put(text.as_slice(), out, needed),
         Err(_) => out_of_memory(needed),
     }
