@@ -50,9 +50,7 @@ pub fn parse(buf: &[u8]) -> Lines<'_>
     // The items can be counted.
     ensures countable { length result ≤ length buf.now }
 {
-    Lines {
-        walk: Walk::new(buf, Strictness::Lenient),
-    }
+    Lines::new(buf, Strictness::Lenient)
 }
 
 /// Parses `buf` as [`parse`] does, but takes a second contact that has its `<` and not its `>` for a fault,
@@ -61,7 +59,7 @@ pub fn parse(buf: &[u8]) -> Lines<'_>
 /// Of `Jane <a@x> <b` this makes a fault, where [`parse`] gives the entry of `Jane` by `a@x`. Text after a closed
 /// email, as in `Jane <a@x> tail`, is no fault here, either. A line that has another fault in its first contact keeps
 /// that one.
-pub fn parse_strict(buf: &[u8]) -> StrictLines<'_>
+pub fn parse_strict(buf: &[u8]) -> Lines<'_>
     ensures value { result ≡ strict_readings buf.now }
 
     // A line gives at most one item, and the lines of the faults rise.
@@ -71,9 +69,7 @@ pub fn parse_strict(buf: &[u8]) -> StrictLines<'_>
     // The items can be counted.
     ensures countable { length result ≤ length buf.now }
 {
-    StrictLines {
-        walk: Walk::new(buf, Strictness::Strict),
-    }
+    Lines::new(buf, Strictness::Strict)
 }
 
 /// Parses `buf` as [`parse`] does, and leaves out the lines that have a fault. git, too, skips most such lines without
@@ -89,21 +85,49 @@ pub fn parse_ignore_errors(buf: &[u8]) -> GoodLines<'_>
     GoodLines { lines: parse(buf) }
 }
 
-/// The lines of a mailmap, parsed on demand: the iterator that [`parse`] makes.
+/// The lines of a mailmap, parsed on demand: the iterator that [`parse`] and [`parse_strict`] make.
 ///
 /// To a contract it is the list of the items that are left.
 #[derive(Drop)]
 pub struct Lines<'a> {
-    walk: Walk<'a>,
+    lines: bstr::Lines<'a>,
+    line_no: usize,
+    strictness: Strictness,
+}
+
+/// Whether a second contact that has its `<` and not its `>`, as in `Jane <a@x> <b`, is a fault.
+#[derive(Clone, Copy, Debug)]
+pub enum Strictness {
+    /// It is ignored, as [`parse`] does.
+    Lenient,
+    /// It is [`Error::UnclosedSecond`], as of [`parse_strict`].
+    Strict,
 }
 
 impl<'a> Model for Lines<'a> {
-    ghost use Rattle.std.specs.Prelude.{List};
-    ghost use Rattle.mailmap_grammar.specs.Lines.{Reading};
+    ghost use Rattle.std.specs.Prelude.{List, length, ◌+◌, ◌^◌, ◌<◌};
+    ghost use Rattle.mailmap_grammar.specs.Lines.{Reading, readings_from, reading_by, line_reader};
 
     ghost Value = { List Reading };
 
-    ghost view = { λ s. s.walk };
+    ghost view = { λ s. readings_from (reading_by (line_reader s.strictness)) (s.line_no + 1) s.lines };
+
+    ghost invariant = { λ s. s.line_no + length s.lines < 2 ^ 64 };
+}
+
+impl<'a> Lines<'a> {
+    fn new(buf: &'a [u8], strictness: Strictness) -> Self
+        ensures value { result ≡ readings_from (reading_by (line_reader strictness)) 1 (pieces buf.now) }
+        ensures at_most_one { length result ≤ length (pieces buf.now) }
+        ensures rising { IsStrictlySortedBy nat_cmp (fault_lines result) }
+        ensures countable { length result ≤ length buf.now }
+    {
+        Lines {
+            lines: buf.lines(),
+            line_no: 0,
+            strictness,
+        }
+    }
 }
 
 impl<'a> Iterator for Lines<'a> {
@@ -114,36 +138,13 @@ impl<'a> Iterator for Lines<'a> {
     ghost remaining = { item_count (λ s. s) };
 
     fn next(&mut self) -> Option<Result<Entry<'a>, Error<'a>>> {
-        self.walk.next()
-    }
-}
-
-/// The lines of a mailmap, parsed strictly and on demand: the iterator that [`parse_strict`] makes.
-///
-/// To a contract it is the list of the items that are left.
-#[derive(Drop)]
-pub struct StrictLines<'a> {
-    walk: Walk<'a>,
-}
-
-impl<'a> Model for StrictLines<'a> {
-    ghost use Rattle.std.specs.Prelude.{List};
-    ghost use Rattle.mailmap_grammar.specs.Lines.{Reading};
-
-    ghost Value = { List Reading };
-
-    ghost view = { λ s. s.walk };
-}
-
-impl<'a> Iterator for StrictLines<'a> {
-    type Item = Result<Entry<'a>, Error<'a>>;
-
-    ghost next_gives = { YieldsFirstBy reading_of (λ s. s) };
-
-    ghost remaining = { item_count (λ s. s) };
-
-    fn next(&mut self) -> Option<Result<Entry<'a>, Error<'a>>> {
-        self.walk.next()
+        while let Some(line) = self.lines.next() {
+            self.line_no += 1;
+            if let Some(item) = read_line(line, self.line_no, self.strictness) {
+                return Some(item);
+            }
+        }
+        None
     }
 }
 
@@ -235,67 +236,6 @@ impl<'a> Error<'a> {
             | Error::NothingToMap { input, .. }
             | Error::UnclosedSecond { input, .. } => input,
         }
-    }
-}
-
-/// The items of either kind of reading, which [`Lines`] and [`StrictLines`] wrap.
-#[derive(Drop)]
-struct Walk<'a> {
-    lines: bstr::Lines<'a>,
-    line_no: usize,
-    strictness: Strictness,
-}
-
-/// Whether a second contact that has its `<` and not its `>`, as in `Jane <a@x> <b`, is a fault.
-#[derive(Clone, Copy, Debug)]
-pub enum Strictness {
-    /// It is ignored, as [`parse`] does.
-    Lenient,
-    /// It is [`Error::UnclosedSecond`], as of [`parse_strict`].
-    Strict,
-}
-
-impl<'a> Model for Walk<'a> {
-    ghost use Rattle.std.specs.Prelude.{List, length, ◌+◌, ◌^◌, ◌<◌};
-    ghost use Rattle.mailmap_grammar.specs.Lines.{Reading, readings_from, reading_by, line_reader};
-
-    ghost Value = { List Reading };
-
-    ghost view = { λ s. readings_from (reading_by (line_reader s.strictness)) (s.line_no + 1) s.lines };
-
-    ghost invariant = { λ s. s.line_no + length s.lines < 2 ^ 64 };
-}
-
-impl<'a> Walk<'a> {
-    fn new(buf: &'a [u8], strictness: Strictness) -> Self
-        ensures value { result ≡ readings_from (reading_by (line_reader strictness)) 1 (pieces buf.now) }
-        ensures at_most_one { length result ≤ length (pieces buf.now) }
-        ensures rising { IsStrictlySortedBy nat_cmp (fault_lines result) }
-        ensures countable { length result ≤ length buf.now }
-    {
-        Walk {
-            lines: buf.lines(),
-            line_no: 0,
-            strictness,
-        }
-    }
-}
-
-impl<'a> Iterator for Walk<'a> {
-    type Item = Result<Entry<'a>, Error<'a>>;
-
-    ghost next_gives = { YieldsFirstBy reading_of (λ s. s) };
-
-    ghost remaining = { item_count (λ s. s) };
-
-    fn next(&mut self) -> Option<Result<Entry<'a>, Error<'a>>> {
-        while let Some(line) = self.lines.next() {
-            self.line_no += 1;
-            if let Some(item) = read_line(line, self.line_no, self.strictness) {
-                return Some(item);
-            }
-        }
-        None
     }
 }
 

@@ -1,7 +1,7 @@
 use Rattle.std.proofs.Common.{rules, arith, ◌∙◌, ap, sym, length}
 use Rattle.mailmap_grammar.specs.Lines.{readings_from}
 use Rattle.mailmap_grammar.proofs.Readings.{readings_from-some, readings_from-none, readings_from-nil}
-use Rattle.mailmap_grammar.proofs.lines.WalkIterator.next.Goals as goal
+use Rattle.mailmap_grammar.proofs.lines.LinesIterator.next.Goals as goal
 
 pub loop-line-preserved : goal.loop-line-preserved
 loop-line-preserved c = (

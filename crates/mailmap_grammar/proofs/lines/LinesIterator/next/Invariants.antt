@@ -1,6 +1,6 @@
 use Rattle.std.proofs.Common.{◌≡◌, ◌+◌, ◌^◌, ◌<◌, length}
 use Rattle.mailmap_grammar.specs.Lines.{readings_from, reading_by, line_reader}
-use Rattle.mailmap_grammar.proofs.lines.WalkIterator.next.Given as goal
+use Rattle.mailmap_grammar.proofs.lines.LinesIterator.next.Given as goal
 
 abbrev pub invariant-loop-line : goal.invariant-loop-line
 invariant-loop-line l =
