@@ -1,9 +1,10 @@
 #!/usr/bin/env bash
 # Runs mailmap_check and mailmap_verify, the programs that the two arguments name, where files, streams or memory fail
-# them, and what they say of themselves. A run that fails must end with status 2, with the lines of its failure on
-# standard error, and with nothing on standard output.
+# them; what they say of themselves; and 200,000 lines, with which nothing fails. A run that fails must end with status
+# 2, with the lines of its failure on standard error, and with nothing on standard output. No run may take long: one
+# that makes a failed write again and again would never end.
 set -euo pipefail
-top="$(cd "$(dirname "$0")/.." && pwd)"
+here="$(cd "$(dirname "$0")" && pwd)"
 work="$(mktemp -d)"
 trap 'rm -rf "$work"' EXIT
 install -m 755 "$1" "$work/mailmap_check"
@@ -23,7 +24,7 @@ runs=0
 # fails LINE PROGRAM ARGUMENTS: runs the program, with contacts as its standard input where it has no other
 fails() {
     local line="$1" program="$2" status=0
-    bash -c "${limit:-}${as_user:-}./$program $3" < contacts > printed 2> said || status=$?
+    bash -c "${limit:-}${as_user:-}timeout 60 ./$program $3" < contacts > printed 2> said || status=$?
     if [ "$status" != 2 ] || [ -s printed ] || [ "$(cat said)" != "$program: $line" ]; then
         echo "failures: $program $3: status $status" >&2
         cat printed said >&2
@@ -90,20 +91,19 @@ fails 'cannot write output' mailmap_check '--help > /dev/full'
 # prints TEXT STATUS PROGRAM ARGUMENTS: runs the program, which prints this text and nothing on standard error
 prints() {
     local text="$1" want="$2" program="$3" status=0
-    bash -c "./$program $4" > printed 2> said || status=$?
+    bash -c "timeout 60 ./$program $4" > printed 2> said || status=$?
     if [ "$status" != "$want" ] || [ -s said ] || [ "$(cat printed)" != "$text" ]; then
         echo "failures: $program $4: status $status" >&2
-        cat printed said >&2
+        head -c 4000 printed said >&2
         exit 1
     fi
     runs=$((runs + 1))
 }
 
 for program in mailmap_check mailmap_verify; do
-    prints "$program $(cat "$top/VERSION")" 0 $program '--version'
-    ./$program --help > help
-    grep -q "^usage: $program " help
-    prints "$(cat help)" 0 $program '-h'
+    prints "$program $(cat "$here/../VERSION")" 0 $program '--version'
+    ./$program --help | diff "$here/help/$program.txt" -
+    ./$program -h | diff "$here/help/$program.txt" -
 done
 printf 'Jane <jane@x> \x1b[31m\x7f\xff\n' > control
 cp -- control -x
@@ -112,4 +112,14 @@ prints "control:$found" 1 mailmap_verify 'control'
 prints "-x:$found" 1 mailmap_verify '-- -x'
 prints "<stdin>:$found" 1 mailmap_verify '- < control'
 prints "$(cat control)" 0 mailmap_verify '--prune control'
+# A blank at each end is part of a file's name.
+printf 'Jane <jane@x> <bugs@example.com>\n' > ' a '
+printf 'plain\n' > a
+prints 'Jane <jane@x>' 0 mailmap_check "' a ' < contacts"
+prints '' 0 mailmap_verify "' a '"
+# There is memory for 200,000 lines.
+prints "$(cat many)" 0 mailmap_check 'many < <(sed s/Joe/x/ many)'
+prints "$(sed 's/^/ /' many | LC_ALL=C sort)" 0 mailmap_check '--compact many'
+prints '' 0 mailmap_verify 'many'
+prints "$(cat many)" 0 mailmap_verify '--prune many'
 echo "failures: each of $runs runs ends as it must"
