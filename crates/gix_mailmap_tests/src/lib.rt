@@ -20,6 +20,8 @@ mod listings;
 #[cfg(test)]
 mod lookups;
 #[cfg(test)]
+mod many;
+#[cfg(test)]
 mod printer;
 #[cfg(test)]
 mod report;

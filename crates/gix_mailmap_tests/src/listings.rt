@@ -662,3 +662,38 @@ fn texts_that_small_merges_replace_are_given_up(rt: HostRuntime) -> Result<(), F
     assert_lists(&rt, rt.alloc(), &snapshot, &given)?;
     Ok(())
 }
+
+/// Counts what copies of a snapshot take after each of twenty rounds, in which a copy of it takes its place and these
+/// entries are merged.
+fn take_over_copies(
+    rt: &HostRuntime,
+    snapshot: &mut Snapshot,
+    entries: &[Entry<'_>],
+    taken: &mut [usize; 20],
+) -> Result<(), Fail> {
+    let mut copies = Vec::new(rt.alloc());
+    for bytes in taken {
+        *snapshot = snapshot.try_clone(rt.alloc())?;
+        snapshot.merge(entries.iter().copied())?;
+        *bytes = taken_by_copies(rt, snapshot, &mut copies)?;
+    }
+    Ok(())
+}
+
+/// So it is if a copy takes the place of the snapshot before each merge: it knows which of its texts are out of use.
+#[test]
+fn texts_that_a_copy_replaces_are_given_up(rt: HostRuntime) -> Result<(), Fail> {
+    let new_name = [b'N'; 25_000];
+    let given = [
+        Entry::change_name_and_email_by_email(&new_name, b"new@x", b"a@x"),
+        Entry::change_name_and_email_by_email(&new_name, b"new@x", b"b@x"),
+        Entry::change_name_and_email_by_email(&new_name, b"new@x", b"c@x"),
+        Entry::change_name_and_email_by_email(&new_name, b"new@x", b"d@x"),
+    ];
+    let mut taken = [0; 20];
+    let mut snapshot = snapshot_of(rt.alloc(), &given)?;
+    take_over_copies(&rt, &mut snapshot, &given[1..2], &mut taken)?;
+    assert_small(&rt, &taken);
+    assert_lists(&rt, rt.alloc(), &snapshot, &given)?;
+    Ok(())
+}

@@ -3,7 +3,7 @@ ghost use Rattle.std.specs.Prelude.{◌≤◌, IfOk};
 use crate::check::assert_bytes;
 use mailmap_io::failure::Failure;
 use mailmap_runs::run::{run, run_compact};
-use std::alloc::Global;
+use std::alloc::{AllocError, Global};
 use std::io::{Error, ErrorKind, Read, Write};
 use std::process::Abort;
 use std::{cmp, io};
@@ -160,6 +160,23 @@ fn a_writer_that_fails_is_output_and_holds_a_front(rt: HostRuntime) {
         assert_bytes(&rt, &output.taken, written);
         assert_flushed(&rt, &output, *result);
     }
+}
+
+/// However little a writer takes at a time, and however often it is interrupted, it is given all in the end.
+#[test]
+fn a_writer_that_takes_little_is_given_all(rt: HostRuntime) -> Result<(), AllocError> {
+    static ROWS: [&[Turn]; 2] = [&[Turn::Moves(1); 5_000], &[INTERRUPTED; 5_000]];
+    let mut line = Vec::new(rt.alloc());
+    line.resize(6_000, b'p')?;
+    line.push(b'\n')?;
+    for turns in &ROWS {
+        let mut input = line.as_slice();
+        let mut output = Sink::new(rt.alloc(), turns, ALL);
+        let ended = run(rt.alloc(), Some(&[]), &mut input, &mut output);
+        assert_ended(&rt, ended, Ok(()));
+        assert_bytes(&rt, &output.taken, line.as_slice());
+    }
+    Ok(())
 }
 
 /// Wants all that was taken to be flushed, where the run ended well.

@@ -1,0 +1,39 @@
+use gix_mailmap::{Snapshot, parse, parse_ignore_errors};
+use std::alloc::{AllocError, Global};
+use std::process::Abort;
+
+/// How many lines there are: more than any table has room for at first.
+const COUNT: usize = 200_000;
+
+/// A mailmap of so many lines, each for another email.
+fn mailmap(alloc: Global) -> Result<Vec<u8>, AllocError> {
+    let mut text = Vec::new(alloc);
+    for number in 100_000..300_000 {
+        let line = format!(in alloc; "N{number} <{number}@x>\n")?;
+        text.extend_from_slice(line.as_bytes())?;
+    }
+    Ok(text)
+}
+
+/// Wants this number.
+fn assert_count(rt: &impl Abort, count: usize, want: usize) {
+    assert_eq!(rt; count, want);
+}
+
+#[test]
+fn many_lines_are_read(rt: HostRuntime) -> Result<(), AllocError> {
+    let text = mailmap(rt.alloc())?;
+    let read = parse(text.as_slice()).filter(|item| item.is_ok()).count();
+    assert_count(&rt, read, COUNT);
+    Ok(())
+}
+
+/// No clause says that there is memory. Here there is, and it is used.
+#[test]
+fn many_entries_are_merged_and_listed(rt: HostRuntime) -> Result<(), AllocError> {
+    let text = mailmap(rt.alloc())?;
+    let mut snapshot = Snapshot::empty(rt.alloc());
+    snapshot.merge(parse_ignore_errors(text.as_slice()))?;
+    assert_count(&rt, snapshot.entries(rt.alloc())?.len(), COUNT);
+    Ok(())
+}
