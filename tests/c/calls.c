@@ -1,5 +1,5 @@
-/* Every call of gix_mailmap.h with every status that it has. malloc and realloc are wrapped (-Wl,--wrap), so that each
- * request for memory can be refused in turn. */
+/* Every call of gix_mailmap.h with every status that it has. malloc, realloc and free are wrapped (-Wl,--wrap), so that
+ * each request for memory can be refused in turn, and so that what is never given back shows. */
 #include "gix_mailmap.h"
 #include <stdio.h>
 #include <stdlib.h>
@@ -7,20 +7,34 @@
 
 static long refused_request = -1;
 static long requests = 0;
+/* how many blocks of memory are not given back */
+static long blocks = 0;
 
 void *__real_malloc(size_t size);
 void *__real_realloc(void *at, size_t size);
+void __real_free(void *at);
 void *__wrap_malloc(size_t size);
 void *__wrap_realloc(void *at, size_t size);
+void __wrap_free(void *at);
 
 void *__wrap_malloc(size_t size)
 {
-    return requests++ == refused_request ? NULL : __real_malloc(size);
+    void *made = requests++ == refused_request ? NULL : __real_malloc(size);
+    blocks += made != NULL;
+    return made;
 }
 
 void *__wrap_realloc(void *at, size_t size)
 {
-    return requests++ == refused_request ? NULL : __real_realloc(at, size);
+    void *made = requests++ == refused_request ? NULL : __real_realloc(at, size);
+    blocks += at == NULL && made != NULL;
+    return made;
+}
+
+void __wrap_free(void *at)
+{
+    blocks -= at != NULL;
+    __real_free(at);
 }
 
 static int failures = 0;
@@ -401,6 +415,8 @@ static int calls_once(void)
     WANT(is_done(gix_mailmap_write(map, out.bytes, 96, &needed), &needed, &refused));
     WANT(needed != 0 || holds(&out, ""));
     long behind = requests;
+    WANT(gix_mailmap_add(map, TEXT("plain")) == GIX_MAILMAP_OK);
+    WANT(gix_mailmap_add_entry(map, NULL, 0, NULL, 0, TEXT("o"), TEXT("o@z")) == GIX_MAILMAP_NOT_AN_ENTRY);
     maps(map, "q", "q@z", added == GIX_MAILMAP_OK ? "New <new@x>" : "q <q@z>");
     maps(map, "o", "o@z", entry == GIX_MAILMAP_OK ? "Own <o@z>" : "o <o@z>");
     size_t entries_len, texts_len;
@@ -426,19 +442,18 @@ static bool refuses(long number)
     int refused = texts_once() + calls_once();
     made_again += number < requests && !refused;
     WANT(refused <= (number < requests));
+    WANT(blocks == 0);
     refused_request = -1;
     return number < requests;
 }
 
 int main(void)
 {
-    words();
-    check_and_compact();
-    prune();
-    verify();
-    changes();
-    entries();
-    nulls();
+    void (*const parts[])(void) = {words, check_and_compact, prune, verify, changes, entries, nulls};
+    for (size_t i = 0; i < sizeof parts / sizeof parts[0]; i++) {
+        parts[i]();
+        WANT(blocks == 0);
+    }
     long number = 0;
     while (refuses(number))
         number++;

@@ -11,7 +11,7 @@ work="$(mktemp -d)"
 trap 'rm -rf "$work"' EXIT
 cc="${CC:-cc}"
 strict=(-Wall -Wextra -Wpedantic -Werror -g -I "$here/../../include")
-wrapped=(-Wl,--wrap=malloc -Wl,--wrap=realloc)
+wrapped=(-Wl,--wrap=malloc -Wl,--wrap=realloc -Wl,--wrap=free)
 
 header="$here/../../include/gix_mailmap.h"
 if ! grep -qxF "#define GIX_MAILMAP_VERSION \"$(cat "$here/../../VERSION")\"" "$header"; then

@@ -8,6 +8,8 @@ from gix_mailmap import Answer, Closed, Entry, Finding, Kind, Mailmap, NotAnEntr
 MAP = b"Jane Doe <jane@x> <jd@y>\nJoe <joe@x>\n"
 JANE = Entry(b"Jane Doe", b"jane@x", None, b"jd@y")
 JOE = Entry(b"Joe", None, None, b"joe@x")
+COUNT = 200_000
+MANY = b"".join(b" N%d <%d@x>\n" % (number, number) for number in range(COUNT, 2 * COUNT))
 
 
 class Texts(unittest.TestCase):
@@ -46,6 +48,15 @@ class Texts(unittest.TestCase):
     def test_more_findings_than_the_first_array_holds(self):
         found = [Finding(line, Kind.NO_EMAIL, None) for line in range(1, 1001)]
         self.assertEqual(gix_mailmap.verify(b"plain\n" * 1000), found)
+
+    def test_many_lines(self):
+        """200,000 lines, and there is memory for them."""
+        lines = MANY.replace(b"\n ", b"\n")[1:]
+        self.assertEqual(gix_mailmap.check(MANY, MANY), lines)
+        self.assertEqual(gix_mailmap.compact(lines), MANY)
+        self.assertEqual(gix_mailmap.prune(MANY), MANY)
+        self.assertEqual(gix_mailmap.verify(MANY), [])
+        self.assertEqual(len(gix_mailmap.verify(b"plain\n" * COUNT)), COUNT)
 
     def test_what_is_no_text(self):
         for wrong in (None, 1, ["N <a@x>"]):
@@ -103,6 +114,12 @@ class Handles(unittest.TestCase):
         name = b"n" * 1000
         with Mailmap(name + b" <n@x>") as mailmap:
             self.assertEqual(mailmap[0], Entry(name, None, None, b"n@x"))
+
+    def test_many_entries(self):
+        """200,000 of them, and there is memory for them."""
+        with Mailmap(MANY) as mailmap:
+            mailmap.add(MANY)
+            self.assertEqual((len(mailmap), len(mailmap.entries()), mailmap.write()), (COUNT, COUNT, MANY))
 
     def test_an_empty_one(self):
         with Mailmap() as mailmap:
