@@ -1,6 +1,7 @@
 #!/usr/bin/env bash
-# Each .txt file here is a library on gix_mailmap that must not compile, or if its second line says so a module of another
-# crate. Its first line names the errors that the check is to give; this script wants those of each, and no other.
+# Each .txt file here is a library on gix_mailmap that must not compile, or if its second line says so a module of
+# another crate. Its first line names the errors that the check is to give; this script wants those of each, and no
+# other.
 set -euo pipefail
 here="$(cd "$(dirname "$0")" && pwd)"
 top="$(cd "$here/../.." && pwd)"
