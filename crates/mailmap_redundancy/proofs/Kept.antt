@@ -82,6 +82,24 @@ none_redundant_at : (kept a : IndexedEntry) (x : LocatedMapping) (c : IndexedEnt
 none_redundant_at kept [] x c none redundant = none.0 (subst (λ h. IsRedundant (entries h) x.entry (entries c)) (append-nil kept) redundant)
 none_redundant_at kept (y ∷ a) x c none redundant = none_redundant_at (kept ++ y ∷ []) a x c none.1 (subst (λ h. IsRedundant (entries h) x.entry (entries c)) (sym (append_assoc kept (y ∷ []) a)) redundant)
 
+unaccepted_redundant : (a : List Mapping) (e : Mapping) (c : List Mapping) → is_accepted e ≡ false → IsRedundant a e c
+unaccepted_redundant a e c bad =
+    alike_redundant a e c (alike_accepted (a ++ e ∷ c) (a ++ c) (filter-append is_accepted a (e ∷ c) ∙ ap (λ b. accepted a ++ cond b (e ∷ accepted c) (accepted c)) bad ∙ sym (filter-append is_accepted a c)))
+
+-- all that stay are accepted
+pub reduced_accepted : (xs kept : IndexedEntry) → IsReduced xs kept → AllByRecursion (λ x. is_accepted x.entry ≡ true) kept
+reduced_accepted xs kept s = by [] kept (reduced_none_redundant xs kept s)
+  where
+    by : (before after : IndexedEntry) → NoneRedundant before after → AllByRecursion (λ x. is_accepted x.entry ≡ true) after
+    by before [] none = tt
+    by before (x ∷ after) none = (
+      elim (is_accepted x.entry) as (λ b. is_accepted x.entry ≡ b → b ≡ true) [
+        | true ↦ λ good. refl
+        | false ↦ λ bad. absurd (none.0 (unaccepted_redundant (entries before) x.entry (entries after) bad))
+      ] refl,
+      by (before ++ x ∷ []) after none.1,
+    )
+
 pub none_can_go : (xs a c : IndexedEntry) (x : LocatedMapping) → IsReduced xs (a ++ x ∷ c) → IsRedundant (entries a) x.entry (entries c) → ⊥
 none_can_go xs a c x s = none_redundant_at [] a x c (reduced_none_redundant xs (a ++ x ∷ c) s)
 
@@ -176,7 +194,7 @@ redundant_or_not : (a : List Mapping) (e : Mapping) (c : List Mapping) → IsRed
 redundant_or_not a e c =
     elim (is_accepted e) as (λ b. is_accepted e ≡ b → IsRedundant a e c ⊎ (IsRedundant a e c → ⊥)) [
       | true ↦ λ good. by (is_redundant (summary a (key e)) e (summary c (key e))) (redundant_decides a e c good).0 (redundant_decides a e c good).1
-      | false ↦ λ bad. inl (alike_redundant a e c (alike_accepted (a ++ e ∷ c) (a ++ c) (filter-append is_accepted a (e ∷ c) ∙ ap (λ b. accepted a ++ cond b (e ∷ accepted c) (accepted c)) bad ∙ sym (filter-append is_accepted a c))))
+      | false ↦ λ bad. inl (unaccepted_redundant a e c bad)
     ] refl
   where
     by : (b : Bool) → (b ≡ true → IsRedundant a e c) → (IsRedundant a e c → b ≡ true) → IsRedundant a e c ⊎ (IsRedundant a e c → ⊥)

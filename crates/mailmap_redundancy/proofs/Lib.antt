@@ -1,5 +1,6 @@
 pub mod Summaries
-mod Givers
+mod Referred
+pub mod Giving
 pub mod Redundant
 pub mod Sublists
 pub mod Kept
@@ -7,6 +8,7 @@ pub mod Keyed
 pub mod Ascending
 pub mod Searched
 pub mod Rows
+mod RowGivers
 pub mod Walked
 pub mod Numbered
 pub mod RepeatedKeys

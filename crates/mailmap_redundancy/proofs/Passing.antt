@@ -8,7 +8,7 @@ use Rattle.mailmap_histories.specs.Histories.{Key, key}
 use Rattle.mailmap_redundancy.specs.Repeats.{AreUnrepeated, of_repeated, has_repeats, those_of}
 use Rattle.mailmap_redundancy.specs.Redundancy.{LocatedMapping, IsRedundant, IsPass, goes, stays, entries}
 use Rattle.mailmap_redundancy.specs.Summaries.{summary, later_of, is_redundant_before}
-use Rattle.mailmap_redundancy.specs.Numbers.{ArePositions, IsNumbered, IsTable, later_of_each, entry_of, located_entry_of, mappings}
+use Rattle.mailmap_redundancy.specs.Numbers.{AreGivers, IsNumbered, IsTable, later_of_each, entry_of, located_entry_of, mappings}
 use Rattle.mailmap_redundancy.specs.declared.numbers.NumberedEntry.{NumberedEntry}
 use Rattle.mailmap_redundancy.specs.declared.summary.Later.{Later}
 use Rattle.mailmap_redundancy.specs.declared.table.Table.{Table}
@@ -42,7 +42,7 @@ module _ (chosen : Text → Bool) (x : LocatedMapping) (xs : List LocatedMapping
 pub record IsPassing (keys : List Key) (repeated : List Bool) (all : List NumberedEntry) (i : ℕ) (later_ones : List Later) (before : Table) (kept : List NumberedEntry) : Type 0 where
   pub asked : later_ones ≡ later_of_each (of_repeated keys repeated (mappings (drop i all)))
   pub table : IsTable keys (entries (of_repeated keys repeated (mappings kept))) before
-  pub positions : ArePositions keys (of_repeated keys repeated (mappings kept)) before
+  pub givers : AreGivers keys (of_repeated keys repeated (mappings kept)) before
   pub numbered : All (IsNumbered keys) kept
   pub unrepeated : AreUnrepeated keys repeated (entries (mappings kept) ++ entries (mappings (drop i all)))
   pub left : (out : List LocatedMapping) → IsPass (mappings kept) (mappings (drop i all)) out → IsPass [] (mappings all) out
@@ -64,12 +64,12 @@ module _ (keys : List Key) (repeated : List Bool) (all : List NumberedEntry) (i 
 
     -- an entry that has an effect stays
     staying : (later_ones' : List Later) (after : Table) → later_ones' ≡ later_of_each (of_repeated keys repeated rest) → (IsRedundant (entries (mappings kept)) (entry_of x) (entries rest) → ⊥)
-        → IsTable keys (entries (of_repeated keys repeated (mappings kept'))) after → ArePositions keys (of_repeated keys repeated (mappings kept')) after → IsPassing keys repeated all (i + 1) later_ones' after kept'
-    staying later_ones' after asked busy table positions =
+        → IsTable keys (entries (of_repeated keys repeated (mappings kept'))) after → AreGivers keys (of_repeated keys repeated (mappings kept')) after → IsPassing keys repeated all (i + 1) later_ones' after kept'
+    staying later_ones' after asked busy table givers =
         record {
           asked = asked;
           table = table;
-          positions = positions;
+          givers = givers;
           numbered = subst (All (IsNumbered keys)) (sym pushed) (All-push (IsNumbered keys) kept x so.numbered n);
           unrepeated = subst (AreUnrepeated keys repeated) (sym (ap (λ l. entries l ++ entries rest) mappings_kept ∙ entries_kept (mappings kept) (located_entry_of x) rest)) unrepeated_around;
           left = λ out p. so.left out (subst (λ l. IsPass (mappings kept) l out) (sym next) (stays (mappings kept) (located_entry_of x) rest out busy (subst (λ l. IsPass l rest out) mappings_kept p)));
@@ -82,7 +82,7 @@ module _ (keys : List Key) (repeated : List Bool) (all : List NumberedEntry) (i 
         staying later_ones before (so.asked ∙ ap later_of_each (ap (of_repeated keys repeated) next ∙ others_next (has_repeats keys repeated) (located_entry_of x) rest isn't))
         (unrepeated_has_effect keys repeated (entries (mappings kept)) (entry_of x) (entries rest) unrepeated_around n.accepted isn't)
         (subst (λ l. IsTable keys (entries l) before) (sym same) so.table)
-        (subst (λ l. ArePositions keys l before) (sym same) so.positions)
+        (subst (λ l. AreGivers keys l before) (sym same) so.givers)
 
   -- one of an email with repeats
   abbrev asked_last : Later
@@ -111,7 +111,7 @@ module _ (keys : List Key) (repeated : List Bool) (all : List NumberedEntry) (i 
         record {
           asked = ends.0;
           table = so.table;
-          positions = so.positions;
+          givers = so.givers;
           numbered = so.numbered;
           unrepeated = unrepeated_without keys repeated (entries (mappings kept)) (entry_of x) (entries rest) unrepeated_around;
           left = λ out p. so.left out (subst (λ l. IsPass (mappings kept) l out) (sym next)
@@ -119,14 +119,14 @@ module _ (keys : List Key) (repeated : List Bool) (all : List NumberedEntry) (i 
         }
 
     pub passed_staying : (after : Table) (kept' : List NumberedEntry) → is_redundant_before (summary (entries (of_repeated keys repeated (mappings kept))) (key (entry_of x))) (entry_of x) later ≡ false
-        → IsTable keys (entries (of_repeated keys repeated (mappings kept)) ++ entry_of x ∷ []) after → ArePositions keys (of_repeated keys repeated (mappings kept) ++ located_entry_of x ∷ []) after
+        → IsTable keys (entries (of_repeated keys repeated (mappings kept)) ++ entry_of x ∷ []) after → AreGivers keys (of_repeated keys repeated (mappings kept) ++ located_entry_of x ∷ []) after
         → kept' ≡ kept ++ x ∷ [] → IsPassing keys repeated all (i + 1) left after kept'
-    passed_staying after kept' works table positions pushed =
+    passed_staying after kept' works table givers pushed =
         let grown : of_repeated keys repeated (mappings kept') ≡ of_repeated keys repeated (mappings kept) ++ located_entry_of x ∷ [] = ap (of_repeated keys repeated) (mappings_kept kept' pushed) ∙ those_more (has_repeats keys repeated) (located_entry_of x) (mappings kept) many in
         staying kept' pushed left after ends.0
         (λ redundant. true≢false (sym ((redundant_decides (entries (mappings kept)) (entry_of x) (entries rest) n.accepted).1 redundant) ∙ sym decides ∙ works))
         (subst (λ h. IsTable keys h after) (sym (ap entries grown ∙ entries-more (of_repeated keys repeated (mappings kept)) (located_entry_of x))) table)
-        (subst (λ l. ArePositions keys l after) (sym grown) positions)
+        (subst (λ l. AreGivers keys l after) (sym grown) givers)
 
 -- ---- the same, where those that stay come first among the entries
 
@@ -175,22 +175,22 @@ filled keys repeated all i = of_repeated keys repeated (mappings all) ++ those_o
 
 pub record IsFilling (keys : List Key) (repeated : List Bool) (all : List NumberedEntry) (i : ℕ) (before : Table) : Type 0 where
   pub table : IsTable keys (entries (filled keys repeated all i)) before
-  pub positions : ArePositions keys (filled keys repeated all i) before
+  pub givers : AreGivers keys (filled keys repeated all i) before
 
 module _ (keys : List Key) (repeated : List Bool) (all : List NumberedEntry) (i : ℕ) (x : NumberedEntry) (within : i < length all) (is : x ≡ get_or all i x) where
   grown : filled keys repeated all (i + 1) ≡ of_repeated keys repeated (mappings all) ++ those_of (λ t. not (has_repeats keys repeated t)) (mappings (take i all) ++ located_entry_of x ∷ [])
   grown = ap (λ l. of_repeated keys repeated (mappings all) ++ those_of (λ t. not (has_repeats keys repeated t)) l) (mappings_more all i x within is)
 
   pub filled_with : (after : Table) → has_repeats keys repeated (folded (entry_of x).old_email) ≡ false
-      → IsTable keys (entries (filled keys repeated all i) ++ entry_of x ∷ []) after → ArePositions keys (filled keys repeated all i ++ located_entry_of x ∷ []) after → IsFilling keys repeated all (i + 1) after
-  filled_with after isn't table positions =
+      → IsTable keys (entries (filled keys repeated all i) ++ entry_of x ∷ []) after → AreGivers keys (filled keys repeated all i ++ located_entry_of x ∷ []) after → IsFilling keys repeated all (i + 1) after
+  filled_with after isn't table givers =
       let more : filled keys repeated all (i + 1) ≡ filled keys repeated all i ++ located_entry_of x ∷ [] =
       grown
       ∙ ap (λ l. of_repeated keys repeated (mappings all) ++ l) (those_more (λ t. not (has_repeats keys repeated t)) (located_entry_of x) (mappings (take i all)) (ap not isn't))
       ∙ sym (append_assoc (of_repeated keys repeated (mappings all)) (those_of (λ t. not (has_repeats keys repeated t)) (mappings (take i all))) (located_entry_of x ∷ [])) in
       record {
         table = subst (λ h. IsTable keys h after) (sym (ap entries more ∙ entries-more (filled keys repeated all i) (located_entry_of x))) table;
-        positions = subst (λ l. ArePositions keys l after) (sym more) positions;
+        givers = subst (λ l. AreGivers keys l after) (sym more) givers;
       }
 
   pub filled_without : (before : Table) → has_repeats keys repeated (folded (entry_of x).old_email) ≡ true → IsFilling keys repeated all i before → IsFilling keys repeated all (i + 1) before
@@ -199,5 +199,5 @@ module _ (keys : List Key) (repeated : List Bool) (all : List NumberedEntry) (i 
       grown ∙ ap (λ l. of_repeated keys repeated (mappings all) ++ l) (others_more (λ t. not (has_repeats keys repeated t)) (located_entry_of x) (mappings (take i all)) (ap not is_one)) in
       record {
         table = subst (λ l. IsTable keys (entries l) before) (sym same) so.table;
-        positions = subst (λ l. ArePositions keys l before) (sym same) so.positions;
+        givers = subst (λ l. AreGivers keys l before) (sym same) so.givers;
       }

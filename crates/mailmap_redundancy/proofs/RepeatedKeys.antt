@@ -14,8 +14,9 @@ use Rattle.mailmap_histories.specs.Listings.{same_optional}
 use Rattle.mailmap_histories.proofs.Alike.{picked-append}
 use Rattle.mailmap_histories.proofs.Keys.{keys_total}
 use Rattle.mailmap_redundancy.specs.Repeats.{AreUnrepeated, has_repeats, number_of, those_of}
-use Rattle.mailmap_redundancy.specs.Numbers.{ArePositions, IsNumber, IsNumbered, IsTable, email_key, entry_of}
-use Rattle.mailmap_redundancy.specs.Redundancy.{IsRedundant, LocatedMapping, entries}
+use Rattle.mailmap_redundancy.specs.Givers.{entries_of_email}
+use Rattle.mailmap_redundancy.specs.Numbers.{AreGivers, IsNumber, IsNumbered, IsTable, email_key, entry_of, last_givers}
+use Rattle.mailmap_redundancy.specs.Redundancy.{IsRedundant, LocatedMapping, entries, entries_of_key}
 use Rattle.mailmap_redundancy.specs.Summaries.{later_of, is_value_unchanged, key_summary, summary}
 use Rattle.mailmap_redundancy.specs.declared.numbers.NumberedEntry.{NumberedEntry}
 use Rattle.mailmap_redundancy.specs.declared.table.Table.{Table}
@@ -66,7 +67,7 @@ picks_accepted email p never =
       skips = λ x xs other. picked_without p [] x.entry (entries xs) (never x.entry other);
     }
 
-of_other_key : (k : Key) (e : Mapping) → k.0 ≢ folded e.old_email → eq_by_cmp key_cmp k (key e) ≡ false
+pub of_other_key : (k : Key) (e : Mapping) → k.0 ≢ folded e.old_email → eq_by_cmp key_cmp k (key e) ≡ false
 of_other_key k e other = unequal_keys k (key e) (λ same. other (ap (λ l. l.0) same))
 
 picks_key : (k : Key) → Picks k.0 (λ xs. of_key (entries xs) k)
@@ -75,14 +76,20 @@ picks_key k = picks_accepted k.0 (λ e. eq_by_cmp key_cmp k (key e)) (of_other_k
 picks_email : (email : Text) → Picks email (λ xs. of_email (entries xs) email)
 picks_email email = picks_accepted email (λ e. eq_by_cmp text_cmp email (folded e.old_email)) (λ e other. unequal_emails email (folded e.old_email) other)
 
-picks_located : (k : Key) → Picks k.0 (λ xs. filter (λ x. eq_by_cmp key_cmp k (key x.entry)) xs)
-picks_located k =
-    let p : LocatedMapping → Bool = λ x. eq_by_cmp key_cmp k (key x.entry) in
+picks_located : (email : Text) (p : Mapping → Bool) → ((e : Mapping) → email ≢ folded e.old_email → p e ≡ false) → Picks email (λ xs. filter (λ x. p x.entry) xs)
+picks_located email p never =
+    let q : LocatedMapping → Bool = λ x. p x.entry in
     record {
       none = refl;
-      joins = filter-append p;
-      skips = λ x xs other. ap (λ b. cond b (x ∷ filter p xs) (filter p xs)) (of_other_key k x.entry other);
+      joins = filter-append q;
+      skips = λ x xs other. ap (λ b. cond b (x ∷ filter q xs) (filter q xs)) (never x.entry other);
     }
+
+picks_located_key : (k : Key) → Picks k.0 (λ xs. entries_of_key xs k)
+picks_located_key k = picks_located k.0 (λ e. eq_by_cmp key_cmp k (key e)) (of_other_key k)
+
+picks_located_email : (email : Text) → Picks email (λ xs. entries_of_email xs email)
+picks_located_email email = picks_located email (λ e. eq_by_cmp text_cmp email (folded e.old_email)) (λ e other. unequal_emails email (folded e.old_email) other)
 
 module _ {Y : Type 0} (email : Text) (pick : List LocatedMapping → List Y) (picks : Picks email pick) where
   one_more : (x : LocatedMapping) (xs : List LocatedMapping) → pick (x ∷ xs) ≡ pick (x ∷ []) ++ pick xs
@@ -132,10 +139,12 @@ module _ (chosen : Text → Bool) (xs : List LocatedMapping) where
         spellings = λ email i n. let row = table.spellings email i n in (row.0, λ d. row.1 d ∙ ap (λ l. option_map (λ (e : Mapping). e.old_email) (first l)) (picked_parted email _ (picks_email email) chosen xs));
       }
 
-  pub whole_positions : (keys : List Key) (t : Table) → ArePositions keys parted t → ArePositions keys xs t
-  whole_positions keys t positions k i n =
-      let row = positions k i n in
-      (row.0, λ d. row.1 d ∙ ap (λ l. option_map (λ (x : LocatedMapping). x.position) (last l)) (picked_parted k.0 _ (picks_located k) chosen xs))
+  pub whole_givers : (keys : List Key) (t : Table) → AreGivers keys parted t → AreGivers keys xs t
+  whole_givers keys t givers =
+      record {
+        of_keys = λ k i n. let row = givers.of_keys k i n in (row.0, λ d. row.1 d ∙ ap last_givers (picked_parted k.0 _ (picks_located_key k) chosen xs));
+        of_emails = λ email i n. let row = givers.of_emails email i n in (row.0, λ d. row.1 d ∙ ap first (picked_parted email _ (picks_located_email email) chosen xs));
+      }
 
 -- ---- entries that are alone in their keys
 

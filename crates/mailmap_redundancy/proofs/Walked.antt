@@ -1,17 +1,16 @@
 -- What a walk over entries has seen, and what it has left.
-use Rattle.std.proofs.Common.{◌≡◌, ◌<◌, ◌+◌, ℕ, Bool, false, cond, List, [], ◌∷◌, ◌++◌, filter, take, drop, length, get_or, Some, None, unwrap_or, option_map, append-nil, refl, sym, ap, subst, ◌∙◌}
+use Rattle.std.proofs.Common.{◌≡◌, ◌<◌, ◌+◌, ℕ, false, cond, List, [], ◌∷◌, ◌++◌, filter, take, drop, length, get_or, None, option_map, refl, sym, ap, subst, ◌∙◌}
 use Rattle.std.specs.Prelude.{Contains, All}
-use Rattle.std.specs.Cmp.{tied_itself}
 use Rattle.std.specs.List.{AllByRecursion}
-use Rattle.std.specs.Ordering.{eq_by_cmp, is_eq}
+use Rattle.std.specs.Ordering.{eq_by_cmp}
 use Rattle.std.proofs.lemmas.List.{map-append, map_more, drop_more}
-use Rattle.std.proofs.lemmas.List.Elements.{filter-append, recursion_from_All}
+use Rattle.std.proofs.lemmas.List.Elements.{recursion_from_All}
 use Rattle.std.proofs.lemmas.Option.{slice_get_within, get_or_from_slice_get}
 use Rattle.mailmap_entries.specs.Entries.{Mapping}
 use Rattle.mailmap_entries.specs.Folding.{Text, folded, text_cmp}
 use Rattle.mailmap_histories.specs.Histories.{Key, key, key_cmp, accepted, first, last, of_key, spelling}
-use Rattle.mailmap_histories.proofs.Keys.{keys_total}
-use Rattle.mailmap_redundancy.specs.Redundancy.{LocatedMapping, entries, last_position}
+use Rattle.mailmap_redundancy.specs.Givers.{entries_of_email}
+use Rattle.mailmap_redundancy.specs.Redundancy.{LocatedMapping, entries, entries_of_key, last_position}
 use Rattle.mailmap_redundancy.specs.Numbers.{AreKnown, HasKeys, IsNumber, IsNumbered, email_key, located_entry_of, mappings}
 use Rattle.mailmap_redundancy.specs.declared.numbers.NumberedEntry.{NumberedEntry}
 use Rattle.mailmap_redundancy.proofs.Keyed.{unequal_keys}
@@ -50,24 +49,6 @@ same_ends (a ∷ xs) (b ∷ ys) x y e =
     let rest = same_ends xs ys x y tails in
     (λ i. heads i ∷ rest.0 i, rest.1)
 
--- ---- the position of the last entry of a key
-
-last_of_more : {X : Type 0} (xs : List X) (x : X) → last (xs ++ x ∷ []) ≡ Some x
-last_of_more [] x = refl
-last_of_more (y ∷ xs) x = ap (λ o. Some (unwrap_or o y)) (last_of_more xs x)
-
-pub last_position-own : (xs : List LocatedMapping) (x : LocatedMapping) → last_position (xs ++ x ∷ []) (key x.entry) ≡ Some x.position
-last_position-own xs x =
-    let p : LocatedMapping → Bool = λ y. eq_by_cmp key_cmp (key x.entry) (key y.entry) in
-    ap (λ l. option_map (λ y. y.position) (last l)) (filter-append p xs (x ∷ []) ∙ ap (λ o. filter p xs ++ cond (is_eq o) (x ∷ []) []) (tied_itself keys_total (key x.entry)))
-    ∙ ap (option_map (λ y. y.position)) (last_of_more (filter p xs) x)
-
-pub last_position-other : (xs : List LocatedMapping) (x : LocatedMapping) (k : Key) → (k ≡ key x.entry → ⊥) → last_position (xs ++ x ∷ []) k ≡ last_position xs k
-last_position-other xs x k other =
-    let p : LocatedMapping → Bool = λ y. eq_by_cmp key_cmp k (key y.entry) in
-    ap (λ l. option_map (λ y. y.position) (last l))
-    (filter-append p xs (x ∷ []) ∙ ap (λ b. filter p xs ++ cond b (x ∷ []) []) (unequal_keys k (key x.entry) other) ∙ append-nil (filter p xs))
-
 -- ---- keys that are not there
 
 pub contained : (ks : List Key) (k : Key) (i : ℕ) → IsNumber ks k i → Contains ks k
@@ -77,11 +58,12 @@ module _ (ks : List Key) (k : Key) (none : Contains ks k → ⊥) where
   other_key : (e : Mapping) → HasKeys ks e → eq_by_cmp key_cmp k (key e) ≡ false
   other_key e has = unequal_keys k (key e) (λ same. none (subst (Contains ks) (sym same) has.own))
 
+  pub no_located : (xs : List LocatedMapping) → AreKnown ks (entries xs) → entries_of_key xs k ≡ []
+  no_located [] known = refl
+  no_located (x ∷ xs) known = ap (λ b. cond b (x ∷ entries_of_key xs k) (entries_of_key xs k)) (other_key x.entry known.0) ∙ no_located xs known.1
+
   pub no_position : (xs : List LocatedMapping) → AreKnown ks (entries xs) → last_position xs k ≡ None
-  no_position [] known = refl
-  no_position (x ∷ xs) known =
-      let p : LocatedMapping → Bool = λ y. eq_by_cmp key_cmp k (key y.entry) in
-      ap (λ b. option_map (λ y. y.position) (last (cond b (x ∷ filter p xs) (filter p xs)))) (other_key x.entry known.0) ∙ no_position xs known.1
+  no_position xs known = ap (λ l. option_map (λ (x : LocatedMapping). x.position) (last l)) (no_located xs known)
 
   pub no_entry : (h : List Mapping) → AreKnown ks h → of_key h k ≡ []
   no_entry [] known = refl
@@ -95,6 +77,12 @@ no_spelling ks email none h known = ap (λ l. option_map (λ e. e.old_email) (fi
     nobody (e ∷ h) known =
         picked_without (λ x. eq_by_cmp text_cmp email (folded x.old_email)) [] e h (unequal_emails email (folded e.old_email) (λ same. none (subst (λ t. Contains ks (email_key t)) (sym same) known.0.email)))
         ∙ nobody h known.1
+
+pub no_located_email : (ks : List Key) (email : Text) → (Contains ks (email_key email) → ⊥) → (xs : List LocatedMapping) → AreKnown ks (entries xs) → entries_of_email xs email ≡ []
+no_located_email ks email none [] known = refl
+no_located_email ks email none (x ∷ xs) known =
+    ap (λ b. cond b (x ∷ entries_of_email xs email) (entries_of_email xs email)) (unequal_emails email (folded x.entry.old_email) (λ same. none (subst (λ t. Contains ks (email_key t)) (sym same) known.0.email)))
+    ∙ no_located_email ks email none xs known.1
 
 -- ---- keys that are there
 

@@ -1,21 +1,23 @@
 -- Keys with their numbers, and tables that have a row for each number.
 use Rattle.std.specs.Prelude.{◌≡◌, ◌<◌, ◌-◌, true, false, List, [], ◌∷◌, ◌++◌, ℕ, Option, Some, None, Contains, map, length}
 use Rattle.std.specs.Borrow.{Bor}
-use Rattle.std.specs.Option.{option_and_then, option_copied, option_map}
+use Rattle.std.specs.Option.{option_and_then, option_copied, option_map, option_or}
 use Rattle.std.specs.List.{slice_get, slice_index_or, AllByRecursion}
 use Rattle.std.specs.List.Sorted.{IsStrictlySortedBy}
 use Rattle.std.specs.Ordering.{is_lt}
 use Rattle.mailmap_entries.specs.Entries.{Mapping, mapping_of}
 use Rattle.mailmap_entries.specs.Folding.{Text}
 use Rattle.mailmap_entries.specs.Prefixes.{AreBytes, key_prefix}
-use Rattle.mailmap_histories.specs.Histories.{Key, Fields, key, key_cmp, is_accepted, new_fields, of_email, of_key, spelling}
-use Rattle.mailmap_redundancy.specs.Redundancy.{LocatedMapping, IsReduced, located_of, entries, last_position}
+use Rattle.mailmap_histories.specs.Histories.{Key, Fields, first, key, key_cmp, is_accepted, last, new_fields, of_email, of_key, spelling}
+use Rattle.mailmap_redundancy.specs.Redundancy.{LocatedMapping, IsReduced, located_of, located_of_reference, entries, entries_of_key}
+use Rattle.mailmap_redundancy.specs.Givers.{Givers, entries_of_email, last_with}
 use Rattle.mailmap_redundancy.specs.Summaries.{KeySummary, Summary, later_of, key_summary, no_summary, summary}
 use Rattle.mailmap_redundancy.specs.declared.numbers.NumberedEntry.{NumberedEntry}
 use Rattle.mailmap_redundancy.specs.declared.located.Position.{Position}
 use Rattle.mailmap_redundancy.specs.declared.located.LocatedEntry.{LocatedEntry}
 use Rattle.mailmap_redundancy.specs.declared.summary.Later.{Later}
 use Rattle.mailmap_redundancy.specs.declared.fields.Fields.{Fields as FieldSlices}
+use Rattle.mailmap_redundancy.specs.declared.givers.Givers.{Givers as GiverEntries}
 use Rattle.mailmap_redundancy.specs.declared.key_summary.KeySummary.{KeySummary as KeyEntries}
 use Rattle.mailmap_redundancy.specs.declared.summary.EmailSummary.{EmailSummary as EmailEntries}
 use Rattle.mailmap_redundancy.specs.declared.summary.Summary.{Summary as SummaryEntries}
@@ -50,6 +52,34 @@ key_summary_of s =
       email = given_by (λ e. e.new_email) s.email;
       last = last_fields_of s.last;
     }
+
+-- the entry that is referred to
+abbrev pub referred : Option (Bor LocatedEntry) → Option LocatedMapping
+referred o = option_map located_of_reference o
+
+-- of the entries of a key the last one that gives a new name, the last that gives a new email, and the last
+pub record KeyGivers : Type 0 where
+  pub name : Option LocatedMapping
+  pub email : Option LocatedMapping
+  pub last : Option LocatedMapping
+
+abbrev pub last_givers : List LocatedMapping → KeyGivers
+last_givers xs = record { name = last_with (λ e. e.new_name) xs; email = last_with (λ e. e.new_email) xs; last = last xs }
+
+-- of some entries and of those after them
+abbrev pub joined_givers : KeyGivers → KeyGivers → KeyGivers
+joined_givers a b = record { name = option_or b.name a.name; email = option_or b.email a.email; last = option_or b.last a.last }
+
+-- those that a row refers to
+abbrev pub key_givers_of : KeyEntries → KeyGivers
+key_givers_of s = record { name = referred s.name; email = referred s.email; last = referred s.last }
+
+-- the first entry of an email
+abbrev pub first_of : EmailEntries → Option LocatedMapping
+first_of s = referred s.first
+
+abbrev pub givers_of : GiverEntries → Givers
+givers_of g = record { name = referred g.name; email = referred g.email; spelling = referred g.spelling }
 
 abbrev pub summary_of : SummaryEntries → Summary
 summary_of s = record { of_key = key_summary_of s.of_key; spelling = spelling_of s.of_email }
@@ -127,9 +157,10 @@ pub record IsTable (keys : List Key) (h : List Mapping) (t : Table) : Type 0 whe
   pub summaries : IsTableOf keys (λ k. k) (key_summary h) key_summary_of t.summaries.items
   pub spellings : IsTableOf keys email_key (spelling h) spelling_of t.spellings.items
 
--- they give the position of the last of the entries xs of each key
-abbrev pub ArePositions : List Key → List LocatedMapping → Table → Type 0
-ArePositions keys xs t = IsTableOf keys (λ k. k) (last_position xs) position_of t.summaries.items
+-- they refer to the entries xs that say it
+pub record AreGivers (keys : List Key) (xs : List LocatedMapping) (t : Table) : Type 0 where
+  pub of_keys : IsTableOf keys (λ k. k) (λ k. last_givers (entries_of_key xs k)) key_givers_of t.summaries.items
+  pub of_emails : IsTableOf keys email_key (λ email. first (entries_of_email xs email)) first_of t.spellings.items
 
 -- the rows that are not needed any more are empty
 abbrev pub AreBlank : {X Y Z : Type 0} → List Key → (X → Key) → (X → Type 0) → Y → (Z → Y) → List Z → Type 0
@@ -166,4 +197,4 @@ pub record IsReducedState (keys : List Key) (history kept : List LocatedMapping)
   pub reduced : IsReduced history kept
   pub known : AreKnown keys (entries kept)
   pub says : IsTable keys (entries kept) table
-  pub positions : ArePositions keys kept table
+  pub givers : AreGivers keys kept table

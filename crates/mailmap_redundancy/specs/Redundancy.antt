@@ -43,9 +43,13 @@ pub data IsReduced : List LocatedMapping → List LocatedMapping → Type 0 wher
   settled : (xs : List LocatedMapping) → IsPass [] xs xs → IsReduced xs xs
   again : (xs some kept : List LocatedMapping) → IsPass [] xs some → IsReduced some kept → IsReduced xs kept
 
--- the position of the last entry of a key
+-- the entries of a key
+abbrev pub entries_of_key : List LocatedMapping → Key → List LocatedMapping
+entries_of_key xs k = filter (λ x. eq_by_cmp key_cmp k (key x.entry)) xs
+
+-- the position of the last of them
 abbrev pub last_position : List LocatedMapping → Key → Option Position
-last_position xs k = option_map (λ x. x.position) (last (filter (λ x. eq_by_cmp key_cmp k (key x.entry)) xs))
+last_position xs k = option_map (λ x. x.position) (last (entries_of_key xs k))
 
 -- ks are some of xs, in the order of xs
 pub data IsSublist {X : Type 0} : List X → List X → Type 0 where

@@ -58,18 +58,24 @@ fn fields_for<'a>(
 fn answered<'a>(email: &[u8], fields: Fields<'a>, spelling: &'a [u8]) -> Option<Fields<'a>>
     ensures { option_map fields_of result ≡ spec.answered email.now (fields_of fields.entry) (Some spelling.entry.now) }
 {
-    let email = fields.email.or(respelled(spelling, email));
-    if fields.name.is_none() && email.is_none() {
-        return None;
-    }
-    Some(Fields {
+    unless_empty(Fields {
         name: fields.name,
-        email,
+        email: fields.email.or(respelled(spelling, email)),
     })
 }
 
-// The kept spelling, if it differs from the email in any byte.
-fn respelled<'a>(kept: &'a [u8], email: &[u8]) -> Option<&'a [u8]>
+/// The fields, if there are any.
+pub(crate) fn unless_empty<'a>(fields: Fields<'a>) -> Option<Fields<'a>>
+    ensures { option_map fields_of result ≡ spec.unless_empty (fields_of fields.entry) }
+{
+    if fields.name.is_none() && fields.email.is_none() {
+        return None;
+    }
+    Some(fields)
+}
+
+/// The kept spelling, if it differs from the email in any byte.
+pub(crate) fn respelled<'a>(kept: &'a [u8], email: &[u8]) -> Option<&'a [u8]>
     ensures { option_copied result ≡ spec.respelled kept.entry.now email.now }
 {
     if is_same(kept, email) {

@@ -22,12 +22,14 @@ pub(crate) struct KeySummary<'p, 'a> {
 
 impl<'p, 'a> KeySummary<'p, 'a> {
     ghost use Rattle.mailmap_redundancy.specs.Summaries as spec;
-    ghost use Rattle.mailmap_redundancy.specs.Numbers.{fields_of, key_summary_of, position_of};
+    ghost use Rattle.std.specs.Prelude.{[], ◌∷◌};
+    ghost use Rattle.mailmap_redundancy.specs.Numbers.{fields_of, joined_givers, key_givers_of, key_summary_of, last_givers, position_of};
+    ghost use Rattle.mailmap_redundancy.specs.Redundancy.{located_of};
 
     /// The summary of no entry.
     pub(crate) fn none() -> KeySummary<'p, 'a>
         ensures summary { key_summary_of result ≡ spec.no_summary }
-        ensures position { position_of result ≡ None }
+        ensures givers { key_givers_of result ≡ last_givers [] }
     {
         KeySummary {
             old_name: None,
@@ -40,7 +42,7 @@ impl<'p, 'a> KeySummary<'p, 'a> {
     /// The summary of one entry.
     pub(crate) fn of(located: &'p LocatedEntry<'a>) -> KeySummary<'p, 'a>
         ensures summary { key_summary_of result ≡ spec.own_summary (mapping_of located.now.entry) }
-        ensures position { position_of result ≡ Some located.now.position }
+        ensures givers { key_givers_of result ≡ last_givers (located_of located.now ∷ []) }
     {
         KeySummary {
             old_name: located.entry.old_name().and(Some(located)),
@@ -114,7 +116,7 @@ impl<'p, 'a> KeySummary<'p, 'a> {
     pub(crate) fn then(self, after: KeySummary<'p, 'a>) -> KeySummary<'p, 'a>
         ensures summary { key_summary_of result
             ≡ spec.joined_summary (key_summary_of self.entry) (key_summary_of after.entry) }
-        ensures position { position_of result ≡ option_or (position_of after.entry) (position_of self.entry) }
+        ensures givers { key_givers_of result ≡ joined_givers (key_givers_of self.entry) (key_givers_of after.entry) }
     {
         KeySummary {
             old_name: self.old_name.or(after.old_name),

@@ -1,9 +1,11 @@
 //! Laws of histories without their redundant entries. Each function runs nothing: its contract is the law.
-ghost use Rattle.std.specs.Prelude.{◌≡◌, ◌≢◌, ◌↔◌, ◌++◌, ◌∷◌, List, Contains, IsSome, map, true};
+ghost use Rattle.std.specs.Prelude.{◌≡◌, ◌≢◌, ◌↔◌, ◌++◌, ◌∷◌, All, Bool, List, Contains, IsSome, filter, map, true};
 ghost use Rattle.std.specs.declared.cmp.Ordering.{Ordering};
 ghost use Rattle.std.specs.List.Sorted.{IsStrictlySortedBy};
 ghost use Rattle.mailmap_entries.specs.Entries.{Mapping};
-ghost use Rattle.mailmap_histories.specs.Histories.{IsNormal, Key, accepted, has_key, is_accepted, key};
+ghost use Rattle.mailmap_entries.specs.Folding.{Text};
+ghost use Rattle.mailmap_histories.specs.Histories.{IsNormal, Key, accepted, has_key, is_accepted, key, scan};
+ghost use Rattle.mailmap_redundancy.specs.Givers.{given, givers, needed};
 ghost use Rattle.mailmap_redundancy.specs.Redundancy.{IsRedundant, IsReduced, IsSublist, LocatedMapping, entries, last_position};
 ghost use Rattle.mailmap_redundancy.specs.declared.located.Position.{Position};
 ghost use Rattle.mailmap_redundancy.specs.Summaries.{is_redundant, summary};
@@ -47,6 +49,20 @@ pub fn law_settled()
     ensures exists { (xs : List LocatedMapping) → (kept : List LocatedMapping) × IsReduced xs kept }
     ensures one { (xs kept other : List LocatedMapping) → IsReduced xs kept → IsReduced xs other → kept ≡ other }
     ensures again { (xs kept : List LocatedMapping) → IsReduced xs kept → IsReduced kept kept }
+{}
+
+/// The givers of an answer give it.
+pub fn law_givers()
+    ensures { (xs kept : List LocatedMapping) (name email : Text) → IsReduced xs kept
+        → given (givers kept name email) email ≡ scan (entries xs) name email }
+{}
+
+/// Without the entries that aren't needed, a name and an email are answered as before. `is_left` says which entries are
+/// left: those needed for this answer are among them.
+pub fn law_needed()
+    ensures { (is_left : LocatedMapping → Bool) (xs kept : List LocatedMapping) (name email : Text) → IsReduced xs kept
+        → All (λ x. is_left x ≡ true) (needed (givers kept name email))
+        → scan (entries (filter is_left kept)) name email ≡ scan (entries xs) name email }
 {}
 
 /// Whether an accepted entry is redundant follows from the summaries of its key and its email, of the entries before it

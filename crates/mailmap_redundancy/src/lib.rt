@@ -4,6 +4,7 @@
 
 mod answers;
 mod fields;
+mod givers;
 mod guesses;
 mod key_summary;
 mod keys;
@@ -18,5 +19,6 @@ mod summary;
 mod table;
 
 pub use fields::Fields;
+pub use givers::Givers;
 pub use located::{LocatedEntry, Position};
 pub use reduced::{Reduced, without_redundant};

@@ -4,7 +4,7 @@ ghost use Rattle.std.specs.List.Sorted.{IsStrictlySortedBy};
 ghost use Rattle.mailmap_histories.specs.Histories.{key_cmp};
 ghost use Rattle.mailmap_redundancy.specs.Repeats.{AreUnrepeated, of_repeated};
 ghost use Rattle.mailmap_redundancy.specs.Redundancy.{IsPass, IsReduced, entries as spec_entries};
-ghost use Rattle.mailmap_redundancy.specs.Numbers.{ArePositions, IsNumbered, IsTable, later_of_each, mappings};
+ghost use Rattle.mailmap_redundancy.specs.Numbers.{AreGivers, IsNumbered, IsTable, later_of_each, mappings};
 
 use crate::keys::KeptKey;
 use crate::numbers::NumberedEntry;
@@ -29,7 +29,7 @@ pub(crate) fn settle<'p, 'a>(
     ensures reduced { IfOk result (λ kept. IsReduced (mappings entries.old) (mappings (take kept entries.new))) }
     ensures numbered { IfOk result (λ kept. All (IsNumbered keys.now) (take kept entries.new)) }
     ensures table { IfOk result (λ kept. IsTable keys.now (spec_entries (mappings (take kept entries.new))) table.new) }
-    ensures positions { IfOk result (λ kept. ArePositions keys.now (mappings (take kept entries.new)) table.new) }
+    ensures givers { IfOk result (λ kept. AreGivers keys.now (mappings (take kept entries.new)) table.new) }
 {
     let mut len = entries.len();
     let mut repeated = emails_with_repeats(alloc, keys, entries)?;
@@ -69,7 +69,7 @@ fn pass<'p, 'a>(
         (λ kept. AreUnrepeated keys.now repeated.now (spec_entries (mappings (take kept entries.new)))) }
     ensures table { IfOk result (λ kept. IsTable keys.now
         (spec_entries (of_repeated keys.now repeated.now (mappings (take kept entries.new)))) table.new) }
-    ensures positions { IfOk result (λ kept. ArePositions keys.now
+    ensures givers { IfOk result (λ kept. AreGivers keys.now
         (of_repeated keys.now repeated.now (mappings (take kept entries.new))) table.new) }
 {
     let mut later_ones = each_later(alloc, keys, repeated, &entries[..len], table)?;
@@ -136,7 +136,7 @@ fn forget_repeated<'p, 'a>(
     requires table { IsTable keys.now (spec_entries (of_repeated keys.now repeated.now (mappings entries.now)))
         table.old }
     ensures table { IsTable keys.now [] table.new }
-    ensures positions { ArePositions keys.now [] table.new }
+    ensures givers { AreGivers keys.now [] table.new }
 {
     for x in entries {
         if repeated[x.email] {
@@ -157,9 +157,9 @@ fn append_others<'p, 'a>(
     requires rows { length repeated.now ≡ length keys.now }
     requires table { IsTable keys.now (spec_entries (of_repeated keys.now repeated.now (mappings entries.now)))
         table.old }
-    requires positions { ArePositions keys.now (of_repeated keys.now repeated.now (mappings entries.now)) table.old }
+    requires givers { AreGivers keys.now (of_repeated keys.now repeated.now (mappings entries.now)) table.old }
     ensures table { IsTable keys.now (spec_entries (mappings entries.now)) table.new }
-    ensures positions { ArePositions keys.now (mappings entries.now) table.new }
+    ensures givers { AreGivers keys.now (mappings entries.now) table.new }
 {
     for x in entries {
         if !repeated[x.email] {

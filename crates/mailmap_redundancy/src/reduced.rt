@@ -5,10 +5,12 @@ ghost use Rattle.mailmap_entries.specs.Entries.{mapping_of};
 ghost use Rattle.mailmap_histories.specs.Histories as answers;
 ghost use Rattle.mailmap_histories.specs.Histories.{key, is_accepted};
 ghost use Rattle.mailmap_redundancy.specs.Redundancy.{IsReduced, entries, last_position, located_of, located_of_reference};
-ghost use Rattle.mailmap_redundancy.specs.Numbers.{IsReducedState, ReducedHistory, fields_of, mappings};
+ghost use Rattle.mailmap_redundancy.specs.Givers.{givers as spec_givers};
+ghost use Rattle.mailmap_redundancy.specs.Numbers.{IsReducedState, ReducedHistory, fields_of, givers_of, mappings};
 
 use crate::answers::scan;
 use crate::fields::Fields;
+use crate::givers::{Givers, find_givers};
 use crate::keys::{AscendingKeys, PrefixedKey};
 use crate::located::{LocatedEntry, Position};
 use crate::numbers::{NumberedEntry, number, unnumbered};
@@ -55,6 +57,14 @@ impl<'p, 'a> Reduced<'p, 'a> {
     {
         let number = find(&self.keys, &PrefixedKey::of(entry))?;
         self.table.summaries[number].position()
+    }
+
+    /// The entries that give the answer to a name and an email. Without any of the others that stay, the answer is the
+    /// same.
+    pub fn givers(&self, name: &[u8], email: &[u8]) -> Givers<'p, 'a>
+        ensures { givers_of result ≡ spec_givers self.now.kept name.now email.now }
+    {
+        find_givers(&self.keys, &self.table, name, email)
     }
 
     /// What the whole history maps a name and an email to, `None` if it maps neither. The answer borrows only from the

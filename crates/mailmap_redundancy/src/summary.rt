@@ -6,7 +6,8 @@ ghost use Rattle.mailmap_entries.specs.Entries.{mapping_of};
 ghost use Rattle.mailmap_histories.specs.Histories.{new_fields};
 ghost use Rattle.mailmap_histories.specs.Listings.{same_optional};
 ghost use Rattle.mailmap_redundancy.specs.Summaries as spec;
-ghost use Rattle.mailmap_redundancy.specs.Numbers.{key_summary_of, last_fields_of, spelling_of, summary_of};
+ghost use Rattle.mailmap_redundancy.specs.Numbers.{first_of, key_summary_of, last_fields_of, spelling_of, summary_of};
+ghost use Rattle.mailmap_redundancy.specs.Redundancy.{located_of};
 
 use crate::key_summary::KeySummary;
 use crate::located::LocatedEntry;
@@ -15,20 +16,22 @@ use mailmap_entries::Entry;
 /// Of the entries of an email: the first one, whose spelling counts.
 #[derive(Clone, Copy)]
 pub(crate) struct EmailSummary<'p, 'a> {
-    first: Option<&'p LocatedEntry<'a>>,
+    pub(crate) first: Option<&'p LocatedEntry<'a>>,
 }
 
 impl<'p, 'a> EmailSummary<'p, 'a> {
     /// The summary of no entry.
     pub(crate) fn none() -> EmailSummary<'p, 'a>
-        ensures { spelling_of result ≡ None }
+        ensures spelling { spelling_of result ≡ None }
+        ensures first { first_of result ≡ None }
     {
         EmailSummary { first: None }
     }
 
     /// The summary of one entry.
     pub(crate) fn of(located: &'p LocatedEntry<'a>) -> EmailSummary<'p, 'a>
-        ensures { spelling_of result ≡ Some (mapping_of located.now.entry).old_email }
+        ensures spelling { spelling_of result ≡ Some (mapping_of located.now.entry).old_email }
+        ensures first { first_of result ≡ Some (located_of located.now) }
     {
         EmailSummary {
             first: Some(located),
@@ -37,7 +40,8 @@ impl<'p, 'a> EmailSummary<'p, 'a> {
 
     /// The summary of this stretch and the one that comes after it.
     pub(crate) fn then(self, after: EmailSummary<'p, 'a>) -> EmailSummary<'p, 'a>
-        ensures { spelling_of result ≡ option_or (spelling_of self.entry) (spelling_of after.entry) }
+        ensures spelling { spelling_of result ≡ option_or (spelling_of self.entry) (spelling_of after.entry) }
+        ensures first { first_of result ≡ option_or (first_of self.entry) (first_of after.entry) }
     {
         EmailSummary {
             first: self.first.or(after.first),

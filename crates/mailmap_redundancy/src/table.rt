@@ -19,7 +19,7 @@ pub(crate) struct Table<'p, 'a> {
 
 impl<'p, 'a> Table<'p, 'a> {
     ghost use Rattle.mailmap_redundancy.specs.Summaries.{summary};
-    ghost use Rattle.mailmap_redundancy.specs.Numbers.{ArePositions, IsForgetting, IsTable, IsNumbered, summary_of, entry_of, located_entry_of};
+    ghost use Rattle.mailmap_redundancy.specs.Numbers.{AreGivers, IsForgetting, IsTable, IsNumbered, summary_of, entry_of, located_entry_of};
     ghost use Rattle.mailmap_redundancy.specs.Redundancy.{LocatedMapping};
 
     /// The table of no entry.
@@ -62,9 +62,9 @@ impl<'p, 'a> Table<'p, 'a> {
         requires email { x.now.email < vec_len self.old.spellings }
         ensures table { (keys : List Key) (h : List Mapping) → IsStrictlySortedBy key_cmp keys → IsNumbered keys x.now
             → IsTable keys h self.old → IsTable keys (h ++ entry_of x.now ∷ []) self.new }
-        ensures positions { (keys : List Key) (xs : List LocatedMapping) → IsStrictlySortedBy key_cmp keys
-            → IsNumbered keys x.now → ArePositions keys xs self.old
-            → ArePositions keys (xs ++ located_entry_of x.now ∷ []) self.new }
+        ensures givers { (keys : List Key) (xs : List LocatedMapping) → IsStrictlySortedBy key_cmp keys
+            → IsNumbered keys x.now → AreGivers keys xs self.old
+            → AreGivers keys (xs ++ located_entry_of x.now ∷ []) self.new }
     {
         self.summaries[x.key] = self.summaries[x.key].then(KeySummary::of(x.located));
         self.spellings[x.email] = self.spellings[x.email].then(EmailSummary::of(x.located));

@@ -6,7 +6,7 @@ use Rattle.mailmap_redundancy.specs.Repeats.{of_repeated, has_repeats}
 use Rattle.mailmap_redundancy.specs.Redundancy.{entries}
 use Rattle.mailmap_redundancy.specs.Numbers.{IsForgetting, IsNumbered, entry_of, located_entry_of, mappings}
 use Rattle.mailmap_redundancy.proofs.RepeatedKeys.{repeated_is}
-use Rattle.mailmap_redundancy.proofs.Forgetting.{forget_first, forgotten_positions, forgotten_table}
+use Rattle.mailmap_redundancy.proofs.Forgetting.{forget_first, forgotten_givers, forgotten_table}
 use Rattle.mailmap_redundancy.proofs.Passing.{others_next, those_next}
 use Rattle.mailmap_redundancy.proofs.Walked.{mappings_next}
 use Rattle.mailmap_redundancy.proofs.passes.forget_repeated.Goals as goal
@@ -44,10 +44,10 @@ returns-clause-table c =
     let over = drop_all c.loop-x.x-index c.args.entries.now c.loop-x-test.false in
     forgotten_table c.args.keys.now c.loop-x.table (subst (λ l. IsForgetting c.args.keys.now (entries (of_repeated c.args.keys.now c.args.repeated.now (mappings l))) c.loop-x.table) over c.loop-x.invariant)
 
-pub returns-clause-positions : goal.returns-clause-positions
-returns-clause-positions c =
+pub returns-clause-givers : goal.returns-clause-givers
+returns-clause-givers c =
     let over = drop_all c.loop-x.x-index c.args.entries.now c.loop-x-test.false in
-    forgotten_positions c.args.keys.now c.loop-x.table (subst (λ l. IsForgetting c.args.keys.now (entries (of_repeated c.args.keys.now c.args.repeated.now (mappings l))) c.loop-x.table) over c.loop-x.invariant)
+    forgotten_givers c.args.keys.now c.loop-x.table (subst (λ l. IsForgetting c.args.keys.now (entries (of_repeated c.args.keys.now c.args.repeated.now (mappings l))) c.loop-x.table) over c.loop-x.invariant)
 
 pub forget-requires-clause-key : goal.forget-requires-clause-key
 forget-requires-clause-key c =

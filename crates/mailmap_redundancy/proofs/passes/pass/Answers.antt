@@ -20,7 +20,7 @@ loop-index-init c =
       so = record {
         asked = search rules;
         table = c.forget_repeated.ensures.table;
-        positions = c.forget_repeated.ensures.positions;
+        givers = c.forget_repeated.ensures.givers;
         numbered = search rules;
         unrepeated = search rules;
         left = search rules;
@@ -189,7 +189,7 @@ loop-index-preserved c =
           subst (λ v. IsPassing keys repeated all (i + 1) v.items c.if-repeated-x.table more) (sym w.later_ones-is)
           (subst (λ t. IsPassing keys repeated all (i + 1) w.pop.new.self.items t more) (sym w.table-is)
           (passed_staying keys repeated all i x within is n c.loop-index.later_ones.items c.loop-index.table kept so many w.pop.new.self.items later w.in-Some.ensures.items w.append.new.self more (sym tested ∙ w.if-is_redundant.false)
-          (w.append.ensures.table keys (entries some) c.requires.ascending n so.table) (w.append.ensures.positions keys some c.requires.ascending n so.positions) refl))
+          (w.append.ensures.table keys (entries some) c.requires.ascending n so.table) (w.append.ensures.givers keys some c.requires.ascending n so.givers) refl))
       | else-repeated-x w ↦
           subst (λ v. IsPassing keys repeated all (i + 1) v.items c.if-repeated-x.table more) (sym w.later_ones-is)
           (subst (λ t. IsPassing keys repeated all (i + 1) c.loop-index.later_ones.items t more) (sym w.table-is)

@@ -2,7 +2,7 @@ use Rattle.std.proofs.Common.{◌≡◌, ◌≤◌, length, take, subst, arith}
 use Rattle.std.proofs.lemmas.List.{length-map, length-take}
 use Rattle.mailmap_redundancy.specs.Repeats.{AreUnrepeated, of_repeated}
 use Rattle.mailmap_redundancy.specs.Redundancy.{entries}
-use Rattle.mailmap_redundancy.specs.Numbers.{ArePositions, IsTable, located_entry_of, mappings}
+use Rattle.mailmap_redundancy.specs.Numbers.{AreGivers, IsTable, located_entry_of, mappings}
 use Rattle.mailmap_redundancy.proofs.Settling.{further, over}
 use Rattle.mailmap_redundancy.proofs.passes.settle.Goals as goal
 
@@ -21,7 +21,7 @@ loop-kept-preserved c =
       c.in_ok-repeated-2.ensures.rows,
       subst (λ l. AreUnrepeated keys l (entries more)) marks c.in_ok-kept-2.ensures.unrepeated,
       subst (λ l. IsTable keys (entries (of_repeated keys l more)) table) marks c.in_ok-kept-2.ensures.table,
-      subst (λ l. ArePositions keys (of_repeated keys l more) table) marks c.in_ok-kept-2.ensures.positions,
+      subst (λ l. AreGivers keys (of_repeated keys l more) table) marks c.in_ok-kept-2.ensures.givers,
     )
 
 pub returns-clause-reduced : goal.returns-clause-reduced

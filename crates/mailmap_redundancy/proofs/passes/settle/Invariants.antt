@@ -2,7 +2,7 @@ use Rattle.std.specs.Prelude.{◌≡◌, ◌≤◌, length, take}
 use Rattle.std.specs.List.{All}
 use Rattle.mailmap_redundancy.specs.Repeats.{AreUnrepeated, of_repeated}
 use Rattle.mailmap_redundancy.specs.Redundancy.{entries}
-use Rattle.mailmap_redundancy.specs.Numbers.{ArePositions, IsNumbered, IsTable, mappings}
+use Rattle.mailmap_redundancy.specs.Numbers.{AreGivers, IsNumbered, IsTable, mappings}
 use Rattle.mailmap_redundancy.proofs.Settling.{IsSettling}
 use Rattle.mailmap_redundancy.proofs.passes.settle.Given as goal
 
@@ -14,7 +14,7 @@ invariant-loop-kept l =
     × (length l.repeated.items ≡ length l.keys)
     × AreUnrepeated l.keys l.repeated.items (entries (mappings (take l.kept l.entries)))
     × IsTable l.keys (entries (of_repeated l.keys l.repeated.items (mappings (take l.kept l.entries)))) l.table
-    × ArePositions l.keys (of_repeated l.keys l.repeated.items (mappings (take l.kept l.entries))) l.table
+    × AreGivers l.keys (of_repeated l.keys l.repeated.items (mappings (take l.kept l.entries))) l.table
 
 abbrev pub decreases-loop-kept : goal.decreases-loop-kept
 decreases-loop-kept l = l.len

@@ -1,7 +1,7 @@
 use Rattle.std.proofs.Common.{◌≡◌, map, take, sym, subst}
 use Rattle.std.specs.Prelude.{All}
 use Rattle.mailmap_redundancy.specs.Redundancy.{IsReduced, entries, located_of, located_of_reference}
-use Rattle.mailmap_redundancy.specs.Numbers.{AreKnown, ArePositions, IsNumbered, IsReducedState, IsTable, mappings}
+use Rattle.mailmap_redundancy.specs.Numbers.{AreKnown, AreGivers, IsNumbered, IsReducedState, IsTable, mappings}
 use Rattle.mailmap_redundancy.proofs.Walked.{known_numbered}
 use Rattle.mailmap_redundancy.proofs.reduced.reduce_numbered.Goals as goal
 
@@ -19,5 +19,5 @@ invariant_of-result c =
       reduced = subst (IsReduced history) (sym same) (subst (λ l. IsReduced l (mappings kept)) c.in_ok-keys.ensures.located c.in_ok-len.ensures.reduced);
       known = subst (λ l. AreKnown keys (entries l)) (sym same) (known_numbered keys kept n);
       says = subst (λ l. IsTable keys (entries l) table) (sym same) (subst (λ l. IsTable l (entries (mappings kept)) table) lent c.in_ok-len.ensures.table);
-      positions = subst (λ l. ArePositions keys l table) (sym same) (subst (λ l. ArePositions l (mappings kept) table) lent c.in_ok-len.ensures.positions);
+      givers = subst (λ l. AreGivers keys l table) (sym same) (subst (λ l. AreGivers l (mappings kept) table) lent c.in_ok-len.ensures.givers);
     })

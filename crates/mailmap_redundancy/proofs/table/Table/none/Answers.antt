@@ -8,5 +8,5 @@ use Rattle.mailmap_redundancy.proofs.table.Table.none.Goals as goal
 pub returns : goal.returns
 returns c = record {
   summaries = blank c.args.keys.now (λ k. k) key_summary_of (key_summary []) c.none.result _ _ (c.in_ok-vec.ensures.items_if_clones_equal (search rules)) refl (λ k. c.none.ensures.summary);
-  spellings = blank c.args.keys.now email_key spelling_of (spelling []) _ _ _ (c.in_ok-vec-2.ensures.items_if_clones_equal (search rules)) refl (λ m. c.none-2.ensures);
+  spellings = blank c.args.keys.now email_key spelling_of (spelling []) _ _ _ (c.in_ok-vec-2.ensures.items_if_clones_equal (search rules)) refl (λ m. c.none-2.ensures.spelling);
 }

@@ -14,6 +14,6 @@ returns c = λ keys h up n t.
           (c.then.ensures.summary ∙ ap₂ joined_summary c.of.ensures.summary (ap key_summary_of c.index.ensures ∙ (t.summaries _ _ n.own).1 c.index.result.now) ∙ sym (prepended h e n.accepted))
           (not_prepended h e);
       spellings = row_changed keys email_key spelling_of (spelling h) (spelling (e ∷ h)) _ (folded e.old_email) _ _ up email_keys t.spellings n.of_email
-          (c.of-2.ensures ∙ sym (spelled_before h e n.accepted))
+          (c.of-2.ensures.spelling ∙ sym (spelled_before h e n.accepted))
           (not_spelled_before h e);
     }

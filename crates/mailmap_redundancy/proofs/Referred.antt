@@ -1,9 +1,12 @@
 -- Entries that are referred to for the text that they give.
-use Rattle.std.proofs.Common.{◌≡◌, false, true≢false, Bor, Option, Some, None, IfSome, IsSome, is_some, refl, sym, ap, subst, ◌∙◌}
+use Rattle.std.proofs.Common.{◌≡◌, false, true≢false, cond, [], ◌∷◌, Bor, Option, Some, None, IfSome, IsSome, is_some, refl, sym, ap, subst, ◌∙◌}
 use Rattle.std.specs.Option.{option_and, option_copied, option_or}
+use Rattle.mailmap_histories.specs.Histories.{last}
 use Rattle.mailmap_entries.specs.Entries.{Mapping, mapping_of}
 use Rattle.mailmap_entries.specs.Folding.{Text}
-use Rattle.mailmap_redundancy.specs.Numbers.{given_by}
+use Rattle.mailmap_redundancy.specs.Givers.{last_with}
+use Rattle.mailmap_redundancy.specs.Numbers.{given_by, referred}
+use Rattle.mailmap_redundancy.specs.Redundancy.{located_of}
 use Rattle.mailmap_redundancy.specs.declared.located.LocatedEntry.{LocatedEntry}
 
 is_copied : {X : Type 0} (o : Option (Bor X)) (p : Option X) → option_copied o ≡ p → is_some o ≡ is_some p
@@ -48,6 +51,13 @@ module _ (f : Mapping → Option Text) where
         by : (o : Option (Bor Text)) → is_some o ≡ is_some (f (mapping_of x.now.entry)) → Gives (option_and o (Some x))
         by None _ = tt
         by (Some t) same = sym same
+
+    pub own_referred : referred r ≡ last_with f (located_of x.now ∷ [])
+    own_referred = ap referred is ∙ by o (is_copied o _ text)
+      where
+        by : (o : Option (Bor Text)) → is_some o ≡ is_some (f (mapping_of x.now.entry)) → referred (option_and o (Some x)) ≡ last_with f (located_of x.now ∷ [])
+        by None same = ap (λ b. last (cond b (located_of x.now ∷ []) [])) same
+        by (Some t) same = ap (λ b. last (cond b (located_of x.now ∷ []) [])) same
 
     pub own_given : given_by f r ≡ f (mapping_of x.now.entry)
     own_given = ap (given_by f) is ∙ by o (is_copied o _ text)

@@ -1,0 +1,254 @@
+-- What the givers of an answer give, and that no other entry is needed.
+use Rattle.std.proofs.Common.{◌≡◌, ◌≢◌, Bool, true, false, true≢false, cond, ◌&&◌, ◌||◌, List, [], ◌∷◌, ◌++◌, map, filter, filter_map, Option, Some, None, IfSome, is_some, unwrap_or, option_to_list, refl, sym, ap, ap₂, subst, ◌∙◌}
+use Rattle.std.specs.Cmp.{tied_itself}
+use Rattle.std.specs.Cmp.Lexicographic.{nat_list_cmp_total}
+use Rattle.std.specs.List.{AllByRecursion, cons_option}
+use Rattle.std.specs.Option.{option_and_then, option_flatten, option_map, option_or}
+use Rattle.std.specs.Ordering.{eq_by_cmp, is_eq}
+use Rattle.std.proofs.lemmas.List.Elements.{All-filter, All-from_recursion, filter_passes, recursion_from_All}
+use Rattle.mailmap_entries.specs.Entries.{Mapping}
+use Rattle.mailmap_entries.specs.Folding.{Text, folded, text_cmp}
+use Rattle.mailmap_histories.specs.Histories.{Fields, Key, accepted, answered, first, is_accepted, key, key_cmp, last, last_given, new_fields, of_email, of_key, respelled, scan, unless_empty}
+use Rattle.mailmap_histories.proofs.Parts.{all_head, all_last, all_mapped, all_tail, and_then-flatten, filter-filter, filter_all, last_of_one}
+use Rattle.mailmap_batches.proofs.Stable.{filter-map}
+use Rattle.mailmap_redundancy.specs.Givers.{entries_of_email, given, givers, last_or_all, last_with, needed, those_that_count, with_spelling}
+use Rattle.mailmap_redundancy.specs.Redundancy.{IsReduced, LocatedMapping, entries, entries_of_key}
+use Rattle.mailmap_redundancy.proofs.Kept.{reduced_accepted, reduced_scan}
+use Rattle.mailmap_redundancy.proofs.RepeatedKeys.{by_cases, of_other_key}
+
+-- ---- the last of a list
+
+last-map : {X Y : Type 0} (f : X → Y) (xs : List X) → last (map f xs) ≡ option_map f (last xs)
+last-map f [] = refl
+last-map f (x ∷ xs) =
+    ap (λ o. Some (unwrap_or o (f x))) (last-map f xs)
+    ∙ (elim (last xs) as (λ o. Some (unwrap_or (option_map f o) (f x)) ≡ Some (f (unwrap_or o x))) [ None ↦ refl | Some y ↦ refl ])
+
+-- the last that passes a test passes it
+last_passes : {X : Type 0} (p : X → Bool) (xs : List X) → IfSome (last (filter p xs)) (λ x. p x ≡ true)
+last_passes p xs = of_all (filter p xs) (recursion_from_All _ _ (filter_passes p xs))
+  where
+    of_all : (l : List _) → AllByRecursion (λ x. p x ≡ true) l → IfSome (last l) (λ x. p x ≡ true)
+    of_all [] a = tt
+    of_all (x ∷ l) a = all_last (λ x. p x ≡ true) x l a.0 a.1
+
+module _ (f : Mapping → Option Text) where
+  all_given : (xs : List LocatedMapping) → map (λ t. Some t) (filter_map f (entries xs)) ≡ map (λ x. f x.entry) (filter (λ x. is_some (f x.entry)) xs)
+  all_given [] = refl
+  all_given (x ∷ xs) =
+      elim (f x.entry) as (λ o. f x.entry ≡ o → map (λ t. Some t) (cons_option o (filter_map f (entries xs))) ≡ map (λ y. f y.entry) (cond (is_some o) (x ∷ filter (λ y. is_some (f y.entry)) xs) (filter (λ y. is_some (f y.entry)) xs))) [
+        | None ↦ λ is. all_given xs
+        | Some t ↦ λ is. ap₂ (λ o l. o ∷ l) (sym is) (all_given xs)
+      ] refl
+
+  -- a field as it is given last, by the entry that gives it
+  given_last : (xs : List LocatedMapping) → last_given f (entries xs) ≡ option_and_then (λ x. f x.entry) (last_with f xs)
+  given_last xs =
+      flat (last_given f (entries xs))
+      ∙ ap option_flatten (sym (last-map (λ t. Some t) (filter_map f (entries xs))) ∙ ap last (all_given xs) ∙ last-map (λ x. f x.entry) (filter (λ x. is_some (f x.entry)) xs))
+      ∙ sym (and_then-flatten (λ x. f x.entry) (last_with f xs))
+    where
+      flat : (o : Option Text) → o ≡ option_flatten (option_map (λ t. Some t) o)
+      flat None = refl
+      flat (Some t) = refl
+
+  gives : (xs : List LocatedMapping) → is_some (last_with f xs) ≡ is_some (option_and_then (λ x. f x.entry) (last_with f xs))
+  gives xs = by (last_with f xs) (last_passes (λ x. is_some (f x.entry)) xs)
+    where
+      by : (o : Option LocatedMapping) → IfSome o (λ x. is_some (f x.entry) ≡ true) → is_some o ≡ is_some (option_and_then (λ x. f x.entry) o)
+      by None _ = refl
+      by (Some x) does = sym does
+
+-- ---- entries of a key are entries of its email
+
+other_email : (a b : Text) → eq_by_cmp text_cmp a b ≡ false → a ≢ b
+other_email a b other same = true≢false (sym (ap is_eq (tied_itself nat_list_cmp_total a)) ∙ ap (eq_by_cmp text_cmp a) same ∙ other)
+
+pub none_of_key : (xs : List LocatedMapping) (k : Key) → entries_of_email xs k.0 ≡ [] → entries_of_key xs k ≡ []
+none_of_key [] k none = refl
+none_of_key (x ∷ xs) k none =
+    by_cases (eq_by_cmp text_cmp k.0 (folded x.entry.old_email))
+    (λ same. let some : x ∷ entries_of_email xs k.0 ≡ [] = sym (ap (λ b. cond b (x ∷ entries_of_email xs k.0) (entries_of_email xs k.0)) same) ∙ none in absurd (cc))
+    (λ other.
+    ap (λ b. cond b (x ∷ entries_of_key xs k) (entries_of_key xs k)) (of_other_key k x.entry (other_email k.0 (folded x.entry.old_email) other))
+    ∙ none_of_key xs k (sym (ap (λ b. cond b (x ∷ entries_of_email xs k.0) (entries_of_email xs k.0)) other) ∙ none))
+
+-- ---- what they give is the answer
+
+module _ (kept : List LocatedMapping) (all : AllByRecursion (λ x. is_accepted x.entry ≡ true) kept) where
+  all_accepted : accepted (entries kept) ≡ entries kept
+  all_accepted = filter_all is_accepted (entries kept) (all_mapped (λ (x : LocatedMapping). x.entry) (λ e. is_accepted e ≡ true) kept all)
+
+  located_key : (k : Key) → of_key (entries kept) k ≡ entries (entries_of_key kept k)
+  located_key k = let q : Mapping → Bool = λ e. eq_by_cmp key_cmp k (key e) in ap (filter q) all_accepted ∙ filter-map q (λ (x : LocatedMapping). x.entry) kept
+
+  located_email : (email : Text) → of_email (entries kept) email ≡ entries (entries_of_email kept email)
+  located_email email = let q : Mapping → Bool = λ e. eq_by_cmp text_cmp email (folded e.old_email) in ap (filter q) all_accepted ∙ filter-map q (λ (x : LocatedMapping). x.entry) kept
+
+first-map : {X Y : Type 0} (f : X → Y) (xs : List X) → first (map f xs) ≡ option_map f (first xs)
+first-map f [] = refl
+first-map f (x ∷ xs) = refl
+
+-- the fields of those that count
+abbrev fields_that_count : List LocatedMapping → Fields
+fields_that_count xs =
+    record {
+      name = option_and_then (λ x. x.entry.new_name) (last_with (λ e. e.new_name) xs);
+      email = option_and_then (λ x. x.entry.new_email) (last_with (λ e. e.new_email) xs);
+    }
+
+count : (o : Option LocatedMapping) (others : List LocatedMapping)
+    → unwrap_or (option_map new_fields (option_map (λ x. x.entry) o)) (record { name = last_given (λ e. e.new_name) (entries others); email = last_given (λ e. e.new_email) (entries others) }) ≡ fields_that_count (last_or_all o others)
+count None others = λ i. record { name = given_last (λ e. e.new_name) others i; email = given_last (λ e. e.new_email) others i }
+count (Some x) others =
+    λ i. record {
+      name = (sym (last_of_one (λ e. e.new_name) x.entry) ∙ given_last (λ e. e.new_name) (x ∷ [])) i;
+      email = (sym (last_of_one (λ e. e.new_email) x.entry) ∙ given_last (λ e. e.new_email) (x ∷ [])) i;
+    }
+
+first_of_two : {X : Type 0} (o p q : Option X) → true ≡ is_some o → option_or o p ≡ option_or o q
+first_of_two None p q some = absurd (true≢false some)
+first_of_two (Some x) p q _ = refl
+
+-- the spelling of the first counts if no email is given
+spelled : (email : Text) (name : Option Text) (giver head : Option LocatedMapping) → is_some giver ≡ is_some (option_and_then (λ x. x.entry.new_email) giver) → (head ≡ None → (name ≡ None) × (giver ≡ None))
+    → answered email (record { name = name; email = option_and_then (λ x. x.entry.new_email) giver }) (option_map (λ e. e.old_email) (option_map (λ x. x.entry) head))
+    ≡ unless_empty (record {
+      name = name;
+      email = option_or (option_and_then (λ x. x.entry.new_email) giver) (option_and_then (λ x. respelled x.entry.old_email email) (cond (is_some giver) None head));
+    })
+spelled email name giver None _ nobody =
+    let none = nobody refl in
+    λ i. unless_empty (record {
+      name = sym none.0 i;
+      email = option_or (option_and_then (λ x. x.entry.new_email) (sym none.1 i)) (option_and_then (λ (x : LocatedMapping). respelled x.entry.old_email email) (cond (is_some (sym none.1 i)) None None));
+    })
+spelled email name None (Some x) _ _ = refl
+spelled email name (Some y) (Some x) does _ =
+    ap (λ o. unless_empty (record { name = name; email = o })) (first_of_two y.entry.new_email (respelled x.entry.old_email email) None does)
+
+pub givers_answer : (kept : List LocatedMapping) (name email : Text) → AllByRecursion (λ x. is_accepted x.entry ≡ true) kept → scan (entries kept) name email ≡ given (givers kept name email) email
+givers_answer kept name email all =
+    let n : Key = (folded email, Some (folded name)) in
+    let u : Key = (folded email, None) in
+    let those = those_that_count kept name email in
+    let fields : unwrap_or (option_map new_fields (last (of_key (entries kept) n))) (record { name = last_given (λ e. e.new_name) (of_key (entries kept) u); email = last_given (λ e. e.new_email) (of_key (entries kept) u) }) ≡ fields_that_count those =
+    (λ i. unwrap_or (option_map new_fields (last (located_key kept all n i))) (record { name = last_given (λ e. e.new_name) (located_key kept all u i); email = last_given (λ e. e.new_email) (located_key kept all u i) }))
+    ∙ ap (λ o. unwrap_or (option_map new_fields o) (record { name = last_given (λ e. e.new_name) (entries (entries_of_key kept u)); email = last_given (λ e. e.new_email) (entries (entries_of_key kept u)) })) (last-map (λ (x : LocatedMapping). x.entry) (entries_of_key kept n))
+    ∙ count (last (entries_of_key kept n)) (entries_of_key kept u) in
+    let head : first (of_email (entries kept) (folded email)) ≡ option_map (λ x. x.entry) (first (entries_of_email kept (folded email))) =
+    ap first (located_email kept all (folded email)) ∙ first-map (λ (x : LocatedMapping). x.entry) (entries_of_email kept (folded email)) in
+    ap₂ (λ f o. answered email f (option_map (λ e. e.old_email) o)) fields head
+    ∙ spelled email (fields_that_count those).name (last_with (λ e. e.new_email) those) (first (entries_of_email kept (folded email))) (gives (λ e. e.new_email) those) nobody
+  where
+    no_head : {X : Type 0} (xs : List X) → first xs ≡ None → xs ≡ []
+    no_head [] e = refl
+    no_head (x ∷ xs) e = absurd (cc)
+
+    nobody : first (entries_of_email kept (folded email)) ≡ None → ((fields_that_count (those_that_count kept name email)).name ≡ None) × (last_with (λ e. e.new_email) (those_that_count kept name email) ≡ None)
+    nobody none =
+        let nothing = no_head (entries_of_email kept (folded email)) none in
+        let nobody_counts : those_that_count kept name email ≡ [] = ap₂ (λ l m. last_or_all (last l) m) (none_of_key kept (folded email, Some (folded name)) nothing) (none_of_key kept (folded email, None) nothing) in
+        (ap (λ l. (fields_that_count l).name) nobody_counts, ap (last_with (λ e. e.new_email)) nobody_counts)
+
+pub reduced_givers : (xs kept : List LocatedMapping) (name email : Text) → IsReduced xs kept → given (givers kept name email) email ≡ scan (entries xs) name email
+reduced_givers xs kept name email s = sym (givers_answer kept name email (reduced_accepted xs kept s)) ∙ reduced_scan xs kept name email s
+
+-- ---- no other entry is needed
+
+module _ {X : Type 0} (p : X → Bool) where
+  last_left : (xs : List X) → IfSome (last xs) (λ x. p x ≡ true) → last (filter p xs) ≡ last xs
+  last_left [] _ = refl
+  last_left (x ∷ xs) left = by (last_left xs) (last xs) refl left
+    where
+      by : (IfSome (last xs) (λ y. p y ≡ true) → last (filter p xs) ≡ last xs) → (o : Option X) → last xs ≡ o → p (unwrap_or o x) ≡ true → last (cond (p x) (x ∷ filter p xs) (filter p xs)) ≡ Some (unwrap_or (last xs) x)
+      by later None is own =
+          ap (λ b. last (cond b (x ∷ filter p xs) (filter p xs))) own
+          ∙ ap (λ o. Some (unwrap_or o x)) (later (subst (λ o. IfSome o (λ y. p y ≡ true)) (sym is) tt))
+      by later (Some y) is own =
+          let rest : last (filter p xs) ≡ Some y = later (subst (λ o. IfSome o (λ z. p z ≡ true)) (sym is) own) ∙ is in
+          (elim (p x) as (λ b. last (cond b (x ∷ filter p xs) (filter p xs)) ≡ Some y) [ true ↦ ap (λ o. Some (unwrap_or o x)) rest | false ↦ rest ])
+          ∙ sym (ap (λ o. Some (unwrap_or o x)) is)
+
+  first_left : (xs : List X) → IfSome (first xs) (λ x. p x ≡ true) → first (filter p xs) ≡ first xs
+  first_left [] _ = refl
+  first_left (x ∷ xs) left = ap (λ b. first (cond b (x ∷ filter p xs) (filter p xs))) left
+
+  filter_swapped : (q : X → Bool) (xs : List X) → filter q (filter p xs) ≡ filter p (filter q xs)
+  filter_swapped q xs = filter-filter q p xs ∙ ap (λ t. filter t xs) (λ i x. both (p x) (q x) i) ∙ sym (filter-filter p q xs)
+    where
+      both : (a b : Bool) → (a && b) ≡ (b && a)
+      both true true = refl
+      both true false = refl
+      both false true = refl
+      both false false = refl
+
+all_filter : {X : Type 0} (P : X → Type 0) (q : X → Bool) (xs : List X) → AllByRecursion P xs → AllByRecursion P (filter q xs)
+all_filter P q xs a = recursion_from_All P (filter q xs) (All-filter q P xs (All-from_recursion P xs a))
+
+of_option : {X : Type 0} (P : X → Type 0) (o : Option X) → AllByRecursion P (option_to_list o) → IfSome o P
+of_option P None _ = tt
+of_option P (Some x) a = a.0
+
+module _ (p : LocatedMapping → Bool) (kept : List LocatedMapping) (name email : Text) where
+  abbrev Passes : LocatedMapping → Type 0
+  Passes x = p x ≡ true
+
+  -- those that are left of those that count
+  with_left : (f : Mapping → Option Text) (o : Option LocatedMapping) (others : List LocatedMapping) → IfSome (last_with f (last_or_all o others)) Passes → last_with f (last_or_all o (filter p others)) ≡ last_with f (last_or_all o others)
+  with_left f None others left = ap last (filter_swapped p (λ x. is_some (f x.entry)) others) ∙ last_left p (filter (λ x. is_some (f x.entry)) others) left
+  with_left f (Some x) others _ = refl
+
+  -- an accepted entry that counts alone gives a field
+  alone : (x : LocatedMapping) → is_accepted x.entry ≡ true → IfSome (last_with (λ e. e.new_name) (x ∷ [])) Passes → IfSome (last_with (λ e. e.new_email) (x ∷ [])) Passes → p x ≡ true
+  alone x good by_name by_email =
+      by_cases (is_some x.entry.new_name)
+      (λ does. subst (λ b. IfSome (last (cond b (x ∷ []) [])) Passes) does by_name)
+      (λ doesn't.
+      let does : is_some x.entry.new_email ≡ true = sym (ap (λ b. b || is_some x.entry.new_email) doesn't) ∙ good in
+      subst (λ b. IfSome (last (cond b (x ∷ []) [])) Passes) does by_email)
+
+  named_left : (o : Option LocatedMapping) (others : List LocatedMapping) → IfSome o (λ x. is_accepted x.entry ≡ true) → IfSome (last_with (λ e. e.new_name) (last_or_all o others)) Passes → IfSome (last_with (λ e. e.new_email) (last_or_all o others)) Passes → IfSome o Passes
+  named_left None others _ _ _ = tt
+  named_left (Some x) others good by_name by_email = alone x good by_name by_email
+
+  with_spelling_left : (n g : Option LocatedMapping) (l : List LocatedMapping) → IfSome (with_spelling n g (first l)).spelling Passes → with_spelling n g (first (filter p l)) ≡ with_spelling n g (first l)
+  with_spelling_left n None l left = ap (with_spelling n None) (first_left p l left)
+  with_spelling_left n (Some x) l _ = refl
+
+  pub givers_left : AllByRecursion (λ x. is_accepted x.entry ≡ true) kept → AllByRecursion Passes (needed (givers kept name email)) → givers (filter p kept) name email ≡ givers kept name email
+  givers_left all left =
+      let n : Key = (folded email, Some (folded name)) in
+      let u : Key = (folded email, None) in
+      let g = givers kept name email in
+      let o = last (entries_of_key kept n) in
+      let others = entries_of_key kept u in
+      let fields = option_to_list g.name ++ option_to_list g.email in
+      let front : AllByRecursion Passes fields = all_head Passes fields (option_to_list g.spelling) left in
+      let by_name : IfSome g.name Passes = of_option Passes g.name (all_head Passes (option_to_list g.name) (option_to_list g.email) front) in
+      let by_email : IfSome g.email Passes = of_option Passes g.email (all_tail Passes (option_to_list g.name) (option_to_list g.email) front) in
+      let by_first : IfSome g.spelling Passes = of_option Passes g.spelling (all_tail Passes fields (option_to_list g.spelling) left) in
+      let named : last (entries_of_key (filter p kept) n) ≡ o =
+      ap last (filter_swapped p (λ x. eq_by_cmp key_cmp n (key x.entry)) kept)
+      ∙ last_left p (entries_of_key kept n) (named_left o others (accepted_last n) by_name by_email) in
+      let those : those_that_count (filter p kept) name email ≡ last_or_all o (filter p others) =
+      ap₂ last_or_all named (filter_swapped p (λ x. eq_by_cmp key_cmp u (key x.entry)) kept) in
+      (λ i. with_spelling (last_with (λ e. e.new_name) (those i)) (last_with (λ e. e.new_email) (those i)) (first (filter_swapped p (λ x. eq_by_cmp text_cmp (folded email) (folded x.entry.old_email)) kept i)))
+      ∙ (λ i. with_spelling (with_left (λ e. e.new_name) o others by_name i) (with_left (λ e. e.new_email) o others by_email i) (first (filter p (entries_of_email kept (folded email)))))
+      ∙ with_spelling_left g.name g.email (entries_of_email kept (folded email)) by_first
+    where
+      of_last : (xs : List LocatedMapping) → AllByRecursion (λ x. is_accepted x.entry ≡ true) xs → IfSome (last xs) (λ x. is_accepted x.entry ≡ true)
+      of_last [] a = tt
+      of_last (x ∷ xs) a = all_last (λ x. is_accepted x.entry ≡ true) x xs a.0 a.1
+
+      accepted_last : (k : Key) → IfSome (last (entries_of_key kept k)) (λ x. is_accepted x.entry ≡ true)
+      accepted_last k = of_last (entries_of_key kept k) (all_filter (λ x. is_accepted x.entry ≡ true) (λ x. eq_by_cmp key_cmp k (key x.entry)) kept all)
+
+-- what is answered without the others
+pub needed_answer : (p : LocatedMapping → Bool) (xs kept : List LocatedMapping) (name email : Text) → IsReduced xs kept → AllByRecursion (λ x. p x ≡ true) (needed (givers kept name email))
+    → scan (entries (filter p kept)) name email ≡ scan (entries xs) name email
+needed_answer p xs kept name email s left =
+    let all = reduced_accepted xs kept s in
+    givers_answer (filter p kept) name email (all_filter (λ x. is_accepted x.entry ≡ true) p kept all)
+    ∙ ap (λ g. given g email) (givers_left p kept name email all left)
+    ∙ reduced_givers xs kept name email s

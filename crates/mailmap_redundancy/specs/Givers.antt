@@ -1,0 +1,53 @@
+-- Which of the entries that stay give the answer to a name and an email.
+use Rattle.std.specs.Prelude.{◌++◌, if◌then◌else◌, List, [], ◌∷◌, filter, is_some, Option, Some, None, option_to_list}
+use Rattle.std.specs.Option.{option_and_then, option_or}
+use Rattle.std.specs.Ordering.{eq_by_cmp}
+use Rattle.mailmap_entries.specs.Entries.{Mapping}
+use Rattle.mailmap_entries.specs.Folding.{Text, folded, text_cmp}
+use Rattle.mailmap_histories.specs.Histories.{Fields, first, last, respelled, unless_empty}
+use Rattle.mailmap_redundancy.specs.Redundancy.{LocatedMapping, entries_of_key}
+
+-- the entries of a folded email
+abbrev pub entries_of_email : List LocatedMapping → Text → List LocatedMapping
+entries_of_email xs email = filter (λ x. eq_by_cmp text_cmp email (folded x.entry.old_email)) xs
+
+-- the last that gives a field
+abbrev pub last_with : (Mapping → Option Text) → List LocatedMapping → Option LocatedMapping
+last_with field xs = last (filter (λ x. is_some (field x.entry)) xs)
+
+-- those that count for a name and an email: of those with this old name the last one alone; if there are none, all
+-- without an old name
+abbrev pub last_or_all : Option LocatedMapping → List LocatedMapping → List LocatedMapping
+last_or_all (Some x) others = x ∷ []
+last_or_all None others = others
+
+abbrev pub those_that_count : List LocatedMapping → Text → Text → List LocatedMapping
+those_that_count kept name email =
+    last_or_all (last (entries_of_key kept (folded email, Some (folded name)))) (entries_of_key kept (folded email, None))
+
+-- the entries that give the new name and the new email; if there is no new email, the first entry of the email, which
+-- spells it
+pub record Givers : Type 0 where
+  pub name : Option LocatedMapping
+  pub email : Option LocatedMapping
+  pub spelling : Option LocatedMapping
+
+abbrev pub with_spelling : Option LocatedMapping → Option LocatedMapping → Option LocatedMapping → Givers
+with_spelling name email first = record { name = name; email = email; spelling = if is_some email then None else first }
+
+abbrev pub givers : List LocatedMapping → Text → Text → Givers
+givers kept name email =
+    let those = those_that_count kept name email in
+    with_spelling (last_with (λ e. e.new_name) those) (last_with (λ e. e.new_email) those) (first (entries_of_email kept (folded email)))
+
+-- what they give: the spelling counts if it is not the very email
+abbrev pub given : Givers → Text → Option Fields
+given g email =
+    unless_empty (record {
+      name = option_and_then (λ x. x.entry.new_name) g.name;
+      email = option_or (option_and_then (λ x. x.entry.new_email) g.email) (option_and_then (λ x. respelled x.entry.old_email email) g.spelling);
+    })
+
+-- all of them: without any other entry the answer is the same
+abbrev pub needed : Givers → List LocatedMapping
+needed g = option_to_list g.name ++ option_to_list g.email ++ option_to_list g.spelling
