@@ -1,0 +1,60 @@
+-- The parts of a line, and the entries of them.
+use Rattle.std.proofs.Common.{⊎_elim, take_all, min, ap₂, ◌≡◌, ◌-◌, ◌<◌, ◌≤◌, ℕ, zero, suc, Option, Some, None, List, [], ◌∷◌, length, take, drop, length-drop, arith, refl, sym, ap, ◌∙◌}
+use Rattle.std.proofs.lemmas.Bool.{cases_lt}
+use Rattle.std.proofs.lemmas.List.{drop_all, nil_from_length}
+use Rattle.std.specs.List.{filter_map, cons_option}
+use Rattle.std.specs.Simd.{first_chunks}
+use Rattle.std.specs.Slice.Iter.{chunk_count}
+use Rattle.mailmap_entries.specs.Folding.{Text}
+use Rattle.mailmap_entries.specs.Entries.{Mapping}
+use Rattle.mailmap_git.specs.Git.{git_entries, part_entry}
+
+-- after the first part there is one part less
+fewer_parts : (n m : ℕ) → 0 < n → m ≡ n - 1023 → chunk_count n 1023 ≡ suc (chunk_count m 1023)
+fewer_parts n m some left = omega (arith, some, left)
+
+first_entry : (n k : ℕ) (s : Text) → filter_map part_entry (first_chunks n (suc k) s) ≡ cons_option (part_entry (take n s)) (filter_map part_entry (first_chunks n k (drop n s)))
+first_entry n k s = refl
+
+-- the entry of the first part comes first
+pub entries-step : (s : Text) → 0 < length s → git_entries s ≡ cons_option (part_entry (take 1023 s)) (git_entries (drop 1023 s))
+unfolding git_entries
+entries-step s some =
+    ap (λ k. filter_map part_entry (first_chunks 1023 k s)) (fewer_parts (length s) (length (drop 1023 s)) some (length-drop 1023 s))
+    ∙ first_entry 1023 (chunk_count (length (drop 1023 s)) 1023) s
+
+pub entries-nil : git_entries [] ≡ []
+unfolding git_entries
+entries-nil = refl
+
+length-some : (o : Option Mapping) (es : List Mapping) (k : ℕ) → length es ≤ k → length (cons_option o es) ≤ suc k
+length-some None es k h = omega arith
+length-some (Some e) es k h = omega arith
+
+length-parts : (n k : ℕ) (s : Text) → length (filter_map part_entry (first_chunks n k s)) ≤ k
+length-parts n zero s = omega arith
+length-parts n (suc k) s = length-some (part_entry (take n s)) (filter_map part_entry (first_chunks n k (drop n s))) k (length-parts n k (drop n s))
+
+-- no more entries than bytes
+pub length-entries : (s : Text) → length (git_entries s) ≤ length s
+unfolding git_entries
+length-entries s = omega (arith, length-parts 1023 (chunk_count (length s) 1023) s)
+
+same_take : (s : Text) (n : ℕ) → n ≡ min (length s) 1023 → (take n s ≡ take 1023 s) × (drop n s ≡ drop 1023 s)
+same_take s n is = ⊎_elim
+    (λ short. let e : n ≡ length s = omega (arith, is) in (take_all n s (omega arith) ∙ sym (take_all 1023 s (omega arith)), drop_all n s (omega arith) ∙ sym (drop_all 1023 s (omega arith))))
+    (λ long. let e : n ≡ 1023 = omega (arith, is) in (ap (λ k. take k s) e, ap (λ k. drop k s) e))
+    (cases_lt (length s) 1023)
+
+module _ (said : List Mapping) (s part rest : Text) (n : ℕ) (front : part ≡ take n s) (back : rest ≡ drop n s) (is : n ≡ min (length s) 1023) (some : 0 < length s) (whole : git_entries s ≡ said) where
+  split : said ≡ cons_option (part_entry part) (git_entries rest)
+  split = sym whole ∙ entries-step s some ∙ ap₂ (λ x y. cons_option (part_entry x) (git_entries y)) (sym (front ∙ (same_take s n is).0)) (sym (back ∙ (same_take s n is).1))
+
+  pub entries-some : (e : Mapping) → Some e ≡ part_entry part → said ≡ e ∷ git_entries rest
+  entries-some e first = split ∙ ap (λ o. cons_option o (git_entries rest)) (sym first)
+
+  pub entries-none : None ≡ part_entry part → git_entries rest ≡ said
+  entries-none first = sym (split ∙ ap (λ o. cons_option o (git_entries rest)) (sym first))
+
+pub entries-empty : (s : Text) → length s ≡ 0 → git_entries s ≡ []
+entries-empty s e = ap git_entries (nil_from_length s e) ∙ entries-nil

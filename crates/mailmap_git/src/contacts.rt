@@ -1,0 +1,49 @@
+//! How git cuts a text into a contact.
+ghost use Rattle.std.specs.Prelude.{◌≡◌, option_map};
+ghost use Rattle.mailmap_git.specs.Git.{git_contact as spec_git_contact, git_contact_of, is_git_white as spec_is_git_white, trim_name as spec_trim_name};
+ghost use Rattle.mailmap_grammar.specs.Lines.{cut};
+
+use bstr::ByteSlice;
+
+/// A name, trimmed as git does it, an email as it is, and the text after its `>`.
+#[derive(Clone, Copy)]
+pub(crate) struct GitContact<'a> {
+    pub(crate) name: &'a [u8],
+    pub(crate) email: &'a [u8],
+    pub(crate) rest: &'a [u8],
+}
+
+/// The contact that a text begins with: its email is between the first `<` and the first `>` after that.
+#[inline]
+pub(crate) fn git_contact(text: &[u8]) -> Option<GitContact<'_>>
+    ensures { option_map git_contact_of result ≡ spec_git_contact (cut text.now) }
+{
+    let Some(start_bracket) = text.find_byte(b'<') else {
+        return None;
+    };
+    let after = &text[start_bracket + 1..];
+    let Some(closing_bracket) = after.find_byte(b'>') else {
+        return None;
+    };
+    Some(GitContact {
+        name: trim_name(&text[..start_bracket]),
+        email: &after[..closing_bracket],
+        rest: &after[closing_bracket + 1..],
+    })
+}
+
+// The name without git's white space at its ends.
+#[inline]
+fn trim_name(name: &[u8]) -> &[u8]
+    ensures { result.now ≡ spec_trim_name name.now }
+{
+    name.trim_with(is_git_white)
+}
+
+// A character that git trims.
+#[inline]
+fn is_git_white(character: char) -> bool
+    ensures { result ≡ spec_is_git_white character }
+{
+    matches!(character, ' ' | '\t' | '\r' | '\n')
+}

@@ -1,0 +1,79 @@
+//! What git reads of a line in place of what this library reads.
+ghost use Rattle.std.specs.Prelude.{◌≡◌, List, option_map, option_to_list};
+ghost use Rattle.mailmap_entries.specs.Entries.{Mapping, mapping_of};
+ghost use Rattle.mailmap_histories.specs.Listings.{same_entries};
+ghost use Rattle.mailmap_git.specs.Git.{git_entries as spec_git_entries, git_reading as spec_git_reading, git_reading_of, own_entry as spec_own_entry, read_in_place};
+
+use crate::entries::git_entries;
+use mailmap_entries::Entry;
+use mailmap_grammar::lines::{Strictness, read_line};
+
+/// What git reads of a line.
+#[derive(Clone, Copy, Debug, PartialEq, Eq)]
+pub enum GitReading<'a> {
+    /// No entry: for git the line is a comment, blank or faulty, or maps nothing.
+    Nothing,
+    /// One entry.
+    Entry(Entry<'a>),
+    /// More than one entry, and how many, each of another part of a line of more than 1,023 bytes.
+    Lines(usize),
+}
+
+/// What git reads of `line` in place of what this library reads, or `None` if that is the same.
+///
+/// Of `Joe < a@x >` this gives the entry of `Joe` by ` a@x ` with its blanks, since git trims no email. Of `Joe <a@x>`
+/// it gives `None`.
+pub fn read_otherwise(line: &[u8]) -> Option<GitReading<'_>>
+    ensures { option_map git_reading_of result ≡ read_in_place (spec_own_entry line.now) line.now }
+{
+    read_in_place_of(own_entry(line), line)
+}
+
+/// What git reads of `line` in place of the entry `own`, or `None` if that is the same.
+///
+/// This is [`read_otherwise`] for those who know already which entry this library reads, if it reads one.
+#[inline]
+pub fn read_in_place_of<'a>(own: Option<Entry<'_>>, line: &'a [u8]) -> Option<GitReading<'a>>
+    ensures { option_map git_reading_of result ≡ read_in_place (option_map mapping_of own.entry) line.now }
+{
+    let reading = git_reading(line);
+    if is_entry(&reading, own) {
+        return None;
+    }
+    Some(reading)
+}
+
+// The entry that this library reads.
+fn own_entry(line: &[u8]) -> Option<Entry<'_>>
+    ensures { option_map mapping_of result ≡ spec_own_entry line.now }
+{
+    read_line(line, 1, Strictness::Lenient)?.ok()
+}
+
+// What git reads.
+#[inline]
+fn git_reading(line: &[u8]) -> GitReading<'_>
+    ensures { git_reading_of result ≡ spec_git_reading (spec_git_entries line.now) }
+{
+    let mut entries = git_entries(line);
+    let Some(entry) = entries.next() else {
+        return GitReading::Nothing;
+    };
+    match entries.count() {
+        0 => GitReading::Entry(entry),
+        more => GitReading::Lines(more + 1),
+    }
+}
+
+// Whether git reads this entry, or nothing if there is none.
+#[inline]
+fn is_entry(reading: &GitReading<'_>, own: Option<Entry<'_>>) -> bool
+    ensures { (es : List Mapping) → spec_git_reading es ≡ git_reading_of reading.now
+        → result ≡ same_entries es (option_to_list (option_map mapping_of own.entry)) }
+{
+    match (reading, own) {
+        (GitReading::Nothing, None) => true,
+        (GitReading::Entry(entry), Some(own)) => *entry == own,
+        _ => false,
+    }
+}
