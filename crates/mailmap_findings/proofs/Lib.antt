@@ -13,3 +13,4 @@ pub mod Pruned
 pub mod Verified
 pub mod Ordered
 pub mod Deleted
+mod Explained

@@ -2,5 +2,6 @@
 //! on what users need of this.
 #![tactic(auto)]
 
+pub mod explain;
 pub mod laws;
 pub mod verify;

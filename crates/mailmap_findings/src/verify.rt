@@ -20,7 +20,9 @@
 //! ```
 ghost use Rattle.std.specs.Prelude.{◌≡◌, map, IfOk};
 ghost use Rattle.std.specs.Iterator.{YieldsFirstBy, item_count};
+ghost use Rattle.mailmap_redundancy.specs.Redundancy.{located_of};
 ghost use Rattle.mailmap_findings.specs.Findings.{AreFindings, IsPruned, finding_of};
+ghost use Rattle.mailmap_findings.specs.Positions.{lines, located};
 
 mod contacts;
 mod lines;
@@ -129,6 +131,13 @@ impl<'b, 'a> Mailmaps<'b, 'a> {
             buffers,
             entries: located_entries(alloc, buffers)?,
         })
+    }
+
+    /// The entries of the lines that give one.
+    pub(crate) fn entries(&self) -> &[LocatedEntry<'a>]
+        ensures { map located_of result.now ≡ located (lines self.now) }
+    {
+        &self.entries
     }
 }
 
