@@ -100,6 +100,7 @@ test:
 	tests/verify/run.py $(VERIFIER)
 	tests/failures.sh $(PROGRAM) $(VERIFIER)
 	tests/memory.py $(PROGRAM) $(VERIFIER)
+	tests/streams.py $(PROGRAM)
 	tests/examples.py $(PROGRAM) $(VERIFIER)
 	tests/manual.sh
 	tests/not_compiling/run.sh

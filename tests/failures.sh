@@ -1,8 +1,8 @@
 #!/usr/bin/env bash
 # Runs mailmap_check and mailmap_verify, the programs that the two arguments name, where files, streams or memory fail
 # them; what they say of themselves; and 200,000 lines, with which nothing fails. A run that fails must end with status
-# 2, with the lines of its failure on standard error, and with nothing on standard output. No run may take long: one
-# that makes a failed write again and again would never end.
+# 2, with the lines of its failure on standard error, and with nothing on standard output but the answers to the lines
+# before the failure. No run may take long: one that makes a failed write again and again would never end.
 set -euo pipefail
 here="$(cd "$(dirname "$0")" && pwd)"
 work="$(mktemp -d)"
@@ -19,13 +19,15 @@ head -c 40000000 /dev/zero > large
 head -c 7000000 /dev/zero > half
 seq -f 'Joe <j%.0f@example.com>' 200000 > many
 install -m 000 mailmap unreadable
+cat contacts large > long
 
 runs=0
-# fails LINE PROGRAM ARGUMENTS: runs the program, with contacts as its standard input where it has no other
+# fails LINE PROGRAM ARGUMENTS: runs the program, with contacts as its standard input where it has no other; it prints
+# what is in `answered`
 fails() {
     local line="$1" program="$2" status=0
     bash -c "${limit:-}${as_user:-}timeout 60 ./$program $3" < contacts > printed 2> said || status=$?
-    if [ "$status" != 2 ] || [ -s printed ] || [ "$(cat said)" != "$program: $line" ]; then
+    if [ "$status" != 2 ] || [ "$(cat printed)" != "${answered:-}" ] || [ "$(cat said)" != "$program: $line" ]; then
         echo "failures: $program $3: status $status" >&2
         cat printed said >&2
         exit 1
@@ -65,8 +67,11 @@ fails 'cannot write output' mailmap_check 'mailmap > /dev/full'
 fails 'cannot write output' mailmap_check '--compact mailmap > /dev/full'
 fails 'cannot write output' mailmap_check 'mailmap >&-'
 limit='ulimit -v 20000; '
-fails 'cannot read standard input' mailmap_check 'mailmap < large'
+fails 'cannot read standard input' mailmap_check '< large'
 fails 'cannot read standard input' mailmap_check '--compact < large'
+# With files the lines are answered as they come, and then memory runs out in the long one.
+fails 'out of memory' mailmap_check 'mailmap < large'
+answered='Joe R. Developer <joe@example.com>' fails 'out of memory' mailmap_check 'mailmap < long'
 fails 'out of memory' mailmap_check 'mailmap < half'
 fails 'standard input: out of memory' mailmap_verify '< large'
 fails 'standard input: out of memory' mailmap_verify '--prune < large'

@@ -169,7 +169,7 @@ mkdir "$work/runs"
 add_cases answered ''
 add_cases compacted --compact
 refuse mailmap_check 34 35 60 61
-says mailmap_check 'out of memory' 'cannot read standard input' 'cannot read file 1' 'cannot read file 20'
+says mailmap_check 'out of memory' 'cannot read file 1' 'cannot read file 20'
 checks="$refusals"
 
 # The mailmap is given twice, and has no effect the first time.

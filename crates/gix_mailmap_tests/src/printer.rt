@@ -1,11 +1,9 @@
 use crate::check::assert_bytes;
-use crate::run::{ALL, BREAKS, Sink, Turn};
+use crate::run::{ALL, BREAKS, ONE, Sink, Turn};
 use mailmap_io::failure::Failure;
 use mailmap_io::printer::{CAPACITY, Printer};
 use std::alloc::{AllocError, Global};
 use std::io::Write;
-
-const ONE: Turn = Turn::Moves(1);
 
 /// Prints pieces and flushes.
 fn printed<W: Write>(

@@ -19,6 +19,8 @@ pub(crate) const ALL: Turn = Turn::Moves(usize::MAX);
 
 pub(crate) const BREAKS: Turn = Turn::Fails(ErrorKind::BrokenPipe);
 
+pub(crate) const ONE: Turn = Turn::Moves(1);
+
 const INTERRUPTED: Turn = Turn::Fails(ErrorKind::Interrupted);
 
 // How many of `len` bytes the turn moves.
@@ -193,6 +195,103 @@ fn with_files_no_line_parts_the_input(rt: HostRuntime) {
     let ended = run(rt.alloc(), Some(&[]), &mut input, &mut output);
     assert_ended(&rt, ended, Ok(()));
     assert_bytes(&rt, &output, b"a\n--\nb\n");
+}
+
+/// With files the contacts are answered as they come: before a read that fails, all lines that have ended.
+#[test]
+fn with_files_the_lines_before_a_failure_are_answered(rt: HostRuntime) {
+    static ROWS: [(&[u8], &[Turn], Result<(), Failure>, &[u8]); 8] = [
+        (b"b <A@x>\np", &[ALL], Ok(()), b"N <n@x>\np\n"),
+        (
+            b"b <A@x>\np",
+            &[ONE, ONE, ONE, ONE, ONE, ONE, ONE, ONE, ONE],
+            Ok(()),
+            b"N <n@x>\np\n",
+        ),
+        (
+            b"b <A@x>\np",
+            &[Turn::Moves(3), INTERRUPTED, ALL],
+            Ok(()),
+            b"N <n@x>\np\n",
+        ),
+        (
+            b"b <A@x>\np",
+            &[Turn::Moves(3), BREAKS],
+            Err(Failure::Input),
+            b"",
+        ),
+        (
+            b"b <A@x>\np",
+            &[ALL, BREAKS],
+            Err(Failure::Input),
+            b"N <n@x>\n",
+        ),
+        (b"b <A@x>\np", &[BREAKS], Err(Failure::Input), b""),
+        (b"p", &[ALL], Ok(()), b"p\n"),
+        (b"", &[], Ok(()), b""),
+    ];
+    let files: &[&[u8]] = &[b"N <n@x> <a@x>"];
+    for (contacts, turns, result, written) in &ROWS {
+        let mut input = Source {
+            bytes: contacts,
+            turns,
+        };
+        let mut output = Vec::new(rt.alloc());
+        let ended = run(rt.alloc(), Some(files), &mut input, &mut output);
+        assert_ended(&rt, ended, *result);
+        assert_bytes(&rt, &output, written);
+    }
+}
+
+/// With files, too, what a writer that fails took is the beginning of the answers. Each part of them is flushed.
+#[test]
+fn with_files_a_writer_that_fails_holds_a_front(rt: HostRuntime) {
+    static ROWS: [(&[Turn], Turn, Result<(), Failure>, &[u8]); 6] = [
+        (&[BREAKS], ALL, Err(Failure::Output), b""),
+        (&[ONE, BREAKS], ALL, Err(Failure::Output), b"N"),
+        (
+            &[ONE, ONE, ONE, ONE, ONE, INTERRUPTED],
+            ALL,
+            Ok(()),
+            b"N <n@x>\nplain\n",
+        ),
+        (&[ALL, BREAKS], ALL, Err(Failure::Output), b"N <n@x>\n"),
+        (&[], BREAKS, Err(Failure::Output), b"N <n@x>\n"),
+        (&[], ALL, Ok(()), b"N <n@x>\nplain\n"),
+    ];
+    let files: &[&[u8]] = &[b"N <n@x> <a@x>"];
+    for (turns, flush, result, written) in &ROWS {
+        let mut input: &[u8] = b"b <A@x>\nplain";
+        let mut output = Sink::new(rt.alloc(), turns, *flush);
+        let ended = run(rt.alloc(), Some(files), &mut input, &mut output);
+        assert_ended(&rt, ended, *result);
+        assert_bytes(&rt, &output.taken, written);
+        assert_flushed(&rt, &output, *result);
+    }
+}
+
+/// A line of 40,000 bytes, and what comes after it.
+fn long_line(alloc: Global, end: &[u8]) -> Result<Vec<u8>, AllocError> {
+    let mut text = Vec::new(alloc);
+    for _ in 0..40000 {
+        text.push(b'x')?;
+    }
+    text.extend_from_slice(end)?;
+    Ok(text)
+}
+
+/// A line may be longer than what is read at a time.
+#[test]
+fn a_line_may_be_longer_than_a_part(rt: HostRuntime) -> Result<(), AllocError> {
+    let contacts = long_line(rt.alloc(), b"\nb <A@x>\n")?;
+    let answers = long_line(rt.alloc(), b"\nN <n@x>\n")?;
+    let files: &[&[u8]] = &[b"N <n@x> <a@x>"];
+    let mut input = contacts.as_slice();
+    let mut output = Vec::new(rt.alloc());
+    let ended = run(rt.alloc(), Some(files), &mut input, &mut output);
+    assert_ended(&rt, ended, Ok(()));
+    assert_bytes(&rt, output.as_slice(), answers.as_slice());
+    Ok(())
 }
 
 /// With files the compactor doesn't read its input; without, a reader that fails is `Input`.

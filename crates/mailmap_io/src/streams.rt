@@ -1,5 +1,5 @@
-// All that a reader has, and a text to a writer.
-ghost use Rattle.std.specs.Prelude.{ℕ, IfOk, IsOkUnless, OnErr, OnOk, take};
+// What a reader has, all at once or in parts, and a text to a writer.
+ghost use Rattle.std.specs.Prelude.{◌≡◌, ◌≢◌, ◌<◌, ◌≤◌, ℕ, IfErr, IfOk, IsOkUnless, OnErr, OnOk, length, take};
 ghost use Rattle.std.specs.Io.KnownBytes.{Appends, Consumes, IsAtEnd, Keeps};
 
 use crate::failure::Failure;
@@ -34,6 +34,28 @@ pub fn read_to_end<R: Read>(alloc: Global, reader: &mut R) -> Result<Vec<u8>, Er
         Ok(_) => Ok(bytes),
         Err(e) => Err(e.kind()),
     }
+}
+
+/// Reads the next bytes into the front of a buffer, as many as one read gives, and returns how many. None are the end of
+/// the reader, unless the buffer is empty.
+///
+/// An interrupted read is repeated. At an error nothing was read.
+pub fn read_part<R: Read>(reader: &mut R, buffer: &mut [u8]) -> Result<usize, ErrorKind>
+    ensures within { IfOk result (λ count. count ≤ length buffer.new) }
+    ensures part { IfOk result (λ count. Consumes (R.remaining reader.old) (R.remaining reader.new)
+        (take count buffer.new)) }
+    ensures end { IfOk result (λ count. count ≡ 0 → 0 < length buffer.old → IsAtEnd (R.remaining reader.new)) }
+    ensures err { OnErr result (Keeps (R.remaining reader.old) (R.remaining reader.new)) }
+    ensures repeated { IfErr result (λ cause. cause ≢ ErrorKind.Interrupted) }
+{
+    for _ in 0..u64::MAX {
+        match reader.read(buffer) {
+            Ok(count) => return Ok(count),
+            Err(e) if e.kind() == ErrorKind::Interrupted => {}
+            Err(e) => return Err(e.kind()),
+        }
+    }
+    Err(ErrorKind::Other)
 }
 
 /// Writes a text to its end, and flushes.

@@ -1,8 +1,8 @@
 //! What the arguments of `mailmap_check` ask for, and the doing of it.
-ghost use Rattle.std.specs.Prelude.{◌≡◌, ◌↔◌, ◌<◌, ◌≤◌, ℕ, IsErr, IsErrOf, OnOk, drop, length, map};
+ghost use Rattle.std.specs.Prelude.{◌≡◌, ◌↔◌, ◌⊎◌, ◌<◌, ◌≤◌, ℕ, [], IsErr, IsErrOf, OnOk, drop, length, map};
 ghost use Rattle.mailmap_io.specs.Files.{MayOpenBefore};
 ghost use Rattle.mailmap_io.specs.Printing.{Prints, PrintsFront};
-ghost use Rattle.mailmap_runs.specs.Run.{AnswersContacts, IsMailmap, bytes_of};
+ghost use Rattle.mailmap_runs.specs.Run.{AnswersContacts, AnswersLines, AnswersWholeLines, IsMailmap, bytes_of};
 ghost use Rattle.mailmap_runs.specs.Task.{AsksToCompact, OfFiles, unless_empty};
 
 use crate::run::{run, run_compact};
@@ -79,7 +79,7 @@ pub fn perform<F: FileSystem, R: Read, W: Write>(
     // Any number of files will do.
     ensures any_number { ¬ IsErrOf result Failure.TooManyFiles }
 
-    // Output that breaks off is the beginning of it; at the other failures nothing is written.
+    // Output that breaks off is the beginning of it.
     ensures answers_break_off { task.entry.mode ≡ Mode.Answer → IsErrOf result Failure.Output → PrintsFront
         (OfFiles (F.may_open system.now) (F.bytes system.now) (map (λ path. path.items) task.entry.paths.now)
         (λ files. AnswersContacts files (R.remaining input.old)))
@@ -88,7 +88,21 @@ pub fn perform<F: FileSystem, R: Read, W: Write>(
         (OfFiles (F.may_open system.now) (F.bytes system.now) (map (λ path. path.items) task.entry.paths.now)
         (λ files. IsMailmap files (R.remaining input.old)))
         (W.contents output.old) (W.contents output.new) }
-    ensures silent { IsErr result → ¬ IsErrOf result Failure.Output → output.new ≡ output.old }
+
+    // At the other failures nothing is written, unless contacts are answered by files, which are read before. Then the
+    // answers to whole lines are written: if the input fails, to all that were read, and if memory runs out, to some.
+    ensures silent { (task.entry.mode ≡ Mode.Compact) ⊎ (task.entry.paths.now ≡ [])
+        → IsErr result → ¬ IsErrOf result Failure.Output → output.new ≡ output.old }
+    ensures silent_at_files { (number : ℕ) → IsErrOf result (Failure.File number) → output.new ≡ output.old }
+    ensures input_fails { task.entry.mode ≡ Mode.Answer → IsErrOf result Failure.Input → Prints
+        (OfFiles (F.may_open system.now) (F.bytes system.now) (map (λ path. path.items) task.entry.paths.now)
+        (λ files. AnswersWholeLines files (R.remaining input.old) (R.remaining input.new)))
+        (W.contents output.old) (W.contents output.new) }
+    ensures memory_fails { task.entry.mode ≡ Mode.Answer → IsErrOf result Failure.Memory
+        → (output.new ≡ output.old) ⊎ Prints
+        (OfFiles (F.may_open system.now) (F.bytes system.now) (map (λ path. path.items) task.entry.paths.now)
+        (λ files. AnswersLines files (R.remaining input.old) (R.remaining input.new)))
+        (W.contents output.old) (W.contents output.new) }
 {
     let contents = read_files(system, alloc, task.paths)?;
     let buffers = list_of(alloc, contents.as_slice())?;
