@@ -22,6 +22,7 @@ ABI = 1
 
 PROGRAM = crates/mailmap_check/out/mailmap_check
 VERIFIER = crates/mailmap_verify/out/mailmap_verify
+COUNTER = crates/mailmap_shortlog/out/mailmap_shortlog
 DUMP = crates/mailmap_dump/out/mailmap_dump
 # the libraries for C, and the part of the toolchain's that they stand on
 LIB = crates/gix_mailmap_c/out
@@ -36,7 +37,7 @@ LINKED = libgix_mailmap.so
 SOURCES = crates.txt $(shell find crates -name out -prune -o -type f \( -name '*.rt' -o -name '*.antt' \) -print)
 
 .PHONY: build run test edits install install_lib uninstall lib wheel dist deb
-build: $(PROGRAM) $(VERIFIER)
+build: $(PROGRAM) $(VERIFIER) $(COUNTER)
 
 $(PROGRAM): $(SOURCES)
 	@echo 'Proving and building mailmap_check, with all that it stands on. The first time this takes some minutes.'
@@ -46,6 +47,11 @@ $(PROGRAM): $(SOURCES)
 $(VERIFIER): $(SOURCES)
 	@echo 'Proving and building mailmap_verify, with all that it stands on. The first time this takes some minutes.'
 	cd crates/mailmap_verify && rt run -- --help > /dev/null
+	touch $@
+
+$(COUNTER): $(SOURCES)
+	@echo 'Proving and building mailmap_shortlog, with all that it stands on. The first time this takes some minutes.'
+	cd crates/mailmap_shortlog && rt run -- --help > /dev/null
 	touch $@
 
 $(DUMP): $(SOURCES)
@@ -98,6 +104,7 @@ test:
 	$(MAKE) build $(DUMP)
 	tests/original/compare.py $(PROGRAM) $(DUMP)
 	tests/verify/run.py $(VERIFIER)
+	tests/shortlog/run.py $(COUNTER)
 	tests/failures.sh $(PROGRAM) $(VERIFIER)
 	tests/memory.py $(PROGRAM) $(VERIFIER)
 	tests/streams.py $(PROGRAM)
@@ -116,11 +123,11 @@ edits:
 # What is already there stays as it is.
 install: build lib
 	mkdir -p $(DESTDIR)$(BINDIR) $(DESTDIR)$(MANDIR)/man1
-	install -C -m 755 $(PROGRAM) $(VERIFIER) $(DESTDIR)$(BINDIR)
+	install -C -m 755 $(PROGRAM) $(VERIFIER) $(COUNTER) $(DESTDIR)$(BINDIR)
 	install -C -m 644 $(PAGES) $(DESTDIR)$(MANDIR)/man1
 	$(MAKE) install_lib
 
-PAGES = man/mailmap_check.1 man/mailmap_verify.1
+PAGES = man/mailmap_check.1 man/mailmap_shortlog.1 man/mailmap_verify.1
 PACKAGE = python/gix_mailmap/py.typed $(wildcard python/gix_mailmap/*.py)
 # a folder as pkg-config has it: from the prefix on, where it is below that
 BELOW = $(patsubst $(PREFIX)/%,$${prefix}/%,$(1))
@@ -143,7 +150,7 @@ install_lib:
 
 # Folders that others may use, such as bin, stay.
 uninstall:
-	rm -f $(addprefix $(DESTDIR)$(BINDIR)/,$(notdir $(PROGRAM) $(VERIFIER)))
+	rm -f $(addprefix $(DESTDIR)$(BINDIR)/,$(notdir $(PROGRAM) $(VERIFIER) $(COUNTER)))
 	rm -f $(addprefix $(DESTDIR)$(MANDIR)/man1/,$(notdir $(PAGES)))
 	rm -f $(DESTDIR)$(INCLUDEDIR)/gix_mailmap.h
 	rm -f $(addprefix $(DESTDIR)$(LIBDIR)/,libgix_mailmap.a $(SHARED) $(SONAME) $(LINKED) pkgconfig/gix_mailmap.pc)

@@ -1,0 +1,6 @@
+pub mod Counting
+pub mod Ordered
+pub mod Joining
+pub mod Listing
+pub mod Reading
+pub mod Answered

@@ -1,0 +1,4 @@
+pub mod Counts
+pub mod Joined
+pub mod Shortlog
+pub mod Task

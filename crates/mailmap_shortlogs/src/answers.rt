@@ -1,0 +1,131 @@
+//! What is counted for lines of contacts: their answers by mailmaps.
+ghost use Rattle.std.specs.Prelude.{◌≡◌, ◌++◌, IfOk, List, OnOk, map, option_map};
+ghost use Rattle.std.specs.List.{flat_map};
+ghost use Rattle.gix_mailmap.specs.Entries.{Mapping};
+ghost use Rattle.gix_mailmap.specs.Folding.{Text};
+ghost use Rattle.gix_mailmap.specs.Histories.{IsNormal, fields_for};
+ghost use Rattle.gix_mailmap.specs.Lines.{good};
+ghost use Rattle.mailmap_shortlogs.specs.Counts.{counted, standing};
+ghost use Rattle.mailmap_shortlogs.specs.Shortlog.{line_counted, shown as spec_shown, shown_replaced};
+
+use crate::counts::{Counts, Tally};
+use gix_mailmap::{Snapshot, parse_ignore_errors};
+use mailmap_grammar::contacts::{ParsedContact, parse_name_and_email, trim};
+use std::alloc::{AllocError, Global};
+
+/// The answers by mailmaps to the lines that were counted, each with how often its line comes. So two of these may have
+/// one text.
+///
+/// Each line is looked up once, however often it comes.
+pub fn answers_of(
+    alloc: Global,
+    buffers: &[&[u8]],
+    lines: &Counts,
+    with_email: bool,
+) -> Result<Vec<Tally>, AllocError>
+    ensures { IfOk result (λ answers. map counted answers.items ≡ flat_map
+        (standing (line_counted with_email (flat_map good (map (λ b. b.now) buffers.now)))) lines.now) }
+{
+    let snapshot = merged(alloc, buffers)?;
+    answers_by(alloc, &snapshot, lines.tallies(), with_email)
+}
+
+// The answers by a snapshot.
+fn answers_by(
+    alloc: Global,
+    snapshot: &Snapshot,
+    lines: &[Tally],
+    with_email: bool,
+) -> Result<Vec<Tally>, AllocError>
+    ensures { IfOk result (λ answers. map counted answers.items ≡ flat_map
+        (standing (line_counted with_email snapshot.now)) (map counted lines.now)) }
+{
+    let mut answers = Vec::new(alloc);
+    for line in lines {
+        push_answer(&mut answers, snapshot, line, with_email)?;
+    }
+    Ok(answers)
+}
+
+// A snapshot of what the buffers say, one after another.
+fn merged(alloc: Global, buffers: &[&[u8]]) -> Result<Snapshot, AllocError>
+    ensures { IfOk result (IsNormal (flat_map good (map (λ b. b.now) buffers.now))) }
+{
+    // One merge of all: each merge of more than a few entries copies what is there.
+    let entries = buffers.iter().flat_map(|buf| parse_ignore_errors(buf));
+    Snapshot::new(alloc, entries)
+}
+
+// Appends the answer to a line, if it has a contact, with the count of the line.
+fn push_answer(
+    answers: &mut Vec<Tally>,
+    snapshot: &Snapshot,
+    line: &Tally,
+    with_email: bool,
+) -> Result<(), AllocError>
+    ensures { OnOk result (map counted answers.new.items ≡ map counted answers.old.items
+        ++ standing (line_counted with_email snapshot.now) (counted line.now)) }
+{
+    if let Some(text) = answer(
+        *answers.allocator(),
+        snapshot,
+        line.text.as_slice(),
+        with_email,
+    )? {
+        answers.push(Tally {
+            text,
+            count: line.count,
+        })?;
+    }
+    Ok(())
+}
+
+// What is counted for a line.
+fn answer(
+    alloc: Global,
+    snapshot: &Snapshot,
+    line: &[u8],
+    with_email: bool,
+) -> Result<Option<Vec<u8>>, AllocError>
+    ensures { IfOk result (λ text. option_map (λ t. t.items) text ≡ line_counted with_email snapshot.now line.now) }
+{
+    let ParsedContact::Closed { name, email, .. } = parse_name_and_email(trim(line)) else {
+        return Ok(None);
+    };
+    Ok(Some(replaced(alloc, snapshot, name, email, with_email)?))
+}
+
+// A contact with what a mailmap puts in place of its name and its email.
+fn replaced(
+    alloc: Global,
+    snapshot: &Snapshot,
+    name: &[u8],
+    email: &[u8],
+    with_email: bool,
+) -> Result<Vec<u8>, AllocError>
+    ensures { IfOk result (λ text. text.items
+        ≡ shown_replaced with_email (fields_for snapshot.now name.now email.now) name.now email.now) }
+{
+    match snapshot.try_resolve_contact(name, email) {
+        Some(found) => shown(
+            alloc,
+            found.name.unwrap_or(name),
+            found.email.unwrap_or(email),
+            with_email,
+        ),
+        None => shown(alloc, name, email, with_email),
+    }
+}
+
+// A name alone, or with its email. As git has it, there is a blank before the email even if the name is empty.
+fn shown(alloc: Global, name: &[u8], email: &[u8], with_email: bool) -> Result<Vec<u8>, AllocError>
+    ensures { IfOk result (λ text. text.items ≡ spec_shown with_email name.now email.now) }
+{
+    let mut text = Vec::from_slice(alloc, name)?;
+    if with_email {
+        text.extend_from_slice(b" <")?;
+        text.extend_from_slice(email)?;
+        text.push(b'>')?;
+    }
+    Ok(text)
+}

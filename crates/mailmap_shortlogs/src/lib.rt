@@ -1,0 +1,11 @@
+//! What the program `mailmap_shortlog` does: what its arguments ask for, and the doing of it, over any reader, writer and
+//! file system. What it shares with the other programs is in `mailmap_io`.
+#![tactic(auto)]
+
+pub mod answers;
+pub mod counts;
+pub mod failure;
+mod guesses;
+pub mod history;
+pub mod shortlog;
+pub mod task;

@@ -1,0 +1,134 @@
+#!/usr/bin/env python3
+"""Runs mailmap_shortlog on contacts, and wants each byte that it prints, and its status.
+
+    run.py MAILMAP_SHORTLOG
+
+A line of cases.jsonl is one case: its mailmaps, which are the files m1, m2 and so on, the contacts, and what is printed of
+them without an option, with -e, with -n, and with both. The texts are in hex. The answers are those of a model that was
+written from the definitions alone. If git is there, `git shortlog` has to print the same of a repository whose commits
+have such authors.
+"""
+import json
+import os
+import random
+import shutil
+import subprocess
+import sys
+import tempfile
+from pathlib import Path
+
+# The four kinds of output, and ways to ask for each.
+ASKED = [
+    [[], ["-s"], ["--"]],
+    [["-e"], ["-se"], ["-e", "-e"]],
+    [["-n"], ["-sn", "--"], ["-s", "-n"]],
+    [["-n", "-e"], ["-sne"], ["-en"], ["-e", "-ns"]],
+]
+USAGE = b"usage: mailmap_shortlog [-n] [-e] [-s] [--] [MAILMAP..]\n"
+failed = 0
+
+
+def run(program, words, stdin=b""):
+    done = subprocess.run([program, *words], input=stdin, capture_output=True)
+    return done.returncode, done.stdout, done.stderr
+
+
+def wants(what, done, status, printed, said=b""):
+    global failed
+    if done != (status, printed, said):
+        failed += 1
+        print(f"{what}: {done[0]} {done[1][:400]} {done[2][:400]}\n    and not {status} {printed[:400]} {said[:400]}")
+
+
+def stored(program):
+    cases = [json.loads(line) for line in open(Path(__file__).with_name("cases.jsonl"), encoding="ascii")]
+    for number, case in enumerate(cases, 1):
+        names = [f"m{index}" for index in range(1, len(case["files"]) + 1)]
+        for name, file in zip(names, case["files"]):
+            Path(name).write_bytes(bytes.fromhex(file))
+        contacts = bytes.fromhex(case["contacts"])
+        for ways, printed in zip(ASKED, case["shortlog"]):
+            words = ways[number % len(ways)]
+            wants(f"case {number} {words}", run(program, [*words, *names], contacts), 0, bytes.fromhex(printed))
+    return len(cases)
+
+
+def options(program):
+    """Options and paths, and what can't be done."""
+    Path("m1").write_bytes(b"Jane Doe <jane@x>\n")
+    Path("-n").write_bytes(b"Joe <jane@x>\n")
+    contacts = b"a <b@x>\njd <jane@x>\nno contact\njd <JANE@x>"
+    both = b"     2\tJane Doe\n     1\ta\n"
+    wants("the greatest count first", run(program, ["-n", "m1"], contacts), 0, both)
+    wants("no mailmap", run(program, [], contacts), 0, b"     1\ta\n     2\tjd\n")
+    wants("no contact", run(program, ["m1"], b"no contact\n\n<\n"), 0, b"")
+    wants("nothing", run(program, ["m1"]), 0, b"")
+    wants("empty fields", run(program, ["-e", "m1"], b"<>\n < > \n"), 0, b"     2\t <>\n")
+    wants("an empty name", run(program, [], b"<b@x>\n"), 0, b"     1\t\n")
+    wants("a path like an option", run(program, ["--", "-n"], contacts), 0, b"     2\tJoe\n     1\ta\n")
+    wants("an option after a path is a path", run(program, ["m1", "-n"], contacts), 0, b"     2\tJoe\n     1\ta\n")
+    long = b"x" * 200_000 + b" <l@x>\n"
+    wants("a long line", run(program, [], contacts + b"\n" + long * 2), 0,
+          b"     1\ta\n     2\tjd\n     2\t" + b"x" * 200_000 + b"\n")
+    wants("seven digits", run(program, ["m1"], b"a <b@x>\n" * 1_000_001), 0, b"1000001\ta\n")
+    version = b"mailmap_shortlog " + Path(__file__).parents[2].joinpath("VERSION").read_bytes().strip() + b"\n"
+    wants("version", run(program, ["-n", "--version"]), 0, version)
+    status, usage, said = run(program, ["--help"])
+    if (status, said) != (0, b"") or not usage.startswith(b"usage: mailmap_shortlog "):
+        wants("help", (status, usage, said), 0, b"usage: mailmap_shortlog ..")
+    wants("help, short", run(program, ["-s", "-h", "m1"]), 0, usage)
+    for unknown in ["-x", "-nx", "--email", "-hn", "-\x1b"]:
+        shown = unknown.replace("\x1b", "\\x1b").encode()
+        wants(f"unknown {shown}", run(program, ["-n", unknown, "m1"]), 2, b"",
+              b"mailmap_shortlog: unknown option: " + shown + b"\n" + USAGE)
+    wants("a missing file", run(program, ["m1", "missing"], contacts), 2, b"",
+          b"mailmap_shortlog: missing: No such file or directory\n")
+    wants("a folder", run(program, [".", "m1"], contacts), 2, b"", b"mailmap_shortlog: .: Is a directory\n")
+    folder = subprocess.run(["sh", "-c", '"$1" m1 < .', "sh", program], capture_output=True)
+    wants("input that is a folder", (folder.returncode, folder.stdout, folder.stderr), 2, b"",
+          b"mailmap_shortlog: standard input: Is a directory\n")
+    full = subprocess.run(["sh", "-c", '"$1" m1 > /dev/full', "sh", program], input=contacts, capture_output=True)
+    wants("output that is full", (full.returncode, full.stdout, full.stderr), 2, b"",
+          b"mailmap_shortlog: cannot write output\n")
+
+
+def as_git(program):
+    """A repository whose authors are drawn from few, and what git prints of it. Its emails have no capital letters, since
+    git keeps their spelling otherwise."""
+    git = shutil.which("git")
+    if git is None:
+        return False
+    draw = random.Random(7)
+    names = ["Jane", "jane", "JD", "Joe", "Joe R. Developer", "J\u00f6rg", "x y"]
+    emails = ["jane@x", "jd@old", "joe@x", "b@y.org"]
+    authors = [f"{draw.choice(names)} <{draw.choice(emails)}>" for _ in range(400)]
+    commits = "".join(f"commit refs/heads/main\nauthor {author} {number} +0000\ncommitter c <c@c> {number} +0000\n"
+                      f"data 1\nx\n" for number, author in enumerate(authors))
+    mailmap = "Jane Doe <jane@x>\nJane Doe <jane@x> <jd@old>\nJoe <joe@new> x y <joe@x>\n<b@z.org> <b@y.org>\n"
+    quiet = {**os.environ, "GIT_CONFIG_GLOBAL": os.devnull, "GIT_CONFIG_SYSTEM": os.devnull}
+    subprocess.run([git, "init", "-q", "repository"], check=True, env=quiet)
+    subprocess.run([git, "-C", "repository", "fast-import", "--quiet"], input=commits.encode(), check=True, env=quiet)
+    Path("repository/.mailmap").write_text(mailmap, encoding="utf-8")
+    contacts = "".join(f"{author}\n" for author in authors).encode()
+    for words in ["-s"], ["-se"], ["-sn"], ["-sne"]:
+        told = subprocess.run([git, "-C", "repository", "-c", "mailmap.file=.mailmap", "shortlog", *words, "main"],
+                              capture_output=True, check=True, env=quiet).stdout
+        wants(f"git shortlog {words}", run(program, [*words, "repository/.mailmap"], contacts), 0, told)
+    return True
+
+
+def main(program):
+    program = os.path.abspath(program)
+    with tempfile.TemporaryDirectory() as folder:
+        os.chdir(folder)
+        count = stored(program)
+        options(program)
+        git = as_git(program)
+        os.chdir("/")
+    if failed:
+        sys.exit(f"mailmap_shortlog: {failed} failed")
+    print(f"mailmap_shortlog: {count} stored cases{', and git prints the same' if git else '; git is not here'}")
+
+
+if __name__ == "__main__":
+    main(*sys.argv[1:])
