@@ -1,7 +1,7 @@
 use Rattle.std.proofs.Common.{◌∙◌, ap, sym}
 use Rattle.std.proofs.lemmas.Bool.{eqb-true, eqb-false}
 use Rattle.mailmap_git.specs.Git.{entry_of_both, git_contact_of}
-use Rattle.mailmap_git.proofs.Comments.{first-empty, first-some}
+use Rattle.mailmap_git.proofs.Cases.{first-empty, first-some}
 use Rattle.mailmap_git.proofs.entries.entry_of_first.Goals as goal
 
 pub returns-then-is_empty : goal.returns-then-is_empty

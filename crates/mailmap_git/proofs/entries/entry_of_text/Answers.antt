@@ -1,6 +1,6 @@
 use Rattle.std.proofs.Common.{◌∙◌, sym}
 use Rattle.mailmap_git.specs.Git.{git_contact_of}
-use Rattle.mailmap_git.proofs.Comments.{text-comment, text-none, text-some}
+use Rattle.mailmap_git.proofs.Cases.{text-comment, text-none, text-some}
 use Rattle.mailmap_git.proofs.entries.entry_of_text.Goals as goal
 
 pub returns-then-is_comment : goal.returns-then-is_comment
