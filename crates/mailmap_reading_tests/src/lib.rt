@@ -8,6 +8,8 @@ mod entry;
 #[cfg(test)]
 mod fold;
 #[cfg(test)]
+mod git;
+#[cfg(test)]
 mod lines;
 #[cfg(test)]
 mod signature;
