@@ -14,8 +14,10 @@ pub use Rattle.mailmap_snapshot.specs.Answers
 pub use Rattle.mailmap_snapshot.specs.Writing
 pub use Rattle.mailmap_snapshot.specs.Sources
 pub use Rattle.mailmap_redundancy.specs.Redundancy
+pub use Rattle.mailmap_redundancy.specs.Givers
 pub use Rattle.mailmap_findings.specs.Positions
 pub use Rattle.mailmap_findings.specs.Findings
+pub use Rattle.mailmap_findings.specs.Explanations
 pub mod Contacts
 pub mod Parts
 pub mod Streams

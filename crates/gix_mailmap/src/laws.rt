@@ -15,7 +15,8 @@ pub use mailmap_histories::laws::{
     law_own_entries, law_reorder, law_repeated, law_scan, law_self, law_shortest, law_unique,
 };
 pub use mailmap_redundancy::laws::{
-    law_each_key_stays, law_none_can_go, law_same_listing, law_settled, law_some_stay,
+    law_each_key_stays, law_givers, law_needed, law_none_can_go, law_same_listing, law_settled,
+    law_some_stay,
 };
 pub use mailmap_signatures::laws::law_time;
 pub use text::{law_strict, law_text};

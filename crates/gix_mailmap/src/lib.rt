@@ -24,7 +24,7 @@ pub mod check;
 pub mod laws;
 
 pub use mailmap_entries::{Entry, fold};
-pub use mailmap_findings::verify;
+pub use mailmap_findings::{explain, verify};
 pub use mailmap_grammar::{lines, parse, parse_ignore_errors, parse_strict};
 pub use mailmap_signatures::{actor, date};
 pub use mailmap_snapshot::{Snapshot, snapshot};
