@@ -75,11 +75,38 @@ def file_names(program):
     wants("a file named as an option", run(program, ["./--prune"]), 2, b"", said)
 
 
-def usage(program):
-    """Help is printed on standard output, whatever stands behind it."""
+USAGE_LINE = b"usage: mailmap_verify [--] [FILE..] | --prune [--] [FILE] | --help | --version\n"
+
+
+def options(program):
+    """Options are read from left to right, up to the first file or `--`."""
     status, printed, said = run(program, ["--help"])
     wants("help", (status, printed[:22], said), 0, b"usage: mailmap_verify ")
-    wants("help, and a file", run(program, ["--help", "missing"]), 0, printed)
+    for words in ["-h"], ["--help", "missing"], ["--prune", "--help"], ["-h", "--version"], ["--prune", "-h", "missing"]:
+        wants(f"help: {words}", run(program, words), 0, printed)
+    version = b"mailmap_verify 0.1.0\n"
+    for words in ["--version"], ["--prune", "--version", "missing"], ["--version", "--help"]:
+        wants(f"the version: {words}", run(program, words), 0, version)
+    for words, wrong in [
+        (["--foo", "m1"], b"unknown option: --foo"),
+        (["--prune", "-x", "m1"], b"unknown option: -x"),
+        (["--foo", "--help"], b"unknown option: --foo"),
+        (["--prune=m1"], b"unknown option: --prune=m1"),
+        (["-\xff\x1b"], b"unknown option: -\xc3\xbf\\x1b"),
+        (["--prune", "--prune", "m1"], b"a second mode: --prune"),
+    ]:
+        said = b"mailmap_verify: " + wrong + b"\n" + USAGE_LINE
+        wants(f"a misuse: {words}", run(program, words), 2, b"", said)
+    Path("-x").write_bytes(b"plain\n")
+    found = b":1: error: no email in brackets\n"
+    wants("behind --", run(program, ["--", "-x"]), 1, b"-x" + found)
+    wants("pruned behind --", run(program, ["--prune", "--", "-x"]), 0, b"plain\n")
+    for words in [], ["-"], ["--"], ["--", "-"]:
+        wants(f"standard input: {words}", run(program, words, b"plain\n"), 1, b"<stdin>" + found)
+        wants(f"standard input pruned: {words}", run(program, ["--prune", *words], b"plain\n"), 0, b"plain\n")
+    said = b"mailmap_verify: -: No such file or directory\n"
+    wants("- among files", run(program, ["-x", "-"]), 2, b"", b"mailmap_verify: unknown option: -x\n" + USAGE_LINE)
+    wants("- among files", run(program, ["--", "-x", "-"]), 2, b"", said)
 
 
 def main():
@@ -92,7 +119,7 @@ def main():
             wants_case(program, what, [mailmap], 1 if printed else 0, printed, pruned)
             hostile_count += 1
         file_names(program)
-        usage(program)
+        options(program)
         os.chdir("/")
     print(f"findings: {count} stored mailmaps and {hostile_count} hostile ones, {failed} runs differ")
     sys.exit(1 if failed else 0)

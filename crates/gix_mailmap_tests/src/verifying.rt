@@ -3,34 +3,70 @@ use crate::files::{SHELF, assert_paths, paths_of};
 use crate::run::{ALL, BREAKS, Sink, Source, Turn};
 use mailmap_io::outcome::Outcome;
 use mailmap_reports::failure::Failure;
-use mailmap_reports::task::{Mode, Task, USAGE, perform, task_of};
+use mailmap_reports::task::{Misuse, Mode, Task, USAGE, perform, task_of};
 use std::alloc::{AllocError, Global};
 use std::io::{ErrorKind, Read, Write};
 use std::process::Abort;
 
-fn assert_task(rt: &impl Abort, arguments: &[Vec<u8>], mode: Mode, from: usize) {
-    let task = task_of(arguments);
-    assert_eq!(rt; task.mode, mode);
-    assert_paths(rt, task.paths, arguments, from);
-}
-
-/// The first argument is the program's own name. `--prune` and `--help` count only right after it.
+/// The first argument is the program's own name, whatever it is. Options are read from left to right, up to `--` or the
+/// first path.
 #[test]
-fn arguments_ask_for_findings_a_pruned_mailmap_or_help(rt: HostRuntime) -> Result<(), AllocError> {
-    static ROWS: [(&[&str], Mode, usize); 9] = [
-        (&["mailmap_verify"], Mode::Verify, 1),
-        (&["mailmap_verify", "one", "two"], Mode::Verify, 1),
-        (&["mailmap_verify", "--prune"], Mode::Prune, 2),
-        (&["mailmap_verify", "--prune", "--help"], Mode::Prune, 2),
-        (&["mailmap_verify", "--help", "one"], Mode::Help, 2),
-        (&["mailmap_verify", "one", "--prune"], Mode::Verify, 1),
-        (&["mailmap_verify", "one", "--help"], Mode::Verify, 1),
-        (&["--prune", "one"], Mode::Verify, 1),
-        (&[], Mode::Verify, 0),
+fn arguments_ask_for_a_task_or_are_a_misuse(rt: HostRuntime) -> Result<(), AllocError> {
+    static ROWS: [(&[&str], Result<(Mode, &[&str]), Misuse<'static>>); 27] = [
+        (&[], Ok((Mode::Verify, &[]))),
+        (&["mailmap_verify"], Ok((Mode::Verify, &[]))),
+        (&["--prune", "one"], Ok((Mode::Verify, &["one"]))),
+        (&["", "one", "two"], Ok((Mode::Verify, &["one", "two"]))),
+        (
+            &["", "one", "--prune"],
+            Ok((Mode::Verify, &["one", "--prune"])),
+        ),
+        (
+            &["", "one", "--help"],
+            Ok((Mode::Verify, &["one", "--help"])),
+        ),
+        (&["", "one", "--"], Ok((Mode::Verify, &["one", "--"]))),
+        (&["", "--", "one"], Ok((Mode::Verify, &["one"]))),
+        (&["", "--", "--prune"], Ok((Mode::Verify, &["--prune"]))),
+        (&["", "--", "--", "-x"], Ok((Mode::Verify, &["--", "-x"]))),
+        (&["", "-"], Ok((Mode::Verify, &[]))),
+        (&["", "--", "-"], Ok((Mode::Verify, &[]))),
+        (&["", "-", "one"], Ok((Mode::Verify, &["-", "one"]))),
+        (&["", "one", "-"], Ok((Mode::Verify, &["one", "-"]))),
+        (&["", ""], Ok((Mode::Verify, &[""]))),
+        (&["", "--prune"], Ok((Mode::Prune, &[]))),
+        (&["", "--prune", "-"], Ok((Mode::Prune, &[]))),
+        (&["", "--prune", "--", "-x"], Ok((Mode::Prune, &["-x"]))),
+        (
+            &["", "--prune", "one", "-h"],
+            Ok((Mode::Prune, &["one", "-h"])),
+        ),
+        (&["", "--prune", "--help", "one"], Ok((Mode::Help, &[]))),
+        (&["", "-h", "--version"], Ok((Mode::Help, &[]))),
+        (&["", "--version", "-h", "one"], Ok((Mode::Version, &[]))),
+        (&["", "--prune", "--version"], Ok((Mode::Version, &[]))),
+        (
+            &["", "--foo", "--help"],
+            Err(Misuse::UnknownOption(b"--foo")),
+        ),
+        (&["", "--prune", "-x"], Err(Misuse::UnknownOption(b"-x"))),
+        (&["", "---"], Err(Misuse::UnknownOption(b"---"))),
+        (
+            &["", "--prune", "--prune"],
+            Err(Misuse::SecondMode(b"--prune")),
+        ),
     ];
-    for (arguments, mode, from) in &ROWS {
+    for (arguments, want) in &ROWS {
         let arguments = paths_of(rt.alloc(), arguments)?;
-        assert_task(&rt, arguments.as_slice(), *mode, *from);
+        match (task_of(arguments.as_slice()), *want) {
+            (Ok(task), Ok((mode, paths))) => {
+                assert_eq!(rt; task.mode, mode);
+                let paths = paths_of(rt.alloc(), paths)?;
+                assert_paths(&rt, task.paths, paths.as_slice(), 0);
+            }
+            (Err(misuse), Err(wanted)) => assert_eq!(rt; misuse, wanted),
+            _ => assert!(rt; false),
+        }
     }
     Ok(())
 }
@@ -117,14 +153,21 @@ fn a_task_is_done_with_its_files_or_with_the_input(rt: HostRuntime) {
     }
 }
 
-/// Whatever comes after `--help`, the usage is printed.
+/// For help and the version nothing is read.
 #[test]
-fn help_is_the_usage(rt: HostRuntime) {
-    let mut input: &[u8] = b"plain\n";
-    let mut output = Vec::new(rt.alloc());
-    let end = performed(rt.alloc(), Mode::Help, &["three"], &mut input, &mut output);
-    assert_eq!(rt; end, Ok(Outcome::Clean));
-    assert_bytes(&rt, &output, USAGE.as_bytes());
+fn help_is_the_usage_and_the_version_has_the_name(rt: HostRuntime) {
+    static ROWS: [(Mode, &str); 2] = [
+        (Mode::Help, USAGE),
+        (Mode::Version, "mailmap_verify 0.1.0\n"),
+    ];
+    for (mode, want) in &ROWS {
+        let mut input: &[u8] = b"plain\n";
+        let mut output = Vec::new(rt.alloc());
+        let end = performed(rt.alloc(), *mode, &["three"], &mut input, &mut output);
+        assert_eq!(rt; end, Ok(Outcome::Clean));
+        assert_bytes(&rt, &output, want.as_bytes());
+        assert_eq!(rt; input.len(), 6);
+    }
 }
 
 /// What [`BREAKS`] is where standard input is read.

@@ -1,24 +1,74 @@
 -- What the arguments of `mailmap_verify` ask for, and what that prints.
-use Rattle.std.specs.Prelude.{◌≡◌, ◌≢◌, ◌<◌, ◌≤◌, ⊤, length, List, [], ◌∷◌, Option, Some, IfSome, codes, slice_get}
+use Rattle.std.specs.Prelude.{◌≡◌, ◌≢◌, ◌<◌, ◌≤◌, ◌==◌, ◌&&◌, ◌||◌, ⊤, Bool, if◌then◌else◌, nat_eq, nat_lt, length, List, [], ◌∷◌, ◌++◌, map, Option, Some, IfSome, Result, Ok, Err, codes, is_some, slice_index, unwrap_or}
+use lib.Pointwise.{pointwise}
 use Rattle.gix_mailmap.specs.Folding.{Text}
 use Rattle.gix_mailmap.specs.Findings.{AreFindings, IsPruned, Finding}
 use Rattle.mailmap_io.specs.Files.{AreRead, MayOpenBefore}
+use Rattle.mailmap_io.specs.declared.TheConstants.{VERSION}
 use Rattle.mailmap_io.specs.declared.outcome.Outcome.{Outcome}
 use Rattle.mailmap_io.specs.declared.outcome.Outcome.TheVariants.{Clean}
 use Rattle.mailmap_reports.specs.Report.{outcome_of, report}
 use Rattle.mailmap_reports.specs.declared.failure.Failure.{Failure}
 use Rattle.mailmap_reports.specs.declared.failure.Failure.TheVariants.{File, Input, Memory, Output, TooManyFiles}
+use Rattle.mailmap_reports.specs.declared.task.Misuse.{Misuse}
+use Rattle.mailmap_reports.specs.declared.task.Misuse.TheVariants as misuse
 use Rattle.mailmap_reports.specs.declared.task.Mode.{Mode}
-use Rattle.mailmap_reports.specs.declared.task.Mode.TheVariants.{Help, Verify, Prune}
+use Rattle.mailmap_reports.specs.declared.task.Mode.TheVariants.{Help, Version, Verify, Prune}
+use Rattle.mailmap_reports.specs.declared.task.Task.{Task}
+use Rattle.mailmap_reports.specs.declared.task.Word.{Word}
+use Rattle.mailmap_reports.specs.declared.task.Word.TheVariants as word
 use Rattle.mailmap_reports.specs.declared.task.TheConstants.{USAGE}
 
--- `--help` comes right after the program's own name.
-abbrev pub AsksForHelp : List Text → Type 0
-AsksForHelp arguments = slice_get arguments 1 ≡ Some (codes "--help")
+-- ---- what the arguments ask for
 
--- `--prune` comes right after the program's own name.
-abbrev pub AsksToPrune : List Text → Type 0
-AsksToPrune arguments = slice_get arguments 1 ≡ Some (codes "--prune")
+-- a task with these paths, or why there is none
+pub data Asked : Type 0 where
+  task : Mode → List Text → Asked
+  unknown_option : Text → Asked
+  second_mode : Text → Asked
+
+-- the code's
+abbrev pub asked_of : Result Task Misuse → Asked
+asked_of (Ok t) = task t.mode (map (λ path. path.items) t.paths.now)
+asked_of (Err (misuse.UnknownOption option)) = unknown_option option.now
+asked_of (Err (misuse.SecondMode option)) = second_mode option.now
+
+abbrev pub same_text : Text → Text → Bool
+same_text a b = pointwise nat_eq a b
+
+-- an argument that begins with `-`, and has more bytes than that
+abbrev pub is_dashed : Text → Bool
+is_dashed argument = slice_index argument 0 == 45 && nat_lt 1 (length argument)
+
+-- what an argument is, if it comes where an option may be
+abbrev pub word_of : Text → Word
+word_of argument =
+    if same_text argument (codes "--") then word.End
+    else if same_text argument (codes "-h") || same_text argument (codes "--help") then word.Help
+    else if same_text argument (codes "--version") then word.Version
+    else if same_text argument (codes "--prune") then word.Mode Prune
+    else if is_dashed argument then word.Unknown
+    else word.Path
+
+-- the task with these paths, to verify if no mode is given; a single `-` is standard input, as no path is
+abbrev pub task_with : Option Mode → List Text → Asked
+task_with mode [] = task (unwrap_or mode Verify) []
+task_with mode (path ∷ []) = task (unwrap_or mode Verify) (if same_text path (codes "-") then [] else path ∷ [])
+task_with mode (path ∷ next ∷ paths) = task (unwrap_or mode Verify) (path ∷ next ∷ paths)
+
+-- what the arguments after those that were read ask for, if the mode was given or not
+abbrev pub asked : Option Mode → List Text → Asked
+asked mode [] = task_with mode []
+asked mode (argument ∷ rest) = elim (word_of argument) [
+  | word.End ↦ task_with mode rest
+  | word.Help ↦ task Help []
+  | word.Version ↦ task Version []
+  | word.Mode first ↦ if is_some mode then second_mode argument else asked (Some first) rest
+  | word.Unknown ↦ unknown_option argument
+  | word.Path ↦ task_with mode (argument ∷ rest)
+]
+
+-- ---- what that prints
 
 -- The mailmaps are what the files at these paths hold. If no path is given, all of the input is the one mailmap.
 abbrev pub AreMailmaps : (Text → Type 0) → (Text → Option Text) → List Text → Option Text → List Text → Type 0
@@ -32,6 +82,7 @@ IsReport paths mailmaps outcome text = (findings : List Finding) × AreFindings 
 -- what is printed in each mode, and how the run ends
 abbrev pub IsAnswer : (Text → Type 0) → (Text → Option Text) → Option Text → Mode → List Text → Outcome → Text → Type 0
 IsAnswer may_open known input Help paths outcome text = (text ≡ USAGE.now) × (outcome ≡ Clean)
+IsAnswer may_open known input Version paths outcome text = (text ≡ codes "mailmap_verify " ++ VERSION.now ++ 10 ∷ []) × (outcome ≡ Clean)
 IsAnswer may_open known input Verify paths outcome text = (mailmaps : List Text) × AreMailmaps may_open known paths input mailmaps × IsReport paths mailmaps outcome text
 IsAnswer may_open known input Prune paths outcome text = (mailmap : Text) × AreMailmaps may_open known paths input (mailmap ∷ []) × IsPruned mailmap text × (outcome ≡ Clean)
 
@@ -46,7 +97,7 @@ IsOfInput TooManyFiles = ⊥
 -- A failure can be of such a task. The number of a file that can't be read is its number among the paths, from 1 on.
 abbrev pub FailsFor : (Text → Type 0) → Mode → List Text → Failure → Type 0
 FailsFor may_open mode paths (File number cause) = (0 < number) × (number ≤ length paths) × MayOpenBefore may_open number paths
-FailsFor may_open mode paths (Input cause) = (mode ≢ Help) × (paths ≡ [])
+FailsFor may_open mode paths (Input cause) = (mode ≢ Help) × (mode ≢ Version) × (paths ≡ [])
 FailsFor may_open mode paths TooManyFiles = (mode ≡ Prune) × (1 < length paths)
 FailsFor may_open mode paths Memory = ⊤
 FailsFor may_open mode paths Output = ⊤

@@ -1,5 +1,5 @@
 //! What is printed.
-ghost use Rattle.std.specs.Prelude.{◌≡◌, ◌≢◌, ◌<◌, ◌⊎◌, ◌∷◌, [], IfErr, IfOk, IsErrOf, OnErr, OnOk, length, map};
+ghost use Rattle.std.specs.Prelude.{◌≡◌, ◌≢◌, ◌<◌, ◌⊎◌, ◌∷◌, ◌++◌, [], IfErr, IfOk, IsErrOf, OnErr, OnOk, codes, length, map};
 ghost use Rattle.std.specs.Io.KnownBytes.{Consumes, IsAtEnd};
 ghost use Rattle.gix_mailmap.specs.Findings.{IsPruned};
 ghost use Rattle.mailmap_io.specs.Printing.{Prints, PrintsFront};
@@ -10,6 +10,7 @@ use crate::failure::Failure;
 use crate::report::print_findings;
 use crate::task::{Mode, Task, USAGE};
 use gix_mailmap::verify::{Mailmaps, Verification, prune};
+use mailmap_io::VERSION;
 use mailmap_io::files::{FileSystem, list_of, read_each, read_file};
 use mailmap_io::outcome::Outcome;
 use mailmap_io::read_error::ReadError;
@@ -17,7 +18,7 @@ use mailmap_io::streams::read_to_end;
 use std::alloc::{AllocError, Global};
 use std::io::{Read, Write};
 
-/// What a task prints, if it isn't to verify: the usage, or the one mailmap without its lines of no effect.
+/// What a task prints, if it isn't to verify: the usage, the version, or the one mailmap without its lines of no effect.
 ///
 /// Standard input is read only if no path is given.
 pub fn answer_to<F: FileSystem, R: Read>(
@@ -31,6 +32,7 @@ pub fn answer_to<F: FileSystem, R: Read>(
         task.entry.mode (map (λ path. path.items) task.entry.paths.now) Outcome.Clean text.items) }
     ensures unread { task.entry.paths.now ≢ [] → input.new ≡ input.old }
     ensures unread_for_help { task.entry.mode ≡ Mode.Help → input.new ≡ input.old }
+    ensures unread_for_version { task.entry.mode ≡ Mode.Version → input.new ≡ input.old }
     ensures fails { task.entry.mode ≢ Mode.Verify → IfErr result (FailsFor (F.may_open system.now) task.entry.mode
         (map (λ path. path.items) task.entry.paths.now)) }
     ensures too_many { task.entry.mode ≡ Mode.Prune → 1 < length task.entry.paths.now
@@ -40,8 +42,21 @@ pub fn answer_to<F: FileSystem, R: Read>(
     if task.mode == Mode::Help {
         return Ok(Vec::from_slice(alloc, USAGE.as_bytes())?);
     }
+    if task.mode == Mode::Version {
+        return Ok(version_line(alloc)?);
+    }
     let mailmap = read_mailmap(system, alloc, task.paths, input)?;
     Ok(prune(alloc, mailmap.as_slice())?)
+}
+
+// What `--version` prints.
+fn version_line(alloc: Global) -> Result<Vec<u8>, AllocError>
+    ensures { IfOk result (λ line. line.items ≡ codes "mailmap_verify " ++ VERSION.now ++ 10 ∷ []) }
+{
+    let mut line = Vec::from_slice(alloc, b"mailmap_verify ")?;
+    line.extend_from_slice(VERSION.as_bytes())?;
+    line.push(b'\n')?;
+    Ok(line)
 }
 
 /// Prints what is found in mailmaps, and says whether something was.

@@ -1,8 +1,8 @@
 //! What the arguments of `mailmap_verify` ask for, and the doing of it.
-ghost use Rattle.std.specs.Prelude.{◌≡◌, ◌≢◌, ◌↔◌, ◌<◌, ◌⊎◌, [], IfErr, IfOk, IsErr, IsErrOf, drop, length, map};
+ghost use Rattle.std.specs.Prelude.{◌≡◌, ◌≢◌, ◌<◌, ◌⊎◌, [], IfErr, IfOk, IsErr, IsErrOf, None, Ok, drop, length, map};
 ghost use Rattle.mailmap_io.specs.Printing.{Prints, PrintsFront};
 ghost use Rattle.mailmap_io.specs.declared.outcome.Outcome.{Outcome as TheOutcome};
-ghost use Rattle.mailmap_reports.specs.Task.{AsksForHelp, AsksToPrune, FailsFor, IsAnswer};
+ghost use Rattle.mailmap_reports.specs.Task.{FailsFor, IsAnswer, asked, asked_of, task_with, word_of};
 
 use crate::answer::{answer_to, print_report, read_mailmaps};
 use crate::failure::Failure;
@@ -27,6 +27,8 @@ Status 0: nothing is wrong. 1: something was found. 2: a failure.
 pub enum Mode {
     /// The usage is printed.
     Help,
+    /// The version is printed.
+    Version,
     /// What is found in the mailmaps is printed.
     Verify,
     /// The one mailmap is printed without its lines of no effect.
@@ -34,7 +36,7 @@ pub enum Mode {
 }
 
 /// What the arguments ask for.
-#[derive(Clone, Copy)]
+#[derive(Clone, Copy, Debug, PartialEq, Eq)]
 pub struct Task<'a> {
     /// What is done.
     pub mode: Mode,
@@ -42,32 +44,99 @@ pub struct Task<'a> {
     pub paths: &'a [Vec<u8>],
 }
 
+/// Why the arguments ask for nothing that can be done.
+#[derive(Clone, Copy, Debug, PartialEq, Eq)]
+pub enum Misuse<'a> {
+    /// An option that isn't known.
+    UnknownOption(&'a [u8]),
+    /// An option for a mode after another one, or after itself.
+    SecondMode(&'a [u8]),
+}
+
+/// What an argument is, if it comes where an option may be.
+#[derive(Clone, Copy, Debug, PartialEq, Eq)]
+pub(crate) enum Word {
+    /// `--`, which ends the options.
+    End,
+    /// `-h` or `--help`.
+    Help,
+    /// `--version`.
+    Version,
+    /// The option for a mode, such as `--prune`.
+    Mode(Mode),
+    /// An option that isn't known.
+    Unknown,
+    /// The first path.
+    Path,
+}
+
 /// What the arguments ask for, of which the first is the program's own name.
 ///
-/// `--help` and `--prune` count only right after that name; elsewhere they are paths.
-pub fn task_of(arguments: &[Vec<u8>]) -> Task<'_>
-    ensures help { (result.mode ≡ Mode.Help) ↔ AsksForHelp (map (λ a. a.items) arguments.now) }
-    ensures prune { (result.mode ≡ Mode.Prune) ↔ AsksToPrune (map (λ a. a.items) arguments.now) }
-    ensures paths { result.mode ≡ Mode.Verify → result.paths.now ≡ drop 1 arguments.now }
-    ensures prune_paths { result.mode ≡ Mode.Prune → result.paths.now ≡ drop 2 arguments.now }
+/// Options are read from left to right, up to the first path or `--`. The first of `-h`, `--help`, `--version`, a second
+/// mode and an option that isn't known ends the reading: `--prune --help` asks for help, `--foo --help` is a misuse.
+pub fn task_of(arguments: &[Vec<u8>]) -> Result<Task<'_>, Misuse<'_>>
+    ensures { asked_of result ≡ asked None (drop 1 (map (λ a. a.items) arguments.now)) }
 {
     match arguments {
-        [_, first, paths @ ..] if first.as_slice() == b"--help".as_slice() => Task {
+        [] => read_options(None, arguments),
+        [_, words @ ..] => read_options(None, words),
+    }
+}
+
+// What the arguments after those that were read ask for, if the mode was given or not.
+fn read_options(mode: Option<Mode>, arguments: &[Vec<u8>]) -> Result<Task<'_>, Misuse<'_>>
+    ensures { asked_of result ≡ asked mode (map (λ a. a.items) arguments.now) }
+{
+    let [argument, rest @ ..] = arguments else {
+        return Ok(task_with(mode, arguments));
+    };
+    match word_of(argument.as_slice()) {
+        Word::End => Ok(task_with(mode, rest)),
+        Word::Help => Ok(Task {
             mode: Mode::Help,
-            paths,
-        },
-        [_, first, paths @ ..] if first.as_slice() == b"--prune".as_slice() => Task {
-            mode: Mode::Prune,
-            paths,
-        },
-        [_, paths @ ..] => Task {
-            mode: Mode::Verify,
-            paths,
-        },
-        [] => Task {
-            mode: Mode::Verify,
-            paths: arguments,
-        },
+            paths: &[],
+        }),
+        Word::Version => Ok(Task {
+            mode: Mode::Version,
+            paths: &[],
+        }),
+        Word::Mode(_) if mode.is_some() => Err(Misuse::SecondMode(argument.as_slice())),
+        Word::Mode(first) => read_options(Some(first), rest),
+        Word::Unknown => Err(Misuse::UnknownOption(argument.as_slice())),
+        Word::Path => Ok(task_with(mode, arguments)),
+    }
+}
+
+// What an argument is, if it comes where an option may be.
+fn word_of(argument: &[u8]) -> Word
+    ensures { result ≡ word_of argument.now }
+{
+    if argument == b"--".as_slice() {
+        return Word::End;
+    }
+    if argument == b"-h".as_slice() || argument == b"--help".as_slice() {
+        return Word::Help;
+    }
+    if argument == b"--version".as_slice() {
+        return Word::Version;
+    }
+    if argument == b"--prune".as_slice() {
+        return Word::Mode(Mode::Prune);
+    }
+    match argument {
+        [b'-', _, ..] => Word::Unknown,
+        _ => Word::Path,
+    }
+}
+
+// The task with these paths. A single `-` is standard input, as no path is.
+fn task_with(mode: Option<Mode>, paths: &[Vec<u8>]) -> Task<'_>
+    ensures { asked_of (Ok result) ≡ task_with mode (map (λ a. a.items) paths.now) }
+{
+    let mode = mode.unwrap_or(Mode::Verify);
+    match paths {
+        [path] if path.as_slice() == b"-".as_slice() => Task { mode, paths: &[] },
+        _ => Task { mode, paths },
     }
 }
 
@@ -88,9 +157,10 @@ pub fn perform<F: FileSystem, R: Read, W: Write>(
         (map (λ path. path.items) task.entry.paths.now) outcome)
         (W.contents output.old) (W.contents output.new)) }
 
-    // Where files are given, and for help, standard input isn't read.
+    // Where files are given, and for help and the version, standard input isn't read.
     ensures unread { task.entry.paths.now ≢ [] → input.new ≡ input.old }
     ensures unread_for_help { task.entry.mode ≡ Mode.Help → input.new ≡ input.old }
+    ensures unread_for_version { task.entry.mode ≡ Mode.Version → input.new ≡ input.old }
 
     // Which task each failure can be of.
     ensures fails { IfErr result (FailsFor (F.may_open system.now) task.entry.mode

@@ -1,52 +1,38 @@
 //! Prints what is wrong with mailmaps, line by line, or a mailmap without the lines that have no effect.
 //!
-//! `mailmap_verify FILE..` reads each FILE as a mailmap, one after the other, and prints a line for each finding.
-//! Without a FILE standard input is the one mailmap, and so it is if the only FILE is `-`. With `--prune` as the first
-//! argument it prints the one mailmap without the lines that have no effect. `--` ends the options. `-h` and `--help`
-//! print a usage, and `--version` the version.
+//! `mailmap_verify FILE..` reads each FILE as a mailmap, one after the other, and prints a line for each finding; with
+//! `--prune` it prints the one mailmap without the lines that have no effect. Without a FILE standard input is the one
+//! mailmap, and so it is if the only FILE is `-`. `mailmap_reports::task` says how the arguments are read.
 //!
 //! The status is 0 if nothing is wrong, and 1 if something was found. A failure is said on standard error, and ends the
 //! program with status 2.
 #![tactic(auto)]
 
-use mailmap_io::VERSION;
 use mailmap_io::arguments::arguments;
 use mailmap_io::files::System;
 use mailmap_io::outcome::{Outcome, exit_code};
 use mailmap_io::streams::write_all;
 use mailmap_reports::failure::Failure;
 use mailmap_reports::shown::push_shown;
-use mailmap_reports::task::{Mode, Task, perform, task_of};
+use mailmap_reports::task::{Misuse, Task, perform, task_of};
 use std::alloc::{AllocError, Global};
 use std::io::ErrorKind;
 use std::process::ExitCode;
 
-// What follows the name of an option that isn't known.
-const USAGE_LINE: &str = "usage: mailmap_verify [--prune] [--] [FILE..]\n";
-
-// What the arguments ask for.
-enum Asked<'a> {
-    Task(Task<'a>),
-    Version,
-    // An option that isn't known.
-    Unknown(&'a [u8]),
-}
+// What follows a line that says what is wrong with the arguments.
+const USAGE_LINE: &str = "\
+usage: mailmap_verify [--] [FILE..] | --prune [--] [FILE] | --help | --version
+";
 
 fn main(rt: HostRuntime) -> ExitCode {
     let arguments = match arguments(&rt, rt.alloc()) {
         Ok(arguments) => arguments,
         Err(_) => return failed(&rt, &[], Failure::Memory),
     };
-    match read_options(arguments.as_slice()) {
-        Asked::Task(task) => done(&rt, task),
-        Asked::Version => {
-            match println!(rt; "mailmap_verify {VERSION}") {
-                Ok(()) => ExitCode::SUCCESS,
-                Err(_) => failed(&rt, &[], Failure::Output),
-            }
-        }
-        Asked::Unknown(option) => {
-            say(&rt, unknown_line(rt.alloc(), option));
+    match task_of(arguments.as_slice()) {
+        Ok(task) => done(&rt, task),
+        Err(misuse) => {
+            say(&rt, misuse_lines(rt.alloc(), misuse));
             ExitCode::from(2)
         }
     }
@@ -59,33 +45,6 @@ fn done(rt: &HostRuntime, task: Task<'_>) -> ExitCode {
     match ended {
         Err(failure) => failed(rt, task.paths, failure),
         Ok(_) => exit_code(ended),
-    }
-}
-
-// Reads the options that `task_of` doesn't.
-fn read_options(arguments: &[Vec<u8>]) -> Asked<'_> {
-    let task = task_of(arguments);
-    if task.mode == Mode::Help {
-        return Asked::Task(task);
-    }
-    match task.paths {
-        [first, paths @ ..] if first.as_slice() == b"--".as_slice() => Asked::Task(Task {
-            mode: task.mode,
-            paths,
-        }),
-        [only] if only.as_slice() == b"-".as_slice() => Asked::Task(Task {
-            mode: task.mode,
-            paths: &[],
-        }),
-        [first, paths @ ..] if first.as_slice() == b"-h".as_slice() => Asked::Task(Task {
-            mode: Mode::Help,
-            paths,
-        }),
-        [first, ..] if first.as_slice() == b"--version".as_slice() => Asked::Version,
-        [first, ..] if first.len() > 1 && first.first() == Some(&b'-') => {
-            Asked::Unknown(first.as_slice())
-        }
-        _ => Asked::Task(task),
     }
 }
 
@@ -107,13 +66,23 @@ fn say(rt: &HostRuntime, line: Result<Vec<u8>, AllocError>) {
     }
 }
 
-// The name of an option that isn't known, and the usage.
-fn unknown_line(alloc: Global, option: &[u8]) -> Result<Vec<u8>, AllocError> {
-    let mut line = Vec::from_slice(alloc, b"mailmap_verify: unknown option: ")?;
-    push_shown(&mut line, option)?;
-    line.push(b'\n')?;
-    line.extend_from_slice(USAGE_LINE.as_bytes())?;
-    Ok(line)
+// What is wrong with the arguments, and the usage.
+fn misuse_lines(alloc: Global, misuse: Misuse<'_>) -> Result<Vec<u8>, AllocError> {
+    let mut lines = Vec::from_slice(alloc, b"mailmap_verify: ")?;
+    let option = match misuse {
+        Misuse::UnknownOption(option) => {
+            lines.extend_from_slice(b"unknown option: ")?;
+            option
+        }
+        Misuse::SecondMode(option) => {
+            lines.extend_from_slice(b"a second mode: ")?;
+            option
+        }
+    };
+    push_shown(&mut lines, option)?;
+    lines.push(b'\n')?;
+    lines.extend_from_slice(USAGE_LINE.as_bytes())?;
+    Ok(lines)
 }
 
 // The line of a failure: the file or the stream, and what kept it from being read.
