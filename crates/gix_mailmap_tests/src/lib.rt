@@ -10,6 +10,8 @@ mod compaction;
 #[cfg(test)]
 mod entries;
 #[cfg(test)]
+mod explanations;
+#[cfg(test)]
 mod failure;
 #[cfg(test)]
 mod files;
