@@ -1,4 +1,5 @@
 pub mod Folding
+pub mod Ordered
 pub mod Prefixes
 pub mod Lowercase
 pub mod Search

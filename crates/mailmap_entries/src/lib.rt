@@ -3,5 +3,6 @@
 
 mod entry;
 pub mod fold;
+pub mod laws;
 
 pub use entry::Entry;

@@ -55,7 +55,7 @@ impl<'a> From<SignatureRef<'a>> for Signature<'a> {
 impl<'a> Signature<'a> {
     /// A signature that is equal to this one, with each text owned or borrowed as it is here.
     ///
-    /// Memory is taken only for owned texts, so that a signature with two borrowed ones is always copied.
+    /// Memory runs out only for an owned text: a signature with two borrowed ones is always copied.
     pub fn try_clone(&self, alloc: Global) -> Result<Signature<'a>, AllocError>
         ensures equal { IfOk result (λ copy. cow_fields copy ≡ cow_fields self.now) }
         ensures name { IfOk result (λ copy. IsHeldAs self.now.name copy.name) }
@@ -73,8 +73,8 @@ impl<'a> Signature<'a> {
 impl actor::Signature {
     /// The same signature, with texts of its own.
     ///
-    /// Texts that are owned already are moved, and memory is taken only for borrowed ones, so that this can't fail
-    /// if both are owned. If memory runs out, the signature is dropped.
+    /// Memory runs out only for a borrowed text, so this can't fail if both are owned. The signature is dropped if it
+    /// does.
     pub fn from_cow(alloc: Global, s: Signature<'_>) -> Result<actor::Signature, AllocError>
         ensures same { IfOk result (λ owned. owned_fields owned ≡ cow_fields s.entry) }
         ensures out_of_memory { OnErr result (IsBorrowedSlice s.entry.name ⊎ IsBorrowedSlice s.entry.email) }

@@ -1,11 +1,43 @@
-//! A law of times. The function runs nothing: its contract is the law.
-ghost use Rattle.std.specs.Prelude.{◌≡◌};
+//! Laws of times and of signatures. Each function runs nothing: its contract is the law.
+ghost use Rattle.std.specs.Prelude.{◌≡◌, ◌↔◌, ◌++◌, true};
+ghost use Rattle.std.specs.Cmp.{IsTotalOrder};
+ghost use Rattle.std.specs.Hash as fed;
+ghost use Rattle.std.specs.declared.cmp.Ordering.{Ordering};
 ghost use Rattle.mailmap_entries.specs.Folding.{Text};
-ghost use Rattle.mailmap_signatures.specs.Times.{Spells, IsTimeOf};
+ghost use Rattle.mailmap_signatures.specs.SignatureFields.{SignatureFields, cow_fields, signature_cmp, signature_writes};
+ghost use Rattle.mailmap_signatures.specs.Times.{IsTimeOf, Spells, time_cmp};
+ghost use Rattle.mailmap_signatures.specs.declared.cow.Signature as the_signature;
 ghost use Rattle.mailmap_signatures.specs.declared.date.Time.{Time};
+
+use crate::cow::Signature;
+use crate::date;
+use std::hash::Hash;
 
 /// A text spells one time at most, so the time of a signature follows from its text.
 pub fn law_time()
     ensures spelled { (text : Text) (a b : Time) → Spells text a → Spells text b → a ≡ b }
     ensures time_of { (text : Text) (a b : Time) → IsTimeOf text a → IsTimeOf text b → a ≡ b }
+{}
+
+/// Times are equal exactly if both fields are. Their order is by the seconds, and then by the offset; it is total. A
+/// hash takes in both fields, so equal times hash alike.
+pub fn law_equal_times()
+    ensures equal { (a b : Time) → (⟦<date::Time as PartialEq>⟧.eq a b ≡ true) ↔ (a ≡ b) }
+    ensures order { (a b : Time) → ⟦<date::Time as Ord>⟧.cmp a b ≡ time_cmp a b }
+    ensures total { IsTotalOrder time_cmp }
+    ensures same { (a b : Time) → (time_cmp a b ≡ Ordering.Equal) ↔ (a ≡ b) }
+    ensures hash { (a : Time) → ⟦<date::Time as Hash>⟧.hash_input a ≡ fed.i64 a.seconds ++ fed.i32 a.offset }
+{}
+
+/// Signatures that are copied on write are compared and hashed by the bytes of their texts and by their time, whoever
+/// owns the texts. Their order is by name, email and time; it is total.
+pub fn law_equal_signatures()
+    ensures equal { (a b : the_signature.Signature)
+        → (⟦<Signature<'static> as PartialEq>⟧.eq a b ≡ true) ↔ (cow_fields a ≡ cow_fields b) }
+    ensures order { (a b : the_signature.Signature)
+        → ⟦<Signature<'static> as Ord>⟧.cmp a b ≡ signature_cmp (cow_fields a) (cow_fields b) }
+    ensures total { IsTotalOrder signature_cmp }
+    ensures same { (a b : SignatureFields) → (signature_cmp a b ≡ Ordering.Equal) ↔ (a ≡ b) }
+    ensures hash { (a : the_signature.Signature)
+        → ⟦<Signature<'static> as Hash>⟧.hash_input a ≡ signature_writes (cow_fields a) }
 {}

@@ -1,0 +1,5 @@
+use Rattle.mailmap_entries.proofs.Ordered.{entries_exact, entries_total}
+use Rattle.mailmap_entries.proofs.laws.law_order.Goals as goal
+
+pub returns : goal.returns
+returns c = record { total = entries_total; same = entries_exact }
