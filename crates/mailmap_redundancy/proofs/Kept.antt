@@ -82,7 +82,7 @@ none_redundant_at : (kept a : IndexedEntry) (x : LocatedMapping) (c : IndexedEnt
 none_redundant_at kept [] x c none redundant = none.0 (subst (λ h. IsRedundant (entries h) x.entry (entries c)) (append-nil kept) redundant)
 none_redundant_at kept (y ∷ a) x c none redundant = none_redundant_at (kept ++ y ∷ []) a x c none.1 (subst (λ h. IsRedundant (entries h) x.entry (entries c)) (sym (append_assoc kept (y ∷ []) a)) redundant)
 
-unaccepted_redundant : (a : List Mapping) (e : Mapping) (c : List Mapping) → is_accepted e ≡ false → IsRedundant a e c
+pub unaccepted_redundant : (a : List Mapping) (e : Mapping) (c : List Mapping) → is_accepted e ≡ false → IsRedundant a e c
 unaccepted_redundant a e c bad =
     alike_redundant a e c (alike_accepted (a ++ e ∷ c) (a ++ c) (filter-append is_accepted a (e ∷ c) ∙ ap (λ b. accepted a ++ cond b (e ∷ accepted c) (accepted c)) bad ∙ sym (filter-append is_accepted a c)))
 
@@ -201,7 +201,7 @@ redundant_or_not a e c =
     by true so back = inl (so refl)
     by false so back = inr (λ redundant. true≢false (sym (back redundant)))
 
-some_pass : (kept xs : IndexedEntry) → (out : IndexedEntry) × IsPass kept xs out
+pub some_pass : (kept xs : IndexedEntry) → (out : IndexedEntry) × IsPass kept xs out
 some_pass kept [] = (kept, done kept)
 some_pass kept (x ∷ xs) =
     elim (redundant_or_not (entries kept) x.entry (entries xs)) [

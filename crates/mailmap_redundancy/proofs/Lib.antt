@@ -16,3 +16,4 @@ pub mod Passing
 pub mod Settling
 pub mod Marking
 pub mod Forgetting
+pub mod Bounded

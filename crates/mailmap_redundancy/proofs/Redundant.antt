@@ -74,7 +74,7 @@ value_decides s e after = by after.of_key e.old_name
 -- ---- what is alike at one key
 
 -- with an old name, each entry of the key has one, so the first of the key has the first of them
-named_first : (h : List Mapping) (email name : Text) → first_name h (email, Some name) ≡ option_map (λ t. Some t) (key_summary h (email, Some name)).old_name
+pub named_first : (h : List Mapping) (email name : Text) → first_name h (email, Some name) ≡ option_map (λ t. Some t) (key_summary h (email, Some name)).old_name
 named_first h email name =
     by (of_key h (email, Some name)) (recursion_from_All _ _ (filter_passes (λ e. eq_by_cmp key_cmp (email, Some name) (key e)) (accepted h)))
   where

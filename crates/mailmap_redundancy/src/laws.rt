@@ -1,12 +1,12 @@
 //! Laws of histories without their redundant entries. Each function runs nothing: its contract is the law.
-ghost use Rattle.std.specs.Prelude.{◌≡◌, ◌≢◌, ◌↔◌, ◌++◌, ◌∷◌, All, Bool, List, Contains, IsSome, filter, map, true};
+ghost use Rattle.std.specs.Prelude.{◌≡◌, ◌≢◌, ◌↔◌, ◌++◌, ◌∷◌, [], All, Bool, List, Contains, IsSome, filter, map, true};
 ghost use Rattle.std.specs.declared.cmp.Ordering.{Ordering};
 ghost use Rattle.std.specs.List.Sorted.{IsStrictlySortedBy};
 ghost use Rattle.mailmap_entries.specs.Entries.{Mapping};
 ghost use Rattle.mailmap_entries.specs.Folding.{Text};
 ghost use Rattle.mailmap_histories.specs.Histories.{IsNormal, Key, accepted, has_key, is_accepted, key, scan};
 ghost use Rattle.mailmap_redundancy.specs.Givers.{given, givers, needed};
-ghost use Rattle.mailmap_redundancy.specs.Redundancy.{IsRedundant, IsReduced, IsSublist, LocatedMapping, entries, last_position};
+ghost use Rattle.mailmap_redundancy.specs.Redundancy.{IsPass, IsRedundant, IsReduced, IsSublist, LocatedMapping, entries, last_position};
 ghost use Rattle.mailmap_redundancy.specs.declared.located.Position.{Position};
 ghost use Rattle.mailmap_redundancy.specs.Summaries.{is_redundant, summary};
 
@@ -49,6 +49,14 @@ pub fn law_settled()
     ensures exists { (xs : List LocatedMapping) → (kept : List LocatedMapping) × IsReduced xs kept }
     ensures one { (xs kept other : List LocatedMapping) → IsReduced xs kept → IsReduced xs other → kept ≡ other }
     ensures again { (xs kept : List LocatedMapping) → IsReduced xs kept → IsReduced kept kept }
+{}
+
+/// Three passes are enough: the fourth drops none.
+pub fn law_passes()
+    ensures fourth { (xs a b c : List LocatedMapping) → IsPass [] xs a → IsPass [] a b → IsPass [] b c
+        → IsPass [] c c }
+    ensures reduced { (xs a b c : List LocatedMapping) → IsPass [] xs a → IsPass [] a b → IsPass [] b c
+        → IsReduced xs c }
 {}
 
 /// The givers of an answer give it.
