@@ -1,0 +1,4 @@
+pub use Rattle.mailmap_entries.specs.Folding
+pub mod Index
+pub mod Likeness
+pub mod Places

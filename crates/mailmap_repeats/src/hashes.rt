@@ -1,0 +1,14 @@
+//! The hash by which lines are looked up.
+ghost use Rattle.std.specs.Prelude.{◌≡◌};
+ghost use Rattle.std.specs.Hash.FoldHasher.{finish, initial, write};
+
+use std::hash::{FoldHasher, Hasher};
+
+/// The hash of a text. Whoever picks the texts can pick some that have the same hash.
+pub fn hash_of(text: &[u8]) -> u64
+    ensures { result ≡ finish (write initial text.now) }
+{
+    let mut hasher = FoldHasher::default();
+    hasher.write(text);
+    hasher.finish()
+}
