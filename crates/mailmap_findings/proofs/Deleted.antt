@@ -8,12 +8,13 @@ use Rattle.std.proofs.lemmas.List.Elements.{All-contains_itself, recursion_from_
 use Rattle.std.proofs.lemmas.List.Folds.{list_any-append}
 use Rattle.mailmap_entries.specs.Entries.{Mapping}
 use Rattle.mailmap_entries.specs.Folding.{Text}
+use Rattle.mailmap_git.specs.Git.{GitReading}
 use Rattle.mailmap_grammar.specs.Lines.{Reading, good, non_empty, strict_reading}
 use Rattle.mailmap_histories.specs.Histories.{IsNormal, is_accepted, key}
 use Rattle.mailmap_redundancy.specs.Redundancy.{IsReduced, LocatedMapping, entries, last_position}
 use Rattle.mailmap_redundancy.specs.declared.located.Position.{Position}
 use Rattle.mailmap_redundancy.proofs.Kept.{last_stays, one_reduced, reduced_normal, reduced_sublist, some_reduced}
-use Rattle.mailmap_findings.specs.Findings.{AreFindings, Contact, Finding, IsPruned, Reported, contact, findings, has_no_effect, ignored, ignored_text, is_redundant, is_line_kept, mapped, no_effect, same_contact, reported_of_contact, reported_of_entry, reported_of_line, reported_of_reading, itself_mapped}
+use Rattle.mailmap_findings.specs.Findings.{AreFindings, Contact, Finding, IsPruned, Reported, contact, findings, git_reads, has_no_effect, ignored, ignored_text, is_redundant, is_line_kept, mapped, no_effect, read_otherwise, same_contact, reported_of_contact, reported_of_entry, reported_of_line, reported_of_reading, itself_mapped}
 use Rattle.mailmap_findings.specs.Positions.{Line, entry, lines, located, same_position, has_entry_at}
 use Rattle.mailmap_findings.specs.Marked.{AreApart}
 use Rattle.mailmap_findings.proofs.Accepted.{located_accepted}
@@ -36,17 +37,17 @@ not_not : (b : Bool) → not (not b) ≡ b
 not_not true = refl
 not_not false = refl
 
-filter_same : (p q : Line → Bool) (ls : List Line) → AllByRecursion (λ l. p l ≡ q l) ls → filter p ls ≡ filter q ls
+pub filter_same : (p q : Line → Bool) (ls : List Line) → AllByRecursion (λ l. p l ≡ q l) ls → filter p ls ≡ filter q ls
 filter_same p q [] all = refl
 filter_same p q (l ∷ ls) all = ap (λ b. if b then l ∷ filter p ls else filter p ls) all.0 ∙ ap (λ xs. if q l then l ∷ xs else xs) (filter_same p q ls all.1)
 
 -- ---- what is reported of a line
 
-abbrev reported_at : Position → List Reported → List Finding
+abbrev pub reported_at : Position → List Reported → List Finding
 reported_at position ts = map (λ t. record { position = position; reported = t }) ts
 
 -- whether a finding says that the line at this position has no effect
-abbrev redundant_at : Position → Finding → Bool
+abbrev pub redundant_at : Position → Finding → Bool
 redundant_at position f = has_no_effect f.reported && same_position f.position position
 
 any_here : (position : Position) (ts : List Reported) → list_any (redundant_at position) (reported_at position ts) ≡ list_any has_no_effect ts
@@ -66,12 +67,16 @@ text_none : (o : Option Text) → list_any has_no_effect (option_to_list (option
 text_none None = refl
 text_none (Some t) = refl
 
-reading_none : (line : Text) (o : Option Reading) → list_any has_no_effect (option_to_list (reported_of_reading line o)) ≡ false
+pub reading_none : (line : Text) (o : Option Reading) → list_any has_no_effect (option_to_list (reported_of_reading line o)) ≡ false
 reading_none line None = refl
 reading_none line (Some (Err f)) = refl
 reading_none line (Some (Ok e)) = text_none (non_empty (ignored line))
 
-contact_none : (c to : Contact) → list_any has_no_effect (option_to_list (reported_of_contact c to)) ≡ false
+pub git_none : (o : Option GitReading) → list_any has_no_effect (option_to_list (option_map git_reads o)) ≡ false
+git_none None = refl
+git_none (Some r) = refl
+
+pub contact_none : (c to : Contact) → list_any has_no_effect (option_to_list (reported_of_contact c to)) ≡ false
 contact_none c to = elim (same_contact c to) as (λ b. list_any has_no_effect (option_to_list (if b then None else Some (itself_mapped c to))) ≡ false) [ true ↦ refl | false ↦ refl ]
 
 position_some : (o : Option Position) → is_some o ≡ true → list_any has_no_effect (option_to_list (option_map no_effect o)) ≡ true
@@ -79,7 +84,7 @@ position_some None e = absurd (true≢false (sym e))
 position_some (Some p) e = refl
 
 -- an entry of this key stays
-abbrev IfStays : List LocatedMapping → Option Mapping → Type 0
+abbrev pub IfStays : List LocatedMapping → Option Mapping → Type 0
 IfStays kept None = Unit {0}
 IfStays kept (Some e) = is_some (last_position kept (key e)) ≡ true
 
@@ -91,8 +96,15 @@ module _ (h : List Mapping) (kept : List LocatedMapping) where
   line_any : (l : Line) → IfStays kept (entry l) → list_any has_no_effect (reported_of_line h kept (has_entry_at kept l.position) l) ≡ not (is_line_kept kept l)
   line_any l beside =
       let stays = has_entry_at kept l.position in
-      list_any-append has_no_effect (option_to_list (reported_of_reading l.text (strict_reading l.position.line l.text))) (option_to_list (option_and_then (reported_of_entry h kept stays) (entry l)))
-      ∙ ap (λ b. b || list_any has_no_effect (option_to_list (option_and_then (reported_of_entry h kept stays) (entry l)))) (reading_none l.text (strict_reading l.position.line l.text))
+      let of_text : List Reported = option_to_list (reported_of_reading l.text (strict_reading l.position.line l.text)) in
+      let of_git : List Reported = option_to_list (option_map git_reads (read_otherwise l)) in
+      let of_entry : List Reported = option_to_list (option_and_then (reported_of_entry h kept stays) (entry l)) in
+      let none : list_any has_no_effect (of_text ++ of_git) ≡ false =
+      list_any-append has_no_effect of_text of_git
+      ∙ ap (λ b. b || list_any has_no_effect of_git) (reading_none l.text (strict_reading l.position.line l.text))
+      ∙ git_none (read_otherwise l) in
+      list_any-append has_no_effect (of_text ++ of_git) of_entry
+      ∙ ap (λ b. b || list_any has_no_effect of_entry) none
       ∙ elim (entry l) as (λ o. IfStays kept o → list_any has_no_effect (option_to_list (option_and_then (reported_of_entry h kept stays) o)) ≡ not (is_none o || stays)) [
         | None ↦ λ _. refl
         | Some e ↦ λ is. entry_any stays e is
@@ -115,7 +127,7 @@ module _ (h : List Mapping) (kept : List LocatedMapping) where
     after_line l fs ls apart.1 all.1,
   )
 
-  reported_redundant : (ls : List Line) → AreApart ls → AllByRecursion (λ l. IfStays kept (entry l)) ls → AllByRecursion (λ l. list_any (redundant_at l.position) (flat_map (findings h kept) ls) ≡ not (is_line_kept kept l)) ls
+  pub reported_redundant : (ls : List Line) → AreApart ls → AllByRecursion (λ l. IfStays kept (entry l)) ls → AllByRecursion (λ l. list_any (redundant_at l.position) (flat_map (findings h kept) ls) ≡ not (is_line_kept kept l)) ls
   reported_redundant [] apart stay = tt
   reported_redundant (l ∷ ls) apart stay = (
     list_any-append (redundant_at l.position) (findings h kept l) (flat_map (findings h kept) ls)
@@ -126,14 +138,14 @@ module _ (h : List Mapping) (kept : List LocatedMapping) where
     after_line l (flat_map (findings h kept) ls) ls apart.0 (reported_redundant ls apart.1 stay.1),
   )
 
-  not_reported : (fs : List Finding) (ls : List Line) → AllByRecursion (λ l. list_any (redundant_at l.position) fs ≡ not (is_line_kept kept l)) ls → AllByRecursion (λ l. not (list_any (redundant_at l.position) fs) ≡ is_line_kept kept l) ls
+  pub not_reported : (fs : List Finding) (ls : List Line) → AllByRecursion (λ l. list_any (redundant_at l.position) fs ≡ not (is_line_kept kept l)) ls → AllByRecursion (λ l. not (list_any (redundant_at l.position) fs) ≡ is_line_kept kept l) ls
   not_reported fs [] all = tt
   not_reported fs (l ∷ ls) all = (ap not all.0 ∙ not_not (is_line_kept kept l), not_reported fs ls all.1)
 
 -- ---- the lines that are not reported
 
 module _ (kept : List LocatedMapping) where
-  lines_stay : (ls : List Line) → AllByRecursion (λ x. is_some (last_position kept (key x.entry)) ≡ true) (located ls) → AllByRecursion (λ l. IfStays kept (entry l)) ls
+  pub lines_stay : (ls : List Line) → AllByRecursion (λ x. is_some (last_position kept (key x.entry)) ≡ true) (located ls) → AllByRecursion (λ l. IfStays kept (entry l)) ls
   lines_stay [] = λ all. tt
   lines_stay (l ∷ ls) =
       elim (entry l) as (λ o. AllByRecursion (λ x. is_some (last_position kept (key x.entry)) ≡ true) (cons_option (option_map (λ e. record { position = l.position; entry = e }) o) (located ls))
@@ -142,7 +154,7 @@ module _ (kept : List LocatedMapping) where
         | Some e ↦ λ all. (all.0, lines_stay ls all.1)
       ]
 
-each_stays : (xs kept : List LocatedMapping) → IsReduced xs kept → AllByRecursion (λ x. is_accepted x.entry ≡ true) xs → AllByRecursion (λ x. is_some (last_position kept (key x.entry)) ≡ true) xs
+pub each_stays : (xs kept : List LocatedMapping) → IsReduced xs kept → AllByRecursion (λ x. is_accepted x.entry ≡ true) xs → AllByRecursion (λ x. is_some (last_position kept (key x.entry)) ≡ true) xs
 each_stays xs kept reduced accepted = both xs (recursion_from_All (Contains xs) xs (All-contains_itself xs)) accepted
   where
     both : (ys : List LocatedMapping) → AllByRecursion (Contains xs) ys → AllByRecursion (λ x. is_accepted x.entry ≡ true) ys → AllByRecursion (λ x. is_some (last_position kept (key x.entry)) ≡ true) ys
@@ -158,7 +170,7 @@ left_lines buffers found are =
     ap (λ fs. filter (λ (l : Line). not (is_redundant fs l)) ls) are.whole
     ∙ filter_same (λ (l : Line). not (is_redundant all l)) (is_line_kept are.kept) ls (not_reported h are.kept all ls (reported_redundant h are.kept ls (apart_lines 0 buffers) stay))
 
-left_entries : (buffers : List Text) (found : List Finding) (are : AreFindings buffers found) → located (filter (λ l. not (is_redundant found l)) (lines buffers)) ≡ are.kept
+pub left_entries : (buffers : List Text) (found : List Finding) (are : AreFindings buffers found) → located (filter (λ l. not (is_redundant found l)) (lines buffers)) ≡ are.kept
 left_entries buffers found are =
     let ls = lines buffers in
     ap located (left_lines buffers found are)

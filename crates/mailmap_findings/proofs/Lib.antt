@@ -13,4 +13,6 @@ pub mod Pruned
 pub mod Verified
 pub mod Ordered
 pub mod Deleted
+pub mod GitAnswers
+pub mod PrunedFindings
 mod Explained

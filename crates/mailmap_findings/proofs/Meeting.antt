@@ -6,7 +6,7 @@ use Rattle.std.proofs.lemmas.List.{map-append}
 use Rattle.mailmap_entries.specs.Entries.{Mapping}
 use Rattle.mailmap_grammar.specs.Lines.{strict_reading}
 use Rattle.mailmap_redundancy.specs.Redundancy.{LocatedMapping}
-use Rattle.mailmap_findings.specs.Findings.{Finding, Reported, line_findings, reported_of_entry, reported_of_reading}
+use Rattle.mailmap_findings.specs.Findings.{Finding, Reported, git_reads, line_findings, read_otherwise, reported_of_entry, reported_of_reading}
 use Rattle.mailmap_findings.specs.Positions.{Line, entry, located, located_entry}
 
 abbrev pub reported_at : Line → Reported → Finding
@@ -16,15 +16,17 @@ mapped : {X Y : Type 0} (f : X → Y) (o : Option X) → map f (option_to_list o
 mapped f None = refl
 mapped f (Some x) = refl
 
--- what is found by what the line says, and by what its entry does
-pub found_both : (h : List Mapping) (kept : List LocatedMapping) (is_kept : Bool) (l : Line) (of_text of_entry : Option Reported)
-    → of_text ≡ reported_of_reading l.text (strict_reading l.position.line l.text) → of_entry ≡ option_and_then (reported_of_entry h kept is_kept) (entry l)
-    → option_to_list (option_map (reported_at l) of_text) ++ option_to_list (option_map (reported_at l) of_entry) ≡ line_findings h kept is_kept l
-found_both h kept is_kept l of_text of_entry text done =
+-- what is found by what the line says, by what git reads of it, and by what its entry does
+pub found_all : (h : List Mapping) (kept : List LocatedMapping) (is_kept : Bool) (l : Line) (of_text of_git of_entry : Option Reported)
+    → of_text ≡ reported_of_reading l.text (strict_reading l.position.line l.text) → of_git ≡ option_map git_reads (read_otherwise l)
+    → of_entry ≡ option_and_then (reported_of_entry h kept is_kept) (entry l)
+    → option_to_list (option_map (reported_at l) of_text) ++ option_to_list (option_map (reported_at l) of_git) ++ option_to_list (option_map (reported_at l) of_entry) ≡ line_findings h kept is_kept l
+found_all h kept is_kept l of_text of_git of_entry text git done =
     sym
-    (map-append (reported_at l) (option_to_list of_text) (option_to_list of_entry)
-    ∙ λ i. mapped (reported_at l) of_text i ++ mapped (reported_at l) of_entry i)
-    ∙ λ i. map (reported_at l) (option_to_list (text i) ++ option_to_list (done i))
+    (map-append (reported_at l) (option_to_list of_text ++ option_to_list of_git) (option_to_list of_entry)
+    ∙ ap (λ fs. fs ++ map (reported_at l) (option_to_list of_entry)) (map-append (reported_at l) (option_to_list of_text) (option_to_list of_git))
+    ∙ λ i. mapped (reported_at l) of_text i ++ mapped (reported_at l) of_git i ++ mapped (reported_at l) of_entry i)
+    ∙ λ i. map (reported_at l) (option_to_list (text i) ++ option_to_list (git i) ++ option_to_list (done i))
 
 abbrev pub with_position : Line → Mapping → LocatedMapping
 with_position l e = record { position = l.position; entry = e }

@@ -55,7 +55,7 @@ joined-texts : (ls : List Line) → flat_map (λ l. l.text) ls ≡ joined (texts
 joined-texts [] = refl
 joined-texts (l ∷ ls) = ap (λ t. l.text ++ t) (joined-texts ls)
 
-one_buffer : (s : Text) → lines (s ∷ []) ≡ located_from 0 1 (whole_lines s)
+pub one_buffer : (s : Text) → lines (s ∷ []) ≡ located_from 0 1 (whole_lines s)
 unfolding lines_from
 one_buffer s = append-nil (located_from 0 1 (whole_lines s))
 
@@ -64,15 +64,15 @@ lines_whole s = subst AreWhole (sym (ap texts (one_buffer s) ∙ texts-located 0
 
 -- the text is whole lines again, and their entries are those that stay
 module _ (buffer text : Text) (pruned : IsPruned buffer text) where
-  abbrev kept_lines : List Line
+  abbrev pub kept_lines : List Line
   kept_lines = filter (is_line_kept pruned.kept) (lines (buffer ∷ []))
 
-  text_lines : whole_lines text ≡ texts kept_lines
+  pub text_lines : whole_lines text ≡ texts kept_lines
   text_lines =
       ap whole_lines (pruned.whole ∙ joined-texts kept_lines)
       ∙ whole_lines-joined (texts kept_lines) (some_whole (is_line_kept pruned.kept) (lines (buffer ∷ [])) (lines_whole buffer))
 
-  kept_entries : located kept_lines ≡ pruned.kept
+  pub kept_entries : located kept_lines ≡ pruned.kept
   kept_entries =
       located_left pruned.kept (lines (buffer ∷ [])) pruned.kept
       (starts pruned.kept (lines (buffer ∷ []))
@@ -84,7 +84,7 @@ module _ (buffer text : Text) (pruned : IsPruned buffer text) where
       ∙ entries-renumbered 0 1 kept_lines
       ∙ ap entries kept_entries
 
-good-one : (s : Text) → entries (located (lines (s ∷ []))) ≡ good s
+pub good-one : (s : Text) → entries (located (lines (s ∷ []))) ≡ good s
 good-one s = good-lines 0 (s ∷ []) ∙ append-nil (good s)
 
 pub same_listing : (buffer text : Text) (n : List Mapping) → IsPruned buffer text → IsNormal (good buffer) n ↔ IsNormal (good text) n
@@ -120,7 +120,7 @@ one_more : (x : LocatedMapping) (xs ys : List LocatedMapping) → AllByRecursion
 one_more x xs [] all = tt
 one_more x xs (y ∷ ys) all = (or_right (same_position x.position y.position) (has_entry_at xs y.position) all.0, one_more x xs ys all.1)
 
-all_stand : (xs : List LocatedMapping) → AllByRecursion (λ x. has_entry_at xs x.position ≡ true) xs
+pub all_stand : (xs : List LocatedMapping) → AllByRecursion (λ x. has_entry_at xs x.position ≡ true) xs
 all_stand [] = tt
 all_stand (x ∷ xs) = (ap (λ b. b || has_entry_at xs x.position) (same_itself x.position), one_more x xs xs (all_stand xs))
 
@@ -133,11 +133,17 @@ all_left kept (l ∷ ls) =
       | Some e ↦ λ all. ap (λ b. if b then l ∷ filter (is_line_kept kept) ls else filter (is_line_kept kept) ls) all.0 ∙ ap (λ xs. l ∷ xs) (all_left kept ls all.1)
     ]
 
+-- none of the entries of the text goes
+pub text_reduced : (buffer text : Text) → IsPruned buffer text → IsReduced (located (lines (text ∷ []))) (located (lines (text ∷ [])))
+text_reduced buffer text pruned =
+    let xs = located (lines (text ∷ [])) in
+    settled xs (none_goes (located (lines (buffer ∷ []))) pruned.kept [] pruned.kept [] xs pruned.reduced refl refl (sym (text_entries buffer text pruned)))
+
 pub nothing_to_prune : (buffer text : Text) → IsPruned buffer text → IsPruned text text
 nothing_to_prune buffer text pruned =
     let xs = located (lines (text ∷ [])) in record {
       kept = xs;
-      reduced = settled xs (none_goes (located (lines (buffer ∷ []))) pruned.kept [] pruned.kept [] xs pruned.reduced refl refl (sym (text_entries buffer text pruned)));
+      reduced = text_reduced buffer text pruned;
       whole =
           sym (joined-whole_lines text)
           ∙ ap joined (sym (texts-located 0 1 (whole_lines text)) ∙ ap texts (sym (one_buffer text)))

@@ -37,7 +37,7 @@ reading_same n m t =
       | false ↦ blank_same n m (trim t)
     ]
 
-entry_same : (l m : Line) → l.text ≡ m.text → entry l ≡ entry m
+pub entry_same : (l m : Line) → l.text ≡ m.text → entry l ≡ entry m
 unfolding entry
 entry_same l m e = reading_same l.position.line m.position.line l.text ∙ ap (λ t. option_and_then result_ok (reading m.position.line t)) e
 

@@ -1,11 +1,13 @@
--- From the entries that were read and those that are kept to what is kept of a text.
-use Rattle.std.proofs.Common.{◌≡◌, List, [], ◌∷◌, Result, Ok, Err, IfOk, filter, subst}
+-- From the entries that were read and those that are kept to what is kept of a text, also if there is no line; and when
+-- findings are the same.
+use Rattle.std.proofs.Common.{◌≡◌, Bool, true, false, true≢false, List, [], ◌∷◌, Result, Ok, Err, IfOk, filter, refl, sym, ap, subst, ◌∙◌}
+use Rattle.std.specs.Prelude.{◌&&◌, ◌↔◌}
 use Rattle.std.specs.List.{flat_map}
 use Rattle.mailmap_entries.specs.Folding.{Text}
-use Rattle.mailmap_redundancy.specs.Redundancy.{LocatedMapping, IsReduced, IsSublist}
+use Rattle.mailmap_redundancy.specs.Redundancy.{LocatedMapping, IsReduced, IsSublist, done, entries, settled}
 use Rattle.mailmap_redundancy.proofs.Kept.{reduced_sublist}
-use Rattle.mailmap_findings.specs.Findings.{IsPruned, is_line_kept}
-use Rattle.mailmap_findings.specs.Positions.{lines, located}
+use Rattle.mailmap_findings.specs.Findings.{AreFindings, Finding, IsPruned, findings, is_line_kept}
+use Rattle.mailmap_findings.specs.Positions.{Line, lines, located}
 
 pub are_kept : (buffers : List Text) (xs kept : List LocatedMapping) → xs ≡ located (lines buffers) → IsReduced xs kept → IsSublist kept (located (lines buffers))
 are_kept buffers xs kept given reduced = subst (IsSublist kept) given (reduced_sublist xs kept reduced)
@@ -18,3 +20,22 @@ is_pruned buffer text xs kept given reduced whole = record { kept = kept; reduce
 pub if_given : {V E X : Type 0} (r : Result V E) (read : V → X) (P : X → Type 0) (given : X) → IfOk r (λ v. read v ≡ given) → ((x : X) → x ≡ given → P x) → IfOk r (λ v. P (read v))
 if_given (Ok v) read P given is h = h (read v) is
 if_given (Err e) read P given is h = tt
+
+-- ---- without a line
+
+no_line : (buffers : List Text) → lines buffers ≡ [] → IsReduced (located (lines buffers)) []
+no_line buffers none = subst (λ ls. IsReduced (located ls) []) (sym none) (settled [] (done []))
+
+pub no_findings : (buffers : List Text) (found : List Finding) → lines buffers ≡ [] → found ≡ [] → AreFindings buffers found
+no_findings buffers found none is = record { kept = []; reduced = no_line buffers none; whole = is ∙ ap (flat_map (findings (entries (located (lines buffers))) [])) (sym none) }
+
+pub nothing_left : (buffer text : Text) → lines (buffer ∷ []) ≡ [] → text ≡ [] → IsPruned buffer text
+nothing_left buffer text none is =
+    record { kept = []; reduced = no_line (buffer ∷ []) none; whole = is ∙ ap (λ ls. flat_map (λ (l : Line). l.text) (filter (is_line_kept []) ls)) (sym none) }
+
+-- ---- the same
+
+-- findings are the same if their positions are, and what they report
+pub same_finding : (p q : Bool) (a b : Finding) → (p ≡ true) ↔ (a.position ≡ b.position) → (q ≡ true) ↔ (a.reported ≡ b.reported) → ((p && q) ≡ true) ↔ (a ≡ b)
+same_finding true q a b place what = (λ e i. record { position = place.0 refl i; reported = what.0 e i }, λ e. what.1 (ap (λ f. f.reported) e))
+same_finding false q a b place what = (λ e. absurd (true≢false (sym e)), λ e. absurd (true≢false (sym (place.1 (ap (λ f. f.position) e)))))

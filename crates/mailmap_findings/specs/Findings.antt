@@ -1,5 +1,5 @@
 -- What is found in mailmaps, and what is kept of one that is pruned.
-use Rattle.std.specs.Prelude.{◌≡◌, ◌<◌, ◌≤◌, ◌⊎◌, ◌++◌, ◌∷◌, ◌||◌, ◌&&◌, Bool, true, false, if◌then◌else◌, Option, Some, None, List, [], Ok, Err, map, filter, is_none, nat_eq, unwrap_or}
+use Rattle.std.specs.Prelude.{◌≡◌, ◌<◌, ◌≤◌, ◌⊎◌, ◌++◌, ◌∷◌, ◌||◌, ◌&&◌, Bool, true, false, if◌then◌else◌, Option, Some, None, List, [], Ok, Err, map, filter, is_none, is_some, nat_eq, unwrap_or}
 use Rattle.std.specs.List.{AllByRecursion, flat_map, list_any}
 use Rattle.std.specs.Option.{option_and_then, option_copied, option_map, option_or, option_to_list}
 use lib.Pointwise.{pointwise}
@@ -7,7 +7,8 @@ use Rattle.mailmap_entries.specs.Entries.{Mapping}
 use Rattle.mailmap_entries.specs.Folding.{Text}
 use Rattle.mailmap_grammar.specs.Lines.{Fault, fault_of, Reading, trailing_text, cut, non_empty, strict_reading}
 use Rattle.mailmap_grammar.specs.Trimming.{trim}
-use Rattle.mailmap_histories.specs.Histories.{Fields, fields_for, key}
+use Rattle.mailmap_git.specs.Git.{GitReading, git_reading_of, read_in_place}
+use Rattle.mailmap_histories.specs.Histories.{Fields, fields_for, first, key}
 use Rattle.mailmap_histories.specs.Listings.{same_optional}
 use Rattle.mailmap_redundancy.specs.Redundancy.{LocatedMapping, IsReduced, entries, last_position}
 use Rattle.mailmap_redundancy.specs.declared.located.Position.{Position}
@@ -26,6 +27,7 @@ pub record Contact : Type 0 where
 pub data Reported : Type 0 where
   fault : Fault → Reported
   ignored_text : Text → Reported
+  git_reads : GitReading → Reported
   no_effect : Position → Reported
   itself_mapped : Contact → Contact → Reported
 
@@ -41,6 +43,7 @@ contact_of c = record { name = option_copied c.name; email = c.email.now }
 abbrev pub reported_of : the_kind.Kind → Reported
 reported_of (variant.Fault e) = fault (fault_of e)
 reported_of (variant.IgnoredText text) = ignored_text text.now
+reported_of (variant.GitReads reading) = git_reads (git_reading_of reading)
 reported_of (variant.NoEffect beside) = no_effect beside
 reported_of (variant.ItselfMapped contact to) = itself_mapped (contact_of contact) (contact_of to)
 
@@ -59,6 +62,15 @@ abbrev pub reported_of_reading : Text → Option Reading → Option Reported
 reported_of_reading line None = None
 reported_of_reading line (Some (Err f)) = Some (fault f)
 reported_of_reading line (Some (Ok e)) = option_map ignored_text (non_empty (ignored line))
+
+-- what git reads of a line in place of its entry, if that is not the same
+abbrev pub read_otherwise : Line → Option GitReading
+read_otherwise l = read_in_place (entry l) l.text
+
+-- the position of the first line of buffers that git reads otherwise
+abbrev pub first_read_otherwise : List Text → Option Position
+first_read_otherwise buffers = option_map (λ l. l.position)
+    (first (filter (λ l. is_some (read_otherwise l)) (lines buffers)))
 
 -- ---- what its entry does in a history
 
@@ -86,13 +98,14 @@ abbrev pub reported_of_entry : List Mapping → List LocatedMapping → Bool →
 reported_of_entry h kept true e = reported_of_contact (contact e) (mapped h (contact e))
 reported_of_entry h kept false e = option_map no_effect (last_position kept (key e))
 
--- ---- both, for all lines
+-- ---- all of it, for all lines
 
 -- what is reported of a line, if the history has the entries of all lines, `kept` those that are kept, and its own is
 -- kept or not
 abbrev pub reported_of_line : List Mapping → List LocatedMapping → Bool → Line → List Reported
 reported_of_line h kept is_kept l =
     option_to_list (reported_of_reading l.text (strict_reading l.position.line l.text)) ++
+    option_to_list (option_map git_reads (read_otherwise l)) ++
     option_to_list (option_and_then (reported_of_entry h kept is_kept) (entry l))
 
 abbrev pub line_findings : List Mapping → List LocatedMapping → Bool → Line → List Finding
@@ -123,6 +136,7 @@ AreInOrder (f ∷ fs) = AllByRecursion (λ g. IsUpTo f.position g.position) fs �
 abbrev pub has_no_effect : Reported → Bool
 has_no_effect (fault f) = false
 has_no_effect (ignored_text text) = false
+has_no_effect (git_reads reading) = false
 has_no_effect (no_effect beside) = true
 has_no_effect (itself_mapped c to) = false
 

@@ -2,7 +2,10 @@ pub use Rattle.mailmap_entries.specs.Folding
 pub use Rattle.mailmap_entries.specs.Entries
 pub use Rattle.mailmap_grammar.specs.Lines
 pub use Rattle.mailmap_histories.specs.Histories
+pub use Rattle.mailmap_git.specs.Git
 pub mod Positions
 pub mod Findings
+pub mod GitAnswers
 pub mod Explanations
+pub mod Pruning
 pub mod Marked

@@ -6,7 +6,7 @@
 //! let found = explanations.of(b"jd", b"jd@X");
 //! // the name `Jane` by line 2 and the email `jane@x` by line 1
 //! ```
-ghost use Rattle.std.specs.Prelude.{◌≡◌, IfOk, IfSome, IsSome, None};
+ghost use Rattle.std.specs.Prelude.{◌≡◌, IfOk, IfSome, IsSome, None, map};
 ghost use Rattle.std.specs.Option.{option_map};
 ghost use Rattle.mailmap_histories.specs.Histories.{scan};
 ghost use Rattle.mailmap_redundancy.specs.Givers.{givers};
@@ -95,6 +95,13 @@ impl<'m, 'a> Explanations<'m, 'a> {
         })
     }
 
+    /// The lines that have an effect, in their order.
+    pub fn lines(&self, alloc: Global) -> Result<Vec<Position>, AllocError>
+        ensures { IfOk result (λ lines. lines.items ≡ map (λ x. x.position) self.now.kept) }
+    {
+        positions_in(alloc, self.reduced.kept())
+    }
+
     /// The lines that a name and an email need: without any other line they are answered as before.
     pub fn needs(&self, name: &[u8], email: &[u8]) -> Needed
         ensures positions { positions_of result ≡ needed_positions (givers self.now.kept name.now email.now) }
@@ -103,6 +110,12 @@ impl<'m, 'a> Explanations<'m, 'a> {
         let givers = self.reduced.givers(name, email);
         in_order(givers.name, givers.email.or(givers.spelling))
     }
+}
+
+fn positions_in(alloc: Global, entries: &[&LocatedEntry<'_>]) -> Result<Vec<Position>, AllocError>
+    ensures { IfOk result (λ lines. lines.items ≡ map (λ x. x.now.position) entries.now) }
+{
+    entries.iter().map(|entry| entry.position).collect(alloc)
 }
 
 // The lines that give the new fields.

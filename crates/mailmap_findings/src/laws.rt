@@ -1,5 +1,5 @@
 //! Laws of lines, findings and pruned texts. Each function runs nothing: its contract is the law.
-ghost use Rattle.std.specs.Prelude.{◌≡◌, ◌↔◌, ◌∷◌, [], List, filter, not, option_to_list, true};
+ghost use Rattle.std.specs.Prelude.{◌≡◌, ◌↔◌, ◌∷◌, [], List, None, filter, not, option_to_list, true};
 ghost use Rattle.std.specs.List.{flat_map};
 ghost use Rattle.mailmap_entries.specs.Entries.{Mapping};
 ghost use Rattle.mailmap_entries.specs.Folding.{Text};
@@ -7,8 +7,15 @@ ghost use Rattle.mailmap_grammar.specs.Lines.{good, readings, reading, strict_re
 ghost use Rattle.mailmap_histories.specs.Histories.{IsNormal};
 ghost use Rattle.mailmap_redundancy.specs.Redundancy.{entries};
 ghost use Rattle.mailmap_redundancy.specs.declared.located.Position.{Position};
-ghost use Rattle.mailmap_findings.specs.Findings.{AreFindings, AreInOrder, Contact, Finding, IsPruned, is_redundant, same_contact};
+ghost use Rattle.mailmap_findings.specs.Findings.{AreFindings, AreInOrder, Contact, Finding, IsPruned, first_read_otherwise, is_redundant, same_contact};
+ghost use Rattle.mailmap_findings.specs.GitAnswers.{git_answer};
 ghost use Rattle.mailmap_findings.specs.Positions.{lines, located, same_position, whole_lines};
+
+mod equal;
+mod pruning;
+
+pub use equal::{law_equal_findings, law_equal_kinds};
+pub use pruning::{law_none_left, law_pruned_findings};
 
 /// The lines of a buffer, with their line feeds, are the buffer when they are put together again. They say what the
 /// buffer is read to say, and their entries are what the buffers map.
@@ -58,4 +65,13 @@ pub fn law_pruned()
     ensures listing { (buffer text : Text) (n : List Mapping) → IsPruned buffer text
         → IsNormal (good buffer) n ↔ IsNormal (good text) n }
     ensures settled { (buffer text : Text) → IsPruned buffer text → IsPruned text text }
+{}
+
+/// If git reads each line of a buffer as it is read here, it reads each line of the pruned text so, and gives the same
+/// answer to every contact by both.
+pub fn law_pruned_for_git()
+    ensures settled { (buffer text : Text) → IsPruned buffer text → first_read_otherwise (buffer ∷ []) ≡ None
+        → first_read_otherwise (text ∷ []) ≡ None }
+    ensures answers { (buffer text : Text) → IsPruned buffer text → first_read_otherwise (buffer ∷ []) ≡ None
+        → (name email : Text) → git_answer text name email ≡ git_answer buffer name email }
 {}

@@ -18,27 +18,30 @@
 //! let verification = Verification::new(alloc, &mailmaps)?;
 //! for finding in verification.findings() { .. }
 //! ```
-ghost use Rattle.std.specs.Prelude.{◌≡◌, map, IfOk};
+ghost use Rattle.std.specs.Prelude.{◌≡◌, ◌≢◌, ◌∷◌, [], map, IfOk, OnErr};
 ghost use Rattle.std.specs.Iterator.{YieldsFirstBy, item_count};
 ghost use Rattle.mailmap_redundancy.specs.Redundancy.{located_of};
 ghost use Rattle.mailmap_findings.specs.Findings.{AreFindings, IsPruned, finding_of};
 ghost use Rattle.mailmap_findings.specs.Positions.{lines, located};
 
 mod contacts;
+mod git;
 mod lines;
 mod reading;
 mod walk;
 
-use lines::located_entries;
+pub use git::first_read_otherwise;
+use lines::{has_lines, located_entries};
+pub use mailmap_git::GitReading;
 use mailmap_grammar::lines::Error;
 pub use mailmap_redundancy::Position;
 use mailmap_redundancy::{LocatedEntry, Reduced, without_redundant};
 use std::alloc::{AllocError, Global};
 use std::marker::Model;
-use walk::{MarkedLines, line_findings, pruned_text};
+use walk::{LineFindings, MarkedLines, line_findings, pruned_text};
 
 /// What is wrong with one line, and which line it is.
-#[derive(Debug, PartialEq, Eq, Drop)]
+#[derive(PartialEq, Eq, Debug, Drop)]
 pub struct Finding<'a> {
     /// The buffer and the number of the line.
     pub position: Position,
@@ -53,6 +56,9 @@ pub enum Kind<'a> {
     /// Text after the last email of a line that gives an entry. It is trimmed and not empty: `joe` of `Joe <joe@x>
     /// joe`.
     IgnoredText(&'a [u8]),
+    /// git reads the line otherwise than this library, and this is what it reads. Of `Joe < a@x >` it has an email with
+    /// blanks, and of a line with a zero byte before its email it has nothing.
+    GitReads(GitReading<'a>),
     /// The line could be deleted and nothing would change. `beside` is the last line for the same old email and old
     /// name that has an effect.
     NoEffect {
@@ -75,14 +81,22 @@ pub struct Contact<'a> {
 /// Reports what is wrong with the lines of the buffers, in the order of the lines; later buffers come after earlier
 /// ones.
 ///
-/// A line may have two findings: a fault or ignored text, and then that its entry has no effect or maps to a contact
-/// that is itself mapped. All lines that are reported to have no effect can be deleted at once.
+/// A line may have three findings: a fault or ignored text, then that git reads it otherwise, and then that its entry
+/// has no effect or maps to a contact that is itself mapped. All lines that are reported to have no effect can be
+/// deleted at once.
 ///
 /// For the buffer `P <a@x>\nP <a@x> p` this reports that line 1 has no effect beside line 2, and that line 2 has the
 /// ignored text `p`.
 pub fn verify<'a>(alloc: Global, buffers: &[&'a [u8]]) -> Result<Vec<Finding<'a>>, AllocError>
-    ensures { IfOk result (λ findings. AreFindings (map (λ b. b.now) buffers.now) (map finding_of findings.items)) }
+    ensures findings { IfOk result
+        (λ findings. AreFindings (map (λ b. b.now) buffers.now) (map finding_of findings.items)) }
+
+    // Out of memory is reported only if a buffer has a line.
+    ensures out_of_memory { OnErr result (lines (map (λ b. b.now) buffers.now) ≢ []) }
 {
+    if !has_lines(buffers) {
+        return Ok(Vec::new(alloc));
+    }
     let mailmaps = Mailmaps::read(alloc, buffers)?;
     let verification = Verification::new(alloc, &mailmaps)?;
     verification.findings().collect(alloc)
@@ -91,9 +105,15 @@ pub fn verify<'a>(alloc: Global, buffers: &[&'a [u8]]) -> Result<Vec<Finding<'a>
 /// The buffer without the lines whose entries have no effect. All other lines are kept byte for byte, even comments and
 /// lines with faults.
 pub fn prune(alloc: Global, buffer: &[u8]) -> Result<Vec<u8>, AllocError>
-    ensures { IfOk result (λ text. IsPruned buffer.now text.items) }
+    ensures pruned { IfOk result (λ text. IsPruned buffer.now text.items) }
+
+    // Out of memory is reported only if the buffer has a line.
+    ensures out_of_memory { OnErr result (lines (buffer.now ∷ []) ≢ []) }
 {
     let buffers = [buffer];
+    if !has_lines(&buffers) {
+        return Ok(Vec::new(alloc));
+    }
     let located = located_entries(alloc, &buffers)?;
     let reduced = without_redundant(alloc, &located)?;
     let lines = MarkedLines::new(&buffers, reduced.kept());
@@ -186,7 +206,7 @@ impl<'m, 'a> Verification<'m, 'a> {
         Findings {
             lines: MarkedLines::new(self.buffers, self.reduced.kept()),
             reduced: &self.reduced,
-            second: None,
+            of_line: LineFindings::none(),
         }
     }
 }
@@ -198,20 +218,19 @@ impl<'m, 'a> Verification<'m, 'a> {
 pub struct Findings<'v, 'a> {
     lines: MarkedLines<'v, 'a>,
     reduced: &'v Reduced<'v, 'a>,
-    // the second finding of the last line, until it is given
-    second: Option<Finding<'a>>,
+    // what is left of the findings of the last line
+    of_line: LineFindings<'a>,
 }
 
 impl<'v, 'a> Model for Findings<'v, 'a> {
-    ghost use Rattle.std.specs.Prelude.{◌++◌, List, option_to_list};
+    ghost use Rattle.std.specs.Prelude.{◌++◌, List};
     ghost use Rattle.std.specs.List.{flat_map};
-    ghost use Rattle.std.specs.Option.{option_map};
     ghost use Rattle.mailmap_redundancy.specs.Redundancy.{entries};
-    ghost use Rattle.mailmap_findings.specs.Findings.{Finding, finding_of, line_findings};
+    ghost use Rattle.mailmap_findings.specs.Findings.{Finding, line_findings};
 
     ghost Value = { List Finding };
 
-    ghost view = { λ s. option_to_list (option_map finding_of s.second)
+    ghost view = { λ s. s.of_line
         ++ flat_map (λ m. line_findings (entries s.reduced.now.history) s.reduced.now.kept m.1 m.0) s.lines };
 }
 
@@ -224,15 +243,11 @@ impl<'v, 'a> Iterator for Findings<'v, 'a> {
 
     fn next(&mut self) -> Option<Finding<'a>> {
         loop {
-            if let Some(finding) = self.second.take() {
+            if let Some(finding) = self.of_line.next() {
                 return Some(finding);
             }
             let (line, is_kept) = self.lines.next()?;
-            let (first, second) = line_findings(self.reduced, &line, is_kept);
-            self.second = second;
-            if let Some(finding) = first {
-                return Some(finding);
-            }
+            self.of_line = line_findings(self.reduced, &line, is_kept);
         }
     }
 }

@@ -30,7 +30,7 @@ impl Tables {
             × IsComplete self.new × IsNormal (listing self.old.groups ++ map mapping_of xs) (listing self.new.groups)) }
         ensures err { OnErr result (self.new ≡ self.old) }
 
-        // Memory is asked for only once an entry is accepted.
+        // Out of memory is reported only once an entry was accepted.
         ensures out_of_memory { OnErr result
             ((xs : List Item) × (rest : I) × Yields I.next_gives entries xs rest
             × (accepted (map mapping_of xs) ≢ [])) }

@@ -55,7 +55,7 @@ pub(crate) fn accepted_of<'a, I: Iterator<Item = Entry<'a>> + Drop>(
         (λ c. (xs : List Item) × Drains I.next_gives entries xs
         × IsCollected old_tables.now (map mapping_of xs) c.made (map mapping_of c.batch.items)) }
 
-    // Memory is asked for only once an entry is accepted.
+    // Out of memory is reported only once an entry was accepted.
     ensures out_of_memory { OnErr result
         ((xs : List Item) × (rest : I) × Yields I.next_gives entries xs rest × (accepted (map mapping_of xs) ≢ [])) }
 {

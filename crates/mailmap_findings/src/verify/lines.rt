@@ -1,5 +1,5 @@
 //! The lines of buffers with their positions, and their entries.
-ghost use Rattle.std.specs.Prelude.{◌≡◌, ◌<◌, ◌^◌, ◌++◌, length, map, option_to_list, IfOk, OnOk};
+ghost use Rattle.std.specs.Prelude.{◌≡◌, ◌≢◌, ◌<◌, ◌^◌, ◌++◌, [], false, length, map, option_to_list, true, IfOk, OnOk};
 ghost use Rattle.std.specs.Iterator.{YieldsFirstBy, item_count};
 ghost use Rattle.std.specs.Option.{option_map};
 ghost use Rattle.mailmap_entries.specs.Entries.{mapping_of};
@@ -93,6 +93,14 @@ fn lines_in<'a>(text: &'a [u8]) -> LinesWithTerminator<'a>
     ensures countable { length result < 2 ^ 64 }
 {
     text.lines_with_terminator()
+}
+
+/// Whether a buffer has a line: whether not all of them are empty.
+pub(crate) fn has_lines(buffers: &[&[u8]]) -> bool
+    ensures some { result ≡ true → lines (map (λ b. b.now) buffers.now) ≢ [] }
+    ensures none { result ≡ false → lines (map (λ b. b.now) buffers.now) ≡ [] }
+{
+    BufferLines::of(buffers).next().is_some()
 }
 
 /// The entries of the lines that give one.

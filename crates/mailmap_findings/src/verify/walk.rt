@@ -1,5 +1,5 @@
 //! A walk over lines, of which it is known whether their entries are kept, and what is done with each line.
-ghost use Rattle.std.specs.Prelude.{◌≡◌, ◌++◌, ◌||◌, map, filter, is_none, option_to_list, IfOk};
+ghost use Rattle.std.specs.Prelude.{◌≡◌, ◌||◌, [], map, filter, is_none, IfOk};
 ghost use Rattle.std.specs.Iterator.{YieldsFirstBy, item_count};
 ghost use Rattle.std.specs.List.{flat_map};
 ghost use Rattle.std.specs.Option.{option_map};
@@ -9,6 +9,7 @@ ghost use Rattle.mailmap_findings.specs.Marked.{marked, marked_of};
 ghost use Rattle.mailmap_findings.specs.Positions.{entry, line_of, lines, located, same_position};
 
 use crate::verify::contacts::reported_of_entry;
+use crate::verify::git::reported_of_git;
 use crate::verify::lines::{BufferLines, Line};
 use crate::verify::reading::{entry_of, read_strictly};
 use crate::verify::{Finding, Kind};
@@ -82,21 +83,73 @@ fn is_at(entry: &LocatedEntry<'_>, position: Position) -> bool
     entry.position == position
 }
 
-/// What is found of a line by what it says, and then by what its entry does.
+/// The findings of a line: by what it says, by what git reads of it, and by what its entry does.
+///
+/// To a contract it is the list of those that are left.
+#[derive(Drop)]
+pub(crate) struct LineFindings<'a> {
+    of_text: Option<Finding<'a>>,
+    of_git: Option<Finding<'a>>,
+    of_entry: Option<Finding<'a>>,
+}
+
+impl<'a> Model for LineFindings<'a> {
+    ghost use Rattle.std.specs.Prelude.{◌++◌, List, option_to_list};
+    ghost use Rattle.std.specs.Option.{option_map};
+    ghost use Rattle.mailmap_findings.specs.Findings.{Finding, finding_of};
+
+    ghost Value = { List Finding };
+
+    ghost view = { λ s. option_to_list (option_map finding_of s.of_text)
+        ++ option_to_list (option_map finding_of s.of_git) ++ option_to_list (option_map finding_of s.of_entry) };
+}
+
+impl<'a> LineFindings<'a> {
+    pub(crate) fn none() -> LineFindings<'a>
+        ensures { result ≡ [] }
+    {
+        LineFindings {
+            of_text: None,
+            of_git: None,
+            of_entry: None,
+        }
+    }
+}
+
+impl<'a> Iterator for LineFindings<'a> {
+    type Item = Finding<'a>;
+
+    ghost next_gives = { YieldsFirstBy finding_of (λ s. s) };
+
+    ghost remaining = { item_count (λ s. s) };
+
+    fn next(&mut self) -> Option<Finding<'a>> {
+        if let Some(finding) = self.of_text.take() {
+            return Some(finding);
+        }
+        if let Some(finding) = self.of_git.take() {
+            return Some(finding);
+        }
+        self.of_entry.take()
+    }
+}
+
+/// What is found of a line.
 pub(crate) fn line_findings<'a>(
     reduced: &Reduced<'_, 'a>,
     line: &Line<'a>,
     is_kept: bool,
-) -> (Option<Finding<'a>>, Option<Finding<'a>>)
-    ensures { option_to_list (option_map finding_of result.0) ++ option_to_list (option_map finding_of result.1)
-        ≡ spec_line_findings (entries reduced.now.history) reduced.now.kept is_kept (line_of line.now) }
+) -> LineFindings<'a>
+    ensures { result ≡ spec_line_findings (entries reduced.now.history) reduced.now.kept is_kept (line_of line.now) }
 {
     let (of_text, entry) = read_strictly(line);
+    let of_git = reported_of_git(line, entry);
     let of_entry = reported_of_entry(reduced, entry, is_kept);
-    (
-        finding_at(line.position, of_text),
-        finding_at(line.position, of_entry),
-    )
+    LineFindings {
+        of_text: finding_at(line.position, of_text),
+        of_git: finding_at(line.position, of_git),
+        of_entry: finding_at(line.position, of_entry),
+    }
 }
 
 // The finding of this kind, if there is one.

@@ -17,7 +17,7 @@ impl Snapshot {
     pub fn from_bytes(alloc: Global, buf: &[u8]) -> Result<Snapshot, AllocError>
         ensures ok { IfOk result (IsNormal (good buf.now)) }
 
-        // Memory is asked for only once an entry is accepted.
+        // Out of memory is reported only once an entry was accepted.
         ensures out_of_memory { OnErr result (accepted (good buf.now) ≢ []) }
     {
         Snapshot::new(alloc, parse_ignore_errors(buf))
@@ -54,7 +54,7 @@ impl Snapshot {
             ((xs : List Item) × Drains I.next_gives entries xs × IsMerged self.old (map mapping_of xs) self.new) }
         ensures err { OnErr result (self.new ≡ self.old) }
 
-        // Memory is asked for only once an entry is accepted.
+        // Out of memory is reported only once an entry was accepted.
         ensures out_of_memory { OnErr result
             ((xs : List Item) × (rest : I) × Yields I.next_gives entries xs rest
             × (accepted (map mapping_of xs) ≢ [])) }

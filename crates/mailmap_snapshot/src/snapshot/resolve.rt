@@ -22,8 +22,8 @@ impl Snapshot {
     /// The signature as the mailmap maps it, or `None` if it maps neither its name nor its email.
     ///
     /// Nothing is mapped if no entry is for the email, or if the entry for it would change nothing. An email that
-    /// differs from the mailmap's spelling only in the case of its letters is mapped to that spelling. The answer
-    /// `None` takes no memory, and so this can't run out of memory then.
+    /// differs from the mailmap's spelling only in the case of its letters is mapped to that spelling. This runs out
+    /// of memory only if something is mapped.
     ///
     /// ```rust
     /// let mailmap = Snapshot::from_bytes(alloc, b"Jane Doe <jane@x> <jd@y>")?;
@@ -86,8 +86,8 @@ impl Snapshot {
 
     /// The signature as the mailmap maps it, with mapped texts owned and the others borrowed from `signature`.
     ///
-    /// If nothing is mapped, both are borrowed and no memory is taken, so this can't run out of memory then. It suits
-    /// views that show many signatures, of which a mailmap changes few:
+    /// If nothing is mapped, both are borrowed, and this doesn't run out of memory. It suits views that show many
+    /// signatures, of which a mailmap changes few:
     ///
     /// ```rust
     /// let mailmap = Snapshot::from_bytes(alloc, b"Jane Doe <jd@y>")?;

@@ -30,7 +30,7 @@ impl Snapshot {
         ensures merged { IsMerged self.old (history sources.now made.new) self.new }
         ensures none_made { All (λ is_made. is_made ≡ false) made.new → self.new ≡ self.old }
 
-        // A source without an accepted entry asks for no memory, so it is always made.
+        // Memory runs out only for a source with an accepted entry, so any other is marked as made.
         ensures never_out_of_memory { (i : ℕ) (s : Said) → slice_get sources.now i ≡ Some s → accepted (said_by s) ≡ []
             → slice_get made.new i ≡ Some true }
         ensures marks { length made.new ≡ length made.old }

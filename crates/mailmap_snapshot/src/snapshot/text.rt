@@ -44,8 +44,8 @@ impl Snapshot {
     /// By the blank in front a name may begin with `#` and the line is still no comment. Equal snapshots have the same
     /// text.
     ///
-    /// `Err` if no line can hold some entry, with the index of the first such entry, or if memory runs out. That an
-    /// entry can't be written is found before memory is asked for.
+    /// `Err` if no line can hold some entry, with the index of the first such entry, or if memory runs out. Out of
+    /// memory is reported only if every entry can be written.
     ///
     /// `n@y` by the empty email is written as ` <n@y> <>`; the name `N` by the empty email can't be written.
     pub fn write(&self, alloc: Global) -> Result<Vec<u8>, WriteError>

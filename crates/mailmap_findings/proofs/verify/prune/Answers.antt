@@ -5,7 +5,7 @@ use Rattle.mailmap_findings.specs.Marked.{marked}
 use Rattle.mailmap_findings.specs.Positions.{lines, located}
 use Rattle.mailmap_findings.proofs.Accepted.{items_accepted}
 use Rattle.mailmap_findings.proofs.Kept.{kept_text, kept_text-marked}
-use Rattle.mailmap_findings.proofs.Verified.{are_kept, if_given, is_pruned}
+use Rattle.mailmap_findings.proofs.Verified.{are_kept, if_given, is_pruned, nothing_left}
 use Rattle.mailmap_findings.proofs.verify.prune.Goals as goal
 
 pub without_redundant-requires : goal.without_redundant-requires
@@ -20,8 +20,11 @@ new-lines-requires c =
     (ap (map located_of) c.deref.ensures.value ∙ c.in_ok-located.ensures)
     c.in_ok-reduced.ensures.reduced)
 
-pub returns : goal.returns
-returns c =
+pub returns-then-not-has_lines-clause-pruned : goal.returns-then-not-has_lines-clause-pruned
+returns-then-not-has_lines-clause-pruned c = nothing_left c.args.buffer.now c.new.result.items (c.has_lines.ensures.none c.if-not-has_lines.true) c.new.ensures.items
+
+pub returns-clause-pruned : goal.returns-clause-pruned
+returns-clause-pruned c =
     let ls = lines (c.args.buffer.now ∷ []) in
     let kept = c.in_ok-reduced.reduced.kept in
     if_given c.pruned_text.result (λ v. v.items) (IsPruned c.args.buffer.now) _ c.pruned_text.ensures

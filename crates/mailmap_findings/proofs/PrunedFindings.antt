@@ -1,0 +1,363 @@
+-- What is found in a pruned text: what was found of the lines that are left, with their new numbers.
+use Rattle.std.proofs.Common.{◌≡◌, ◌≢◌, ◌+◌, ℕ, Bool, true, false, true≢false, if◌then◌else◌, cond, Option, Some, None, option_to_list, unwrap_or, List, [], ◌∷◌, ◌++◌, filter, length, length-append, map, append_assoc, ap, refl, subst, sym, ◌∙◌, arith}
+use Rattle.std.specs.Prelude.{◌||◌, ◌&&◌, is_none, not}
+use Rattle.std.specs.List.{AllByRecursion, cons_option, flat_map, list_any}
+use Rattle.std.specs.Option.{option_and_then, option_map}
+use Rattle.std.proofs.lemmas.List.{map-append}
+use Rattle.std.proofs.lemmas.List.Elements.{filter-append, filter_map-append}
+use Rattle.std.proofs.lemmas.List.Folds.{list_any-append}
+use Rattle.mailmap_entries.specs.Entries.{Mapping}
+use Rattle.mailmap_entries.specs.Folding.{Text}
+use Rattle.mailmap_git.specs.Git.{GitReading, read_in_place}
+use Rattle.mailmap_grammar.specs.Lines.{ParsedContact, Absent, Unclosed, Closed, cut, first_contact, good, is_comment, non_empty, strict_contacts, strict_line_reading, strict_reading, trimmed_contact, two_contacts, unless_blank}
+use Rattle.mailmap_grammar.specs.Trimming.{trim}
+use Rattle.mailmap_histories.specs.Histories.{IsNormal, no_fields, scan}
+use Rattle.mailmap_redundancy.specs.Redundancy.{IsReduced, LocatedMapping, entries}
+use Rattle.mailmap_redundancy.specs.declared.located.Position.{Position}
+use Rattle.mailmap_redundancy.proofs.Kept.{listing_differs, one_reduced, reduced_scan}
+use Rattle.mailmap_findings.specs.Findings.{AreFindings, Contact, Finding, IsPruned, Reported, contact, findings, git_reads, has_no_effect, ignored, ignored_text, is_line_kept, is_redundant, mapped, read_otherwise, replaced, reported_of_contact, reported_of_entry, reported_of_line, reported_of_reading, same_contact, itself_mapped}
+use Rattle.mailmap_findings.specs.Marked.{AreApart}
+use Rattle.mailmap_findings.specs.Positions.{Line, entry, has_entry_at, lines, located, located_entry, located_from, same_position}
+use Rattle.mailmap_findings.specs.Pruning.{at_line, is_left, lines_left, number_among, renumbered, with_number}
+use Rattle.mailmap_findings.proofs.Accepted.{located_accepted}
+use Rattle.mailmap_findings.proofs.Deleted.{contact_none, each_stays, git_none, left_lines, lines_stay, not_reported, one_findings, reading_none, redundant_at, reported_at, reported_redundant}
+use Rattle.mailmap_findings.proofs.Placing.{apart_lines, line_at}
+use Rattle.mailmap_findings.proofs.Pruned.{all_stand, good-one, one_buffer, text_entries, text_lines, text_reduced}
+use Rattle.mailmap_findings.proofs.Renumbered.{entry_same}
+use Rattle.mailmap_findings.proofs.Walking.{differs, same_itself}
+use Rattle.mailmap_findings.proofs.Wholes.{texts}
+
+-- ---- numbers among lines
+
+-- the lines ls have these numbers among all, the first of them n
+abbrev AreNumbered : List Line → ℕ → List Line → Type 0
+AreNumbered all n [] = Unit {0}
+AreNumbered all n (l ∷ ls) = (number_among all l.position ≡ n) × AreNumbered all (n + 1) ls
+
+met : (P : Line → Type 0) (front : List Line) (l : Line) (ls : List Line) → AllByRecursion P (front ++ l ∷ ls) → P l
+met P [] l ls all = all.0
+met P (x ∷ front) l ls all = met P front l ls all.1
+
+number_at : (front : List Line) (l : Line) (ls : List Line) → AreApart (front ++ l ∷ ls) → number_among (front ++ l ∷ ls) l.position ≡ length front + 1
+number_at [] l ls apart = ap (λ b. if b then 1 else number_among ls l.position + 1) (same_itself l.position)
+number_at (x ∷ front) l ls apart =
+    let sum : length front + 1 + 1 ≡ length (x ∷ front) + 1 = omega arith in
+    ap (λ b. if b then 1 else number_among (front ++ l ∷ ls) l.position + 1)
+    (differs x.position l.position (λ e. met (λ y. y.position ≢ x.position) front l ls apart.0 (sym e)))
+    ∙ ap (λ n. n + 1) (number_at front l ls apart.1)
+    ∙ sum
+
+are_numbered : (front ls : List Line) → AreApart (front ++ ls) → AreNumbered (front ++ ls) (length front + 1) ls
+are_numbered front [] apart = tt
+are_numbered front (l ∷ ls) apart =
+    let whole : (front ++ l ∷ []) ++ ls ≡ front ++ l ∷ ls = append_assoc front (l ∷ []) ls in
+    let longer : length (front ++ l ∷ []) + 1 ≡ length front + 1 + 1 = omega (arith, length-append front (l ∷ [])) in
+    let rest : AreNumbered ((front ++ l ∷ []) ++ ls) (length (front ++ l ∷ []) + 1) ls = are_numbered (front ++ l ∷ []) ls (subst AreApart (sym whole) apart) in (
+      number_at front l ls apart,
+      subst (λ xs. AreNumbered xs (length front + 1 + 1) ls) whole (subst (λ n. AreNumbered ((front ++ l ∷ []) ++ ls) n ls) longer rest),
+    )
+
+some_apart : (test : Line → Bool) (ls : List Line) → AreApart ls → AreApart (filter test ls)
+some_apart test [] apart = tt
+some_apart test (l ∷ ls) apart =
+    elim (test l) as (λ b. AreApart (if b then l ∷ filter test ls else filter test ls)) [
+      | true ↦ (some_of (λ x. x.position ≢ l.position) ls apart.0, some_apart test ls apart.1)
+      | false ↦ some_apart test ls apart.1
+    ]
+  where
+    some_of : (P : Line → Type 0) (xs : List Line) → AllByRecursion P xs → AllByRecursion P (filter test xs)
+    some_of P [] all = tt
+    some_of P (x ∷ xs) all = elim (test x) as (λ b. AllByRecursion P (if b then x ∷ filter test xs else filter test xs)) [ true ↦ (all.0, some_of P xs all.1) | false ↦ some_of P xs all.1 ]
+
+-- ---- what is reported of a line with another number
+
+text_numbered : (n : ℕ) (o : Option Text) → option_map ignored_text o ≡ option_map (with_number n) (option_map ignored_text o)
+text_numbered n None = refl
+text_numbered n (Some t) = refl
+
+git_numbered : (n : ℕ) (o : Option GitReading) → option_map git_reads o ≡ option_map (with_number n) (option_map git_reads o)
+git_numbered n None = refl
+git_numbered n (Some r) = refl
+
+module _ (n m : ℕ) (line t : Text) where
+  two_numbered : (name email : Text) (h : ParsedContact) → reported_of_reading line (Some (two_contacts n t name email h)) ≡ option_map (with_number n) (reported_of_reading line (Some (two_contacts m t name email h)))
+  two_numbered [] email Absent = refl
+  two_numbered [] email Unclosed = refl
+  two_numbered [] email (Closed a b c) = text_numbered n (non_empty (ignored line))
+  two_numbered (x ∷ name) email Absent = text_numbered n (non_empty (ignored line))
+  two_numbered (x ∷ name) email Unclosed = text_numbered n (non_empty (ignored line))
+  two_numbered (x ∷ name) email (Closed a b c) = text_numbered n (non_empty (ignored line))
+
+  second_numbered : (name email rest : Text) (h : ParsedContact)
+      → reported_of_reading line (Some (strict_contacts n t name email rest h)) ≡ option_map (with_number n) (reported_of_reading line (Some (strict_contacts m t name email rest h)))
+  second_numbered name email rest Absent = two_numbered name email Absent
+  second_numbered name email rest Unclosed = refl
+  second_numbered name email rest (Closed a b c) = two_numbered name email (Closed a b c)
+
+  first_numbered : (h : ParsedContact)
+      → reported_of_reading line (Some (first_contact (λ name email rest. strict_contacts n t name email rest (trimmed_contact (cut rest))) n t h))
+      ≡ option_map (with_number n) (reported_of_reading line (Some (first_contact (λ name email rest. strict_contacts m t name email rest (trimmed_contact (cut rest))) m t h)))
+  first_numbered Absent = refl
+  first_numbered Unclosed = refl
+  first_numbered (Closed name [] rest) = refl
+  first_numbered (Closed name (x ∷ email) rest) = second_numbered name (x ∷ email) rest (trimmed_contact (cut rest))
+
+blank_numbered : (n m : ℕ) (line t : Text) → reported_of_reading line (unless_blank strict_line_reading n t) ≡ option_map (with_number n) (reported_of_reading line (unless_blank strict_line_reading m t))
+blank_numbered n m line [] = refl
+blank_numbered n m line (x ∷ t) = first_numbered n m line (x ∷ t) (trimmed_contact (cut (x ∷ t)))
+
+reading_numbered : (n m : ℕ) (line : Text) → reported_of_reading line (strict_reading n line) ≡ option_map (with_number n) (reported_of_reading line (strict_reading m line))
+reading_numbered n m line =
+    elim (is_comment line) as (λ b. reported_of_reading line (cond b None (unless_blank strict_line_reading n (trim line)))
+    ≡ option_map (with_number n) (reported_of_reading line (cond b None (unless_blank strict_line_reading m (trim line))))) [
+      | true ↦ refl
+      | false ↦ blank_numbered n m line (trim line)
+    ]
+
+contact_numbered : (n : ℕ) (c to : Contact) → reported_of_contact c to ≡ option_map (with_number n) (reported_of_contact c to)
+contact_numbered n c to =
+    elim (same_contact c to) as (λ b. (if b then None else Some (itself_mapped c to)) ≡ option_map (with_number n) (if b then None else Some (itself_mapped c to))) [ true ↦ refl | false ↦ refl ]
+
+to_list-map : (n : ℕ) (o : Option Reported) → option_to_list (option_map (with_number n) o) ≡ map (with_number n) (option_to_list o)
+to_list-map n None = refl
+to_list-map n (Some t) = refl
+
+-- what is found of a line whose entry is kept
+abbrev kept_reported : List Mapping → Line → List Reported
+kept_reported h l = reported_of_line h [] true l
+
+abbrev kept_findings : List Mapping → Line → List Finding
+kept_findings h l = reported_at l.position (kept_reported h l)
+
+numbered_at : (n : ℕ) (position : Position) (ts : List Reported) → reported_at (record { buffer = 0; line = n }) (map (with_number n) ts) ≡ map (at_line n) (reported_at position ts)
+numbered_at n position [] = refl
+numbered_at n position (t ∷ ts) = ap (λ fs. record { position = record { buffer = 0; line = n }; reported = with_number n t } ∷ fs) (numbered_at n position ts)
+
+-- two histories that make the same of each contact
+module _ (g h : List Mapping) (same : (c : Contact) → mapped g c ≡ mapped h c) where
+  entry_numbered : (n : ℕ) (o : Option Mapping) → option_and_then (reported_of_entry g [] true) o ≡ option_map (with_number n) (option_and_then (reported_of_entry h [] true) o)
+  entry_numbered n None = refl
+  entry_numbered n (Some e) = ap (reported_of_contact (contact e)) (same (contact e)) ∙ contact_numbered n (contact e) (mapped h (contact e))
+
+  line_numbered : (n : ℕ) (l : Line) → kept_reported g (line_at 0 n l.text) ≡ map (with_number n) (kept_reported h l)
+  line_numbered n l =
+      let of_text = reported_of_reading l.text (strict_reading l.position.line l.text) in
+      let of_git = option_map git_reads (read_otherwise l) in
+      let of_entry = option_and_then (reported_of_entry h [] true) (entry l) in
+      let text_with = option_to_list (option_map (with_number n) of_text) in
+      let git_with = option_to_list (option_map (with_number n) of_git) in
+      let here = line_at 0 n l.text in
+      ap (λ o. option_to_list o ++ option_to_list (option_map git_reads (read_otherwise here)) ++ option_to_list (option_and_then (reported_of_entry g [] true) (entry here))) (reading_numbered n l.position.line l.text)
+      ∙ ap (λ o. text_with ++ option_to_list (option_map git_reads (read_in_place o l.text)) ++ option_to_list (option_and_then (reported_of_entry g [] true) o)) (entry_same here l refl)
+      ∙ ap (λ o. text_with ++ option_to_list o ++ option_to_list (option_and_then (reported_of_entry g [] true) (entry l))) (git_numbered n (read_otherwise l))
+      ∙ ap (λ o. text_with ++ git_with ++ option_to_list o) (entry_numbered n (entry l))
+      ∙ ap (λ ts. ts ++ git_with ++ option_to_list (option_map (with_number n) of_entry)) (to_list-map n of_text)
+      ∙ ap (λ ts. map (with_number n) (option_to_list of_text) ++ ts ++ option_to_list (option_map (with_number n) of_entry)) (to_list-map n of_git)
+      ∙ ap (λ ts. map (with_number n) (option_to_list of_text) ++ map (with_number n) (option_to_list of_git) ++ ts) (to_list-map n of_entry)
+      ∙ ap (λ ts. ts ++ map (with_number n) (option_to_list of_entry)) (sym (map-append (with_number n) (option_to_list of_text) (option_to_list of_git)))
+      ∙ sym (map-append (with_number n) (option_to_list of_text ++ option_to_list of_git) (option_to_list of_entry))
+
+  found_numbered : (n : ℕ) (l : Line) → kept_findings g (line_at 0 n l.text) ≡ map (at_line n) (kept_findings h l)
+  found_numbered n l = ap (reported_at (record { buffer = 0; line = n })) (line_numbered n l) ∙ numbered_at n l.position (kept_reported h l)
+
+-- ---- lines whose entries are kept
+
+abbrev Stands : List LocatedMapping → Position → Option Mapping → Type 0
+Stands kept position None = Unit {0}
+Stands kept position (Some e) = has_entry_at kept position ≡ true
+
+standing : (h : List Mapping) (kept : List LocatedMapping) (l : Line) → Stands kept l.position (entry l) → findings h kept l ≡ kept_findings h l
+standing h kept l =
+    let of_text = option_to_list (reported_of_reading l.text (strict_reading l.position.line l.text)) in
+    let of_git = option_to_list (option_map git_reads (read_otherwise l)) in
+    elim (entry l) as (λ o. Stands kept l.position o
+    → reported_at l.position (of_text ++ of_git ++ option_to_list (option_and_then (reported_of_entry h kept (has_entry_at kept l.position)) o))
+    ≡ reported_at l.position (of_text ++ of_git ++ option_to_list (option_and_then (reported_of_entry h [] true) o))) [
+      | None ↦ λ _. refl
+      | Some e ↦ λ is. ap (λ b. reported_at l.position (of_text ++ of_git ++ option_to_list (reported_of_entry h kept b e))) is
+    ]
+
+all_stands : (kept : List LocatedMapping) (ls : List Line) → AllByRecursion (λ x. has_entry_at kept x.position ≡ true) (located ls) → AllByRecursion (λ l. Stands kept l.position (entry l)) ls
+all_stands kept [] = λ all. tt
+all_stands kept (l ∷ ls) =
+    elim (entry l) as (λ o. AllByRecursion (λ x. has_entry_at kept x.position ≡ true) (cons_option (option_map (λ e. record { position = l.position; entry = e }) o) (located ls))
+    → Stands kept l.position o × AllByRecursion (λ m. Stands kept m.position (entry m)) ls) [
+      | None ↦ λ all. (tt, all_stands kept ls all)
+      | Some e ↦ λ all. (all.0, all_stands kept ls all.1)
+    ]
+
+kept_stands : (kept : List LocatedMapping) (l : Line) → is_line_kept kept l ≡ true → Stands kept l.position (entry l)
+kept_stands kept l = elim (entry l) as (λ o. (is_none o || has_entry_at kept l.position) ≡ true → Stands kept l.position o) [ None ↦ λ _. tt | Some e ↦ λ is. is ]
+
+-- ---- the findings of the text
+
+abbrev numbered_findings : List Mapping → ℕ → List Line → List Finding
+numbered_findings h n [] = []
+numbered_findings h n (l ∷ ls) = map (at_line n) (kept_findings h l) ++ numbered_findings h (n + 1) ls
+
+text_found : (g h : List Mapping) → ((c : Contact) → mapped g c ≡ mapped h c) → (kept : List LocatedMapping) (n : ℕ) (ls : List Line)
+    → AllByRecursion (λ l. Stands kept l.position (entry l)) (located_from 0 n (texts ls)) → flat_map (findings g kept) (located_from 0 n (texts ls)) ≡ numbered_findings h n ls
+unfolding located_from
+text_found g h same kept n [] all = refl
+text_found g h same kept n (l ∷ ls) all =
+    ap (λ fs. fs ++ flat_map (findings g kept) (located_from 0 (n + 1) (texts ls))) (standing g kept (line_at 0 n l.text) all.0 ∙ found_numbered g h same n l)
+    ∙ ap (λ fs. map (at_line n) (kept_findings h l) ++ fs) (text_found g h same kept (n + 1) ls all.1)
+
+-- ---- those of the buffer whose lines are left
+
+line_left : (found : List Finding) (position : Position) (b : Bool) (ts : List Reported) → not (list_any (redundant_at position) found) ≡ b
+    → filter (is_left found) (reported_at position ts) ≡ (if b then reported_at position ts else [])
+line_left found position true [] is = refl
+line_left found position false [] is = refl
+line_left found position true (t ∷ ts) is =
+    let f : Finding = record { position = position; reported = t } in
+    let rest = filter (is_left found) (reported_at position ts) in
+    ap (λ c. if c then f ∷ rest else rest) is ∙ ap (λ fs. f ∷ fs) (line_left found position true ts is)
+line_left found position false (t ∷ ts) is =
+    let f : Finding = record { position = position; reported = t } in
+    let rest = filter (is_left found) (reported_at position ts) in
+    ap (λ c. if c then f ∷ rest else rest) is ∙ line_left found position false ts is
+
+left_found : (found : List Finding) (h : List Mapping) (kept : List LocatedMapping) (ls : List Line) → AllByRecursion (λ l. not (list_any (redundant_at l.position) found) ≡ is_line_kept kept l) ls
+    → filter (is_left found) (flat_map (findings h kept) ls) ≡ flat_map (kept_findings h) (filter (is_line_kept kept) ls)
+left_found found h kept [] all = refl
+left_found found h kept (l ∷ ls) all =
+    let rest = flat_map (kept_findings h) (filter (is_line_kept kept) ls) in
+    filter-append (is_left found) (findings h kept l) (flat_map (findings h kept) ls)
+    ∙ ap (λ fs. fs ++ filter (is_left found) (flat_map (findings h kept) ls)) (line_left found l.position (is_line_kept kept l) (reported_of_line h kept (has_entry_at kept l.position) l) all.0)
+    ∙ ap (λ fs. (if is_line_kept kept l then findings h kept l else []) ++ fs) (left_found found h kept ls all.1)
+    ∙ elim (is_line_kept kept l) as (λ b. is_line_kept kept l ≡ b → (if b then findings h kept l else []) ++ rest ≡ flat_map (kept_findings h) (if b then l ∷ filter (is_line_kept kept) ls else filter (is_line_kept kept) ls)) [
+      | true ↦ λ is. ap (λ fs. fs ++ rest) (standing h kept l (kept_stands kept l is))
+      | false ↦ λ is. refl
+    ] refl
+
+-- ---- with their new numbers
+
+renumbered_at : (all : List Line) (n : ℕ) (position : Position) (ts : List Reported) → number_among all position ≡ n → map (renumbered all) (reported_at position ts) ≡ map (at_line n) (reported_at position ts)
+renumbered_at all n position [] is = refl
+renumbered_at all n position (t ∷ ts) is =
+    let rest = renumbered_at all n position ts is in
+    λ i. at_line (is i) (record { position = position; reported = t }) ∷ rest i
+
+renumbered_all : (h : List Mapping) (all : List Line) (n : ℕ) (ls : List Line) → AreNumbered all n ls → map (renumbered all) (flat_map (kept_findings h) ls) ≡ numbered_findings h n ls
+renumbered_all h all n [] are = refl
+renumbered_all h all n (l ∷ ls) are =
+    map-append (renumbered all) (kept_findings h l) (flat_map (kept_findings h) ls)
+    ∙ ap (λ fs. fs ++ map (renumbered all) (flat_map (kept_findings h) ls)) (renumbered_at all n l.position (kept_reported h l) are.0)
+    ∙ ap (λ fs. map (at_line n) (kept_findings h l) ++ fs) (renumbered_all h all (n + 1) ls are.1)
+
+-- ---- what is found in the text
+
+module _ (buffer text : Text) (pruned : IsPruned buffer text) where
+  abbrev own : List LocatedMapping
+  own = located (lines (text ∷ []))
+
+  abbrev whole_history : List Mapping
+  whole_history = entries (located (lines (buffer ∷ [])))
+
+  abbrev left_ones : List Line
+  left_ones = filter (is_line_kept pruned.kept) (lines (buffer ∷ []))
+
+  same_mapped : (c : Contact) → mapped (entries own) c ≡ mapped whole_history c
+  same_mapped c =
+      let name = unwrap_or c.name [] in
+      ap (λ o. replaced (unwrap_or o no_fields) c)
+      (ap (λ es. scan es name c.email) (text_entries buffer text pruned) ∙ reduced_scan (located (lines (buffer ∷ []))) pruned.kept name c.email pruned.reduced)
+
+  own_lines : lines (text ∷ []) ≡ located_from 0 1 (texts left_ones)
+  own_lines = one_buffer text ∙ ap (located_from 0 1) (text_lines buffer text pruned)
+
+  own_stand : AllByRecursion (λ l. Stands own l.position (entry l)) (lines (text ∷ []))
+  own_stand = all_stands own (lines (text ∷ [])) (all_stand own)
+
+  own_found : (left : List Finding) → AreFindings (text ∷ []) left → left ≡ flat_map (findings (entries own) own) (lines (text ∷ []))
+  own_found left are = one_findings (text ∷ []) left (flat_map (findings (entries own) own) (lines (text ∷ []))) are (record { kept = own; reduced = text_reduced buffer text pruned; whole = refl })
+
+  text_findings : (left : List Finding) → AreFindings (text ∷ []) left → left ≡ numbered_findings whole_history 1 left_ones
+  text_findings left are =
+      own_found left are
+      ∙ ap (flat_map (findings (entries own) own)) own_lines
+      ∙ text_found (entries own) whole_history same_mapped own 1 left_ones (subst (AllByRecursion (λ l. Stands own l.position (entry l))) own_lines own_stand)
+
+  -- of the buffer's lines those are left that are kept
+  buffer_left : (found : List Finding) → AreFindings (buffer ∷ []) found → lines_left buffer found ≡ left_ones
+  buffer_left found are =
+      left_lines (buffer ∷ []) found are
+      ∙ ap (λ kept. filter (is_line_kept kept) (lines (buffer ∷ []))) (one_reduced (located (lines (buffer ∷ []))) are.kept pruned.kept are.reduced pruned.reduced)
+
+  buffer_findings : (found : List Finding) → AreFindings (buffer ∷ []) found → filter (is_left found) found ≡ flat_map (kept_findings whole_history) left_ones
+  buffer_findings found are =
+      let ls = lines (buffer ∷ []) in
+      let stay = lines_stay are.kept ls (each_stays (located ls) are.kept are.reduced (located_accepted ls)) in
+      let all : List Finding = flat_map (findings whole_history are.kept) ls in
+      let none = not_reported whole_history are.kept all ls (reported_redundant whole_history are.kept ls (apart_lines 0 (buffer ∷ [])) stay) in
+      ap (λ fs. filter (is_left fs) fs) are.whole
+      ∙ left_found all whole_history are.kept ls none
+      ∙ ap (λ kept. flat_map (kept_findings whole_history) (filter (is_line_kept kept) ls)) (one_reduced (located ls) are.kept pruned.kept are.reduced pruned.reduced)
+
+  left_numbered : AreNumbered left_ones 1 left_ones
+  left_numbered = are_numbered [] left_ones (some_apart (is_line_kept pruned.kept) (lines (buffer ∷ [])) (apart_lines 0 (buffer ∷ [])))
+
+pub others_stay : (buffer text : Text) (found left : List Finding) → AreFindings (buffer ∷ []) found → IsPruned buffer text → AreFindings (text ∷ []) left
+    → left ≡ map (renumbered (lines_left buffer found)) (filter (is_left found) found)
+others_stay buffer text found left are pruned left_are =
+    let h = whole_history buffer text pruned in
+    let ls = left_ones buffer text pruned in
+    text_findings buffer text pruned left left_are
+    ∙ sym (renumbered_all h ls 1 ls (left_numbered buffer text pruned))
+    ∙ ap (map (renumbered ls)) (sym (buffer_findings buffer text pruned found are))
+    ∙ ap (λ all. map (renumbered all) (filter (is_left found) found)) (sym (buffer_left buffer text pruned found are))
+
+-- ---- no line without effect
+
+none_of : (position there : Position) (ts : List Reported) → list_any has_no_effect ts ≡ false → list_any (redundant_at position) (reported_at there ts) ≡ false
+none_of position there [] = λ none. refl
+none_of position there (t ∷ ts) =
+    elim (has_no_effect t) as (λ b. (b || list_any has_no_effect ts) ≡ false → ((b && same_position there position) || list_any (redundant_at position) (reported_at there ts)) ≡ false) [
+      | true ↦ λ none. absurd (true≢false none)
+      | false ↦ λ none. none_of position there ts none
+    ]
+
+kept_none : (h : List Mapping) (l : Line) → list_any has_no_effect (kept_reported h l) ≡ false
+kept_none h l =
+    let of_text = option_to_list (reported_of_reading l.text (strict_reading l.position.line l.text)) in
+    let of_git = option_to_list (option_map git_reads (read_otherwise l)) in
+    let of_entry = option_to_list (option_and_then (reported_of_entry h [] true) (entry l)) in
+    list_any-append has_no_effect (of_text ++ of_git) of_entry
+    ∙ ap (λ b. b || list_any has_no_effect of_entry)
+    (list_any-append has_no_effect of_text of_git
+    ∙ ap (λ b. b || list_any has_no_effect of_git) (reading_none l.text (strict_reading l.position.line l.text))
+    ∙ git_none (read_otherwise l))
+    ∙ elim (entry l) as (λ o. list_any has_no_effect (option_to_list (option_and_then (reported_of_entry h [] true) o)) ≡ false) [
+      | None ↦ refl
+      | Some e ↦ contact_none (contact e) (mapped h (contact e))
+    ]
+
+none_found : (h : List Mapping) (kept : List LocatedMapping) (position : Position) (ls : List Line) → AllByRecursion (λ l. Stands kept l.position (entry l)) ls
+    → list_any (redundant_at position) (flat_map (findings h kept) ls) ≡ false
+none_found h kept position [] all = refl
+none_found h kept position (l ∷ ls) all =
+    list_any-append (redundant_at position) (findings h kept l) (flat_map (findings h kept) ls)
+    ∙ ap (λ b. b || list_any (redundant_at position) (flat_map (findings h kept) ls))
+    (ap (list_any (redundant_at position)) (standing h kept l all.0) ∙ none_of position l.position (kept_reported h l) (kept_none h l))
+    ∙ none_found h kept position ls all.1
+
+pub none_redundant : (buffer text : Text) (left : List Finding) (l : Line) → IsPruned buffer text → AreFindings (text ∷ []) left → is_redundant left l ≡ false
+none_redundant buffer text left l pruned are =
+    let xs = own buffer text pruned in
+    ap (λ fs. is_redundant fs l) (own_found buffer text pruned left are) ∙ none_found (entries xs) xs l.position (lines (text ∷ [])) (own_stand buffer text pruned)
+
+-- ---- no line with an entry can go
+
+pub none_can_go : (buffer text : Text) (a c : List Line) (l : Line) (e : Mapping) (n m : List Mapping) → IsPruned buffer text → lines (text ∷ []) ≡ a ++ l ∷ c → entry l ≡ Some e
+    → IsNormal (good text) n → IsNormal (entries (located (a ++ c))) m → n ≢ m
+none_can_go buffer text a c l e n m pruned whole given with_l without =
+    let xs = located (lines (text ∷ [])) in
+    let x : LocatedMapping = record { position = l.position; entry = e } in
+    let parts : xs ≡ located a ++ x ∷ located c =
+    ap located whole ∙ filter_map-append located_entry a (l ∷ c)
+    ∙ ap (λ o. located a ++ cons_option (option_map (λ (y : Mapping). record { position = l.position; entry = y }) o) (located c)) given in
+    listing_differs xs (located a) (located c) x n m
+    (subst (IsReduced xs) parts (text_reduced buffer text pruned))
+    (subst (λ h. IsNormal h n) (sym (good-one text)) with_l)
+    (subst (λ ys. IsNormal (entries ys) m) (filter_map-append located_entry a c) without)

@@ -1,0 +1,5 @@
+pub mod Crossing
+pub mod LinesAscend
+pub mod Taking
+pub mod Answered
+pub mod Merging

@@ -1,0 +1,30 @@
+//! Laws of what contacts need. Each function runs nothing: its contract is the law.
+ghost use Rattle.std.specs.Prelude.{◌≡◌, Contains, List, filter, not};
+ghost use Rattle.std.specs.List.{flat_map};
+ghost use Rattle.mailmap_entries.specs.Folding.{Text};
+ghost use Rattle.mailmap_findings.specs.Findings.{AreFindings, Finding};
+ghost use Rattle.mailmap_findings.specs.Positions.{lines, located, whole_lines};
+ghost use Rattle.mailmap_grammar.specs.Lines.{Closed, good};
+ghost use Rattle.mailmap_histories.specs.Histories.{scan};
+ghost use Rattle.mailmap_needs.specs.Needs.{AreUnneeded, contact_in, is_told};
+ghost use Rattle.mailmap_redundancy.specs.Redundancy.{entries};
+ghost use Rattle.mailmap_redundancy.specs.declared.located.Position.{Position};
+
+/// All lines that are told to have no effect, and all that are told to be needed by no contact, can be deleted at once:
+/// by the other lines each of the contacts is answered as before.
+pub fn law_contacts_stay()
+    ensures { (buffers : List Text) (contacts : Text) (found : List Finding) (missing : List Position)
+        (line name email rest : Text)
+        → AreFindings buffers found → AreUnneeded buffers contacts missing
+        → Contains (whole_lines contacts) line → contact_in line ≡ Closed name email rest
+        → scan (entries (located (filter (λ l. not (is_told found missing l)) (lines buffers)))) name email
+        ≡ scan (flat_map good buffers) name email }
+{}
+
+/// Contacts have exactly one list of lines that they don't need.
+pub fn law_one_unneeded()
+    ensures some { (buffers : List Text) (contacts : Text)
+        → (missing : List Position) × AreUnneeded buffers contacts missing }
+    ensures one { (buffers : List Text) (contacts : Text) (missing other : List Position)
+        → AreUnneeded buffers contacts missing → AreUnneeded buffers contacts other → missing ≡ other }
+{}
