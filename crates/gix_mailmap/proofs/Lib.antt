@@ -2,6 +2,7 @@ pub mod WhiteEnds
 pub mod WritableLines
 pub mod WritableValues
 pub mod WrittenExamples
+pub mod IgnoredText
 pub mod WrittenLine
 pub mod WrittenText
 pub mod Contacts

@@ -15,9 +15,15 @@ pub use Rattle.mailmap_snapshot.specs.Writing
 pub use Rattle.mailmap_snapshot.specs.Sources
 pub use Rattle.mailmap_redundancy.specs.Redundancy
 pub use Rattle.mailmap_redundancy.specs.Givers
+pub use Rattle.mailmap_git.specs.Git
 pub use Rattle.mailmap_findings.specs.Positions
 pub use Rattle.mailmap_findings.specs.Findings
+pub use Rattle.mailmap_findings.specs.GitAnswers
 pub use Rattle.mailmap_findings.specs.Explanations
+pub use Rattle.mailmap_findings.specs.Pruning
+pub use Rattle.mailmap_needs.specs.Needs
+pub use Rattle.mailmap_needs.specs.Remarks
+pub mod IgnoredText
 pub mod Contacts
 pub mod Parts
 pub mod Streams

@@ -1,7 +1,9 @@
 -- Contacts that come in parts: what is answered of them, and what is kept.
 use Rattle.std.specs.Prelude.{◌≡◌, List, ◌++◌}
+use Rattle.std.specs.List.{All}
 use Rattle.mailmap_entries.specs.Entries.{Mapping}
 use Rattle.mailmap_entries.specs.Folding.{Text}
+use Rattle.mailmap_repeats.specs.Kept.{Kept}
 use Rattle.gix_mailmap.specs.Contacts.{answers}
 use Rattle.gix_mailmap.specs.Parts.{EndsLine}
 
@@ -16,3 +18,7 @@ pub record AnswersFront (mappings : List Mapping) (bytes text rest : Text) : Typ
   pub ends : EndsLine whole
   pub bytes_are : bytes ≡ whole ++ rest
   pub text_is : text ≡ answers mappings whole
+
+-- each of these is a line and its answer
+abbrev pub AnswersAll : List Mapping → List Kept → Type 0
+AnswersAll mappings kept = All (λ k. k.answer ≡ answers mappings k.line) kept

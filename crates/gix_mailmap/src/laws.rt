@@ -4,10 +4,15 @@ ghost use Rattle.mailmap_entries.specs.Folding.{Text};
 ghost use Rattle.gix_mailmap.specs.Contacts.{AreLines, lines};
 ghost use Rattle.gix_mailmap.specs.Parts.{IsSplit};
 
+mod ignored;
 mod text;
 
+pub use ignored::law_ignored;
+pub use mailmap_entries::laws::{law_entries, law_order, law_order_without_case};
 pub use mailmap_findings::laws::{
-    law_deleted, law_equal_contacts, law_in_order, law_one_answer, law_pruned, law_whole_lines,
+    law_deleted, law_equal_contacts, law_equal_findings, law_equal_kinds, law_in_order,
+    law_none_left, law_one_answer, law_pruned, law_pruned_findings, law_pruned_for_git,
+    law_whole_lines,
 };
 pub use mailmap_grammar::laws::{law_cut, law_pieces, law_reading, law_strict_reading, law_trim};
 pub use mailmap_histories::laws::{
@@ -15,10 +20,10 @@ pub use mailmap_histories::laws::{
     law_own_entries, law_reorder, law_repeated, law_scan, law_self, law_shortest, law_unique,
 };
 pub use mailmap_redundancy::laws::{
-    law_each_key_stays, law_givers, law_needed, law_none_can_go, law_same_listing, law_settled,
-    law_some_stay,
+    law_each_key_stays, law_givers, law_needed, law_none_can_go, law_passes, law_same_listing,
+    law_settled, law_some_stay,
 };
-pub use mailmap_signatures::laws::law_time;
+pub use mailmap_signatures::laws::{law_equal_signatures, law_equal_times, law_time};
 pub use text::{law_strict, law_text};
 
 /// An input is parted in one way.

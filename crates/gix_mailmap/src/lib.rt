@@ -7,7 +7,7 @@
 //! // the name `Jane Doe` and the email `jane@x`
 //! ```
 //!
-//! A [`Snapshot`] holds one entry for each old email and, beside it, one for each old name of that email, where the case of
+//! A [`Snapshot`] holds one entry for each key: an old email by itself, or an old email with an old name. The case of
 //! ASCII letters doesn't count. The first spelling of an old email or an old name is kept.
 //!
 //! - Entries without an old name join field by field: the name that was last given and the email that was last given
@@ -26,5 +26,6 @@ pub mod laws;
 pub use mailmap_entries::{Entry, fold};
 pub use mailmap_findings::{explain, verify};
 pub use mailmap_grammar::{lines, parse, parse_ignore_errors, parse_strict};
+pub use mailmap_needs::{needs, remarks};
 pub use mailmap_signatures::{actor, date};
 pub use mailmap_snapshot::{Snapshot, snapshot};

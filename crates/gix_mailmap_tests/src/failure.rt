@@ -4,12 +4,11 @@ use std::test::Fail;
 /// A program prints them after its own name.
 #[test]
 fn each_failure_has_its_text(rt: HostRuntime) -> Result<(), Fail> {
-    static ROWS: [(Failure, &str); 5] = [
+    static ROWS: [(Failure, &str); 4] = [
         (Failure::File { number: 2 }, "cannot read file 2"),
         (Failure::Input, "cannot read standard input"),
         (Failure::Memory, "out of memory"),
         (Failure::Output, "cannot write output"),
-        (Failure::TooManyFiles, "--prune takes one FILE at most"),
     ];
     for (failure, text) in &ROWS {
         assert_eq!(rt; failure.to_string(rt.alloc())?.as_str(), *text);

@@ -1,5 +1,9 @@
+use gix_mailmap::Entry;
 use gix_mailmap::lines::Error;
-use gix_mailmap::verify::{Contact, Finding, Kind, Mailmaps, Position, Verification, verify};
+use gix_mailmap::verify::{
+    Contact, Finding, GitReading, Kind, Mailmaps, Position, Verification, first_read_otherwise,
+    verify,
+};
 use std::alloc::{AllocError, Global};
 use std::process::Abort;
 
@@ -35,9 +39,13 @@ fn lines_without_findings_are_passed_over(rt: HostRuntime) -> Result<(), AllocEr
         &[b"Jane <j@x>\n", b"\n", b"Ann <a@x>\n"],
     ];
     for buffers in rows {
-        assert_findings(&rt, rt.alloc(), buffers, &[])?;
+        assert_no_finding(&rt, rt.alloc(), buffers)?;
     }
     Ok(())
+}
+
+fn assert_no_finding(rt: &impl Abort, alloc: Global, buffers: &[&[u8]]) -> Result<(), AllocError> {
+    assert_findings(rt, alloc, buffers, &[])
 }
 
 /// A fault or ignored text comes before what the entry of the line does. Clean lines may stand between.
@@ -65,6 +73,66 @@ fn each_line_has_up_to_two_findings_in_order(rt: HostRuntime) -> Result<(), Allo
         found(at(2, 3), Kind::ItselfMapped { contact: r, to: q }),
     ];
     assert_findings(&rt, rt.alloc(), &buffers, &want)
+}
+
+/// What git reads comes between them. It trims no email, reads up to the first zero byte, and 1,023 bytes at a time.
+#[test]
+fn what_git_reads_is_the_second_of_three_findings(rt: HostRuntime) -> Result<(), AllocError> {
+    let alloc = rt.alloc();
+    let mut long = Vec::from_slice(alloc, b"P <p@x>")?;
+    for _ in 7..1023 {
+        long.push(b' ')?;
+    }
+    long.extend_from_slice(b"Q <q@x>")?;
+    let buffers: [&[u8]; 2] = [
+        b"P < a@x > p\nQ <a@x>\nR < > <b@x>\nS\0 <c@x>",
+        long.as_slice(),
+    ];
+    let want = [
+        found(at(0, 1), Kind::IgnoredText(b"p")),
+        read(
+            at(0, 1),
+            GitReading::Entry(Entry::change_name_by_email(b"P", b" a@x ")),
+        ),
+        found(at(0, 1), Kind::NoEffect { beside: at(0, 2) }),
+        found(
+            at(0, 3),
+            Kind::Fault(Error::EmptyEmail {
+                line: 3,
+                input: b"R < > <b@x>",
+            }),
+        ),
+        read(
+            at(0, 3),
+            GitReading::Entry(Entry::change_name_and_email_by_email(b"R", b" ", b"b@x")),
+        ),
+        read(at(0, 4), GitReading::Nothing),
+        read(at(1, 1), GitReading::Lines(2)),
+    ];
+    assert_findings(&rt, alloc, &buffers, &want)
+}
+
+fn read<'a>(position: Position, reading: GitReading<'a>) -> Finding<'a> {
+    found(position, Kind::GitReads(reading))
+}
+
+/// The first line of all buffers, whatever comes before it.
+#[test]
+fn the_first_line_that_git_reads_otherwise_is_given(rt: HostRuntime) {
+    let rows: [(&[&[u8]], Option<Position>); 6] = [
+        (&[], None),
+        (&[b"", b"P <a@x> p\n# < a@x >\nplain"], None),
+        (&[b"P < a@x >"], Some(at(0, 1))),
+        (&[b"P <a@x>\n\nP\0 <a@x>\nP < a@x >\n"], Some(at(0, 3))),
+        (
+            &[b"P <a@x>\n", b"P <a@x>\n", b"P < > <a@x>"],
+            Some(at(2, 1)),
+        ),
+        (&[b"\n\nP < a@x >", b"P < a@x >"], Some(at(0, 3))),
+    ];
+    for (buffers, want) in rows {
+        assert_eq!(rt; first_read_otherwise(buffers), want);
+    }
 }
 
 fn found<'a>(position: Position, kind: Kind<'a>) -> Finding<'a> {

@@ -10,6 +10,8 @@ mod compaction;
 #[cfg(test)]
 mod entries;
 #[cfg(test)]
+mod explaining;
+#[cfg(test)]
 mod explanations;
 #[cfg(test)]
 mod failure;
@@ -23,6 +25,8 @@ mod listings;
 mod lookups;
 #[cfg(test)]
 mod many;
+#[cfg(test)]
+mod needs;
 #[cfg(test)]
 mod printer;
 #[cfg(test)]

@@ -76,11 +76,26 @@ fn control_bytes_are_shown(rt: HostRuntime) -> Result<(), AllocError> {
 /// Other texts are shown byte for byte. A name that is missing is left out with its blank.
 #[test]
 fn each_warning_has_its_line(rt: HostRuntime) -> Result<(), AllocError> {
-    let rows: [(&[u8], &[u8], &[u8]); 4] = [
+    let rows: [(&[u8], &[u8], &[u8]); 7] = [
         (
             b"",
             b"Jane <jane@x> # \xfe",
             b"b c:30: warning: ignored text: # \xfe\n",
+        ),
+        (
+            b"",
+            b"Jane < jane@x >\t",
+            b"b c:30: warning: git reads it as Jane < jane@x >\n",
+        ),
+        (
+            b"",
+            b"Jane <jane@x> \xc2\xa0J  <\x0bjd@x>",
+            b"b c:30: warning: git reads it as Jane <jane@x> \xc2\xa0J <\\x0bjd@x>\n",
+        ),
+        (
+            b"",
+            b"Jane\0 <jane@x>",
+            b"b c:30: warning: git reads nothing here\n",
         ),
         (
             b"\n\n\n\n\n\nJane <JANE@x>",

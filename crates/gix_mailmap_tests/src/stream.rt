@@ -85,6 +85,79 @@ fn a_call_stops_after_64_kib_of_answers(rt: HostRuntime) -> Result<(), AllocErro
     Ok(())
 }
 
+/// Lines that come again are answered again: also lines that differ only by their ends, lines whose hashes have one slot
+/// of the table, and lines of which the text has several.
+#[test]
+fn lines_that_come_again_are_answered_again(rt: HostRuntime) -> Result<(), AllocError> {
+    static ROWS: [(&[u8], &[u8]); 6] = [
+        (b"jane <JANE@x>\n", b"Jane Doe <jane@x>\n"),
+        (
+            b"jane <JANE@x>\njoe <q@z>\njane <JANE@x>\njoe <Q@z>\n",
+            b"Jane Doe <jane@x>\njoe <q@z>\nJane Doe <jane@x>\njoe <Q@z>\n",
+        ),
+        (b"a\na\r\na\r\r\n a\n\n\r\n", b"a\na\na\r\n a\n\n\n"),
+        (
+            b"j<q@z>\nj<q@z>\r\nj<q@z> rest\n",
+            b"j <q@z>\nj <q@z>\nj <q@z>\n",
+        ),
+        (
+            b"n3 <q@x>\nn1415 <q@x>\nn3 <q@x>\nn1415 <q@x>\n",
+            b"n3 <q@x>\nn1415 <q@x>\nn3 <q@x>\nn1415 <q@x>\n",
+        ),
+        (
+            b"n136 <q@x>\nn1405 <q@x>\nn1709 <q@x>\nn136 <q@x>\n",
+            b"n136 <q@x>\nn1405 <q@x>\nn1709 <q@x>\nn136 <q@x>\n",
+        ),
+    ];
+    for (contacts, answers) in &ROWS {
+        assert_answered_thrice(&rt, rt.alloc(), contacts, answers)?;
+    }
+    Ok(())
+}
+
+/// Lines of every length from none to more than the table has room for are answered again. They are no contacts, so
+/// each is its own answer.
+#[test]
+fn long_lines_that_come_again_are_answered_again(rt: HostRuntime) -> Result<(), AllocError> {
+    let mut lines = Vec::new(rt.alloc());
+    for len in 0..300 {
+        for _ in 0..len {
+            lines.push(b'x')?;
+        }
+        lines.push(b'\n')?;
+    }
+    assert_answered_thrice(&rt, rt.alloc(), lines.as_slice(), lines.as_slice())
+}
+
+/// So many lines differ that the table has room for none of them until it comes again. They are no contacts.
+#[test]
+fn many_lines_that_come_again_are_answered_again(rt: HostRuntime) -> Result<(), AllocError> {
+    let mut lines = Vec::new(rt.alloc());
+    for number in 0..5000_u32 {
+        let line = format!(in rt.alloc(); "line {number}\n")?;
+        lines.extend_from_slice(line.as_bytes())?;
+    }
+    assert_answered_thrice(&rt, rt.alloc(), lines.as_slice(), lines.as_slice())
+}
+
+/// Wants these answers each time that the contacts come, three times in one stream.
+fn assert_answered_thrice(
+    rt: &impl Abort,
+    alloc: Global,
+    contacts: &[u8],
+    answers: &[u8],
+) -> Result<(), AllocError> {
+    let map: &[u8] = b"Jane Doe <jane@x>";
+    let mut stream = ContactStream::new(alloc, &[map])?;
+    let mut text = Vec::new(alloc);
+    for _ in 0..3 {
+        text.clear();
+        push_all(&mut stream, contacts, &mut text)?;
+        assert_bytes(rt, text.as_slice(), answers);
+    }
+    Ok(())
+}
+
 /// Wants this number.
 fn assert_count(rt: &impl Abort, count: usize, want: usize) {
     assert_eq!(rt; count, want);

@@ -1,6 +1,7 @@
 use crate::check::assert_bytes;
 use crate::files::{SHELF, assert_paths, paths_of};
 use crate::run::{ALL, BREAKS, Sink, Source, Turn};
+use gix_mailmap::verify::Position;
 use mailmap_io::outcome::Outcome;
 use mailmap_reports::failure::Failure;
 use mailmap_reports::task::{Misuse, Mode, Task, USAGE, perform, task_of};
@@ -12,7 +13,7 @@ use std::process::Abort;
 /// first path.
 #[test]
 fn arguments_ask_for_a_task_or_are_a_misuse(rt: HostRuntime) -> Result<(), AllocError> {
-    static ROWS: [(&[&str], Result<(Mode, &[&str]), Misuse<'static>>); 27] = [
+    static ROWS: [(&[&str], Result<(Mode, &[&str]), Misuse<'static>>); 34] = [
         (&[], Ok((Mode::Verify, &[]))),
         (&["mailmap_verify"], Ok((Mode::Verify, &[]))),
         (&["--prune", "one"], Ok((Mode::Verify, &["one"]))),
@@ -55,6 +56,25 @@ fn arguments_ask_for_a_task_or_are_a_misuse(rt: HostRuntime) -> Result<(), Alloc
             &["", "--prune", "--prune"],
             Err(Misuse::SecondMode(b"--prune")),
         ),
+        (
+            &["", "--explain", "one", "two"],
+            Ok((Mode::Explain, &["one", "two"])),
+        ),
+        (&["", "--explain"], Ok((Mode::Explain, &[]))),
+        (&["", "--explain", "-"], Ok((Mode::Explain, &["-"]))),
+        (
+            &["", "--explain", "--", "--prune"],
+            Ok((Mode::Explain, &["--prune"])),
+        ),
+        (&["", "--explain", "-h"], Ok((Mode::Help, &[]))),
+        (
+            &["", "one", "--explain"],
+            Ok((Mode::Verify, &["one", "--explain"])),
+        ),
+        (
+            &["", "--prune", "--explain"],
+            Err(Misuse::SecondMode(b"--explain")),
+        ),
     ];
     for (arguments, want) in &ROWS {
         let arguments = paths_of(rt.alloc(), arguments)?;
@@ -72,7 +92,7 @@ fn arguments_ask_for_a_task_or_are_a_misuse(rt: HostRuntime) -> Result<(), Alloc
 }
 
 /// Does a task with the files of these names.
-fn performed<R: Read, W: Write>(
+pub(crate) fn performed<R: Read, W: Write>(
     alloc: Global,
     mode: Mode,
     names: &[&str],
@@ -85,6 +105,27 @@ fn performed<R: Read, W: Write>(
         paths: paths.as_slice(),
     };
     perform(&SHELF, alloc, task, input, output)
+}
+
+/// A mailmap of which git reads a line otherwise is not pruned, and nothing is written. The first such line is named.
+#[test]
+fn a_mailmap_that_git_reads_otherwise_is_not_pruned(rt: HostRuntime) {
+    static ROWS: [(&[u8], usize); 3] = [
+        (b"N < a@x >", 1),
+        (b"N <a@x>\nN <a@x>\n\nN\0 <a@x>\nN < a@x >\n", 4),
+        (b"# < a@x >\nN < > <a@x>\n", 2),
+    ];
+    for (mailmap, line) in &ROWS {
+        let mut input: &[u8] = mailmap;
+        let mut output = Vec::new(rt.alloc());
+        let end = performed(rt.alloc(), Mode::Prune, &[], &mut input, &mut output);
+        let position = Position {
+            buffer: 0,
+            line: *line,
+        };
+        assert_eq!(rt; end, Err(Failure::ReadOtherwise { position }));
+        assert!(rt; output.is_empty());
+    }
 }
 
 /// Without a file standard input has the mailmap. A file that is not there keeps the others from being looked at, and more
@@ -171,7 +212,7 @@ fn help_is_the_usage_and_the_version_has_the_name(rt: HostRuntime) {
 }
 
 /// What [`BREAKS`] is where standard input is read.
-const BROKEN: Failure = Failure::Input {
+pub(crate) const BROKEN: Failure = Failure::Input {
     cause: ErrorKind::BrokenPipe,
 };
 

@@ -21,9 +21,6 @@ pub enum Failure {
     /// Standard output, whatever kept it from being written.
     #[error("cannot write output")]
     Output,
-    /// More than one file after `--prune`, which prints one mailmap. Nothing is read then.
-    #[error("--prune takes one FILE at most")]
-    TooManyFiles,
 }
 
 impl From<AllocError> for Failure {

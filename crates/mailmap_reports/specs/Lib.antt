@@ -1,2 +1,4 @@
+pub mod Alike
+pub mod Explained
 pub mod Report
 pub mod Task

@@ -3,8 +3,11 @@ use Rattle.std.specs.Prelude.{ℕ, ◌+◌, ◌/◌, ◌%◌, nat_lt, ◌==◌, 
 use Rattle.std.specs.List.{flat_map}
 use Rattle.gix_mailmap.specs.Folding.{Text}
 use Rattle.gix_mailmap.specs.Lines.{Kind, no_email, missing_closing_bracket, empty_email, nothing_to_map, unclosed_second}
+use Rattle.gix_mailmap.specs.CanonicalText.{bracketed_email, email_part, name_part}
 use Rattle.gix_mailmap.specs.Contacts.{contact}
-use Rattle.gix_mailmap.specs.Findings.{Contact, Finding, Reported, fault, ignored_text, no_effect, itself_mapped}
+use Rattle.gix_mailmap.specs.Entries.{Mapping}
+use Rattle.gix_mailmap.specs.Findings.{Contact, Finding, Reported, fault, ignored_text, git_reads, no_effect, itself_mapped}
+use Rattle.gix_mailmap.specs.Git.{GitReading, Nothing, Entry, Lines}
 use Rattle.mailmap_io.specs.declared.outcome.Outcome.{Outcome}
 use Rattle.mailmap_io.specs.declared.outcome.Outcome.TheVariants.{Clean, Found}
 
@@ -41,10 +44,21 @@ fault_text unclosed_second = codes "the second '<' has no '>'"
 abbrev pub contact_text : Contact → Text
 contact_text c = contact (unwrap_or c.name []) c.email
 
+-- an entry as a line has it
+abbrev pub entry_text : Mapping → Text
+entry_text e = name_part e.new_name ++ email_part e.new_email ++ name_part e.old_name ++ bracketed_email e.old_email
+
+-- what git reads in place of what is read here
+abbrev pub git_text : GitReading → Text
+git_text Nothing = codes "nothing here"
+git_text (Entry e) = codes "it as " ++ entry_text e
+git_text (Lines count) = codes "it as " ++ decimal count ++ codes " lines"
+
 -- what was found
 abbrev pub reported_text : List Text → Reported → Text
 reported_text paths (fault f) = codes "error: " ++ fault_text f.kind
 reported_text paths (ignored_text text) = codes "warning: ignored text: " ++ text
+reported_text paths (git_reads reading) = codes "warning: git reads " ++ git_text reading
 reported_text paths (no_effect beside) = codes "warning: no effect beside " ++ position_text paths beside.buffer beside.line
 reported_text paths (itself_mapped c to) = codes "warning: " ++ contact_text c ++ codes " is itself mapped, to " ++ contact_text to
 

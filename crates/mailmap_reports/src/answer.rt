@@ -1,15 +1,16 @@
 //! What is printed.
-ghost use Rattle.std.specs.Prelude.{◌≡◌, ◌≢◌, ◌<◌, ◌⊎◌, ◌∷◌, ◌++◌, [], IfErr, IfOk, IsErrOf, OnErr, OnOk, codes, length, map};
+ghost use Rattle.std.specs.Prelude.{◌≡◌, ◌≢◌, ◌<◌, ◌⊎◌, ◌∷◌, ◌++◌, [], ℕ, List, Option, IfErr, IfOk, IsErrOf, OnErr, OnOk, codes, length, map};
 ghost use Rattle.std.specs.Io.KnownBytes.{Consumes, IsAtEnd};
-ghost use Rattle.gix_mailmap.specs.Findings.{IsPruned};
 ghost use Rattle.mailmap_io.specs.Printing.{Prints, PrintsFront};
 ghost use Rattle.mailmap_io.specs.declared.outcome.Outcome.{Outcome as TheOutcome};
+ghost use Rattle.mailmap_io.specs.Files.{AreRead};
+ghost use Rattle.mailmap_reports.specs.declared.task.Mode.{Mode as TheMode};
 ghost use Rattle.mailmap_reports.specs.Task.{AreMailmaps, FailsFor, IsAnswer, IsOfInput, IsReport};
 
 use crate::failure::Failure;
 use crate::report::print_findings;
 use crate::task::{Mode, Task, USAGE};
-use gix_mailmap::verify::{Mailmaps, Verification, prune};
+use gix_mailmap::verify::{Mailmaps, Verification, first_read_otherwise, prune};
 use mailmap_io::VERSION;
 use mailmap_io::files::{FileSystem, list_of, read_each, read_file};
 use mailmap_io::outcome::Outcome;
@@ -18,7 +19,8 @@ use mailmap_io::streams::read_to_end;
 use std::alloc::{AllocError, Global};
 use std::io::{Read, Write};
 
-/// What a task prints, if it isn't to verify: the usage, the version, or the one mailmap without its lines of no effect.
+/// What a task prints, if it isn't to verify or to explain: the usage, the version, or the one mailmap without its lines
+/// of no effect. Only a mailmap of which git reads each line as the library does is pruned.
 ///
 /// Standard input is read only if no path is given.
 pub fn answer_to<F: FileSystem, R: Read>(
@@ -27,14 +29,15 @@ pub fn answer_to<F: FileSystem, R: Read>(
     task: Task<'_>,
     input: &mut R,
 ) -> Result<Vec<u8>, Failure>
-    ensures ok { task.entry.mode ≢ Mode.Verify
+    ensures ok { task.entry.mode ≢ Mode.Verify → task.entry.mode ≢ Mode.Explain
         → IfOk result (λ text. IsAnswer (F.may_open system.now) (F.bytes system.now) (R.remaining input.old)
         task.entry.mode (map (λ path. path.items) task.entry.paths.now) Outcome.Clean text.items) }
     ensures unread { task.entry.paths.now ≢ [] → input.new ≡ input.old }
     ensures unread_for_help { task.entry.mode ≡ Mode.Help → input.new ≡ input.old }
     ensures unread_for_version { task.entry.mode ≡ Mode.Version → input.new ≡ input.old }
-    ensures fails { task.entry.mode ≢ Mode.Verify → IfErr result (FailsFor (F.may_open system.now) task.entry.mode
-        (map (λ path. path.items) task.entry.paths.now)) }
+    ensures fails { task.entry.mode ≢ Mode.Verify → task.entry.mode ≢ Mode.Explain
+        → IfErr result (FailsFor (F.may_open system.now) (F.bytes system.now) (R.remaining input.old)
+        task.entry.mode (map (λ path. path.items) task.entry.paths.now)) }
     ensures too_many { task.entry.mode ≡ Mode.Prune → 1 < length task.entry.paths.now
         → IsErrOf result Failure.TooManyFiles }
     ensures no_output { ¬ IsErrOf result Failure.Output }
@@ -46,6 +49,9 @@ pub fn answer_to<F: FileSystem, R: Read>(
         return Ok(version_line(alloc)?);
     }
     let mailmap = read_mailmap(system, alloc, task.paths, input)?;
+    if let Some(position) = first_read_otherwise(&[mailmap.as_slice()]) {
+        return Err(Failure::ReadOtherwise { position });
+    }
     Ok(prune(alloc, mailmap.as_slice())?)
 }
 
@@ -96,19 +102,36 @@ pub fn read_mailmaps<F: FileSystem, R: Read>(
     ensures ok { IfOk result (λ mailmaps. AreMailmaps (F.may_open system.now) (F.bytes system.now)
         (map (λ path. path.items) paths.now) (R.remaining input.old) (map (λ m. m.items) mailmaps.items)) }
     ensures unread { paths.now ≢ [] → input.new ≡ input.old }
-    ensures fails { IfErr result (FailsFor (F.may_open system.now) Mode.Verify (map (λ path. path.items) paths.now)) }
+    ensures fails { IfErr result (FailsFor (F.may_open system.now) (F.bytes system.now) (R.remaining input.old)
+        Mode.Verify (map (λ path. path.items) paths.now)) }
     ensures no_output { ¬ IsErrOf result Failure.Output }
 {
     if !paths.is_empty() {
-        return match read_each(system, alloc, paths) {
-            Ok(mailmaps) => Ok(mailmaps),
-            Err(ReadError::File { number, cause }) => Err(Failure::File { number, cause }),
-            Err(ReadError::Memory) => Err(Failure::Memory),
-        };
+        return read_files(system, alloc, paths);
     }
     let mut mailmaps = Vec::new(alloc);
     mailmaps.push(read_input(alloc, input)?)?;
     Ok(mailmaps)
+}
+
+/// The mailmaps at the paths. The first that can't be read ends the reading.
+pub fn read_files<F: FileSystem>(
+    system: &F,
+    alloc: Global,
+    paths: &[Vec<u8>],
+) -> Result<Vec<Vec<u8>>, Failure>
+    ensures ok { IfOk result (λ mailmaps. AreRead (F.may_open system.now) (F.bytes system.now)
+        (map (λ path. path.items) paths.now) (map (λ m. m.items) mailmaps.items)) }
+    ensures fails { (input : Option (List ℕ)) (mode : TheMode) → IfErr result (FailsFor (F.may_open system.now)
+        (F.bytes system.now) input mode (map (λ path. path.items) paths.now)) }
+    ensures no_input { IfErr result (λ e. ¬ IsOfInput e) }
+    ensures no_output { ¬ IsErrOf result Failure.Output }
+{
+    match read_each(system, alloc, paths) {
+        Ok(mailmaps) => Ok(mailmaps),
+        Err(ReadError::File { number, cause }) => Err(Failure::File { number, cause }),
+        Err(ReadError::Memory) => Err(Failure::Memory),
+    }
 }
 
 // The one mailmap at the path, or if there is none that of the input.
@@ -121,7 +144,8 @@ fn read_mailmap<F: FileSystem, R: Read>(
     ensures ok { IfOk result (λ mailmap. AreMailmaps (F.may_open system.now) (F.bytes system.now)
         (map (λ path. path.items) paths.now) (R.remaining input.old) (mailmap.items ∷ [])) }
     ensures unread { paths.now ≢ [] → input.new ≡ input.old }
-    ensures fails { IfErr result (FailsFor (F.may_open system.now) Mode.Prune (map (λ path. path.items) paths.now)) }
+    ensures fails { IfErr result (FailsFor (F.may_open system.now) (F.bytes system.now) (R.remaining input.old)
+        Mode.Prune (map (λ path. path.items) paths.now)) }
     ensures too_many { 1 < length paths.now → IsErrOf result Failure.TooManyFiles }
     ensures no_output { ¬ IsErrOf result Failure.Output }
 {

@@ -2,6 +2,7 @@
 ghost use Rattle.std.specs.Prelude.{◌≡◌};
 ghost use Rattle.mailmap_reports.specs.declared.failure.Failure.TheVariants.{Memory};
 
+use gix_mailmap::verify::Position;
 use std::alloc::{AllocError, AllocFailed};
 use std::io::ErrorKind;
 
@@ -18,6 +19,9 @@ pub enum Failure {
     Output,
     /// More than one file after `--prune`, which prints one mailmap. Nothing is read then.
     TooManyFiles,
+    /// The first line of a mailmap to be pruned that git reads otherwise. git might then answer otherwise by the pruned
+    /// mailmap, so nothing is written.
+    ReadOtherwise { position: Position },
 }
 
 impl From<AllocError> for Failure {

@@ -3,7 +3,11 @@
 #![tactic(auto)]
 
 pub mod answer;
+pub mod explain;
+pub mod explanation;
 pub mod failure;
+mod git;
+pub mod likeness;
 pub mod report;
 pub mod shown;
 pub mod task;

@@ -7,6 +7,7 @@ ghost use Rattle.mailmap_io.specs.Printing.{IsUnderway};
 ghost use Rattle.mailmap_reports.specs.Report.{contact_text, finding_text, reported_text, fault_text, file_name, finding_line, outcome_of, position_text, report, shown};
 
 use crate::failure::Failure;
+use crate::git::push_reading;
 use crate::shown::{has_control, push_shown};
 use gix_mailmap::check::push_contact;
 use gix_mailmap::lines::Error;
@@ -26,6 +27,7 @@ use std::io::Write;
 /// ```text
 /// team:3: error: no email in brackets
 /// team:3: warning: ignored text: # since 2019
+/// team:3: warning: git reads it as Jane < jane@x >
 /// team:3: warning: no effect beside team:7
 /// team:3: warning: Jane <jane@x> is itself mapped, to Jane Doe <jane@y>
 /// ```
@@ -91,7 +93,7 @@ fn line_of(alloc: Global, paths: &[Vec<u8>], finding: &Finding<'_>) -> Result<Ve
 }
 
 // A text as it is shown. Few have control bytes.
-fn shown_text(alloc: Global, text: Vec<u8>) -> Result<Vec<u8>, AllocError>
+pub(crate) fn shown_text(alloc: Global, text: Vec<u8>) -> Result<Vec<u8>, AllocError>
     ensures { IfOk result (λ line. line.items ≡ shown text.items) }
 {
     if !has_control(text.as_slice()) {
@@ -116,8 +118,8 @@ fn push_finding(
     push_kind(text, paths, &finding.kind)
 }
 
-// Appends the file and the line of a position, with a colon between them.
-fn push_position(
+/// Appends the file and the line of a position, with a colon between them. Control bytes are as they are.
+pub fn push_position(
     text: &mut Vec<u8>,
     paths: &[Vec<u8>],
     position: Position,
@@ -157,6 +159,10 @@ fn push_kind(text: &mut Vec<u8>, paths: &[Vec<u8>], kind: &Kind<'_>) -> Result<(
         Kind::IgnoredText(ignored) => {
             text.extend_from_slice(b"warning: ignored text: ")?;
             text.extend_from_slice(ignored)
+        }
+        Kind::GitReads(reading) => {
+            text.extend_from_slice(b"warning: git reads ")?;
+            push_reading(text, reading)
         }
         Kind::NoEffect { beside } => push_no_effect(text, paths, *beside),
         Kind::ItselfMapped { contact, to } => push_mapped(text, *contact, *to),

@@ -116,7 +116,8 @@ fn answer_part<W: Write>(
         → Prints (λ made. (rest : List ℕ) × AnswersFront stream.old.mappings (stream.old.kept ++ part.now) made rest)
         (W.contents output.old) (W.contents output.new) }
     ensures breaks_off { IsErrOf result Failure.Output
-        → PrintsFront (λ made. (rest : List ℕ) × AnswersFront stream.old.mappings (stream.old.kept ++ part.now) made rest)
+        → PrintsFront
+        (λ made. (rest : List ℕ) × AnswersFront stream.old.mappings (stream.old.kept ++ part.now) made rest)
         (W.contents output.old) (W.contents output.new) }
     ensures only { IfErr result (λ e. (e ≡ Failure.Memory) ⊎ (e ≡ Failure.Output)) }
 {

@@ -76,9 +76,6 @@ pub fn perform<F: FileSystem, R: Read, W: Write>(
         × (number ≤ length task.entry.paths.now)
         × MayOpenBefore (F.may_open system.now) number (map (λ path. path.items) task.entry.paths.now) }
 
-    // Any number of files will do.
-    ensures any_number { ¬ IsErrOf result Failure.TooManyFiles }
-
     // Output that breaks off is the beginning of it.
     ensures answers_break_off { task.entry.mode ≡ Mode.Answer → IsErrOf result Failure.Output → PrintsFront
         (OfFiles (F.may_open system.now) (F.bytes system.now) (map (λ path. path.items) task.entry.paths.now)

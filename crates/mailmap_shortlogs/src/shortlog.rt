@@ -25,7 +25,8 @@ use std::cmp::Ordering;
 ///      1  joe
 /// ```
 ///
-/// with a tab after each count. A line that is no contact doesn't count. `Err` if memory runs out, or if a count takes more than 64 bits.
+/// with a tab after each count. A line that is no contact doesn't count. `Err` if memory runs out, or if a count takes
+/// more than 64 bits.
 pub fn shortlog(
     alloc: Global,
     buffers: &[&[u8]],

@@ -1,8 +1,10 @@
-//! Prints what is wrong with mailmaps, line by line, or a mailmap without the lines that have no effect.
+//! Prints what is wrong with mailmaps, line by line, or a mailmap without the lines that have no effect, or which lines
+//! map contacts.
 //!
 //! `mailmap_verify FILE..` reads each FILE as a mailmap, one after the other, and prints a line for each finding; with
-//! `--prune` it prints the one mailmap without the lines that have no effect. Without a FILE standard input is the one
-//! mailmap, and so it is if the only FILE is `-`. `mailmap_reports::task` says how the arguments are read.
+//! `--prune` it prints the one mailmap without the lines that have no effect, unless git reads a line of it otherwise.
+//! Without a FILE standard input is the one mailmap, and so it is if the only FILE is `-`. With `--explain` standard
+//! input has contacts, and a line is printed for each. `mailmap_reports::task` says how the arguments are read.
 //!
 //! The status is 0 if nothing is wrong, and 1 if something was found. A failure is said on standard error, and ends the
 //! program with status 2.
@@ -13,6 +15,7 @@ use mailmap_io::files::System;
 use mailmap_io::outcome::{Outcome, exit_code};
 use mailmap_io::streams::write_all;
 use mailmap_reports::failure::Failure;
+use mailmap_reports::report::push_position;
 use mailmap_reports::shown::push_shown;
 use mailmap_reports::task::{Misuse, Task, perform, task_of};
 use std::alloc::{AllocError, Global};
@@ -21,7 +24,7 @@ use std::process::ExitCode;
 
 // What follows a line that says what is wrong with the arguments.
 const USAGE_LINE: &str = "\
-usage: mailmap_verify [--] [FILE..] | --prune [--] [FILE] | --help | --version
+usage: mailmap_verify [--] [FILE..] | --prune [--] [FILE] | --explain [--] FILE.. | --help | --version
 ";
 
 fn main(rt: HostRuntime) -> ExitCode {
@@ -103,6 +106,13 @@ fn failure_line(alloc: Global, paths: &[Vec<u8>], failure: Failure) -> Result<Ve
         Failure::Memory => line.extend_from_slice(b"out of memory")?,
         Failure::Output => line.extend_from_slice(b"cannot write output")?,
         Failure::TooManyFiles => line.extend_from_slice(b"--prune takes one FILE at most")?,
+        Failure::ReadOtherwise { position } => {
+            let mut shown = Vec::new(alloc);
+            push_position(&mut shown, paths, position)?;
+            line.extend_from_slice(b"git reads ")?;
+            push_shown(&mut line, shown.as_slice())?;
+            line.extend_from_slice(b" otherwise")?;
+        }
     }
     line.push(b'\n')?;
     Ok(line)

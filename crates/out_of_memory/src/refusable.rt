@@ -3,9 +3,10 @@
 use crate::call::Call;
 use crate::run::{Run, Wrong, lists, wants};
 use crate::samples::{
-    ANSWERS, CONTACTS, FAULTY, JANE, NOBODY, PRUNED, TEAM, WRITTEN, all, are_of_faulty, five,
-    is_jane, is_nobody, later, owns_jane, team, three, two,
+    ANSWER, ANSWERS, CONTACTS, FAULTY, JANE, LINE, NOBODY, PARTS, PRUNED, TEAM, WRITTEN, all,
+    are_of_faulty, five, is_jane, is_nobody, later, owns_jane, team, three, two,
 };
+use gix_mailmap::check::ContactStream;
 use gix_mailmap::snapshot::{Source, WriteError};
 use gix_mailmap::verify::{prune, verify};
 use gix_mailmap::{Entry, Snapshot, actor, check};
@@ -31,6 +32,8 @@ pub fn judge(run: &mut Run, alloc: Global, team: &Snapshot) -> Result<(), Wrong>
     resolve(run, alloc, team)?;
     copy_signatures(run, alloc, team)?;
     check_and_compact(run, alloc)?;
+    run.judge_at_once(Call::Stream, || streams(alloc))?;
+    answer_in_parts(run, alloc)?;
     verify_and_prune(run, alloc)
 }
 
@@ -166,6 +169,34 @@ fn check_and_compact(run: &mut Run, alloc: Global) -> Result<(), Wrong> {
     run.judge_at_once(Call::Compact, || {
         Ok(check::compact(alloc, &[TEAM])?.as_slice() == WRITTEN)
     })
+}
+
+// A contact that is answered as its line is ended. What is refused leaves the stream as it was.
+fn answer_in_parts(run: &mut Run, alloc: Global) -> Result<(), Wrong> {
+    let mut stream = run.judge(
+        Call::NewStream,
+        || ContactStream::new(alloc, &[TEAM]),
+        |_| true,
+    )?;
+    let mut text = Vec::new(alloc);
+    run.judge_at_once(Call::PushToStream, || {
+        Ok(stream.push(LINE, &mut text)? == LINE.len())
+    })?;
+    run.judge_at_once(Call::FinishLine, || {
+        stream.finish_line(&mut text)?;
+        Ok(text.as_slice() == ANSWER)
+    })
+}
+
+// Whether contacts that come in parts are answered as they are at once.
+fn streams(alloc: Global) -> Result<bool, AllocError> {
+    let mut stream = ContactStream::new(alloc, &[TEAM])?;
+    let mut text = Vec::new(alloc);
+    for part in &PARTS {
+        let _ = stream.push(part, &mut text)?;
+    }
+    stream.finish(&mut text)?;
+    Ok(text.as_slice() == ANSWERS)
 }
 
 // What is wrong with two mailmaps, and one of them without the lines that have no effect.

@@ -4,7 +4,7 @@ use gix_mailmap::actor::SignatureRef;
 use gix_mailmap::date::Time;
 use gix_mailmap::lines::Error;
 use gix_mailmap::snapshot::Signature;
-use gix_mailmap::verify::{Contact, Finding, Findings, Kind, Position};
+use gix_mailmap::verify::{Contact, Finding, Findings, GitReading, Kind, Position};
 use gix_mailmap::{Entry, actor};
 use std::borrow::CowSlice;
 
@@ -22,35 +22,52 @@ pub const WRITTEN: &[u8] = b" Joe R. Developer <joe@example.com> <bugs@example.c
 /// Contact lines, and a line that is none.
 pub const CONTACTS: &[u8] = b"bob <BUGS@example.com>\nJANE <bugs@example.com>\nnot a contact\n";
 
+/// The same in parts. No part ends more than one line, so what is refused of it is its first request.
+pub static PARTS: [&[u8]; 4] = [
+    b"bob <BUGS@ex",
+    b"ample.com>\n",
+    b"JANE <bugs@example.com>\n",
+    b"not a contact",
+];
+
 /// The answers to them.
 pub const ANSWERS: &[u8] = b"Joe R. Developer <joe@example.com>
 Jane Doe <jane@example.com>
 not a contact
 ";
 
+/// A contact line that no line feed ends.
+pub const LINE: &[u8] = b"bob <BUGS@example.com>";
+
+/// The answer to it.
+pub const ANSWER: &[u8] = b"Joe R. Developer <joe@example.com>\n";
+
 /// A mailmap with a finding of each kind.
 pub const FAULTY: &[u8] = b"Ann <ann@example.com>
 plain
 Ann Lee <ann@example.com> # since May
 Bob <ann@example.com> <bob@example.com>
+Eve < eve@example.com >
 ";
 
 /// The same without its line of no effect.
 pub const PRUNED: &[u8] = b"plain
 Ann Lee <ann@example.com> # since May
 Bob <ann@example.com> <bob@example.com>
+Eve < eve@example.com >
 ";
 
 /// Whether this is what is found in that mailmap, as the second of two buffers.
 pub fn are_of_faulty(findings: &[Finding<'_>]) -> bool {
     let email = b"ann@example.com";
-    let [no_effect, fault, ignored, mapped] = findings else {
+    let [no_effect, fault, ignored, mapped, read_otherwise] = findings else {
         return false;
     };
     is_on(no_effect, 1)
         && is_on(fault, 2)
         && is_on(ignored, 3)
         && is_on(mapped, 4)
+        && is_on(read_otherwise, 5)
         && no_effect.kind == Kind::NoEffect { beside: at(3) }
         && fault.kind
             == Kind::Fault(Error::NoEmail {
@@ -63,12 +80,17 @@ pub fn are_of_faulty(findings: &[Finding<'_>]) -> bool {
                 contact: contact(b"Bob", email),
                 to: contact(b"Ann Lee", email),
             }
+        && read_otherwise.kind
+            == Kind::GitReads(GitReading::Entry(Entry::change_name_by_email(
+                b"Eve",
+                b" eve@example.com ",
+            )))
 }
 
 /// Whether these findings, made one by one, are of the lines of that mailmap, each in its turn.
 pub fn walk_over_faulty(findings: Findings<'_, '_>) -> bool {
     let mut findings = findings;
-    for line in [1, 2, 3, 4] {
+    for line in [1, 2, 3, 4, 5] {
         match findings.next() {
             Some(finding) if is_on(&finding, line) => {}
             _ => return false,

@@ -10,10 +10,11 @@ use crate::samples::{
 };
 use gix_mailmap::actor::SignatureRef;
 use gix_mailmap::date::Time;
+use gix_mailmap::explain::{Explanation, Explanations, Needed};
 use gix_mailmap::fold::{Steps, cmp_ignore_ascii_case};
 use gix_mailmap::lines::Error;
 use gix_mailmap::snapshot::{ResolvedSignature, Signature, Source, WriteError};
-use gix_mailmap::verify::{Mailmaps, Verification};
+use gix_mailmap::verify::{Mailmaps, Position, Verification, prune, verify};
 use gix_mailmap::{Entry, Snapshot, actor, check, parse, parse_ignore_errors, parse_strict};
 use std::alloc::{AllocError, Global};
 use std::borrow::CowSlice;
@@ -39,10 +40,16 @@ pub fn judge(run: &mut Run, alloc: Global, team: &Snapshot) -> Result<(), Wrong>
         || Verification::new(alloc, &mailmaps),
         |_| true,
     )?;
+    let explanations = run.judge(
+        Call::Explanations,
+        || Explanations::new(alloc, &mailmaps),
+        |_| true,
+    )?;
     accept_and_write_nothing(run, alloc, team)?;
     let answers = moves(jane, alloc)
         && are_right(team, &respelled, alloc)
-        && walk_over_faulty(verification.findings());
+        && walk_over_faulty(verification.findings())
+        && explains(&explanations);
     wants(Call::Unrefusable, answers)
 }
 
@@ -91,6 +98,7 @@ fn are_right(team: &Snapshot, respelled: &Snapshot, alloc: Global) -> bool {
         && reads_times()
         && borrows()
         && looks_up(team)
+        && has_no_line(alloc)
         && finds_nothing(team, NOBODY, alloc)
         && finds_nothing(respelled, BOB, alloc)
 }
@@ -134,6 +142,12 @@ fn compares() -> bool {
         && cmp_ignore_ascii_case(b"A@x", b"a@X") == Ordering::Equal
         && steps.compare(b"A@x", b"b@X") == Ordering::Less
         && steps.count() == 1
+}
+
+// Buffers without a line have no findings, and nothing is left of them.
+fn has_no_line(alloc: Global) -> bool {
+    matches!(verify(alloc, &[b"", b""]), Ok(found) if found.is_empty())
+        && matches!(prune(alloc, b""), Ok(text) if text.is_empty())
 }
 
 fn hash_of<T: Hash>(value: &T) -> u64 {
@@ -195,6 +209,23 @@ fn finds_nothing(snapshot: &Snapshot, signature: SignatureRef<'_>, alloc: Global
 fn is_borrowed(signature: &Signature<'_>) -> bool {
     matches!(signature.name, CowSlice::Borrowed(_))
         && matches!(signature.email, CowSlice::Borrowed(_))
+}
+
+// The third line of the first mailmap maps Jane.
+fn explains(explanations: &Explanations<'_, '_>) -> bool {
+    let line = Position { buffer: 0, line: 3 };
+    let jane = Explanation {
+        name: Some(b"Jane Doe"),
+        email: Some(b"jane@example.com"),
+        first: line,
+        second: None,
+    };
+    let needed = Needed {
+        first: Some(line),
+        second: None,
+    };
+    explanations.of(JANE.name, JANE.email) == Some(jane)
+        && explanations.needs(JANE.name, JANE.email) == needed
 }
 
 // Texts that are owned are moved.

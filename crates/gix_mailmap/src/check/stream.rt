@@ -4,10 +4,12 @@ ghost use Rattle.bstr.specs.Text.{line_len};
 ghost use Rattle.mailmap_entries.specs.Folding.{Text};
 ghost use Rattle.mailmap_grammar.specs.Lines.{HoldsNo};
 ghost use Rattle.gix_mailmap.specs.Contacts.{answers, answers_by};
-ghost use Rattle.gix_mailmap.specs.Streams.{AnswersFront};
+ghost use Rattle.gix_mailmap.specs.Streams.{AnswersAll, AnswersFront};
 
 use crate::check::{merged, push_answers};
 use bstr::ByteSlice;
+use mailmap_repeats::hashes::hash_of;
+use mailmap_repeats::table::LastAnswers;
 use mailmap_snapshot::snapshot::Snapshot;
 use std::alloc::{AllocError, Global};
 use std::marker::Model;
@@ -17,7 +19,8 @@ const ENOUGH: usize = 65536;
 
 /// Answers contacts that come in parts, as [`check`](crate::check::check()) answers all of them at once.
 ///
-/// It keeps its mailmaps, and the beginning of a line that hasn't ended yet.
+/// It keeps its mailmaps, the beginning of a line that hasn't ended yet, and the last 4,096 lines with their answers: a
+/// line that comes again is mostly answered from these. They take 1.1 MiB, however long the lines are.
 ///
 /// ```text
 /// let mut stream = ContactStream::new(alloc, &[b"Jane Doe <jane@x>"])?;
@@ -29,14 +32,18 @@ const ENOUGH: usize = 65536;
 pub struct ContactStream {
     snapshot: Snapshot,
     kept: Vec<u8>,
+    last: LastAnswers,
 }
 
 impl Model for ContactStream {
-    ghost use Rattle.gix_mailmap.specs.Streams.{Stream};
+    ghost use Rattle.gix_mailmap.specs.Streams.{AnswersAll, Stream};
 
     ghost Value = { Stream };
 
     ghost view = { λ s. record { mappings = s.snapshot; kept = s.kept.items } };
+
+    // Each row of the table is a line and its answer.
+    ghost invariant = { λ s. AnswersAll s.snapshot s.last };
 }
 
 impl ContactStream {
@@ -48,6 +55,7 @@ impl ContactStream {
         Ok(ContactStream {
             snapshot: merged(alloc, buffers)?,
             kept: Vec::new(alloc),
+            last: LastAnswers::new(alloc)?,
         })
     }
 
@@ -88,16 +96,28 @@ impl ContactStream {
             return Ok(part.len());
         };
         let line = &part[..feed + 1];
-        end_line(&mut self.kept, line, &self.snapshot, text)?;
+        end_line(&mut self.kept, line, &self.snapshot, &mut self.last, text)?;
         Ok(line.len())
     }
 
     /// Appends the answer to the last line, which no line feed ended. Without such a line `text` stays as it is.
-    pub fn finish(self, text: &mut Vec<u8>) -> Result<(), AllocError>
+    pub fn finish(mut self, text: &mut Vec<u8>) -> Result<(), AllocError>
         ensures ok { OnOk result (text.new.items ≡ text.old.items ++ answers self.mappings self.kept) }
         ensures err { OnErr result (text.new.items ≡ text.old.items) }
     {
-        push_answers(text, &self.snapshot, self.kept.as_slice())
+        self.finish_line(text)
+    }
+
+    /// Appends the answer to the last line, as [`finish`](ContactStream::finish) does. What is pushed after that begins
+    /// a new line. At an `Err` `text` and the stream are as before.
+    pub fn finish_line(&mut self, text: &mut Vec<u8>) -> Result<(), AllocError>
+        ensures ok { OnOk result (text.new.items ≡ text.old.items ++ answers self.old.mappings self.old.kept) }
+        ensures ended { OnOk result ((self.new.kept ≡ []) × (self.new.mappings ≡ self.old.mappings)) }
+        ensures err { OnErr result ((self.new ≡ self.old) × (text.new.items ≡ text.old.items)) }
+    {
+        push_answers(text, &self.snapshot, self.kept.as_slice())?;
+        self.kept.clear();
+        Ok(())
     }
 }
 
@@ -106,18 +126,43 @@ fn end_line(
     kept: &mut Vec<u8>,
     line: &[u8],
     snapshot: &Snapshot,
+    last: &mut LastAnswers,
     text: &mut Vec<u8>,
 ) -> Result<(), AllocError>
+    requires { AnswersAll snapshot.now last.old }
     ensures ok { OnOk result (text.new.items ≡ text.old.items ++ answers snapshot.now (kept.old.items ++ line.now)) }
     ensures ended { OnOk result (kept.new.items ≡ []) }
     ensures err { OnErr result ((kept.new.items ≡ kept.old.items) × (text.new.items ≡ text.old.items)) }
+    ensures last { AnswersAll snapshot.now last.new }
 {
     if kept.is_empty() {
-        return push_answers(text, snapshot, line);
+        return push_line_answer(text, snapshot, last, line);
     }
     let begun = kept.len();
     kept.extend_from_slice(line)?;
-    let pushed = push_answers(text, snapshot, kept.as_slice());
+    let pushed = push_line_answer(text, snapshot, last, kept.as_slice());
     kept.truncate(if pushed.is_ok() { 0 } else { begun });
     pushed
+}
+
+// Appends the answer to a line with its line feed: from the table, if it is there. At an `Err` the text is as before.
+fn push_line_answer(
+    text: &mut Vec<u8>,
+    snapshot: &Snapshot,
+    last: &mut LastAnswers,
+    line: &[u8],
+) -> Result<(), AllocError>
+    requires { AnswersAll snapshot.now last.old }
+    ensures ok { OnOk result (text.new.items ≡ text.old.items ++ answers snapshot.now line.now) }
+    ensures err { OnErr result (text.new.items ≡ text.old.items) }
+    ensures last { AnswersAll snapshot.now last.new }
+{
+    let hash = hash_of(line);
+    if let Some(answer) = last.get(hash, line) {
+        return text.extend_from_slice(answer);
+    }
+    let begun = text.len();
+    push_answers(text, snapshot, line)?;
+    last.put(hash, line, &text.as_slice()[begun..]);
+    Ok(())
 }

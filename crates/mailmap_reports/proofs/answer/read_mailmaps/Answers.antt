@@ -1,5 +1,7 @@
 use Rattle.std.proofs.Common.{◌≡◌, ◌==◌, ◌∙◌, ℕ, List, [], ◌∷◌, Option, Vec, Global, false, length, map, sym}
+use Rattle.std.proofs.lemmas.Result.{IfOk-weaker}
 use Rattle.mailmap_io.specs.Files.{AreRead}
+use Rattle.mailmap_reports.specs.declared.task.Mode.TheVariants.{Verify}
 use Rattle.mailmap_reports.specs.Task.{AreMailmaps}
 use Rattle.mailmap_reports.proofs.answer.read_mailmaps.Goals as goal
 
@@ -9,9 +11,13 @@ of_files : {X : Type 0} (may_open : List ℕ → Type 0) (known : List ℕ → O
 of_files may_open known path input [] mailmaps none read = cc
 of_files may_open known path input (x ∷ xs) mailmaps some read = read
 
-pub returns-in-Ok-clause-ok : goal.returns-in-Ok-clause-ok
-returns-in-Ok-clause-ok g c =
+pub returns-then-not-is_empty-clause-ok : goal.returns-then-not-is_empty-clause-ok
+returns-then-not-is_empty-clause-ok g c =
     let items : Vec ℕ Global → List ℕ = λ file. file.items in
     let some : c.is_empty.result ≡ false = cc (c.if-not-is_empty.true) in
-    of_files (g.F.FileSystem.may_open c.args.system.now) (g.F.FileSystem.bytes c.args.system.now) items (g.R.Read.remaining c.args.input.now) c.args.paths.now (map items c.in-Ok.mailmaps.items)
-    (sym c.is_empty.ensures ∙ some) c.in-Ok.ensures.ok
+    IfOk-weaker c.read_files.result _ _
+    (λ mailmaps read. of_files (g.F.FileSystem.may_open c.args.system.now) (g.F.FileSystem.bytes c.args.system.now) items (g.R.Read.remaining c.args.input.now) c.args.paths.now (map items mailmaps.items)
+    (sym c.is_empty.ensures ∙ some) read) c.read_files.ensures.ok
+
+pub returns-then-not-is_empty-clause-fails : goal.returns-then-not-is_empty-clause-fails
+returns-then-not-is_empty-clause-fails g c = c.read_files.ensures.fails (g.R.Read.remaining c.args.input.now) Verify

@@ -5,7 +5,6 @@ use Rattle.std.proofs.lemmas.Result.{err_from_is_err_and}
 use Rattle.std.specs.Io.KnownBytes.{Appends}
 use Rattle.gix_mailmap.specs.Findings.{Finding, finding_of}
 use Rattle.mailmap_io.specs.Printing.{IsUnderway}
-use Rattle.mailmap_io.specs.declared.outcome.Outcome.{Outcome}
 use Rattle.mailmap_io.specs.declared.outcome.Outcome.TheVariants.{Found}
 use Rattle.mailmap_io.proofs.Printed.{Appends-longer, underway-broken, underway-more, underway-rest_broken, underway-whole}
 use Rattle.mailmap_reports.specs.Report.{finding_line, outcome_of, report}

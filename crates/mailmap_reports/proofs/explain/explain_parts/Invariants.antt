@@ -1,0 +1,10 @@
+-- So much of the input was read, what is said of its whole lines is written, and the rest is held.
+use Rattle.std.proofs.Common.{◌≡◌, []}
+use Rattle.mailmap_reports.specs.Explained.{explained_line}
+use Rattle.mailmap_reports.proofs.Explaining.{HasAnswered}
+use Rattle.mailmap_reports.proofs.explain.explain_parts.Given as goal
+
+abbrev pub invariant-loop : goal.invariant-loop
+invariant-loop g l =
+    HasAnswered (explained_line l.explainer) (g.R.Read.remaining l.fn.input) (g.R.Read.remaining l.input) l.held.items (g.W.Write.contents l.fn.output) (g.W.Write.contents l.output)
+    × (l.printer ≡ [])

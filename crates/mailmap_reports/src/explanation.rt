@@ -1,0 +1,156 @@
+//! What is said of one line of contacts.
+ghost use Rattle.std.specs.Prelude.{◌≡◌, ◌++◌, IfOk, OnOk, codes, map};
+ghost use Rattle.gix_mailmap.specs.Contacts.{replaced};
+ghost use Rattle.gix_mailmap.specs.Explanations.{explained, explained_by};
+ghost use Rattle.gix_mailmap.specs.Givers.{givers};
+ghost use Rattle.gix_mailmap.specs.Histories.{scan};
+ghost use Rattle.gix_mailmap.specs.Lines.{cut, trimmed_contact};
+ghost use Rattle.gix_mailmap.specs.Positions.{lines, located};
+ghost use Rattle.gix_mailmap.specs.Redundancy.{IsReduced, entries};
+ghost use Rattle.mailmap_reports.specs.Explained.{contact_explained, explained_line, mapped_text, positions_text};
+
+use crate::report::{push_position, shown_text};
+use gix_mailmap::check::push_contact;
+use gix_mailmap::explain::{Explanation, Explanations};
+use gix_mailmap::verify::Mailmaps;
+use mailmap_grammar::contacts::{ParsedContact, parse_name_and_email, trim};
+use std::alloc::{AllocError, Global};
+use std::marker::Model;
+
+/// Explains contacts by mailmaps, line by line.
+///
+/// To a contract it is what the explanations are made of.
+#[derive(Drop)]
+pub struct Explainer<'p, 'm, 'a> {
+    alloc: Global,
+    // those of the mailmaps
+    paths: &'p [Vec<u8>],
+    explanations: Explanations<'m, 'a>,
+}
+
+impl<'p, 'm, 'a> Model for Explainer<'p, 'm, 'a> {
+    ghost use Rattle.std.specs.Prelude.{map};
+    ghost use Rattle.mailmap_reports.specs.Explained.{Grounds};
+
+    ghost Value = { Grounds };
+
+    ghost view = { λ s. record {
+      paths = map (λ path. path.items) s.paths.now;
+      history = s.explanations.history;
+      kept = s.explanations.kept;
+    } };
+}
+
+impl<'p, 'm, 'a> Explainer<'p, 'm, 'a> {
+    /// Finds out which lines of the mailmaps have an effect. They were read from these paths.
+    pub fn new(
+        alloc: Global,
+        paths: &'p [Vec<u8>],
+        mailmaps: &'m Mailmaps<'_, 'a>,
+    ) -> Result<Explainer<'p, 'm, 'a>, AllocError>
+        ensures paths { IfOk result (λ s. s.paths ≡ map (λ path. path.items) paths.now) }
+        ensures history { IfOk result (λ s. s.history ≡ located (lines mailmaps.now)) }
+        ensures reduced { IfOk result (λ s. IsReduced s.history s.kept) }
+    {
+        Ok(Explainer {
+            alloc,
+            paths,
+            explanations: Explanations::new(alloc, mailmaps)?,
+        })
+    }
+
+    /// What is said of a line of contacts, with a line feed: nothing of a blank line.
+    ///
+    /// It is one of these:
+    ///
+    /// ```text
+    /// jd <JD@old> is Jane Doe <jane@x> by .mailmap:3, .mailmap:7
+    /// bob <bob@x> is not mapped
+    /// plain is no contact
+    /// ```
+    ///
+    /// Control bytes are shown as `\x1b`, all other bytes as they are.
+    pub fn explained_line(&self, line: &[u8]) -> Result<Vec<u8>, AllocError>
+        ensures { IfOk result (λ text. text.items ≡ explained_line self.now line.now) }
+    {
+        let line = trim(line);
+        let mut text = Vec::new(self.alloc);
+        if line.is_empty() {
+            return Ok(text);
+        }
+        self.push_explained(&mut text, line)?;
+        let mut text = shown_text(self.alloc, text)?;
+        text.push(b'\n')?;
+        Ok(text)
+    }
+
+    // Appends what is said of a trimmed line, before its control bytes are shown.
+    fn push_explained(&self, text: &mut Vec<u8>, line: &[u8]) -> Result<(), AllocError>
+        ensures { OnOk result (text.new.items
+            ≡ text.old.items ++ contact_explained self.now line.now (trimmed_contact (cut line.now))) }
+    {
+        let ParsedContact::Closed { name, email, .. } = parse_name_and_email(line) else {
+            return push_no_contact(text, line);
+        };
+        push_contact(text, name, email)?;
+        self.push_mapped(text, name, email)
+    }
+
+    // Appends what a contact is mapped to, and by which lines.
+    fn push_mapped(&self, text: &mut Vec<u8>, name: &[u8], email: &[u8]) -> Result<(), AllocError>
+        ensures { OnOk result (text.new.items ≡ text.old.items ++ mapped_text self.now.paths
+            (givers self.now.kept name.now email.now) (scan (entries self.now.history) name.now email.now)
+            name.now email.now) }
+    {
+        let Some(found) = self.explanations.of(name, email) else {
+            return text.extend_from_slice(b" is not mapped");
+        };
+        text.extend_from_slice(b" is ")?;
+        push_replaced(text, &found, name, email)?;
+        text.extend_from_slice(b" by ")?;
+        push_positions(text, self.paths, &found)
+    }
+}
+
+// Appends what is said of a line that is no contact.
+fn push_no_contact(text: &mut Vec<u8>, line: &[u8]) -> Result<(), AllocError>
+    ensures { OnOk result (text.new.items ≡ text.old.items ++ (line.now ++ codes " is no contact")) }
+{
+    text.extend_from_slice(line)?;
+    text.extend_from_slice(b" is no contact")
+}
+
+// Appends a contact with its new fields.
+fn push_replaced(
+    text: &mut Vec<u8>,
+    found: &Explanation<'_>,
+    name: &[u8],
+    email: &[u8],
+) -> Result<(), AllocError>
+    ensures { OnOk result (text.new.items ≡ text.old.items ++ replaced (explained found.now) name.now email.now) }
+{
+    push_contact(
+        text,
+        found.name.unwrap_or(name),
+        found.email.unwrap_or(email),
+    )
+}
+
+// Appends the positions of the lines that give the new fields.
+fn push_positions(
+    text: &mut Vec<u8>,
+    paths: &[Vec<u8>],
+    found: &Explanation<'_>,
+) -> Result<(), AllocError>
+    ensures { OnOk result (text.new.items ≡ text.old.items ++ positions_text (map (λ path. path.items) paths.now)
+        (explained_by found.now)) }
+{
+    push_position(text, paths, found.first)?;
+    match found.second {
+        Some(second) => {
+            text.extend_from_slice(b", ")?;
+            push_position(text, paths, second)
+        }
+        None => Ok(()),
+    }
+}

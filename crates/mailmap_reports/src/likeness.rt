@@ -1,0 +1,146 @@
+//! Which answers to contacts may be one person, as text: a line for each likeness.
+ghost use Rattle.std.specs.Prelude.{◌≡◌, ◌++◌, IfOk, OnOk, map};
+ghost use Rattle.std.specs.Option.{option_copied, option_map};
+ghost use Rattle.mailmap_likeness.specs.Likeness.{answered};
+ghost use Rattle.mailmap_reports.specs.Alike.{alike_text, answer_at, email_line, last_answer, line_beside};
+ghost use Rattle.mailmap_reports.specs.Alike.{lines_of_last, name_line, place_text};
+
+use crate::shown::push_shown;
+use gix_mailmap::check::push_contact;
+use itoa::Buffer;
+use mailmap_likeness::answers::{Answer, Likeness};
+use std::alloc::{AllocError, Global};
+
+/// The lines that report what the last of some answers is like, each with its line feed: none, one or two.
+///
+/// `file` is what the contacts came from, and control bytes are shown as `\x1b`. If the last answer has the email of
+/// one and the name of another, the lines are
+///
+/// ```text
+/// history:7: warning: Jane <JANE@x> has the email of J. Doe <jane@x>, history:3
+/// history:7: note: Jane <JANE@x> has the name of Jane <jd@y>, history:5
+/// ```
+///
+/// The first counts for the exit status. The second doesn't, since two people may share a name.
+pub fn likeness_lines(
+    alloc: Global,
+    file: &[u8],
+    answers: &[Answer],
+    likeness: Likeness,
+) -> Result<Vec<u8>, AllocError>
+    ensures { IfOk result (λ text. text.items ≡ lines_of_last file.now (map answered answers.now) likeness) }
+{
+    let Some(answer) = last(answers) else {
+        return Ok(Vec::new(alloc));
+    };
+    let of_email = get(answers, likeness.email);
+    let of_name = get(answers, likeness.name);
+    let mut text = Vec::new(alloc);
+    push_email_line(&mut text, file, answer, of_email)?;
+    push_name_line(&mut text, file, answer, of_name)?;
+    Ok(text)
+}
+
+// The last answer.
+fn last(answers: &[Answer]) -> Option<&Answer>
+    ensures { option_map answered (option_copied result) ≡ last_answer (map answered answers.now) }
+{
+    answers.last()
+}
+
+// The answer at an index, if there is one.
+fn get(answers: &[Answer], index: Option<usize>) -> Option<&Answer>
+    ensures { option_map answered (option_copied result) ≡ answer_at (map answered answers.now) index }
+{
+    match index {
+        Some(index) => answers.get(index),
+        None => None,
+    }
+}
+
+// Appends the line that an answer has the email of another one, if there is one.
+fn push_email_line(
+    text: &mut Vec<u8>,
+    file: &[u8],
+    answer: &Answer,
+    other: Option<&Answer>,
+) -> Result<(), AllocError>
+    ensures { OnOk result (text.new.items ≡ text.old.items
+        ++ line_beside (email_line file.now (answered answer.now)) (option_map answered (option_copied other.entry))) }
+{
+    let Some(other) = other else {
+        return Ok(());
+    };
+    let alloc = *text.allocator();
+    let mut line = Vec::new(alloc);
+    push_alike(
+        &mut line,
+        file,
+        answer,
+        other,
+        b": warning: ",
+        b" has the email of ",
+    )?;
+    push_shown(text, line.as_slice())?;
+    text.push(b'\n')?;
+    Ok(())
+}
+
+// Appends the line that an answer has the name of another one, if there is one.
+fn push_name_line(
+    text: &mut Vec<u8>,
+    file: &[u8],
+    answer: &Answer,
+    other: Option<&Answer>,
+) -> Result<(), AllocError>
+    ensures { OnOk result (text.new.items ≡ text.old.items
+        ++ line_beside (name_line file.now (answered answer.now)) (option_map answered (option_copied other.entry))) }
+{
+    let Some(other) = other else {
+        return Ok(());
+    };
+    let alloc = *text.allocator();
+    let mut line = Vec::new(alloc);
+    push_alike(
+        &mut line,
+        file,
+        answer,
+        other,
+        b": note: ",
+        b" has the name of ",
+    )?;
+    push_shown(text, line.as_slice())?;
+    text.push(b'\n')?;
+    Ok(())
+}
+
+// Appends that an answer is like another one, before its control bytes are shown.
+fn push_alike(
+    line: &mut Vec<u8>,
+    file: &[u8],
+    answer: &Answer,
+    other: &Answer,
+    level: &[u8],
+    likeness: &[u8],
+) -> Result<(), AllocError>
+    ensures { OnOk result (line.new.items ≡ line.old.items
+        ++ alike_text level.now likeness.now file.now (answered answer.now) (answered other.now)) }
+{
+    push_place(line, file, answer.line)?;
+    line.extend_from_slice(level)?;
+    push_contact(line, answer.name.as_slice(), answer.email.as_slice())?;
+    line.extend_from_slice(likeness)?;
+    push_contact(line, other.name.as_slice(), other.email.as_slice())?;
+    line.extend_from_slice(b", ")?;
+    push_place(line, file, other.line)
+}
+
+// Appends a file and a line of it.
+fn push_place(text: &mut Vec<u8>, file: &[u8], line: usize) -> Result<(), AllocError>
+    ensures { OnOk result (text.new.items ≡ text.old.items ++ place_text file.now line) }
+{
+    let mut digits = Buffer::new();
+    text.extend_from_slice(file)?;
+    text.push(b':')?;
+    text.extend_from_slice(digits.format(line).as_bytes())
+}
