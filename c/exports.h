@@ -6,8 +6,13 @@
 
 #include "gix_mailmap.h"
 
-/* A handle. It is closed if it is all zeros. */
+/* Handles. One is closed if it is all zeros. */
 struct gix_mailmap {
+    void *at;
+    bool is_open;
+};
+
+struct gix_mailmap_stream {
     void *at;
     bool is_open;
 };
@@ -28,10 +33,24 @@ uint32_t gix_mailmap_handle_entry(gix_mailmap *map, size_t place, gix_mailmap_li
                                   size_t texts_len);
 uint32_t gix_mailmap_handle_write(gix_mailmap *map, void *out, size_t out_len, size_t *needed);
 
+uint32_t gix_mailmap_stream_handle_open(gix_mailmap_stream *stream, const void *mailmap, size_t mailmap_len);
+void gix_mailmap_stream_handle_close(gix_mailmap_stream *stream);
+uint32_t gix_mailmap_stream_handle_push(gix_mailmap_stream *stream, const void *part, size_t part_len, size_t *taken);
+uint32_t gix_mailmap_stream_handle_finish(gix_mailmap_stream *stream);
+uint32_t gix_mailmap_stream_handle_read(gix_mailmap_stream *stream, void *out, size_t out_len, size_t *count);
+
 uint32_t gix_mailmap_text_check(const void *mailmap, size_t mailmap_len, const void *contacts, size_t contacts_len,
                                 void *out, size_t out_len, size_t *needed);
 uint32_t gix_mailmap_text_compact(const void *mailmap, size_t mailmap_len, void *out, size_t out_len, size_t *needed);
 uint32_t gix_mailmap_text_prune(const void *mailmap, size_t mailmap_len, void *out, size_t out_len, size_t *needed);
+/* how long the name and the text of a mailmap are, which are in two buffers with those of the others */
+typedef struct lengths {
+    size_t name;
+    size_t text;
+} lengths;
+
+uint32_t gix_mailmap_text_report(const lengths *all, size_t count, const void *names, size_t names_len,
+                                 const void *texts, size_t texts_len, void *out, size_t out_len, size_t *needed);
 uint32_t gix_mailmap_text_verify(const void *mailmap, size_t mailmap_len, void *out, size_t out_len, size_t *needed);
 
 #endif

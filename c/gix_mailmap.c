@@ -1,8 +1,10 @@
-/* The calls of gix_mailmap.h, each by a proved one. Three things are done here, since a proved call can't do them. A
- * handle is handed out as a pointer. NULL is taken for what has length 0. And several calls may read a mailmap at a
- * time: each is given a handle of its own, a copy that ends with the call, and only looks at what it leads to. */
+/* The calls of gix_mailmap.h, each by a proved one. Four things are done here, since a proved call can't do them. A
+ * handle is handed out as a pointer. NULL is taken for what has length 0. Several calls may read a mailmap at a time:
+ * each is given a handle of its own, a copy that ends with the call, and only looks at what it leads to. And texts that
+ * an array points to are put together. */
 #include "exports.h"
 #include <stdlib.h>
+#include <string.h>
 
 _Static_assert(sizeof(gix_mailmap_field) == 16 && sizeof(gix_mailmap_listed) == 72, "as in the proved calls");
 _Static_assert(sizeof(gix_mailmap_finding) == 24 && offsetof(gix_mailmap_finding, beside) == 16, "the same");
@@ -116,6 +118,45 @@ gix_mailmap_status gix_mailmap_write(const gix_mailmap *map, char *GIX_MAILMAP_A
     return gix_mailmap_handle_write(&own, room_at(out), out_len, needed);
 }
 
+gix_mailmap_status gix_mailmap_stream_open(gix_mailmap_stream **stream, const char *mailmap, size_t mailmap_len)
+{
+    *stream = malloc(sizeof **stream);
+    if (*stream == NULL)
+        return GIX_MAILMAP_OUT_OF_MEMORY;
+    **stream = (gix_mailmap_stream){NULL, false};
+    gix_mailmap_status status = gix_mailmap_stream_handle_open(*stream, text_at(mailmap), mailmap_len);
+    if (status != GIX_MAILMAP_OK) {
+        free(*stream);
+        *stream = NULL;
+    }
+    return status;
+}
+
+void gix_mailmap_stream_close(gix_mailmap_stream *stream)
+{
+    if (stream != NULL)
+        gix_mailmap_stream_handle_close(stream);
+    free(stream);
+}
+
+gix_mailmap_status gix_mailmap_stream_push(gix_mailmap_stream *stream, const char *part, size_t part_len,
+                                           size_t *GIX_MAILMAP_ALONE taken)
+{
+    return gix_mailmap_stream_handle_push(stream, text_at(part), part_len, taken);
+}
+
+gix_mailmap_status gix_mailmap_stream_finish(gix_mailmap_stream *stream)
+{
+    return gix_mailmap_stream_handle_finish(stream);
+}
+
+size_t gix_mailmap_stream_read(gix_mailmap_stream *stream, char *GIX_MAILMAP_ALONE out, size_t out_len)
+{
+    size_t count = 0;
+    gix_mailmap_stream_handle_read(stream, room_at(out), out_len, &count);
+    return count;
+}
+
 gix_mailmap_status gix_mailmap_check(const char *mailmap, size_t mailmap_len, const char *contacts, size_t contacts_len,
                                      char *GIX_MAILMAP_ALONE out, size_t out_len, size_t *GIX_MAILMAP_ALONE needed)
 {
@@ -133,6 +174,45 @@ gix_mailmap_status gix_mailmap_prune(const char *mailmap, size_t mailmap_len, ch
                                      size_t out_len, size_t *GIX_MAILMAP_ALONE needed)
 {
     return gix_mailmap_text_prune(text_at(mailmap), mailmap_len, room_at(out), out_len, needed);
+}
+
+/* The sum, or the largest length if it is too large. */
+static size_t sum(size_t a, size_t b)
+{
+    return b <= SIZE_MAX - a ? a + b : SIZE_MAX;
+}
+
+/* Puts a text at an address, and gives the one behind it. */
+static char *append(char *to, const char *text, size_t len)
+{
+    memcpy(to, text_at(text), len);
+    return to + len;
+}
+
+/* The lengths of all names and texts, then all names, and then all texts are in one block of memory. */
+gix_mailmap_status gix_mailmap_report(const gix_mailmap_named *mailmaps, size_t count, char *GIX_MAILMAP_ALONE out,
+                                      size_t out_len, size_t *GIX_MAILMAP_ALONE needed)
+{
+    lengths total = {0, 0};
+    for (size_t i = 0; i < count; i++) {
+        total.name = sum(total.name, mailmaps[i].name_len);
+        total.text = sum(total.text, mailmaps[i].text_len);
+    }
+    size_t size = sum(count * sizeof(lengths) + 1, sum(total.name, total.text));
+    lengths *all = size < SIZE_MAX ? malloc(size) : NULL;
+    *needed = 0;
+    if (all == NULL)
+        return GIX_MAILMAP_OUT_OF_MEMORY;
+    char *names = (char *)(all + count), *texts = names + total.name, *name = names, *text = texts;
+    for (size_t i = 0; i < count; i++) {
+        all[i] = (lengths){mailmaps[i].name_len, mailmaps[i].text_len};
+        name = append(name, mailmaps[i].name, mailmaps[i].name_len);
+        text = append(text, mailmaps[i].text, mailmaps[i].text_len);
+    }
+    gix_mailmap_status status = gix_mailmap_text_report(all, count, names, total.name, texts, total.text, room_at(out),
+                                                        out_len, needed);
+    free(all);
+    return status;
 }
 
 gix_mailmap_status gix_mailmap_verify(const char *mailmap, size_t mailmap_len,

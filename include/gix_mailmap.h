@@ -28,9 +28,9 @@
  * doesn't write stays as it was.
  *
  * Threads: calls with a `const gix_mailmap *` read the mailmap, and any number of them may run at a time. Those with a
- * `gix_mailmap *` change it, and no other call may have the same mailmap meanwhile. A mailmap may be opened, used and
- * closed by different threads. Calls without a mailmap may run at any time. No call may be made from a signal handler,
- * or from the forked child of a process with threads.
+ * `gix_mailmap *` change it, and no other call may have the same mailmap meanwhile. All calls with a stream change it.
+ * A mailmap or a stream may be opened, used and closed by different threads. Calls with neither may run at any time. No
+ * call may be made from a signal handler, or from the forked child of a process with threads.
  *
  * Memory comes from the program's malloc, realloc and free.
  *
@@ -69,11 +69,14 @@ extern "C" {
 /* A mailmap: gix_mailmap_open makes one, and gix_mailmap_close frees it. */
 typedef struct gix_mailmap gix_mailmap;
 
+/* A stream of contacts: gix_mailmap_stream_open makes one, and gix_mailmap_stream_close frees it. */
+typedef struct gix_mailmap_stream gix_mailmap_stream;
+
 /* What a call returns. If it isn't GIX_MAILMAP_OK, nothing changes, and nothing is written but what the call says. */
 typedef enum gix_mailmap_status {
     GIX_MAILMAP_OK = 0,            /* the call did its work */
     GIX_MAILMAP_TOO_SHORT = 1,     /* a buffer is too short; all buffers are as they were */
-    GIX_MAILMAP_OUT_OF_MEMORY = 2, /* the mailmap is as it was */
+    GIX_MAILMAP_OUT_OF_MEMORY = 2, /* the mailmap or the stream is as it was */
     GIX_MAILMAP_NO_ENTRY = 3,      /* the mailmap has no entry with this number */
     GIX_MAILMAP_NOT_AN_ENTRY = 4,  /* these texts make no entry */
     GIX_MAILMAP_UNWRITABLE = 5     /* no line can hold some entry of the mailmap */
@@ -105,7 +108,8 @@ typedef enum gix_mailmap_kind {
     GIX_MAILMAP_UNCLOSED_SECOND = 5,         /* the second `<` has no `>` after it */
     GIX_MAILMAP_IGNORED_TEXT = 6,            /* text after the last email is ignored */
     GIX_MAILMAP_NO_EFFECT = 7,               /* removing the line changes no mapping */
-    GIX_MAILMAP_ITSELF_MAPPED = 8            /* it maps to a contact that the mailmap maps to another */
+    GIX_MAILMAP_ITSELF_MAPPED = 8,           /* it maps to a contact that the mailmap maps to another */
+    GIX_MAILMAP_GIT_READS = 9                /* git reads the line otherwise */
 } gix_mailmap_kind;
 
 /* What is wrong with a line: its number, counted from 1, and one of these kinds. For GIX_MAILMAP_NO_EFFECT `beside`
@@ -116,6 +120,14 @@ typedef struct gix_mailmap_finding {
     gix_mailmap_kind kind;
     size_t beside;
 } gix_mailmap_finding;
+
+/* A mailmap by its name and its text. */
+typedef struct gix_mailmap_named {
+    const char *name;
+    size_t name_len;
+    const char *text;
+    size_t text_len;
+} gix_mailmap_named;
 
 /* The version of the library, as `0.1.0`. */
 const char *gix_mailmap_version(void);
@@ -207,7 +219,7 @@ gix_mailmap_status gix_mailmap_prune(const char *mailmap, size_t mailmap_len, ch
                                      size_t out_len, size_t *GIX_MAILMAP_ALONE needed)
     GIX_MAILMAP_NONNULL(5) GIX_MAILMAP_MUST_CHECK;
 
-/* Writes what is wrong with the lines of a mailmap, in their order. A line may have two findings. All lines of no
+/* Writes what is wrong with the lines of a mailmap, in their order. A line may have three findings. All lines of no
  * effect can be removed at once: gix_mailmap_prune does that. `out_len` counts findings. `needed` is the number of
  * all findings, and 0 at OUT_OF_MEMORY.
  * OK; TOO_SHORT; OUT_OF_MEMORY. */
@@ -215,6 +227,54 @@ gix_mailmap_status gix_mailmap_verify(const char *mailmap, size_t mailmap_len,
                                       gix_mailmap_finding *GIX_MAILMAP_ALONE out, size_t out_len,
                                       size_t *GIX_MAILMAP_ALONE needed)
     GIX_MAILMAP_NONNULL(5) GIX_MAILMAP_MUST_CHECK;
+
+/* Writes what is wrong with some mailmaps as text, as mailmap_verify prints it: a line for each finding, such as
+ * `NAME:3: warning: no effect beside OTHER:7`. The mailmaps are read one after another, as if they were one: a line may
+ * have no effect beside a later one of another mailmap. Control bytes are shown as `\x1b`. `count` is the number of
+ * mailmaps. `needed` is the length of the text, and 0 at OUT_OF_MEMORY.
+ * OK; TOO_SHORT; OUT_OF_MEMORY. */
+gix_mailmap_status gix_mailmap_report(const gix_mailmap_named *mailmaps, size_t count, char *GIX_MAILMAP_ALONE out,
+                                      size_t out_len, size_t *GIX_MAILMAP_ALONE needed)
+    GIX_MAILMAP_NONNULL(5) GIX_MAILMAP_MUST_CHECK;
+
+/* Opens a stream, whose contacts are answered by what the mailmap maps, as gix_mailmap_check answers them. The contacts
+ * come in parts of any length, and a part may end in the middle of a line:
+ *
+ *     while (part_len > 0) {
+ *         if (gix_mailmap_stream_push(stream, part, part_len, &taken) != GIX_MAILMAP_OK)
+ *             return 1;
+ *         part += taken;
+ *         part_len -= taken;
+ *         while ((count = gix_mailmap_stream_read(stream, out, sizeof out)) > 0)
+ *             fwrite(out, 1, count, stdout);
+ *     }
+ *
+ * After the last part call gix_mailmap_stream_finish, and read once more. A stream takes some 1.1 MiB for the last
+ * lines and their answers, beside the mailmap and the answers that wait.
+ * OK; OUT_OF_MEMORY: `*stream` is NULL. */
+gix_mailmap_status gix_mailmap_stream_open(gix_mailmap_stream **stream, const char *mailmap, size_t mailmap_len)
+    GIX_MAILMAP_NONNULL(1) GIX_MAILMAP_MUST_CHECK;
+
+/* Frees a stream, with all answers that weren't read. NULL is none, and nothing happens. */
+void gix_mailmap_stream_close(gix_mailmap_stream *stream);
+
+/* Takes contacts from the beginning of `part`, and answers each line that ends in them. What is after the last line
+ * feed is kept until more comes. `taken` is how many bytes it took: one at least, unless there is none. It is fewer
+ * than there are if 64 KiB of answers wait to be read, or if memory runs out after some lines: read the answers, and
+ * push the rest. `taken` is 0 at OUT_OF_MEMORY.
+ * OK; OUT_OF_MEMORY. */
+gix_mailmap_status gix_mailmap_stream_push(gix_mailmap_stream *stream, const char *part, size_t part_len,
+                                           size_t *GIX_MAILMAP_ALONE taken)
+    GIX_MAILMAP_NONNULL(1, 4) GIX_MAILMAP_MUST_CHECK;
+
+/* Answers the last line, which no line feed ended, if there is one. What is pushed after that begins a new line.
+ * OK; OUT_OF_MEMORY. */
+gix_mailmap_status gix_mailmap_stream_finish(gix_mailmap_stream *stream) GIX_MAILMAP_NONNULL(1) GIX_MAILMAP_MUST_CHECK;
+
+/* Copies the next answers to the beginning of `out`, and returns how many bytes: all that wait, or as many as fit. They
+ * need not end with a line. It is 0 if none wait, or if `out_len` is 0. It needs no memory. */
+size_t gix_mailmap_stream_read(gix_mailmap_stream *stream, char *GIX_MAILMAP_ALONE out, size_t out_len)
+    GIX_MAILMAP_NONNULL(1);
 
 #ifdef __cplusplus
 }

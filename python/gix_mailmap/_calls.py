@@ -2,7 +2,7 @@
 
 from __future__ import annotations
 
-from typing import Callable, Union, overload
+from typing import Callable, Iterable, Union, overload
 
 from . import _native
 from ._results import Finding, Kind
@@ -76,6 +76,28 @@ def verify(mailmap: Text) -> list[Finding]:
     [Finding(line=1, kind=<Kind.NO_EFFECT: 7>, beside=2)]
     """
     return [_finding(*found) for found in _native.verify(as_bytes(mailmap))]
+
+
+@overload
+def report(mailmaps: Iterable[tuple[str, str]]) -> str: ...
+
+
+@overload
+def report(mailmaps: Iterable[tuple[Buffer, Buffer]]) -> bytes: ...
+
+
+def report(mailmaps: Iterable[tuple[Text, Text]]) -> Union[str, bytes]:
+    """What is wrong with mailmaps, as `mailmap_verify` prints it: a line for each finding. Each mailmap comes with its
+    name, and later ones count after earlier ones. Without any the answer is empty bytes. Raises OutOfMemory.
+
+    >>> print(report([("team", "Jane <jd@y>\\n"), ("own", "plain\\nJane Doe <jd@y>\\n")]), end="")
+    team:1: warning: no effect beside own:2
+    own:1: error: no email in brackets
+    """
+    pairs = [(name, text) for name, text in mailmaps]
+    is_str = are_str(*(text for pair in pairs for text in pair))
+    answer = _native.report([(as_bytes(name), as_bytes(text)) for name, text in pairs])
+    return as_str(answer) if is_str else answer
 
 
 def _finding(line: int, number: int, beside: int) -> Finding:

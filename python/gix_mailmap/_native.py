@@ -33,6 +33,10 @@ class _Field(Structure):
     _fields_ = [("len", c_size_t), ("is_given", c_bool)]
 
 
+class _Named(Structure):
+    _fields_ = [("name", c_char_p), ("name_len", c_size_t), ("text", c_char_p), ("text_len", c_size_t)]
+
+
 # gix_mailmap_listed: the start of the texts, and the length of each and whether there is one
 _LISTED = struct.Struct("@N N? N? N? N? 0N")
 # gix_mailmap_finding: line, kind and beside
@@ -90,6 +94,7 @@ def _load() -> ctypes.CDLL:
         "compact": ([*text, *room, length], c_int),
         "prune": ([*text, *room, length], c_int),
         "verify": ([*text, *room, length], c_int),
+        "report": ([POINTER(_Named), c_size_t, *room, length], c_int),
     }
     for name, (arguments, result) in calls.items():
         call = getattr(library, f"gix_mailmap_{name}")
@@ -155,6 +160,16 @@ def verify(mailmap: bytes) -> list[tuple[int, int, int]]:
     """Line, kind and `beside` of each finding."""
     found = _filled(_library.gix_mailmap_verify, _FINDING.size, 64, mailmap)
     return [(line, kind, beside) for line, kind, beside in _FINDING.iter_unpack(found)]
+
+
+def report(mailmaps: list[tuple[bytes, bytes]]) -> bytes:
+    """What is wrong with mailmaps, each with its name, as text."""
+    named = (_Named * len(mailmaps))(*(_Named(name, len(name), text, len(text)) for name, text in mailmaps))
+
+    def call(*room: object) -> int:
+        return int(_library.gix_mailmap_report(named, len(mailmaps), *room))
+
+    return _filled(call, 1, 65_536)
 
 
 class _Buffers:

@@ -44,7 +44,8 @@ class Kind(IntEnum):
     """What may be wrong with a line of a mailmap.
 
     A line of one of the first four kinds gives no entry. One of the fifth
-    gives the entry of its first contact, if that has a name.
+    gives the entry of its first contact, if that has a name. One of the
+    last is read otherwise by git.
     """
 
     NO_EMAIL = 1
@@ -55,6 +56,7 @@ class Kind(IntEnum):
     IGNORED_TEXT = 6
     NO_EFFECT = 7
     ITSELF_MAPPED = 8
+    GIT_READS = 9
 
 
 class Finding(NamedTuple):

@@ -19,7 +19,7 @@ void __wrap_free(void *at);
 
 void *__wrap_malloc(size_t size)
 {
-    void *made = requests++ == refused_request ? NULL : __real_malloc(size);
+    void *made = requests++ == refused_request || size > PTRDIFF_MAX ? NULL : __real_malloc(size);
     blocks += made != NULL;
     return made;
 }
@@ -133,26 +133,71 @@ static const gix_mailmap_finding UNFOUND = {99, (gix_mailmap_kind)98, 97};
 static void verify(void)
 {
     size_t needed = 99;
-    gix_mailmap_finding found[9];
-    for (size_t i = 0; i < 9; i++)
+    gix_mailmap_finding found[10];
+    for (size_t i = 0; i < 10; i++)
         found[i] = UNFOUND;
-    WANT(gix_mailmap_verify(TEXT(FAULTY), found, 7, &needed) == GIX_MAILMAP_TOO_SHORT && needed == 8);
-    for (size_t i = 0; i < 9; i++)
+    WANT(gix_mailmap_verify(TEXT(FAULTY), found, 8, &needed) == GIX_MAILMAP_TOO_SHORT && needed == 9);
+    for (size_t i = 0; i < 10; i++)
         WANT(is_finding(found[i], 99, 98, 97));
-    WANT(gix_mailmap_verify(TEXT(FAULTY), found, 8, &needed) == GIX_MAILMAP_OK && needed == 8);
+    WANT(gix_mailmap_verify(TEXT(FAULTY), found, 9, &needed) == GIX_MAILMAP_OK && needed == 9);
     WANT(is_finding(found[0], 1, GIX_MAILMAP_NO_EMAIL, 0));
     WANT(is_finding(found[1], 2, GIX_MAILMAP_MISSING_CLOSING_BRACKET, 0));
     WANT(is_finding(found[2], 3, GIX_MAILMAP_EMPTY_EMAIL, 0));
-    WANT(is_finding(found[3], 4, GIX_MAILMAP_NOTHING_TO_MAP, 0));
-    WANT(is_finding(found[4], 5, GIX_MAILMAP_UNCLOSED_SECOND, 0));
-    WANT(is_finding(found[5], 6, GIX_MAILMAP_IGNORED_TEXT, 0));
-    WANT(is_finding(found[6], 7, GIX_MAILMAP_NO_EFFECT, 8));
-    WANT(is_finding(found[7], 9, GIX_MAILMAP_ITSELF_MAPPED, 0));
-    WANT(is_finding(found[8], 99, 98, 97));
+    WANT(is_finding(found[3], 3, GIX_MAILMAP_GIT_READS, 0));
+    WANT(is_finding(found[4], 4, GIX_MAILMAP_NOTHING_TO_MAP, 0));
+    WANT(is_finding(found[5], 5, GIX_MAILMAP_UNCLOSED_SECOND, 0));
+    WANT(is_finding(found[6], 6, GIX_MAILMAP_IGNORED_TEXT, 0));
+    WANT(is_finding(found[7], 7, GIX_MAILMAP_NO_EFFECT, 8));
+    WANT(is_finding(found[8], 9, GIX_MAILMAP_ITSELF_MAPPED, 0));
+    WANT(is_finding(found[9], 99, 98, 97));
     found[0] = UNFOUND;
     WANT(gix_mailmap_verify(TEXT(MAP), found, 9, &needed) == GIX_MAILMAP_OK && needed == 0);
     WANT(gix_mailmap_verify(TEXT(""), found, 0, &needed) == GIX_MAILMAP_OK && needed == 0);
     WANT(is_finding(found[0], 99, 98, 97));
+}
+
+/* two mailmaps with a finding of each kind, and a control byte */
+static const char OWN[] = "N <e@x>\nplain\x1b\nI <i@x> \x1b";
+static const gix_mailmap_named BOTH[2] = {{TEXT("team"), TEXT(FAULTY)}, {TEXT("own"), TEXT(OWN)}};
+static const char REPORT[] =
+    "team:1: error: no email in brackets\n"
+    "team:2: error: the first '<' has no '>'\n"
+    "team:3: error: the first email is empty\n"
+    "team:3: warning: git reads it as Jane < > <b@x>\n"
+    "team:4: error: an email alone maps nothing\n"
+    "team:5: error: the second '<' has no '>'\n"
+    "team:6: warning: ignored text: joe\n"
+    "team:7: warning: no effect beside own:1\n"
+    "team:8: warning: no effect beside own:1\n"
+    "team:9: warning: Eve <eve@w> is itself mapped, to Eve <eve@e>\n"
+    "own:2: error: no email in brackets\n"
+    "own:3: warning: ignored text: \\x1b\n";
+
+static void report(void)
+{
+    enum { LEN = sizeof REPORT - 1 };
+    char out[LEN + 8], clean[LEN + 8];
+    memset(clean, '#', sizeof clean);
+    for (size_t room = 0; room <= sizeof out; room++) {
+        size_t needed = 99;
+        memcpy(out, clean, sizeof out);
+        gix_mailmap_status status = gix_mailmap_report(BOTH, 2, out, room, &needed);
+        WANT(status == (room < LEN ? GIX_MAILMAP_TOO_SHORT : GIX_MAILMAP_OK) && needed == LEN);
+        WANT(memcmp(out, room < LEN ? clean : REPORT, LEN) == 0);
+        WANT(memcmp(out + LEN, clean, sizeof out - LEN) == 0);
+    }
+    size_t needed = 99;
+    gix_mailmap_named none = {NULL, 0, NULL, 0}, nameless = {NULL, 0, TEXT("plain")};
+    buffer text = filled();
+    WANT(gix_mailmap_report(NULL, 0, NULL, 0, &needed) == GIX_MAILMAP_OK && needed == 0);
+    WANT(gix_mailmap_report(&none, 1, NULL, 0, &needed) == GIX_MAILMAP_OK && needed == 0);
+    WANT(gix_mailmap_report(&nameless, 1, NULL, 0, &needed) == GIX_MAILMAP_TOO_SHORT && needed == 32);
+    WANT(gix_mailmap_report(&nameless, 1, text.bytes, 64, &needed) == GIX_MAILMAP_OK && needed == 32);
+    WANT(holds(&text, ":1: error: no email in brackets\n"));
+    /* lengths with too large a sum */
+    gix_mailmap_named huge[2] = {{NULL, 0, "", SIZE_MAX}, {"", SIZE_MAX, "", 2}};
+    WANT(gix_mailmap_report(huge, 1, NULL, 0, &needed) == GIX_MAILMAP_OUT_OF_MEMORY && needed == 0);
+    WANT(gix_mailmap_report(huge, 2, NULL, 0, &needed) == GIX_MAILMAP_OUT_OF_MEMORY && needed == 0);
 }
 
 static void looked_up(const gix_mailmap *map)
@@ -330,6 +375,88 @@ static void entries(void)
     gix_mailmap_close(map);
 }
 
+/* Reads what waits in a stream, by buffers of this length, and puts it behind `to`. Returns how many bytes it read. */
+static size_t read_all(gix_mailmap_stream *stream, size_t room, char *to)
+{
+    size_t len = 0, count;
+    do {
+        buffer out = filled(), clean = filled();
+        count = gix_mailmap_stream_read(stream, out.bytes, room);
+        WANT(count <= room && memcmp(out.bytes + count, clean.bytes, sizeof clean.bytes - count) == 0);
+        memcpy(to + len, out.bytes, count);
+        len += count;
+    } while (count > 0);
+    return len;
+}
+
+static const char CONTACTS[] = "jd <JD@y>\r\nplain\n\njoe <joe@x>\njane <jd@y>";
+static const char ANSWERS[] = "Jane Doe <jane@x>\nplain\n\nJoe <joe@x>\nJane Doe <jane@x>\n";
+
+/* contacts in parts of one length, and their answers read by buffers of another */
+static void streamed(gix_mailmap_stream *stream, size_t step, size_t room)
+{
+    char all[sizeof ANSWERS];
+    size_t len = 0, taken = 99;
+    for (size_t at = 0; at < sizeof CONTACTS - 1; at += taken) {
+        size_t left = sizeof CONTACTS - 1 - at, part = step < left ? step : left;
+        WANT(gix_mailmap_stream_push(stream, CONTACTS + at, part, &taken) == GIX_MAILMAP_OK && taken == part);
+        len += read_all(stream, room, all + len);
+    }
+    WANT(len == 37);
+    WANT(gix_mailmap_stream_finish(stream) == GIX_MAILMAP_OK);
+    len += read_all(stream, room, all + len);
+    WANT(len == sizeof ANSWERS - 1 && memcmp(all, ANSWERS, len) == 0);
+}
+
+static void streams(void)
+{
+    gix_mailmap_stream *stream;
+    size_t taken = 99;
+    WANT(gix_mailmap_stream_open(&stream, TEXT(MAP)) == GIX_MAILMAP_OK);
+    for (size_t step = 1; step < sizeof CONTACTS; step++)
+        for (size_t room = 1; room < sizeof ANSWERS; room++)
+            streamed(stream, step, room);
+    /* nothing is left of all that, and nothing comes of nothing */
+    buffer out = filled();
+    WANT(gix_mailmap_stream_finish(stream) == GIX_MAILMAP_OK);
+    WANT(gix_mailmap_stream_push(stream, NULL, 0, &taken) == GIX_MAILMAP_OK && taken == 0);
+    WANT(gix_mailmap_stream_read(stream, out.bytes, 64) == 0 && holds(&out, ""));
+    /* a read without room leaves what waits, and so does a close */
+    WANT(gix_mailmap_stream_push(stream, TEXT("a\nb"), &taken) == GIX_MAILMAP_OK && taken == 3);
+    WANT(gix_mailmap_stream_read(stream, NULL, 0) == 0);
+    WANT(gix_mailmap_stream_read(stream, out.bytes, 1) == 1 && holds(&out, "a"));
+    gix_mailmap_stream_close(stream);
+    gix_mailmap_stream_close(NULL);
+    WANT(gix_mailmap_stream_open(&stream, NULL, 0) == GIX_MAILMAP_OK);
+    WANT(gix_mailmap_stream_push(stream, TEXT("jd <jd@y>\n"), &taken) == GIX_MAILMAP_OK && taken == 10);
+    out = filled();
+    WANT(gix_mailmap_stream_read(stream, out.bytes, 64) == 10 && holds(&out, "jd <jd@y>\n"));
+    gix_mailmap_stream_close(stream);
+}
+
+/* more answers than wait at a time: a push takes a part of its part, and the rest after they are read */
+static void long_streams(void)
+{
+    enum { LINES = 40000 };
+    gix_mailmap_stream *stream;
+    char *contacts = malloc(2 * LINES), *all = malloc(2 * LINES);
+    if (contacts == NULL || all == NULL)
+        abort();
+    for (size_t i = 0; i < LINES; i++)
+        memcpy(contacts + 2 * i, i % 2 ? "a\n" : "b\n", 2);
+    WANT(gix_mailmap_stream_open(&stream, TEXT(MAP)) == GIX_MAILMAP_OK);
+    size_t taken = 0, at = 0, len = 0, pushes = 0;
+    for (; at < 2 * LINES; at += taken, pushes++) {
+        WANT(gix_mailmap_stream_push(stream, contacts + at, 2 * LINES - at, &taken) == GIX_MAILMAP_OK && taken > 0);
+        for (size_t count; (count = gix_mailmap_stream_read(stream, all + len, 4096)) > 0; len += count)
+            ;
+    }
+    WANT(pushes == 2 && len == 2 * LINES && memcmp(all, contacts, len) == 0);
+    gix_mailmap_stream_close(stream);
+    free(contacts);
+    free(all);
+}
+
 /* NULL for each text, buffer and array of length 0, which also asks for a size */
 static void nulls(void)
 {
@@ -356,7 +483,7 @@ static void nulls(void)
     WANT(gix_mailmap_prune(NULL, 0, NULL, 0, &needed) == GIX_MAILMAP_OK && needed == 0);
     WANT(gix_mailmap_prune(TEXT(MAP), NULL, 0, &needed) == GIX_MAILMAP_TOO_SHORT && needed == sizeof MAP - 1);
     WANT(gix_mailmap_verify(NULL, 0, NULL, 0, &needed) == GIX_MAILMAP_OK && needed == 0);
-    WANT(gix_mailmap_verify(TEXT(FAULTY), NULL, 0, &needed) == GIX_MAILMAP_TOO_SHORT && needed == 8);
+    WANT(gix_mailmap_verify(TEXT(FAULTY), NULL, 0, &needed) == GIX_MAILMAP_TOO_SHORT && needed == 9);
 }
 
 static void words(void)
@@ -394,9 +521,12 @@ static int texts_once(void)
     out = filled();
     WANT(is_done(gix_mailmap_prune(TEXT(MAP), out.bytes, 64, &needed), &needed, &refused));
     WANT(holds(&out, needed ? MAP : ""));
-    gix_mailmap_finding found[8] = {UNFOUND};
-    WANT(is_done(gix_mailmap_verify(TEXT(FAULTY), found, 8, &needed), &needed, &refused));
-    WANT(needed ? needed == 8 && is_finding(found[0], 1, GIX_MAILMAP_NO_EMAIL, 0) : is_finding(found[0], 99, 98, 97));
+    gix_mailmap_finding found[9] = {UNFOUND};
+    WANT(is_done(gix_mailmap_verify(TEXT(FAULTY), found, 9, &needed), &needed, &refused));
+    WANT(needed ? needed == 9 && is_finding(found[0], 1, GIX_MAILMAP_NO_EMAIL, 0) : is_finding(found[0], 99, 98, 97));
+    char all[sizeof REPORT] = "#";
+    WANT(is_done(gix_mailmap_report(BOTH, 2, all, sizeof all, &needed), &needed, &refused));
+    WANT(needed ? needed == sizeof REPORT - 1 && memcmp(all, REPORT, needed) == 0 : all[0] == '#');
     return refused;
 }
 
@@ -430,6 +560,32 @@ static int calls_once(void)
     return refused;
 }
 
+/* Those of a stream, each once, and once more if it ran out of memory: how many did. The answers are the same. */
+static int stream_once(void)
+{
+    int refused = 0;
+    gix_mailmap_stream *stream;
+    if (!is_done(gix_mailmap_stream_open(&stream, TEXT(MAP)), NULL, &refused) || refused)
+        WANT(stream == NULL && gix_mailmap_stream_open(&stream, TEXT(MAP)) == GIX_MAILMAP_OK);
+    size_t taken = 99;
+    for (size_t at = 0; at < sizeof CONTACTS - 1; at += taken) {
+        size_t left = sizeof CONTACTS - 1 - at;
+        gix_mailmap_status pushed = gix_mailmap_stream_push(stream, CONTACTS + at, left, &taken);
+        WANT(is_done(pushed, &taken, &refused));
+        /* out of memory after some lines */
+        refused += pushed == GIX_MAILMAP_OK && taken < left;
+    }
+    char all[sizeof ANSWERS];
+    int before = refused;
+    if (!is_done(gix_mailmap_stream_finish(stream), NULL, &refused) || refused > before)
+        WANT(gix_mailmap_stream_finish(stream) == GIX_MAILMAP_OK);
+    long behind = requests;
+    WANT(read_all(stream, 9, all) == sizeof ANSWERS - 1 && memcmp(all, ANSWERS, sizeof ANSWERS - 1) == 0);
+    gix_mailmap_stream_close(stream);
+    WANT(requests == behind);
+    return refused;
+}
+
 /* requests that were refused, and then made again for less: findings are collected, and a vector that can't have all the
  * room at once asks for less */
 static int made_again;
@@ -439,7 +595,7 @@ static bool refuses(long number)
 {
     requests = 0;
     refused_request = number;
-    int refused = texts_once() + calls_once();
+    int refused = texts_once() + calls_once() + stream_once();
     made_again += number < requests && !refused;
     WANT(refused <= (number < requests));
     WANT(blocks == 0);
@@ -449,7 +605,8 @@ static bool refuses(long number)
 
 int main(void)
 {
-    void (*const parts[])(void) = {words, check_and_compact, prune, verify, changes, entries, nulls};
+    void (*const parts[])(void) = {words,  check_and_compact, prune,        verify,       report, changes,
+                                   entries, streams,          long_streams, nulls};
     for (size_t i = 0; i < sizeof parts / sizeof parts[0]; i++) {
         parts[i]();
         WANT(blocks == 0);

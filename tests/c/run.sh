@@ -83,6 +83,28 @@ has() {
 }
 
 tests
+
+# No contract says that a call succeeds if there is memory, so the tests have to see it if one never does.
+for call in open stream_open; do
+    cat > "$work/wrong.c" <<END
+#include "gix_mailmap.h"
+gix_mailmap_status __wrap_gix_mailmap_$call(void **made, const char *text, size_t text_len);
+gix_mailmap_status __wrap_gix_mailmap_$call(void **made, const char *text, size_t text_len)
+{
+    *made = NULL;
+    (void)text, (void)text_len;
+    return GIX_MAILMAP_OUT_OF_MEMORY;
+}
+END
+    "$cc" -std=c11 "${strict[@]}" "$here/calls.c" "$work/wrong.c" "$library/libgix_mailmap.a" "${wrapped[@]}" \
+        "-Wl,--wrap=gix_mailmap_$call" -o "$work/wrong"
+    { "$work/wrong" > "$work/said" 2>&1; } 2> "$work/shell" || true
+    if ! grep -q "gix_mailmap_$call(.*GIX_MAILMAP_OK" "$work/said"; then
+        echo "calls.c takes a gix_mailmap_$call that is always out of memory"
+        exit 1
+    fi
+done
+
 sanitizers=(-fsanitize=address,undefined -fno-sanitize-recover=all)
 if has "${sanitizers[@]}"; then
     tests "${sanitizers[@]}"

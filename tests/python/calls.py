@@ -32,18 +32,35 @@ class Texts(unittest.TestCase):
         cases = [
             (b"plain", [Finding(1, Kind.NO_EMAIL, None)]),
             (b"Jane <a@x", [Finding(1, Kind.MISSING_CLOSING_BRACKET, None)]),
-            (b"Jane < > <b@x>", [Finding(1, Kind.EMPTY_EMAIL, None)]),
+            (b"Jane < > <b@x>", [Finding(1, Kind.EMPTY_EMAIL, None), Finding(1, Kind.GIT_READS, None)]),
             (b"<a@x>", [Finding(1, Kind.NOTHING_TO_MAP, None)]),
             (b"Jo <c@x> <d", [Finding(1, Kind.UNCLOSED_SECOND, None)]),
             (b"Joe <joe@x> joe", [Finding(1, Kind.IGNORED_TEXT, None)]),
             (b"N <e@x>\n\nM <e@x>", [Finding(1, Kind.NO_EFFECT, 3)]),
             (b"Eve <eve@w> <eve@o>\n<eve@e> <eve@w>", [Finding(1, Kind.ITSELF_MAPPED, None)]),
+            (b"Joe < joe@x >", [Finding(1, Kind.GIT_READS, None)]),
             (MAP, []),
             (b"", []),
         ]
         for mailmap, found in cases:
             with self.subTest(mailmap=mailmap):
                 self.assertEqual(gix_mailmap.verify(mailmap), found)
+
+    def test_report(self):
+        both = [(b"team", b"N <e@x>\nplain\n"), (b"own", b"M <e@x>\nI <i@x> \x1b")]
+        lines = [
+            b"team:1: warning: no effect beside own:1",
+            b"team:2: error: no email in brackets",
+            b"own:2: warning: ignored text: \\x1b",
+        ]
+        self.assertEqual(gix_mailmap.report(both), b"".join(line + b"\n" for line in lines))
+        error = b":1: error: no email in brackets\n"
+        self.assertEqual(gix_mailmap.report(iter([(b"", b"plain"), (b"a\0b", b"")])), error)
+        self.assertEqual(gix_mailmap.report([(b"a\0b", b"\0\nN <e@x>")]), b"a\\x00b" + error)
+        self.assertEqual(gix_mailmap.report([]), b"")
+        many = gix_mailmap.report([(b"many", b"plain\n" * COUNT)])
+        self.assertEqual(many.count(b": error: no email in brackets\n"), COUNT)
+        self.assertTrue(many.endswith(b"\nmany:200000: error: no email in brackets\n"))
 
     def test_more_findings_than_the_first_array_holds(self):
         found = [Finding(line, Kind.NO_EMAIL, None) for line in range(1, 1001)]

@@ -42,6 +42,9 @@ class Kinds(unittest.TestCase):
         for kind in (bytes, bytearray, memoryview):
             self.assertEqual(gix_mailmap.verify(kind(b"plain")), [Finding(1, Kind.NO_EMAIL, None)])
         self.assertEqual(gix_mailmap.verify("plain"), gix_mailmap.verify(b"plain"))
+        self.assertEqual(gix_mailmap.report([("ä", "x")]), "ä:1: error: no email in brackets\n")
+        for kind in (bytes, bytearray, memoryview):
+            self.assertEqual(gix_mailmap.report([(kind(b"a"), kind(b"x"))]), b"a:1: error: no email in brackets\n")
 
     def test_what_is_not_utf_8(self):
         text = JOERG.decode(errors="surrogateescape")
@@ -63,6 +66,8 @@ class Kinds(unittest.TestCase):
                 lambda: of_str.lookup("", b""),
                 lambda: of_bytes.lookup(bytearray(), ""),
                 lambda: gix_mailmap.check("", b""),
+                lambda: gix_mailmap.report([("", b"")]),
+                lambda: gix_mailmap.report([("", ""), (b"", b"")]),
                 lambda: list(of_str.map_contacts(["", b""])),
                 lambda: list(of_str.map_contacts(["x"] * 10_000 + [b""])),
             ]

@@ -37,9 +37,12 @@ with Mailmap("") as of_str, Mailmap(b"", buffer, memoryview(buffer)) as of_bytes
     gix_mailmap.check("", b"")  # type: ignore[call-overload]
     Mailmap("", b"")  # type: ignore[call-overload]
     gix_mailmap.compact(1)  # type: ignore[call-overload]
+    gix_mailmap.report([("", b"")])  # type: ignore[list-item]
 
 assert_type(gix_mailmap.check("", ""), str)
 assert_type(gix_mailmap.compact(buffer), bytes)
 assert_type(gix_mailmap.prune(b""), bytes)
+assert_type(gix_mailmap.report([("", "")]), str)
+assert_type(gix_mailmap.report({b"": b""}.items()), bytes)
 assert_type(gix_mailmap.verify(""), list[Finding])
 assert_type(gix_mailmap.verify(b"")[0].kind, Kind)

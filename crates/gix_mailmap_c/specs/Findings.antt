@@ -3,7 +3,7 @@ use Rattle.std.specs.Prelude.{◌≡◌, ◌∷◌, ℕ, List, [], map}
 use Rattle.mailmap_entries.specs.Folding.{Text}
 use Rattle.mailmap_grammar.specs.Lines.{Kind, no_email, missing_closing_bracket, empty_email, nothing_to_map, unclosed_second}
 use Rattle.mailmap_findings.specs.Findings as library
-use Rattle.mailmap_findings.specs.Findings.{AreFindings, Reported, fault, ignored_text, no_effect, itself_mapped}
+use Rattle.mailmap_findings.specs.Findings.{AreFindings, Reported, fault, ignored_text, git_reads, no_effect, itself_mapped}
 use Rattle.gix_mailmap_c.specs.declared.findings.Finding.{Finding}
 
 -- the number of a fault
@@ -20,6 +20,7 @@ number (fault f) = fault_number f.kind
 number (ignored_text text) = 6
 number (no_effect beside) = 7
 number (itself_mapped contact to) = 8
+number (git_reads reading) = 9
 
 -- the line beside which there is no effect; 0 with every other kind
 abbrev pub beside_line : Reported → ℕ
@@ -27,6 +28,7 @@ beside_line (fault f) = 0
 beside_line (ignored_text text) = 0
 beside_line (no_effect beside) = beside.line
 beside_line (itself_mapped contact to) = 0
+beside_line (git_reads reading) = 0
 
 abbrev pub one_reported : library.Finding → Finding
 one_reported f = record { line = f.position.line; kind = number f.reported; beside = beside_line f.reported }

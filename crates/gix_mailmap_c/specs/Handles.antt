@@ -5,16 +5,17 @@ use Rattle.mailmap_histories.specs.Building.{IsMerged}
 use Rattle.mailmap_histories.specs.Histories.{IsNormal, accepted}
 use Rattle.gix_mailmap_c.specs.declared.held.Mailmap.{Mailmap}
 
-abbrev pub if_open : Bool → List Mapping → Option (List Mapping)
-if_open true entries = Some entries
-if_open false entries = None
+-- what an open handle holds
+abbrev pub if_open : {X : Type 0} → Bool → X → Option X
+if_open true held = Some held
+if_open false held = None
 
 -- the listing of the snapshot that a handle holds, while it is open
 abbrev pub contents : Mailmap → Option (List Mapping)
 contents m = if_open m.is_open m.entries
 
 -- a call that gives this status and leaves the handle as it was
-abbrev pub Leaves : ℕ → Option (List Mapping) → Option (List Mapping) → ℕ → Type 0
+abbrev pub Leaves : {X : Type 0} → ℕ → Option X → Option X → ℕ → Type 0
 Leaves code old new status = (status ≡ code) × (new ≡ old)
 
 -- status 0: a closed handle holds what a text says; 2: out of memory; 7: it was open, and is as it was

@@ -7,3 +7,8 @@ pub mod Listed
 pub mod Findings
 pub mod Adding
 pub mod Written
+pub mod Streamed
+pub mod StreamHeld
+pub mod StreamLent
+pub mod StreamCalls
+pub mod Reported

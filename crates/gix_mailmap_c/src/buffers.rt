@@ -1,9 +1,10 @@
 //! Texts put into the caller's buffers.
-ghost use Rattle.std.specs.Prelude.{◌≡◌};
-ghost use Rattle.gix_mailmap_c.specs.Handed.{IsPut, ArePut};
+ghost use Rattle.std.specs.Prelude.{◌≡◌, IfOk, OnErr};
+ghost use Rattle.gix_mailmap_c.specs.Handed.{ArePut, IsOutOfMemory, IsPut};
 
 use crate::copies::copy;
 use crate::status::{OK, OUT_OF_MEMORY, TOO_SHORT};
+use std::alloc::AllocError;
 
 /// Copies a text to the front of `out`, if it fits, and gives its length.
 pub(crate) fn put(text: &[u8], out: &mut [u8], needed: &mut usize) -> u32
@@ -16,6 +17,17 @@ pub(crate) fn put(text: &[u8], out: &mut [u8], needed: &mut usize) -> u32
     }
     copy(text, out);
     OK
+}
+
+/// Puts the text that a call has made at the front of `out`, if it fits, and its length.
+pub(crate) fn hand(made: Result<Vec<u8>, AllocError>, out: &mut [u8], needed: &mut usize) -> u32
+    ensures ok { IfOk made (λ text. IsPut text.items out.old out.new needed.new result) }
+    ensures err { OnErr made (IsOutOfMemory out.old out.new needed.new result) }
+{
+    match made {
+        Ok(text) => put(text.as_slice(), out, needed),
+        Err(_) => out_of_memory(needed),
+    }
 }
 
 /// There is no text, since memory ran out.

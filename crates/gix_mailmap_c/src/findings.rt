@@ -15,8 +15,8 @@ use std::alloc::Global;
 /// What is reported of a line: its number, counted from 1, what is wrong with it, and for a line of no effect the
 /// number of the line that it has none beside; `beside` is 0 for all others.
 ///
-/// `kind` is 1 to 5 for the faults, in the order of [`Error`], 6 for ignored text, 7 for no effect, and 8 for a contact
-/// that is itself mapped.
+/// `kind` is 1 to 5 for the faults, in the order of [`Error`], 6 for ignored text, 7 for no effect, 8 for a contact
+/// that is itself mapped, and 9 for a line that git reads otherwise.
 #[repr(C)]
 #[derive(Clone, Copy)]
 pub struct Finding {
@@ -92,6 +92,7 @@ fn number_of(kind: &Kind<'_>) -> u32
         Kind::IgnoredText(_) => 6,
         Kind::NoEffect { .. } => 7,
         Kind::ItselfMapped { .. } => 8,
+        Kind::GitReads(_) => 9,
     }
 }
 
@@ -114,6 +115,6 @@ fn beside_of(kind: &Kind<'_>) -> usize
 {
     match kind {
         Kind::NoEffect { beside } => beside.line,
-        Kind::Fault(_) | Kind::IgnoredText(_) | Kind::ItselfMapped { .. } => 0,
+        Kind::Fault(_) | Kind::IgnoredText(_) | Kind::GitReads(_) | Kind::ItselfMapped { .. } => 0,
     }
 }

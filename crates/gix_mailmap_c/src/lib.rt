@@ -13,6 +13,8 @@ pub mod handle;
 mod held;
 pub mod listing;
 pub mod lookup;
+pub mod report;
 pub mod status;
+pub mod stream;
 pub mod texts;
 pub mod writing;

@@ -1,13 +1,13 @@
 //! Calls that take a mailmap as text, and keep nothing.
-ghost use Rattle.std.specs.Prelude.{◌≡◌, ◌∷◌, [], IfOk, OnErr};
+ghost use Rattle.std.specs.Prelude.{◌≡◌, ◌∷◌, []};
 ghost use Rattle.gix_mailmap.specs.Contacts.{answers_by};
 ghost use Rattle.mailmap_findings.specs.Findings.{IsPruned};
 ghost use Rattle.mailmap_snapshot.specs.Writing.{IsCompacted};
-ghost use Rattle.gix_mailmap_c.specs.Handed.{IsHanded, IsOutOfMemory, IsPut};
+ghost use Rattle.gix_mailmap_c.specs.Handed.{IsHanded};
 
-use crate::buffers::{out_of_memory, put};
+use crate::buffers::hand;
 use gix_mailmap::{check, verify};
-use std::alloc::{AllocError, Global};
+use std::alloc::Global;
 
 /// Answers each line of `contacts` by what `mailmap` maps, as [`check`](gix_mailmap::check::check()) does.
 ///
@@ -52,15 +52,4 @@ pub extern "C" fn gix_mailmap_text_prune(
     ensures { IsHanded (IsPruned mailmap.now) out.old out.new needed.new result }
 {
     hand(verify::prune(alloc, mailmap), out, needed)
-}
-
-// Puts the text that a call has made at the front of `out`, if it fits, and its length.
-fn hand(made: Result<Vec<u8>, AllocError>, out: &mut [u8], needed: &mut usize) -> u32
-    ensures ok { IfOk made (λ text. IsPut text.items out.old out.new needed.new result) }
-    ensures err { OnErr made (IsOutOfMemory out.old out.new needed.new result) }
-{
-    match made {
-        Ok(text) => put(text.as_slice(), out, needed),
-        Err(_) => out_of_memory(needed),
-    }
 }

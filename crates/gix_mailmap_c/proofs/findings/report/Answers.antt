@@ -18,8 +18,10 @@ loop-finding-preserved c =
     let all = all_reported (map finding_of xs) in
     let left = all_reported (map finding_of (drop (i + 1) xs)) in
     let within : i < length xs = omega arith in
+    let f = c.finding-item.result in
+    let next : drop i xs ≡ f ∷ drop (i + 1) xs = drop_more xs i f within ∙ ap (λ (y : library.Finding). y ∷ drop (i + 1) xs) (sym c.finding-item.is) in
     let cut : all_reported (map finding_of (drop i xs)) ≡ one ∷ left =
-    ap (λ (l : List library.Finding). all_reported (map finding_of l)) (drop_more xs i _ within)
+    ap (λ (l : List library.Finding). all_reported (map finding_of l)) next
     ∙ ap (λ (y : Finding). y ∷ left) (sym c.of-one.ensures) in
     let before : Copied (one ∷ left) all index out old = subst (λ (l : List Finding). Copied l all index out old) cut c.loop-finding.invariant.reported in
     let lt : index < length out = omega (arith, c.loop-finding.invariant.index, c.requires) in

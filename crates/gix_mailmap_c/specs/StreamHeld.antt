@@ -1,0 +1,13 @@
+-- What the handle of a stream owns: while it is open the contacts that it points to, as a box does.
+use Rattle.std.specs.Prelude.{Bool, true, false}
+use base.Fml.{Fml, ftrue}
+use denote.RawPtr.{Ptr}
+use Rattle.std.specs.Box.Ownership.{box_owns}
+use Rattle.std.specs.Global.{Global}
+use Rattle.std.specs.contracts.impls.GlobalAllocator.TheImpl.{ghosts}
+use Rattle.gix_mailmap_c.specs.Streamed.{Pending}
+use Rattle.gix_mailmap_c.specs.contracts.stream.contacts.Contacts.{the_row}
+
+abbrev pub streaming : Global → Bool → Ptr → Pending → Fml
+streaming alloc true at pending = box_owns (ghosts.dealloc_token alloc) the_row at pending
+streaming alloc false at pending = ftrue

@@ -1,0 +1,52 @@
+-- What the calls on a stream of contacts do.
+use Rattle.std.specs.Prelude.{◌≡◌, ◌<◌, ◌≤◌, ◌++◌, ◌⊎◌, ◌∷◌, ℕ, List, [], length, take, drop}
+use Rattle.mailmap_entries.specs.Entries.{Mapping}
+use Rattle.mailmap_entries.specs.Folding.{Text}
+use Rattle.mailmap_grammar.specs.Lines.{HoldsNo}
+use Rattle.gix_mailmap.specs.Contacts.{answers, answers_by}
+use Rattle.gix_mailmap.specs.Streams.{AnswersFront}
+
+-- what a stream maps by, the beginning of a line that hasn't ended yet, and the answers that haven't been read yet
+pub record Pending : Type 0 where
+  pub mappings : List Mapping
+  pub kept : Text
+  pub unread : Text
+
+abbrev pub nothing_pending : Pending
+nothing_pending = record { mappings = []; kept = []; unread = [] }
+
+-- a stream that has no contacts yet, which are answered by what the mailmap says
+pub record IsNew (mailmap : Text) (new : Pending) : Type 0 where
+  pub kept : new.kept ≡ []
+  pub unread : new.unread ≡ []
+  pub same : (contacts : Text) → answers new.mappings contacts ≡ answers_by (mailmap ∷ []) contacts
+
+-- the stream has taken these bytes: the lines that end in them are answered, and what is after these is kept
+pub record HasTaken (bytes : Text) (old new : Pending) : Type 0 where
+  pub made : Text
+  pub mappings : new.mappings ≡ old.mappings
+  pub unread : new.unread ≡ old.unread ++ made
+  pub front : AnswersFront old.mappings (old.kept ++ bytes) made new.kept
+  pub kept : HoldsNo 10 old.kept → HoldsNo 10 new.kept
+
+-- so many bytes are taken from the front of the part, one at least if there is one
+pub record HasTakenOf (part : Text) (taken : ℕ) (old new : Pending) : Type 0 where
+  pub within : taken ≤ length part
+  pub some : 0 < length part → 0 < taken
+  pub has : HasTaken (take taken part) old new
+
+-- what is kept is answered as a line
+abbrev pub ended : Pending → Pending
+ended p = record { mappings = p.mappings; kept = []; unread = p.unread ++ answers p.mappings p.kept }
+
+-- the first so many of the unread answers are read
+abbrev pub past : ℕ → Pending → Pending
+past count p = record p { unread = drop count p.unread }
+
+-- as many of the unread answers as there are, or as fit, are at the front of the buffer; the rest of it is as it was
+pub record AreRead (old new : Pending) (before after : Text) (count : ℕ) : Type 0 where
+  pub unread : count ≤ length old.unread
+  pub fits : count ≤ length before
+  pub all : (count ≡ length old.unread) ⊎ (count ≡ length before)
+  pub written : after ≡ take count old.unread ++ drop count before
+  pub left : new ≡ past count old

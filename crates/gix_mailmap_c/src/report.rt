@@ -1,0 +1,94 @@
+//! The report on several mailmaps, as `mailmap_verify` prints it.
+ghost use Rattle.std.specs.Prelude.{◌≡◌, IfOk, map};
+ghost use Rattle.gix_mailmap_c.specs.Handed.{IsHanded};
+ghost use Rattle.gix_mailmap_c.specs.Reported.{IsReportOf, cut_by};
+
+use crate::buffers::hand;
+use gix_mailmap::verify::{Mailmaps, Verification};
+use mailmap_reports::report::print_findings;
+use std::alloc::{AllocError, Global};
+
+/// How long the name and the text of a mailmap are.
+#[repr(C)]
+#[derive(Clone, Copy)]
+pub struct Lengths {
+    pub name: usize,
+    pub text: usize,
+}
+
+/// Writes the line of each finding in some mailmaps, as [`print_findings`] prints them.
+///
+/// `names` has the names of all mailmaps, one after another, and `texts` their texts. If these have fewer bytes than
+/// `lengths` says, the last of them are short or empty.
+///
+/// `OK`: the report is at the front of `out`, and `needed` is its length. `TOO_SHORT`: `out` is too short for it, and
+/// `needed` is its length. `OUT_OF_MEMORY`: `needed` is 0. The rest of `out` stays as it was.
+#[unsafe(no_mangle)]
+pub extern "C" fn gix_mailmap_text_report(
+    alloc: Global,
+    lengths: &[Lengths],
+    names: &[u8],
+    texts: &[u8],
+    out: &mut [u8],
+    needed: &mut usize,
+) -> u32
+    ensures { IsHanded (IsReportOf (cut_by (map (λ l. l.name) lengths.now) names.now)
+        (cut_by (map (λ l. l.text) lengths.now) texts.now)) out.old out.new needed.new result }
+{
+    hand(report(alloc, lengths, names, texts), out, needed)
+}
+
+// The report.
+fn report(
+    alloc: Global,
+    lengths: &[Lengths],
+    names: &[u8],
+    texts: &[u8],
+) -> Result<Vec<u8>, AllocError>
+    ensures { IfOk result (λ text. IsReportOf (cut_by (map (λ l. l.name) lengths.now) names.now)
+        (cut_by (map (λ l. l.text) lengths.now) texts.now) text.items) }
+{
+    let names = names_of(alloc, lengths, names)?;
+    let buffers = texts_of(alloc, lengths, texts)?;
+    let mailmaps = Mailmaps::read(alloc, buffers.as_slice())?;
+    let verification = Verification::new(alloc, &mailmaps)?;
+    let mut text = Vec::new(alloc);
+    match print_findings(alloc, names.as_slice(), verification.findings(), &mut text) {
+        Ok(_) => Ok(text),
+        Err(_) => Err(AllocError),
+    }
+}
+
+// The name of each mailmap.
+fn names_of(alloc: Global, lengths: &[Lengths], names: &[u8]) -> Result<Vec<Vec<u8>>, AllocError>
+    ensures { IfOk result (λ each. map (λ name. name.items) each.items
+        ≡ cut_by (map (λ l. l.name) lengths.now) names.now) }
+{
+    let mut each = Vec::new(alloc);
+    let mut rest = names;
+    for part in lengths {
+        let (name, behind) = rest.split_at(part.name.min(rest.len()));
+        each.push(Vec::from_slice(alloc, name)?)?;
+        rest = behind;
+    }
+    Ok(each)
+}
+
+// The text of each mailmap.
+fn texts_of<'a>(
+    alloc: Global,
+    lengths: &[Lengths],
+    texts: &'a [u8],
+) -> Result<Vec<&'a [u8]>, AllocError>
+    ensures { IfOk result (λ each. map (λ text. text.now) each.items
+        ≡ cut_by (map (λ l. l.text) lengths.now) texts.now) }
+{
+    let mut each = Vec::new(alloc);
+    let mut rest = texts;
+    for part in lengths {
+        let (text, behind) = rest.split_at(part.text.min(rest.len()));
+        each.push(text)?;
+        rest = behind;
+    }
+    Ok(each)
+}

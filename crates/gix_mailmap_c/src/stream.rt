@@ -1,0 +1,134 @@
+//! A stream of contacts that C holds: opened for a mailmap, given contacts in parts, read for the answers, closed.
+ghost use Rattle.std.specs.Prelude.{◌≡◌, Some, None, option_map, IfOk};
+ghost use Rattle.gix_mailmap_c.specs.Streamed.{IsNew};
+ghost use Rattle.gix_mailmap_c.specs.StreamCalls.{pending, OpensStream, Pushes, Finishes, Reads};
+
+pub mod contacts;
+mod held;
+
+use crate::held::Parts;
+use crate::status::{CLOSED, OK, OPEN, OUT_OF_MEMORY};
+use contacts::Contacts;
+use held::{Stream, closed, end, into_parts, is_open, lent, opened};
+use std::alloc::{AllocError, Global};
+
+/// Opens a closed handle on a stream whose contacts are answered by what `mailmap` maps.
+///
+/// `OK`, `OUT_OF_MEMORY`, or `OPEN`: the handle is open already. Unless the status is `OK`, it stays as it was.
+#[unsafe(no_mangle)]
+pub extern "C" fn gix_mailmap_stream_handle_open(
+    alloc: Global,
+    s: &mut Stream,
+    mailmap: &[u8],
+) -> u32
+    ensures { OpensStream mailmap.now (pending s.old) (pending s.new) result }
+{
+    if is_open(s) {
+        return OPEN;
+    }
+    match opened_box(alloc, mailmap) {
+        Ok(contacts) => {
+            put_back(s, contacts);
+            OK
+        }
+        Err(_) => OUT_OF_MEMORY,
+    }
+}
+
+/// Takes contacts from the front of `part`, as [`ContactStream::push`](gix_mailmap::check::ContactStream::push) does.
+///
+/// `OK`: `taken` is how many bytes it took. `OUT_OF_MEMORY`: `taken` is 0, and the stream is as it was. `CLOSED`.
+#[unsafe(no_mangle)]
+pub extern "C" fn gix_mailmap_stream_handle_push(
+    s: &mut Stream,
+    part: &[u8],
+    taken: &mut usize,
+) -> u32
+    ensures { Pushes part.now (pending s.old) (pending s.new) taken.old taken.new result }
+{
+    if !is_open(s) {
+        return CLOSED;
+    }
+    match lent::contacts(s).push(part) {
+        Ok(count) => {
+            *taken = count;
+            OK
+        }
+        Err(_) => {
+            *taken = 0;
+            OUT_OF_MEMORY
+        }
+    }
+}
+
+/// Answers the last line, which no line feed ended.
+///
+/// `OK`; `OUT_OF_MEMORY`: the stream is as it was; `CLOSED`.
+#[unsafe(no_mangle)]
+pub extern "C" fn gix_mailmap_stream_handle_finish(s: &mut Stream) -> u32
+    ensures { Finishes (pending s.old) (pending s.new) result }
+{
+    if !is_open(s) {
+        return CLOSED;
+    }
+    match lent::contacts(s).finish() {
+        Ok(()) => OK,
+        Err(_) => OUT_OF_MEMORY,
+    }
+}
+
+/// Copies answers that haven't been read yet to the front of `out`, as many bytes as fit; `count` is how many.
+///
+/// `OK` or `CLOSED`. The rest of `out` stays as it was.
+#[unsafe(no_mangle)]
+pub extern "C" fn gix_mailmap_stream_handle_read(
+    s: &mut Stream,
+    out: &mut [u8],
+    count: &mut usize,
+) -> u32
+    ensures { Reads (pending s.old) (pending s.new) out.old out.new count.old count.new result }
+{
+    if !is_open(s) {
+        return CLOSED;
+    }
+    *count = lent::contacts(s).read(out);
+    OK
+}
+
+/// Closes a handle, and gives its memory back. A closed one stays closed.
+#[unsafe(no_mangle)]
+pub extern "C" fn gix_mailmap_stream_handle_close(alloc: Global, s: &mut Stream)
+    ensures { pending s.new ≡ None }
+{
+    drop(take(alloc, s));
+}
+
+// A stream of contacts, in a box.
+fn opened_box(alloc: Global, mailmap: &[u8]) -> Result<Box<Contacts>, AllocError>
+    ensures { IfOk result (λ b. IsNew mailmap.now b.value) }
+{
+    let contacts = Contacts::new(alloc, mailmap)?;
+    Ok(Box::new(alloc, contacts)?)
+}
+
+// Takes the contacts out of a handle, if it is open, and leaves it closed.
+fn take(alloc: Global, s: &mut Stream) -> Option<Box<Contacts>>
+    ensures taken { option_map (λ b. b.value) result ≡ pending s.old }
+    ensures closed { pending s.new ≡ None }
+{
+    let mut taken = std::mem::replace(s, closed(alloc));
+    if is_open(&mut taken) {
+        Some(into_parts(taken).into_box())
+    } else {
+        end(taken);
+        None
+    }
+}
+
+// Puts contacts into a closed handle.
+fn put_back(s: &mut Stream, contacts: Box<Contacts>)
+    requires { pending s.old ≡ None }
+    ensures { pending s.new ≡ Some contacts.value }
+{
+    end(std::mem::replace(s, opened(Parts::of(contacts))));
+}

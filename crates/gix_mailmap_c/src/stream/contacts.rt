@@ -1,0 +1,76 @@
+//! Contacts that come in parts, and their answers until these are read.
+ghost use Rattle.std.specs.Prelude.{◌≡◌, IfOk, OnErr, OnOk};
+ghost use Rattle.gix_mailmap_c.specs.Streamed.{AreRead, HasTakenOf, IsNew, ended};
+
+use crate::copies::copy;
+use gix_mailmap::check::ContactStream;
+use std::alloc::{AllocError, Global};
+use std::marker::Model;
+
+/// A stream of contacts, and the answers to them that haven't been read yet.
+#[derive(Drop)]
+pub struct Contacts {
+    stream: ContactStream,
+    answers: Vec<u8>,
+    read: usize,
+}
+
+impl Model for Contacts {
+    ghost use Rattle.gix_mailmap_c.specs.Streamed.{Pending};
+
+    ghost Value = { Pending };
+
+    ghost use Rattle.std.specs.Prelude.{◌≤◌, drop, length};
+
+    ghost view = { λ c. record {
+      mappings = c.stream.mappings;
+      kept = c.stream.kept;
+      unread = drop c.read c.answers.items;
+    } };
+
+    ghost invariant = { λ c. c.read ≤ length c.answers.items };
+}
+
+impl Contacts {
+    /// A stream whose contacts are answered by what a mailmap maps.
+    pub fn new(alloc: Global, mailmap: &[u8]) -> Result<Contacts, AllocError>
+        ensures { IfOk result (IsNew mailmap.now) }
+    {
+        Ok(Contacts {
+            stream: ContactStream::new(alloc, &[mailmap])?,
+            answers: Vec::new(alloc),
+            read: 0,
+        })
+    }
+
+    /// Takes bytes from the front of `part`, answers the lines that end in them, and returns how many it took.
+    pub fn push(&mut self, part: &[u8]) -> Result<usize, AllocError>
+        ensures ok { IfOk result (λ taken. HasTakenOf part.now taken self.old self.new) }
+        ensures err { OnErr result (self.new ≡ self.old) }
+    {
+        self.stream.push(part, &mut self.answers)
+    }
+
+    /// Answers the last line, which no line feed ended.
+    pub fn finish(&mut self) -> Result<(), AllocError>
+        ensures ok { OnOk result (self.new ≡ ended self.old) }
+        ensures err { OnErr result (self.new ≡ self.old) }
+    {
+        self.stream.finish_line(&mut self.answers)
+    }
+
+    /// Copies unread answers to the front of `out`, as many as fit, and returns how many bytes.
+    pub fn read(&mut self, out: &mut [u8]) -> usize
+        ensures { AreRead self.old self.new out.old out.new result }
+    {
+        let unread = &self.answers[self.read..];
+        let count = unread.len().min(out.len());
+        copy(&unread[..count], out);
+        self.read += count;
+        if self.read == self.answers.len() {
+            self.answers.clear();
+            self.read = 0;
+        }
+        count
+    }
+}

@@ -1,0 +1,81 @@
+//! A stream that C holds, and the five steps between it and the box that it owns.
+ghost use Rattle.std.specs.Prelude.{◌≡◌, true, false};
+ghost use Rattle.gix_mailmap_c.specs.Streamed.{Pending};
+ghost use Rattle.gix_mailmap_c.specs.StreamHeld.{streaming};
+
+pub(crate) mod lent;
+
+use crate::held::Parts;
+use crate::stream::contacts::Contacts;
+use std::alloc::Global;
+use std::marker::{Model, Send};
+
+/// A stream that C holds, open or closed. C makes one as zeros, which is a closed one.
+///
+/// It owns the boxed contacts that it points to while it is open.
+#[repr(C)]
+pub struct Stream {
+    at: *mut u8,
+    is_open: bool,
+    alloc: Global,
+    ghost pending: { Pending },
+}
+
+impl Model for Stream {
+    ghost also_owns = { λ s. streaming s.alloc s.is_open s.at s.pending };
+}
+
+// It may go to another thread, since the contacts may.
+unsafe impl Send for Stream {}
+
+pub(crate) fn is_open(s: &mut Stream) -> bool
+    ensures { (result ≡ s.old.is_open) × (s.new ≡ s.old) }
+{
+    s.is_open
+}
+
+pub(crate) fn opened(parts: Parts<Contacts, Global>) -> Stream
+    ensures { (result.is_open ≡ true) × (result.pending ≡ parts.value) }
+{
+    let Parts { ptr, alloc } = parts;
+    Stream {
+        at: ptr as *mut u8,
+        is_open: true,
+        alloc,
+    }
+}
+
+pub(crate) fn into_parts(s: Stream) -> Parts<Contacts, Global>
+    requires { s.is_open ≡ true }
+    ensures { result.value ≡ s.pending }
+{
+    let Stream {
+        at,
+        is_open: _open,
+        alloc,
+    } = s;
+    Parts {
+        ptr: at as *mut Contacts,
+        alloc,
+    }
+}
+
+pub(crate) fn closed(alloc: Global) -> Stream
+    ensures { result.is_open ≡ false }
+{
+    Stream {
+        at: std::ptr::null_mut(),
+        is_open: false,
+        alloc,
+    }
+}
+
+pub(crate) fn end(s: Stream)
+    requires { s.is_open ≡ false }
+{
+    let Stream {
+        at: _at,
+        is_open: _open,
+        alloc: _alloc,
+    } = s;
+}

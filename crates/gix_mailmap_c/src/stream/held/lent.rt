@@ -1,0 +1,15 @@
+//! The contacts of an open stream, lent where they are.
+ghost use Rattle.std.specs.Prelude.{◌≡◌, true};
+ghost use Rattle.std.specs.Borrow.{sem};
+ghost use Rattle.gix_mailmap_c.specs.StreamLent.{LendsContacts};
+
+use crate::stream::contacts::Contacts;
+use crate::stream::held::Stream;
+
+pub(crate) fn contacts(s: &mut Stream) -> &mut Contacts
+    requires { s.old.is_open ≡ true }
+    ensures* writes_back { sem 𝓛 (LendsContacts s.entry result) }
+    ensures value { result.now ≡ s.old.pending }
+{
+    unsafe { &mut *(s.at as *mut Contacts) }
+}
