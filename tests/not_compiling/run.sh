@@ -10,8 +10,15 @@ trap 'rm -rf "$work"' EXIT
 
 mkdir -p "$work/crates/case/src"
 cp "$top/HANDLES" "$work"
-for crate in mailmap_entries mailmap_grammar mailmap_histories mailmap_signatures mailmap_batches mailmap_redundancy \
-    mailmap_findings mailmap_tables mailmap_snapshot gix_mailmap; do
+# gix_mailmap and all crates below it, as crates.txt names them
+below() {
+    local crate
+    for crate in $(sed -n "s/^$1://p" "$top/crates.txt"); do
+        ! grep -q "^$crate:" "$top/crates.txt" || below "$crate"
+    done
+    echo "$1"
+}
+for crate in $(below gix_mailmap | sort -u); do
     mkdir "$work/crates/$crate"
     cp -r "$top/crates/$crate/"{src,specs,proofs} "$work/crates/$crate"
     # what earlier runs proved need not be proved again
