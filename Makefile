@@ -107,7 +107,7 @@ test:
 	tests/shortlog/run.py $(COUNTER)
 	tests/failures.sh $(PROGRAM) $(VERIFIER)
 	tests/memory.py $(PROGRAM) $(VERIFIER)
-	tests/streams.py $(PROGRAM)
+	tests/streams.py $(PROGRAM) $(VERIFIER)
 	tests/examples.py $(PROGRAM) $(VERIFIER)
 	tests/manual.sh
 	tests/not_compiling/run.sh

@@ -13,14 +13,16 @@ for a walk over an empty file, and the length of the map's file, which both hold
 
 figures.py runs this, too, and puts the tables into docs/BENCHMARKS.md.
 """
-import argparse
 import itertools
 import math
 import re
 import sys
 from pathlib import Path
 
-from measuring import KINDS, MILLION, Failed, built, duration, mebibytes, output, ratio, rounds, run, scratch, table
+from measuring import (
+    KINDS, MILLION, Failed, built, duration, mebibytes, options, output,
+    ratio, rounds, run, scratch, table,
+)
 
 SIZES = [1_000, 10_000, 100_000, MILLION]
 MERGE_SIZES = [1_000, 10_000]
@@ -170,15 +172,7 @@ def growth_table(figures):
 
 
 def main():
-    parser = argparse.ArgumentParser(description=__doc__, formatter_class=argparse.RawDescriptionHelpFormatter)
-    parser.add_argument("original")
-    parser.add_argument("port")
-    parser.add_argument("maps", type=Path)
-    parser.add_argument("--seconds", type=float, default=4)
-    parser.add_argument("--without-million", action="store_true")
-    parser.add_argument("--only", default="", help="measure only the cells whose name has this word")
-    given = parser.parse_args()
-    sizes = [lines for lines in SIZES if lines < MILLION or not given.without_million]
+    given, sizes = options(__doc__, SIZES)
     found = measured([given.original, given.port], given.maps, sizes, given.seconds, given.only)
     print("\n\n".join([times_table(found["calls"]), memory_table(found["building"]), growth_table(found)]))
 

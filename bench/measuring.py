@@ -1,4 +1,5 @@
 """What compare.py and peers.py share: programs that are built and run, rounds in alternation, and tables."""
+import argparse
 import json
 import os
 import re
@@ -122,3 +123,16 @@ def put_in(path: Path, texts: Mapping[str, str]) -> None:
 
 def stored(path: str | Path, figures: object) -> None:
     Path(path).write_text(json.dumps(figures, indent=1, ensure_ascii=False) + "\n", encoding="utf-8")
+
+
+def options(description: str, sizes: Sequence[int]) -> tuple[argparse.Namespace, list[int]]:
+    """The arguments of a script that measures the port beside the original, and the numbers of lines to measure."""
+    parser = argparse.ArgumentParser(description=description, formatter_class=argparse.RawDescriptionHelpFormatter)
+    parser.add_argument("original")
+    parser.add_argument("port")
+    parser.add_argument("maps", type=Path)
+    parser.add_argument("--seconds", type=float, default=4)
+    parser.add_argument("--without-million", action="store_true")
+    parser.add_argument("--only", default="", help="measure only the cells whose name has this word")
+    given = parser.parse_args()
+    return given, [lines for lines in sizes if lines < MILLION or not given.without_million]

@@ -16,14 +16,16 @@ contacts then. The answers of each peer are compared with the port's, line by li
 
 figures.py runs this, too, and puts the tables into docs/BENCHMARKS.md.
 """
-import argparse
 import os
 import signal
 import sys
 from itertools import zip_longest
 from pathlib import Path
 
-from measuring import KINDS, MILLION, Failed, built, duration, mebibytes, output, ratio, rounds, run, scratch, table
+from measuring import (
+    KINDS, MILLION, Failed, built, duration, mebibytes, options, output,
+    ratio, rounds, run, scratch, table,
+)
 
 SIZES = [1_000, 10_000, 100_000, MILLION]
 CONTACTS = [1_000, 100_000]
@@ -160,15 +162,7 @@ def answers_table(cells):
 
 
 def main():
-    parser = argparse.ArgumentParser(description=__doc__, formatter_class=argparse.RawDescriptionHelpFormatter)
-    parser.add_argument("original")
-    parser.add_argument("port")
-    parser.add_argument("maps", type=Path)
-    parser.add_argument("--seconds", type=float, default=4)
-    parser.add_argument("--without-million", action="store_true")
-    parser.add_argument("--only", default="", help="measure only the cells whose name has this word")
-    given = parser.parse_args()
-    sizes = [lines for lines in SIZES if lines < MILLION or not given.without_million]
+    given, sizes = options(__doc__, SIZES)
     cells = measured(given.original, given.port, given.maps, sizes, given.seconds, given.only)["processes"]
     print("\n\n".join([times_table(cells), memory_table(cells), answers_table(cells)]))
 

@@ -30,7 +30,7 @@ count() {
 }
 
 # The library: standard input says how many requests come before all calls.
-refused=240
+refused=280
 mkdir "$work/calls"
 for ((before = 0; before < refused; before++)); do
     echo "$before" > "$work/calls/$(printf '%03d' "$before")"
@@ -60,10 +60,15 @@ Snapshot::resolve_cow
 snapshot::Signature::try_clone
 actor::Signature::from_cow
 check::check
+check::ContactStream
 check::compact
+check::ContactStream::new
+check::ContactStream::push
+check::ContactStream::finish_line
 verify::verify
 verify::Mailmaps::read
 verify::Verification::new
+explain::Explanations::new
 verify::prune
 END
 
@@ -81,10 +86,10 @@ none_between \
     "the request behind the calls that take none"
 
 # Where a request was refused and no call reported it, it was that of a collect, which asks again for less: in entries,
-# in verify, and in each merge that gives texts up, which calls entries. Of so few texts half are soon out of use, so
+# twice in verify, and in each merge that gives texts up, which calls entries. Of so few texts half are soon out of use, so
 # two more merges than the one that is made for it give some up: that of Snapshot::merge, and that of the third source.
 untold="$(sed -n '/^refused/p' "$printed" | sed '1,/^refused: [^n]/d' | grep -cx 'refused: nothing' || true)"
-[ "$untold" = 5 ] || fail "$untold refusals that no call reported"
+[ "$untold" = 6 ] || fail "$untold refusals that no call reported"
 calls="$(grep '^refused' "$printed" | grep -cvx 'refused: nothing')"
 
 # The programs. Each file without a byte more among the arguments is two requests more, one for the argument and one to
@@ -97,6 +102,8 @@ printf 'Joe R. Developer <joe@example.com>\n' > "$work/answered"
 printf 'not a contact\n' >> "$work/answered"
 printf ' Joe R. Developer <joe@example.com> <bugs@example.com>\n' > "$work/compacted"
 printf 'mailmap:1: warning: no effect beside mailmap:1\n' > "$work/told"
+printf 'bob <BUGS@example.com> is Joe R. Developer <joe@example.com> by mailmap:1\n' > "$work/explained"
+printf 'not a contact is no contact\n' >> "$work/explained"
 
 # add_cases MODE FIRST..: the runs of a mode, whose arguments begin so
 add_cases() {
@@ -117,8 +124,13 @@ declare -A failures=(
     [mailmap_verify]='out of memory\|empty: out of memory\|mailmap: out of memory'
 )
 
+# explained_before CASE: as many of the explanations as the case printed. Contacts are explained as they come.
+explained_before() {
+    head -n "$(sed -n "/^== $1\$/,/^== /p" "$printed" | grep -vc '^== ')" "$work/explained"
+}
+
 # wants PROGRAM: judges a run of all cases. At status 0 or 1 all has to be printed, which is the text of the mode's
-# name, and at status 2 nothing, with one line on standard error.
+# name, and at status 2 nothing, or the first of the explanations, with one line on standard error.
 wants() {
     local program="$1" run name runs
     while read -r run; do
@@ -127,7 +139,7 @@ wants() {
         echo "== $name"
         case "$run" in
         *' run=ended status='[01]' '*) cat "$work/${name%%[0-9]*}" ;;
-        *' run=ended status=2 '*) ;;
+        *' run=ended status=2 '*) [ "${name%%[0-9]*}" != explained ] || explained_before "$name" ;;
         *) fail "$program: another status" ;;
         esac
     done < <(grep '^case=' "$said") > "$work/expected"
@@ -179,6 +191,13 @@ add_cases told mailmap
 refuse mailmap_verify 34 35 60 61 86 87 112 113
 says mailmap_verify 'out of memory' 'empty: out of memory' 'mailmap: out of memory'
 verifies="$refusals"
+
+rm -r "$work/runs"
+mkdir "$work/runs"
+add_cases explained --explain
+refuse mailmap_verify 34 35 60 61 86 87 112 113
+says mailmap_verify 'out of memory' 'empty: out of memory' 'mailmap: out of memory'
+verifies=$((verifies + refusals))
 
 echo "refused memory: $calls requests of the library's calls, $checks of mailmap_check and" \
     "$verifies of mailmap_verify, each refused, end as they must"

@@ -3,19 +3,21 @@
 
     run.py MAILMAP_SHORTLOG
 
-A line of cases.jsonl is one case: its mailmaps, which are the files m1, m2 and so on, the contacts, and what is printed of
-them without an option, with -e, with -n, and with both. The texts are in hex. The answers are those of a model that was
+A line of cases.jsonl is one case: its mailmaps, which are the files m1, m2 and so on, the contacts, and what is printed
+of them without an option, with -e, with -n, and with both. The texts are in hex. The answers are those of a model that was
 written from the definitions alone. If git is there, `git shortlog` has to print the same of a repository whose commits
 have such authors.
 """
 import json
 import os
-import random
-import shutil
 import subprocess
 import sys
 import tempfile
 from pathlib import Path
+
+sys.dont_write_bytecode = True
+sys.path.append(str(Path(__file__).resolve().parent.parent))
+from repository import Repository, has_git
 
 # The four kinds of output, and ways to ask for each.
 ASKED = [
@@ -93,27 +95,13 @@ def options(program):
 
 
 def as_git(program):
-    """A repository whose authors are drawn from few, and what git prints of it. Its emails have no capital letters, since
-    git keeps their spelling otherwise."""
-    git = shutil.which("git")
-    if git is None:
+    """What git prints of a repository."""
+    if not has_git():
         return False
-    draw = random.Random(7)
-    names = ["Jane", "jane", "JD", "Joe", "Joe R. Developer", "J\u00f6rg", "x y"]
-    emails = ["jane@x", "jd@old", "joe@x", "b@y.org"]
-    authors = [f"{draw.choice(names)} <{draw.choice(emails)}>" for _ in range(400)]
-    commits = "".join(f"commit refs/heads/main\nauthor {author} {number} +0000\ncommitter c <c@c> {number} +0000\n"
-                      f"data 1\nx\n" for number, author in enumerate(authors))
-    mailmap = "Jane Doe <jane@x>\nJane Doe <jane@x> <jd@old>\nJoe <joe@new> x y <joe@x>\n<b@z.org> <b@y.org>\n"
-    quiet = {**os.environ, "GIT_CONFIG_GLOBAL": os.devnull, "GIT_CONFIG_SYSTEM": os.devnull}
-    subprocess.run([git, "init", "-q", "repository"], check=True, env=quiet)
-    subprocess.run([git, "-C", "repository", "fast-import", "--quiet"], input=commits.encode(), check=True, env=quiet)
-    Path("repository/.mailmap").write_text(mailmap, encoding="utf-8")
-    contacts = "".join(f"{author}\n" for author in authors).encode()
+    repository = Repository(Path("repository"))
     for words in ["-s"], ["-se"], ["-sn"], ["-sne"]:
-        told = subprocess.run([git, "-C", "repository", "-c", "mailmap.file=.mailmap", "shortlog", *words, "main"],
-                              capture_output=True, check=True, env=quiet).stdout
-        wants(f"git shortlog {words}", run(program, [*words, "repository/.mailmap"], contacts), 0, told)
+        printed = repository.git(["shortlog", *words, "main"])
+        wants(f"git shortlog {words}", run(program, [*words, repository.mailmap], repository.contacts), 0, printed)
     return True
 
 

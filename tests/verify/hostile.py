@@ -7,9 +7,16 @@ numbers are small, the model that answered cases.jsonl says the same.
 MEGABYTE = 1 << 20
 MANY = 100_000
 
+# What is printed of a mailmap that isn't pruned, since git reads its first line otherwise.
+REFUSED = None
+
 
 def error(line, what):
     return b"m1:%d: error: %s\n" % (line, what)
+
+
+def git_reads(line, what):
+    return b"m1:%d: warning: git reads %s\n" % (line, what)
 
 
 def no_effect(line, beside):
@@ -27,10 +34,19 @@ def long_lines(size):
     yield "a long line that opens brackets", b"<" * size, error(1, b"the first '<' has no '>'"), b"<" * size
     yield "a long line of blanks", b" " * size, b"", b" " * size
     yield "a long comment", b"#" + long, b"", b"#" + long
+    # git reads parts of 1,023 bytes, the last of which begins with what is left of the name. The parts before it have
+    # no email.
     name = long + b" <a@x>"
-    yield "a long name", name, b"", name
+    yield "a long name", name, git_reads(1, b"it as " + name[len(name) // 1023 * 1023:]), REFUSED
+    # The first part has an entry, and its second email isn't closed.
     email = b"N <a@x> <" + long + b">\n"
-    yield "a long email", email, b"", email
+    yield "a long email", email, git_reads(1, b"it as N <a@x>"), REFUSED
+    # Each part has an entry. Here the line has two emails, and ignores the rest.
+    part = b"N <a@x>" + b"y" * (1023 - 7)
+    parts = part * (size // 1023)
+    found = b"m1:1: warning: ignored text: " + parts[1023 + 7:] + b"\n"
+    found += git_reads(1, b"it as %d lines" % (size // 1023))
+    yield "an entry in each part of a long line", parts, found, REFUSED
     behind = b"N <a@x> " + long + b"  "
     yield "much behind an email", behind, b"m1:1: warning: ignored text: " + long + b"\n", behind
     open_second = b"N <a@x> <" + long

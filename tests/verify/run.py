@@ -3,11 +3,14 @@
 
     run.py MAILMAP_VERIFY
 
-A line of cases.jsonl is one case: its mailmaps, which are the files m1, m2 and so on, what is printed of them, and the
-status; where there is one file, also what `--prune` prints of it. The texts are in hex. The mailmaps were made by a
-generator with a seed, of few names and emails, so that lines meet. The answers are those of a model that was written
-from the definitions alone, and asks each question of whole histories: a line has no effect if the history without it
-has the same list of mappings, tried line by line.
+A line of cases.jsonl and of git.jsonl is one case: its mailmaps, which are the files m1, m2 and so on, and the status
+and what is printed of them; where there is one file, also the status, what `--prune` prints of it, and what it says on
+standard error. The texts are in hex. The mailmaps were made by generators with a seed, of few names and emails, so that
+lines meet; git reads many lines of git.jsonl otherwise. The answers are those of a model that was written from the
+definitions alone, and asks each question of whole histories: a line has no effect if the history without it has the
+same list of mappings, tried line by line.
+
+A line of explained.jsonl has mailmaps, contacts, and what `--explain` prints of them, by the same model.
 """
 import json
 import os
@@ -18,7 +21,7 @@ import tempfile
 from pathlib import Path
 
 sys.dont_write_bytecode = True
-from hostile import hostile  # the file beside this one
+from hostile import REFUSED, hostile  # the file beside this one
 
 failed = 0
 
@@ -41,27 +44,63 @@ def as_standard_input(printed):
     return re.sub(rb"(: warning: no effect beside )m1:(?=[0-9]+$)", rb"\1<stdin>:", begun, flags=re.MULTILINE)
 
 
-def wants_case(program, what, files, status, printed, pruned):
+def wants_case(program, what, files, status, printed, pruning):
     """The files as they are named; and where there is one, it as standard input, pruned, and pruned again."""
     names = [f"m{number}" for number in range(1, len(files) + 1)]
     for name, file in zip(names, files):
         Path(name).write_bytes(file)
     wants(what, run(program, names), status, printed)
-    if pruned is None:
+    if pruning is None:
         return
+    ended, pruned, said = pruning
     wants(f"{what}, standard input", run(program, [], files[0]), status, as_standard_input(printed))
-    wants(f"{what}, pruned", run(program, ["--prune", "m1"]), 0, pruned)
-    wants(f"{what}, standard input pruned", run(program, ["--prune"], files[0]), 0, pruned)
-    wants(f"{what}, pruned twice", run(program, ["--prune"], pruned), 0, pruned)
+    wants(f"{what}, pruned", run(program, ["--prune", "m1"]), ended, pruned, said)
+    said = said.replace(b"git reads m1:", b"git reads <stdin>:")
+    wants(f"{what}, standard input pruned", run(program, ["--prune"], files[0]), ended, pruned, said)
+    if ended == 0:
+        wants(f"{what}, pruned twice", run(program, ["--prune"], pruned), 0, pruned)
 
 
-def stored(program):
-    cases = [json.loads(line) for line in open(Path(__file__).with_name("cases.jsonl"), encoding="ascii")]
+def stored(program, name):
+    cases = [json.loads(line) for line in open(Path(__file__).with_name(name), encoding="ascii")]
     for number, case in enumerate(cases, 1):
         files = [bytes.fromhex(file) for file in case["files"]]
-        pruned = bytes.fromhex(case["pruned"]) if "pruned" in case else None
-        wants_case(program, f"case {number}", files, case["status"], bytes.fromhex(case["stdout"]), pruned)
+        status, printed = case["verify"]
+        pruning = case.get("prune")
+        if pruning is not None:
+            pruning = (pruning[0], *map(bytes.fromhex, pruning[1:]))
+        wants_case(program, f"{name}:{number}", files, status, bytes.fromhex(printed), pruning)
     return len(cases)
+
+
+def explained(program):
+    cases = [json.loads(line) for line in open(Path(__file__).with_name("explained.jsonl"), encoding="ascii")]
+    for number, case in enumerate(cases, 1):
+        names = [f"m{file}" for file in range(1, len(case["files"]) + 1)]
+        for name, file in zip(names, case["files"]):
+            Path(name).write_bytes(bytes.fromhex(file))
+        contacts, printed = bytes.fromhex(case["contacts"]), bytes.fromhex(case["explained"])
+        wants(f"contacts {number}", run(program, ["--explain", *names], contacts), 0, printed)
+    return len(cases)
+
+
+def explanations(program):
+    """Each line that gives a field is named; control bytes are shown; `-` is a file."""
+    Path("team").write_bytes(b"Jane Doe <jane@x> <jd@old>\n<j@y> <jd@old>\n")
+    Path("\x1b").write_bytes(b"\nJoe \x1b[1m <joe@x>\n")
+    contacts = b"jd <JD@old>\njoe <JOE@x>\n\x7f\n \t\r\n\n <jd@old> end\nbob\x00 <bob@x>"
+    printed = (
+        b"jd <JD@old> is Jane Doe <j@y> by team:1, team:2\n"
+        b"joe <JOE@x> is Joe \\x1b[1m <joe@x> by \\x1b:2\n"
+        b"\\x7f is no contact\n"
+        b"<jd@old> is Jane Doe <j@y> by team:1, team:2\n"
+        b"bob\\x00 <bob@x> is not mapped\n"
+    )
+    wants("explanations", run(program, ["--explain", "team", "\x1b"], contacts), 0, printed)
+    wants("explanations behind --", run(program, ["--explain", "--", "team", "\x1b"], contacts), 0, printed)
+    wants("explanations by no mailmap", run(program, ["--explain"], b"jd <JD@old>\n"), 0, b"jd <JD@old> is not mapped\n")
+    said = b"mailmap_verify: -: No such file or directory\n"
+    wants("explanations by -", run(program, ["--explain", "-"], contacts), 2, b"", said)
 
 
 def file_names(program):
@@ -75,14 +114,16 @@ def file_names(program):
     wants("a file named as an option", run(program, ["./--prune"]), 2, b"", said)
 
 
-USAGE_LINE = b"usage: mailmap_verify [--] [FILE..] | --prune [--] [FILE] | --help | --version\n"
+USAGE_LINE = (
+    b"usage: mailmap_verify [--] [FILE..] | --prune [--] [FILE] | --explain [--] FILE.. | --help | --version\n"
+)
 
 
 def options(program):
     """Options are read from left to right, up to the first file or `--`."""
     status, printed, said = run(program, ["--help"])
     wants("help", (status, printed[:22], said), 0, b"usage: mailmap_verify ")
-    for words in ["-h"], ["--help", "missing"], ["--prune", "--help"], ["-h", "--version"], ["--prune", "-h", "missing"]:
+    for words in ["-h"], ["--help", "missing"], ["--prune", "--help"], ["-h", "--version"], ["--explain", "-h", "missing"]:
         wants(f"help: {words}", run(program, words), 0, printed)
     version = b"mailmap_verify 0.1.0\n"
     for words in ["--version"], ["--prune", "--version", "missing"], ["--version", "--help"]:
@@ -94,6 +135,7 @@ def options(program):
         (["--prune=m1"], b"unknown option: --prune=m1"),
         (["-\xff\x1b"], b"unknown option: -\xc3\xbf\\x1b"),
         (["--prune", "--prune", "m1"], b"a second mode: --prune"),
+        (["--prune", "--explain", "m1"], b"a second mode: --explain"),
     ]:
         said = b"mailmap_verify: " + wrong + b"\n" + USAGE_LINE
         wants(f"a misuse: {words}", run(program, words), 2, b"", said)
@@ -114,14 +156,21 @@ def main():
     hostile_count = 0
     with tempfile.TemporaryDirectory() as folder:
         os.chdir(folder)
-        count = stored(program)
+        count = stored(program, "cases.jsonl") + stored(program, "git.jsonl")
         for what, mailmap, printed, pruned in hostile():
-            wants_case(program, what, [mailmap], 1 if printed else 0, printed, pruned)
+            said = b"mailmap_verify: git reads m1:1 otherwise\n"
+            pruning = (2, b"", said) if pruned is REFUSED else (0, pruned, b"")
+            wants_case(program, what, [mailmap], 1 if printed else 0, printed, pruning)
             hostile_count += 1
+        explained_count = explained(program)
+        explanations(program)
         file_names(program)
         options(program)
         os.chdir("/")
-    print(f"findings: {count} stored mailmaps and {hostile_count} hostile ones, {failed} runs differ")
+    print(
+        f"findings: {count} stored mailmaps and {hostile_count} hostile ones, "
+        f"contacts of {explained_count} histories, {failed} runs differ"
+    )
     sys.exit(1 if failed else 0)
 
 
