@@ -20,9 +20,10 @@ below() {
 }
 for crate in $(below gix_mailmap | sort -u); do
     mkdir "$work/crates/$crate"
-    cp -r "$top/crates/$crate/"{src,specs,proofs} "$work/crates/$crate"
-    # what earlier runs proved need not be proved again
-    [ ! -d "$top/crates/$crate/out" ] || cp -r "$top/crates/$crate/out" "$work/crates/$crate"
+    # with out, so that what earlier runs proved need not be proved again
+    for part in src specs proofs out; do
+        [ ! -d "$top/crates/$crate/$part" ] || cp -r "$top/crates/$crate/$part" "$work/crates/$crate"
+    done
     grep "^$crate:" "$top/crates.txt" >> "$work/crates.txt"
 done
 echo 'case: gix_mailmap' >> "$work/crates.txt"
