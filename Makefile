@@ -110,8 +110,8 @@ test:
 	tests/streams.py $(PROGRAM) $(VERIFIER)
 	tests/examples.py $(PROGRAM) $(VERIFIER)
 	tests/manual.sh
-	tests/not_compiling/run.sh
 	$(MAKE) lib
+	tests/not_compiling/run.sh
 	tests/c/run.sh $(LIB)/c
 	tests/python/run.sh $(LIB)/c
 	tests/c/installed.sh
