@@ -98,8 +98,8 @@ typedef struct gix_mailmap_listed {
     gix_mailmap_field old_email;
 } gix_mailmap_listed;
 
-/* What may be wrong with a line. With one of the first four it gives no entry. With the fifth it is read as if it ended
- * before the second `<`: `Jane <jane@x> <jd@y` maps jane@x to the name Jane, and `<jane@x> <jd@y` gives no entry. */
+/* What may be wrong with a line. A line with one of the first four faults gives no entry. One with the fifth is read as
+ * if it ended before the second `<`: `Jane <jane@x> <jd@y` maps jane@x to the name Jane, and `<jane@x> <jd@y` gives no entry. */
 typedef enum gix_mailmap_kind {
     GIX_MAILMAP_NO_EMAIL = 1,                /* there is no `<` */
     GIX_MAILMAP_MISSING_CLOSING_BRACKET = 2, /* the first `<` has no `>` after it */
