@@ -62,7 +62,7 @@ pub(crate) fn push_answers(
     pushed
 }
 
-// The same. At an `Err` some of the answers may have been appended.
+// Appends the answers line by line. At an `Err` some of them may have been appended.
 fn push_each(text: &mut Vec<u8>, snapshot: &Snapshot, contacts: &[u8]) -> Result<(), AllocError>
     ensures ok { OnOk result (text.new.items ≡ text.old.items ++ answers snapshot.now contacts.now) }
     ensures front { StartsWith text.new.items text.old.items }

@@ -19,6 +19,7 @@ pub use mailmap_histories::laws::{
     law_condense, law_equal, law_exists, law_headline, law_neighbours, law_of_email, law_one_email,
     law_own_entries, law_reorder, law_repeated, law_scan, law_self, law_shortest, law_unique,
 };
+pub use mailmap_needs::laws::{law_contacts_stay, law_one_unneeded};
 pub use mailmap_redundancy::laws::{
     law_each_key_stays, law_givers, law_needed, law_none_can_go, law_passes, law_same_listing,
     law_settled, law_some_stay,
@@ -26,7 +27,7 @@ pub use mailmap_redundancy::laws::{
 pub use mailmap_signatures::laws::{law_equal_signatures, law_equal_times, law_time};
 pub use text::{law_strict, law_text};
 
-/// An input is parted in one way.
+/// An input is split in one way.
 pub fn law_parts()
     ensures { (input p r q s : Text) → IsSplit input p r → IsSplit input q s → (p ≡ q) × (r ≡ s) }
 {}

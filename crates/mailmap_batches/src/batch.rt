@@ -208,7 +208,7 @@ fn sort_next_bytes(group: &mut Vec<IndexedEntry<'_, '_>>) -> Result<(), AllocErr
     Ok(())
 }
 
-// An entry with its index, and a number of some bytes of its old email.
+// An entry with its index, and some bytes of its old email as a number.
 #[derive(Drop)]
 struct NumberedEntry<'e, 'a> {
     number: u128,

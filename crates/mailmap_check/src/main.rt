@@ -1,7 +1,7 @@
 //! Maps the contacts of standard input by mailmaps, or writes mailmaps anew.
 //!
 //! `mailmap_check FILE..` reads each FILE as a mailmap, and answers each line of standard input.
-//! Without a FILE a line `--` parts standard input into a mailmap and the lines to answer. With
+//! Without a FILE a line `--` splits standard input into a mailmap and the lines to answer. With
 //! `--compact` as the first argument it prints the mailmaps as one; without a FILE all of standard
 //! input is the one mailmap.
 //!

@@ -16,7 +16,7 @@ pub record Answered : Type 0 where
 abbrev pub answered : Answer → Answered
 answered a = record { name = a.name.items; email = a.email.items; line = a.line }
 
--- the answer has this name and this email, letter by letter
+-- the answer has this name and this email, byte for byte
 abbrev pub is_answer : Text → Text → Answered → Bool
 is_answer name email a = bytes_eq name a.name && bytes_eq email a.email
 

@@ -1,4 +1,4 @@
-//! The answers to contacts, each where it first comes, and which of those before it are alike.
+//! The different answers to contacts, in the order in which they first come, and which earlier ones each is like.
 ghost use Rattle.std.specs.Prelude.{◌≡◌, [], IfOk, List, OnErr, map};
 ghost use Rattle.mailmap_entries.specs.Folding.{Text};
 ghost use Rattle.mailmap_likeness.specs.Index.{AreKeys, IsIndex};
@@ -9,7 +9,7 @@ use crate::keys::Keys;
 use std::alloc::{AllocError, Global};
 use std::marker::Model;
 
-/// A name and an email that some contact has by a mailmap, and the line of the contact where they first came.
+/// A name and an email with which a mailmap answers a contact, and the number of the first such contact's line.
 #[derive(Drop)]
 pub struct Answer {
     pub name: Vec<u8>,
@@ -17,7 +17,7 @@ pub struct Answer {
     pub line: usize,
 }
 
-/// Which of the answers before it are like a new one: each is the index of the first that is. The case of ASCII letters
+/// Which earlier answers a new one is like. Each field is the index of the first such answer. The case of ASCII letters
 /// doesn't count.
 #[derive(Clone, Copy, Debug, PartialEq, Eq)]
 pub struct Likeness {
@@ -30,7 +30,7 @@ pub struct Likeness {
 /// What became of an answer.
 #[derive(Clone, Copy, Debug, PartialEq, Eq)]
 pub enum Added {
-    /// It came before, letter by letter.
+    /// It came before, byte for byte.
     Known,
     /// It is the last one now.
     New(Likeness),

@@ -16,7 +16,7 @@ use std::alloc::{AllocError, Global};
 pub(crate) struct Namesakes {
     /// The first answer with the name.
     pub(crate) first: usize,
-    /// The number of its email: the first answer with that, whatever its name.
+    /// The number of its email, which is the index of the first answer with that email, whatever its name.
     pub(crate) email: usize,
     /// The first answer with the name and another email.
     pub(crate) other: Option<usize>,
@@ -45,7 +45,7 @@ impl Index {
         }
     }
 
-    /// Whether there is an answer with this name and this email, letter by letter.
+    /// Whether there is an answer with this name and this email, byte for byte.
     pub(crate) fn is_known(&self, keys: &Keys) -> bool
         ensures { (answers : List Answered) → IsIndex answers self.now
             → result ≡ is_some (position (is_answer keys.now.exact.0.items keys.now.exact.1.items) answers) }

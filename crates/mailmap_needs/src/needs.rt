@@ -59,7 +59,7 @@ impl<'m, 'a> Model for Needs<'m, 'a> {
 }
 
 impl<'m, 'a> Needs<'m, 'a> {
-    /// No contact yet: none of the lines with an effect is needed. This takes all the memory that contacts need.
+    /// No contact yet: none of the lines with an effect is needed. After this only [`Needs::unneeded`] asks for memory.
     pub fn new(alloc: Global, mailmaps: &'m Mailmaps<'_, 'a>) -> Result<Needs<'m, 'a>, AllocError>
         ensures reduced { IfOk result (λ s. IsReduced (located (lines mailmaps.now)) s.kept) }
         ensures left { IfOk result (λ s. s.left ≡ map (λ x. x.position) s.kept) }
@@ -73,7 +73,7 @@ impl<'m, 'a> Needs<'m, 'a> {
         })
     }
 
-    /// Takes a contact. The lines that it needs aren't unneeded any more.
+    /// Takes a contact. From then on the lines that it needs are left out of what no contact needs.
     pub fn take_contact(&mut self, name: &[u8], email: &[u8])
         ensures kept { self.new.kept ≡ self.old.kept }
         ensures left { self.new.left ≡ filter (λ p. not (spec.needs self.old.kept name.now email.now p)) self.old.left }

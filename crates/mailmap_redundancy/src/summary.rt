@@ -66,10 +66,10 @@ pub(crate) struct Summary<'p, 'a> {
     pub(crate) of_email: EmailSummary<'p, 'a>,
 }
 
-/// What decides, of the entries after one, whether it is redundant: whether one has its key (`has_key`), whether one of
-/// that key gives a new name or a new email (`gives_name`, `gives_email`), whether the first of that key spells its old
-/// name as this entry does (`same_old_name`), and whether the first of its email spells the email as this entry does
-/// (`same_old_email`).
+/// What is asked of the entries after an entry, to know whether that entry is redundant: whether one has its key
+/// (`has_key`), whether one of that key gives a new name or a new email (`gives_name`, `gives_email`), whether the first
+/// of that key spells its old name as this entry does (`same_old_name`), and whether the first of its email spells the
+/// email as this entry does (`same_old_email`).
 #[derive(Clone, Copy)]
 pub(crate) struct Later {
     pub(crate) has_key: bool,

@@ -32,8 +32,8 @@ struct Slot {
 /// table.get(hash, b"jane <JANE@x>\n") // `Jane Doe <jane@x>` and its line feed
 /// ```
 ///
-/// All of its memory, some 1.1 MiB, is asked for at once. A hash says where a line may be: a wrong one, or one that
-/// several lines have, costs time, since the line may not be found, and changes no answer.
+/// All of its memory, some 1.1 MiB, is asked for at once. A hash says where a line may be. With a wrong
+/// hash, or one that several lines have, a line may not be found. That costs time and changes no answer.
 #[derive(Drop)]
 pub struct LastAnswers {
     rows: Vec<Row>,

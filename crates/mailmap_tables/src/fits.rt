@@ -35,6 +35,7 @@ pub(crate) fn fits_in_place(tables: &Tables, entries: &[Entry<'_>]) -> Option<us
     requires { AreGroups tables.now.groups }
     ensures { ForSome result (HasReserved tables.now.groups (map mapping_of entries.now)) }
 {
+    // so nothing is put in place in empty tables
     if MOST_IN_PLACE < entries.len() || tables.view().row_count() <= entries.len() {
         return None;
     }

@@ -27,6 +27,8 @@ pub struct EmailRow {
 }
 
 /// The pool and the two tables. While tables are built, names come before the email that takes them.
+///
+/// To a contract it is the pool, a group for each email, and the names that no email has taken yet (`pending`).
 #[derive(Drop)]
 pub struct Tables {
     pub(crate) pool: Pool,

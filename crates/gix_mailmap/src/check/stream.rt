@@ -19,8 +19,8 @@ const ENOUGH: usize = 65536;
 
 /// Answers contacts that come in parts, as [`check`](crate::check::check()) answers all of them at once.
 ///
-/// It keeps its mailmaps, the beginning of a line that hasn't ended yet, and the last 4,096 lines with their answers: a
-/// line that comes again is mostly answered from these. They take 1.1 MiB, however long the lines are.
+/// It keeps what the buffers map, the beginning of a line that hasn't ended yet, and the last 4,096 lines with their
+/// answers: a line that comes again is mostly answered from these. They take 1.1 MiB, however long the lines are.
 ///
 /// ```text
 /// let mut stream = ContactStream::new(alloc, &[b"Jane Doe <jane@x>"])?;

@@ -1,4 +1,4 @@
-//! A walk over lines, of which it is known whether their entries are kept, and what is done with each line.
+//! A walk over lines that says of each whether its entry is kept, and what is done with each line.
 ghost use Rattle.std.specs.Prelude.{◌≡◌, ◌||◌, [], map, filter, is_none, IfOk};
 ghost use Rattle.std.specs.Iterator.{YieldsFirstBy, item_count};
 ghost use Rattle.std.specs.List.{flat_map};
