@@ -1,20 +1,19 @@
 //! Counts contacts by mailmaps, as `git shortlog -s` counts commits by their authors.
 //!
 //! `mailmap_shortlog MAILMAP..` counts the contacts of standard input by the names that the mailmaps give them. With `-e`
-//! it counts by names and emails, and with `-n` the greatest count comes first. `-s` changes nothing, and short options
-//! may be joined. `--` ends the options. `-h` and `--help` print a usage, and `--version` the version.
+//! it counts by names and emails, and with `-n` the greatest count comes first. `mailmap_shortlogs::task` says how the
+//! arguments are read.
 //!
 //! A failure is said on standard error, and ends the program with status 2.
 #![tactic(auto)]
 
-use mailmap_io::VERSION;
 use mailmap_io::arguments::arguments;
 use mailmap_io::files::System;
 use mailmap_io::outcome::{Outcome, exit_code};
 use mailmap_io::streams::write_all;
 use mailmap_reports::shown::push_shown;
 use mailmap_shortlogs::failure::Failure;
-use mailmap_shortlogs::task::{Asked, Task, USAGE, perform, read_arguments};
+use mailmap_shortlogs::task::{Task, UnknownOption, perform, task_of};
 use std::alloc::{AllocError, Global};
 use std::io::ErrorKind;
 use std::process::ExitCode;
@@ -27,11 +26,9 @@ fn main(rt: HostRuntime) -> ExitCode {
         Ok(arguments) => arguments,
         Err(_) => return ended(&rt, &[], Err(Failure::Memory)),
     };
-    match read_arguments(arguments.as_slice()) {
-        Asked::Shortlog(task) => done(&rt, task),
-        Asked::Help => ended(&rt, &[], printed(&rt, USAGE.as_bytes())),
-        Asked::Version => ended(&rt, &[], version(&rt)),
-        Asked::Unknown(option) => {
+    match task_of(arguments.as_slice()) {
+        Ok(task) => done(&rt, task),
+        Err(UnknownOption(option)) => {
             say(&rt, unknown_line(rt.alloc(), option));
             ExitCode::from(2)
         }
@@ -45,16 +42,6 @@ fn done(rt: &HostRuntime, task: Task<'_>) -> ExitCode {
     ended(rt, task.paths, end)
 }
 
-// Prints a text.
-fn printed(rt: &HostRuntime, text: &[u8]) -> Result<(), Failure> {
-    write_all(&mut rt.stdout(), text).map_err(|_| Failure::Output)
-}
-
-// Prints the version.
-fn version(rt: &HostRuntime) -> Result<(), Failure> {
-    println!(rt; "mailmap_shortlog {VERSION}").map_err(|_| Failure::Output)
-}
-
 // Says a failure, if there is one. The status reports it, too.
 fn ended(rt: &HostRuntime, paths: &[Vec<u8>], end: Result<(), Failure>) -> ExitCode {
     if let Err(failure) = end {
@@ -62,6 +49,7 @@ fn ended(rt: &HostRuntime, paths: &[Vec<u8>], end: Result<(), Failure>) -> ExitC
     }
     exit_code(end.map(|()| Outcome::Clean))
 }
+
 // Prints a line on standard error. If that fails as well, only the status reports the failure.
 fn say(rt: &HostRuntime, line: Result<Vec<u8>, AllocError>) {
     match line {
