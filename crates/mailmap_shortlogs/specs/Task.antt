@@ -5,9 +5,9 @@ use lib.Pointwise.{pointwise}
 use Rattle.gix_mailmap.specs.Folding.{Text}
 use Rattle.mailmap_io.specs.Files.{AreRead, MayOpenBefore}
 use Rattle.mailmap_io.specs.declared.TheConstants.{VERSION}
+use Rattle.mailmap_io.specs.declared.run_error.RunError.{RunError}
+use Rattle.mailmap_io.specs.declared.run_error.RunError.TheVariants.{File, Input, Memory, Output}
 use Rattle.mailmap_shortlogs.specs.Shortlog.{IsShortlog, answers_counted}
-use Rattle.mailmap_shortlogs.specs.declared.failure.Failure.{Failure}
-use Rattle.mailmap_shortlogs.specs.declared.failure.Failure.TheVariants.{File, Input, Memory, Output}
 use Rattle.mailmap_shortlogs.specs.declared.task.Mode.{Mode}
 use Rattle.mailmap_shortlogs.specs.declared.task.Mode.TheVariants.{Help, Version, Shortlog}
 use Rattle.mailmap_shortlogs.specs.declared.task.Options.{Options}
@@ -80,7 +80,7 @@ counts_contacts Version = false
 counts_contacts (Shortlog options) = true
 
 -- A failure of reading the input: it couldn't be read, or memory ran out.
-abbrev pub EndsReading : Failure → Type 0
+abbrev pub EndsReading : RunError → Type 0
 EndsReading (Input cause) = ⊤
 EndsReading Memory = ⊤
 EndsReading (File number cause) = ⊥
@@ -96,7 +96,7 @@ IsAnswer may_open known input (Shortlog options) paths text = (mailmaps : List T
     × IsShortlog options.by_count (answers_counted options.with_email mailmaps contacts) text)
 
 -- A failure can be of such a task. The number of a file that can't be read is its number among the paths, from 1 on.
-abbrev pub FailsFor : (Text → Type 0) → Mode → List Text → Failure → Type 0
+abbrev pub FailsFor : (Text → Type 0) → Mode → List Text → RunError → Type 0
 FailsFor may_open mode paths (File number cause) =
     IsTrue (counts_contacts mode) × (0 < number) × (number ≤ length paths) × MayOpenBefore may_open number paths
 FailsFor may_open mode paths (Input cause) = IsTrue (counts_contacts mode)

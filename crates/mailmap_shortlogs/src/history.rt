@@ -8,8 +8,8 @@ ghost use Rattle.mailmap_shortlogs.specs.Counts.{AreCounts};
 ghost use Rattle.mailmap_shortlogs.specs.Task.{EndsReading};
 
 use crate::counts::Counts;
-use crate::failure::Failure;
 use bstr::ByteSlice;
+use mailmap_io::run_error::RunError;
 use mailmap_io::streams::read_part;
 use std::alloc::{AllocError, Global};
 use std::io::{ErrorKind, Read};
@@ -20,7 +20,7 @@ const PART: usize = 64 * 1024;
 /// Counts each line of what a reader has left.
 ///
 /// It is read in parts, so memory grows with the lines that differ and with the longest line, not with the history.
-pub fn count_lines<R: Read>(alloc: Global, input: &mut R) -> Result<Counts, Failure>
+pub fn count_lines<R: Read>(alloc: Global, input: &mut R) -> Result<Counts, RunError>
     ensures ok { IfOk result (λ counts. (text : Text) × IfSome (R.remaining input.old) (λ bytes. text ≡ bytes)
         × AreCounts (lines text) counts) }
     ensures end { OnOk result (IsAtEnd (R.remaining input.new)) }
@@ -32,7 +32,7 @@ pub fn count_lines<R: Read>(alloc: Global, input: &mut R) -> Result<Counts, Fail
     for _ in 0..u64::MAX {
         let count = match read_part(input, &mut part) {
             Ok(count) => count,
-            Err(cause) => return Err(Failure::Input { cause }),
+            Err(cause) => return Err(RunError::Input { cause }),
         };
         if count == 0 {
             count_each(&mut counts, held.as_slice())?;
@@ -41,7 +41,7 @@ pub fn count_lines<R: Read>(alloc: Global, input: &mut R) -> Result<Counts, Fail
         take_part(&mut counts, &mut held, &part[..count])?;
     }
     // No input is so long.
-    Err(Failure::Input {
+    Err(RunError::Input {
         cause: ErrorKind::Other,
     })
 }

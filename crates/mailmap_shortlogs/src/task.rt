@@ -5,12 +5,12 @@ ghost use Rattle.std.specs.List.{list_all, list_any};
 ghost use Rattle.mailmap_io.specs.Printing.{Prints, PrintsFront};
 ghost use Rattle.mailmap_shortlogs.specs.Task.{FailsFor, IsAnswer, asked, asked_of, counts_contacts, is_option, no_options, options_with, task, word_of};
 
-use crate::failure::Failure;
 use crate::history::count_lines;
 use crate::shortlog::shortlog;
 use mailmap_io::VERSION;
 use mailmap_io::files::{FileSystem, list_of, read_each};
 use mailmap_io::read_error::ReadError;
+use mailmap_io::run_error::RunError;
 use mailmap_io::streams::write_all;
 use std::alloc::{AllocError, Global};
 use std::io::{Read, Write};
@@ -194,7 +194,7 @@ pub fn perform<F: FileSystem, R: Read, W: Write>(
     task: Task<'_>,
     input: &mut R,
     output: &mut W,
-) -> Result<(), Failure>
+) -> Result<(), RunError>
     // The answer is written, once and with nothing beside it.
     ensures prints { OnOk result (Prints
         (IsAnswer (F.may_open system.now) (F.bytes system.now) (R.remaining input.old) task.entry.mode
@@ -203,7 +203,7 @@ pub fn perform<F: FileSystem, R: Read, W: Write>(
 
     // For a shortlog all of the input is read before anything is written, and else nothing.
     ensures reads_all { IsTrue (counts_contacts task.entry.mode) → OnOk result (IsAtEnd (R.remaining input.new)) }
-    ensures reads_first { IsTrue (counts_contacts task.entry.mode) → IsErrOf result Failure.Output
+    ensures reads_first { IsTrue (counts_contacts task.entry.mode) → IsErrOf result RunError.Output
         → IsAtEnd (R.remaining input.new) }
     ensures unread { IsFalse (counts_contacts task.entry.mode) → input.new ≡ input.old }
 
@@ -212,14 +212,14 @@ pub fn perform<F: FileSystem, R: Read, W: Write>(
         (map (λ path. path.items) task.entry.paths.now)) }
 
     // Output that breaks off is the beginning of the answer; at the other failures nothing is written.
-    ensures breaks_off { IsErrOf result Failure.Output → PrintsFront
+    ensures breaks_off { IsErrOf result RunError.Output → PrintsFront
         (IsAnswer (F.may_open system.now) (F.bytes system.now) (R.remaining input.old) task.entry.mode
         (map (λ path. path.items) task.entry.paths.now))
         (W.contents output.old) (W.contents output.new) }
-    ensures silent { IsErr result → ¬ IsErrOf result Failure.Output → output.new ≡ output.old }
+    ensures silent { IsErr result → ¬ IsErrOf result RunError.Output → output.new ≡ output.old }
 {
     let text = answer_to(system, alloc, task, input)?;
-    write_all(output, text.as_slice()).map_err(|_| Failure::Output)
+    write_all(output, text.as_slice()).map_err(|_| RunError::Output)
 }
 
 // What is printed.
@@ -228,14 +228,14 @@ fn answer_to<F: FileSystem, R: Read>(
     alloc: Global,
     task: Task<'_>,
     input: &mut R,
-) -> Result<Vec<u8>, Failure>
+) -> Result<Vec<u8>, RunError>
     ensures ok { IfOk result (λ text. IsAnswer (F.may_open system.now) (F.bytes system.now) (R.remaining input.old)
         task.entry.mode (map (λ path. path.items) task.entry.paths.now) text.items) }
     ensures reads_all { IsTrue (counts_contacts task.entry.mode) → OnOk result (IsAtEnd (R.remaining input.new)) }
     ensures unread { IsFalse (counts_contacts task.entry.mode) → input.new ≡ input.old }
     ensures fails { IfErr result (FailsFor (F.may_open system.now) task.entry.mode
         (map (λ path. path.items) task.entry.paths.now)) }
-    ensures no_output { ¬ IsErrOf result Failure.Output }
+    ensures no_output { ¬ IsErrOf result RunError.Output }
 {
     match task.mode {
         Mode::Help => Ok(Vec::from_slice(alloc, USAGE.as_bytes())?),
@@ -261,18 +261,18 @@ fn shortlog_of<F: FileSystem, R: Read>(
     options: Options,
     paths: &[Vec<u8>],
     input: &mut R,
-) -> Result<Vec<u8>, Failure>
+) -> Result<Vec<u8>, RunError>
     ensures ok { IfOk result (λ text. IsAnswer (F.may_open system.now) (F.bytes system.now) (R.remaining input.old)
         (Mode.Shortlog options) (map (λ path. path.items) paths.now) text.items) }
     ensures reads_all { OnOk result (IsAtEnd (R.remaining input.new)) }
     ensures fails { IfErr result (FailsFor (F.may_open system.now) (Mode.Shortlog options)
         (map (λ path. path.items) paths.now)) }
-    ensures no_output { ¬ IsErrOf result Failure.Output }
+    ensures no_output { ¬ IsErrOf result RunError.Output }
 {
     let mailmaps = match read_each(system, alloc, paths) {
         Ok(mailmaps) => mailmaps,
-        Err(ReadError::File { number, cause }) => return Err(Failure::File { number, cause }),
-        Err(ReadError::Memory) => return Err(Failure::Memory),
+        Err(ReadError::File { number, cause }) => return Err(RunError::File { number, cause }),
+        Err(ReadError::Memory) => return Err(RunError::Memory),
     };
     let buffers = list_of(alloc, mailmaps.as_slice())?;
     let lines = count_lines(alloc, input)?;
