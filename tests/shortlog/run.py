@@ -17,7 +17,9 @@ from pathlib import Path
 
 sys.dont_write_bytecode = True
 sys.path.append(str(Path(__file__).resolve().parent.parent))
+import runs
 from repository import Repository, has_git
+from runs import run, wants
 
 # The four kinds of output, and ways to ask for each.
 ASKED = [
@@ -27,19 +29,6 @@ ASKED = [
     [["-n", "-e"], ["-sne"], ["-en"], ["-e", "-ns"]],
 ]
 USAGE = b"usage: mailmap_shortlog [-n] [-e] [-s] [--] [MAILMAP..]\n"
-failed = 0
-
-
-def run(program, words, stdin=b""):
-    done = subprocess.run([program, *words], input=stdin, capture_output=True)
-    return done.returncode, done.stdout, done.stderr
-
-
-def wants(what, done, status, printed, said=b""):
-    global failed
-    if done != (status, printed, said):
-        failed += 1
-        print(f"{what}: {done[0]} {done[1][:400]} {done[2][:400]}\n    and not {status} {printed[:400]} {said[:400]}")
 
 
 def stored(program):
@@ -69,6 +58,9 @@ def options(program):
     wants("an empty name", run(program, [], b"<b@x>\n"), 0, b"     1\t\n")
     wants("a path like an option", run(program, ["--", "-n"], contacts), 0, b"     2\tJoe\n     1\ta\n")
     wants("an option after a path is a path", run(program, ["m1", "-n"], contacts), 0, b"     2\tJoe\n     1\ta\n")
+    wants("a dash is a path", run(program, ["-"], contacts), 2, b"",
+          b"mailmap_shortlog: -: No such file or directory\n")
+    wants("many options", run(program, ["-n"] * 100_000 + ["m1"], contacts), 0, both)
     long = b"x" * 200_000 + b" <l@x>\n"
     wants("a long line", run(program, [], contacts + b"\n" + long * 2), 0,
           b"     1\ta\n     2\tjd\n     2\t" + b"x" * 200_000 + b"\n")
@@ -113,8 +105,8 @@ def main(program):
         options(program)
         git = as_git(program)
         os.chdir("/")
-    if failed:
-        sys.exit(f"mailmap_shortlog: {failed} failed")
+    if runs.failed:
+        sys.exit(f"mailmap_shortlog: {runs.failed} failed")
     print(f"mailmap_shortlog: {count} stored cases{', and git prints the same' if git else '; git is not here'}")
 
 
