@@ -1,7 +1,6 @@
 -- The lines of a text that comes in parts.
-use Rattle.std.proofs.Common.{◌≡◌, ◌≢◌, ◌⊎◌, ◌∙◌, ◌+◌, ◌-◌, ◌<◌, ◌≤◌, ℕ, Option, None, Some, IfSome, List, [], ◌∷◌, ◌++◌, add-one, ap, append-nil, append_assoc, arith, drop, inl, inr, length, map, refl, Bool, Result, Ok, Err, OnOk, cond, is_ok, slice_index, subst, sym, take, take-append-drop, take_all}
+use Rattle.std.proofs.Common.{◌≡◌, ◌⊎◌, ◌∙◌, ◌+◌, ◌-◌, ◌<◌, ℕ, Option, None, Some, IfSome, List, [], ◌∷◌, ◌++◌, add-one, ap, append-nil, append_assoc, arith, drop, inl, inr, length, map, refl, Result, Ok, Err, OnOk, cond, is_ok, slice_index, subst, sym, take, take-append-drop, take_all}
 use Rattle.std.specs.Io.KnownBytes.{Consumes, IsAtEnd}
-use Rattle.std.proofs.lemmas.Bool.{eqb-true}
 use Rattle.std.proofs.lemmas.List.{length-append, length-drop, map-append}
 use Rattle.std.proofs.Math.Seq.{get_or-append_seam, take-suc}
 use Rattle.bstr.specs.Text.{lines_of, without_terminator}
