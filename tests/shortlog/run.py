@@ -17,10 +17,15 @@ from pathlib import Path
 
 sys.dont_write_bytecode = True
 sys.path.append(str(Path(__file__).resolve().parent.parent))
+sys.path.append(str(Path(__file__).resolve().parents[2] / "bench"))
+import measuring
 import runs
 from repository import Repository, has_git
 from runs import run, wants
 
+# how many contacts of a history differ, and how many times the peak of a short one a million contacts may take
+DIFFERENT = 5_000
+BOUND = 1.25
 # The four kinds of output, and ways to ask for each.
 ASKED = [
     [[], ["-s"], ["--"]],
@@ -97,6 +102,24 @@ def as_git(program):
     return True
 
 
+def peak(program, count):
+    """The largest resident set of a run on so many contacts, of which few differ."""
+    some = (number % DIFFERENT for number in range(count))
+    Path("history").write_bytes(b"".join(b"Jane %d <j%d@x>\n" % (number, number) for number in some))
+    ended = measuring.run(measuring.built("measure", os.getcwd(), "-static"), [program, "-ne", "m1"], stdin="history")
+    if ended.status or ended.complaints:
+        sys.exit(f"mailmap_shortlog: {count} contacts: status {ended.status} {ended.complaints.strip()}")
+    return ended.peak
+
+
+def peaks(program):
+    """Memory is that of the contacts that differ."""
+    few, many = peak(program, 2 * DIFFERENT), peak(program, 1_000_000)
+    if many > BOUND * few:
+        sys.exit(f"mailmap_shortlog: a million contacts take {many} bytes, and {2 * DIFFERENT} take {few}")
+    return measuring.mebibytes(many)
+
+
 def main(program):
     program = os.path.abspath(program)
     with tempfile.TemporaryDirectory() as folder:
@@ -104,10 +127,12 @@ def main(program):
         count = stored(program)
         options(program)
         git = as_git(program)
+        most = peaks(program)
         os.chdir("/")
     if runs.failed:
         sys.exit(f"mailmap_shortlog: {runs.failed} failed")
-    print(f"mailmap_shortlog: {count} stored cases{', and git prints the same' if git else '; git is not here'}")
+    print(f"mailmap_shortlog: {count} stored cases, a million contacts take {most}"
+          f"{', and git prints the same' if git else '; git is not here'}")
 
 
 if __name__ == "__main__":
