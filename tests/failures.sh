@@ -1,8 +1,8 @@
 #!/usr/bin/env bash
 # Runs mailmap_check, mailmap_verify and mailmap_shortlog, the programs that the three arguments name, where files,
-# streams or memory fail them; what they say of themselves; and 200,000 lines, with which nothing fails. A run that fails
-# must end with status 2, with the lines of its failure on standard error, and with nothing on standard output but the
-# answers to the lines before the failure. No run may take long: one that makes a failed write again and again would
+# streams or memory fail them; what they say of themselves; and 200,000 lines, with which nothing fails. A run that
+# fails must end with status 2, with the lines of its failure on standard error, and with nothing on standard output but
+# the answers to the lines before the failure. No run may take long: one that makes a failed write again and again would
 # never end.
 set -euo pipefail
 here="$(cd "$(dirname "$0")" && pwd)"

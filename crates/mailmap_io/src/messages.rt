@@ -27,8 +27,8 @@ pub fn failure_line(
     Ok(line)
 }
 
-/// What is wrong with an argument, as in `mailmap_shortlog: unknown option: -x`, and then the usage. Control bytes of the
-/// argument are shown.
+/// What is wrong with an argument, as in `mailmap_shortlog: unknown option: -x`, and then the usage. Control bytes of
+/// the argument are shown.
 pub fn misuse_lines(
     alloc: Global,
     program: &[u8],

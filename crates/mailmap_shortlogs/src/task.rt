@@ -187,7 +187,7 @@ fn has(argument: &[u8], letter: u8) -> bool
 
 /// Prints what is asked for: the shortlog of the contacts that the input has, the usage or the version.
 ///
-/// For a shortlog the mailmaps are read first, in their order, and then all of the input. The first failure ends the run.
+/// For a shortlog the mailmaps are read first, in order, and then all of the input. The first failure ends the run.
 pub fn perform<F: FileSystem, R: Read, W: Write>(
     system: &F,
     alloc: Global,
