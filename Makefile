@@ -105,7 +105,7 @@ test:
 	tests/original/compare.py $(PROGRAM) $(DUMP)
 	tests/verify/run.py $(VERIFIER)
 	tests/shortlog/run.py $(COUNTER)
-	tests/failures.sh $(PROGRAM) $(VERIFIER)
+	tests/failures.sh $(PROGRAM) $(VERIFIER) $(COUNTER)
 	tests/memory.py $(PROGRAM) $(VERIFIER)
 	tests/streams.py $(PROGRAM) $(VERIFIER)
 	tests/examples.py $(PROGRAM) $(VERIFIER)

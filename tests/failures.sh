@@ -1,14 +1,16 @@
 #!/usr/bin/env bash
-# Runs mailmap_check and mailmap_verify, the programs that the two arguments name, where files, streams or memory fail
-# them; what they say of themselves; and 200,000 lines, with which nothing fails. A run that fails must end with status
-# 2, with the lines of its failure on standard error, and with nothing on standard output but the answers to the lines
-# before the failure. No run may take long: one that makes a failed write again and again would never end.
+# Runs mailmap_check, mailmap_verify and mailmap_shortlog, the programs that the three arguments name, where files,
+# streams or memory fail them; what they say of themselves; and 200,000 lines, with which nothing fails. A run that
+# fails must end with status 2, with the lines of its failure on standard error, and with nothing on standard output but
+# the answers to the lines before the failure. No run may take long: one that makes a failed write again and again would
+# never end.
 set -euo pipefail
 here="$(cd "$(dirname "$0")" && pwd)"
 work="$(mktemp -d)"
 trap 'rm -rf "$work"' EXIT
 install -m 755 "$1" "$work/mailmap_check"
 install -m 755 "$2" "$work/mailmap_verify"
+install -m 755 "$3" "$work/mailmap_shortlog"
 cd "$work"
 chmod 755 .
 printf 'Joe R. Developer <joe@example.com> <bugs@example.com>\n' > mailmap
@@ -103,6 +105,29 @@ fails 'cannot write output' mailmap_verify '--explain mailmap > /dev/full'
 fails 'cannot write output' mailmap_verify '--help > /dev/full'
 fails 'cannot write output' mailmap_verify '--version > /dev/full'
 fails 'cannot write output' mailmap_check '--help > /dev/full'
+# mailmap_shortlog names files and causes, too, and prints nothing before it has read all contacts.
+fails 'missing: No such file or directory' mailmap_shortlog 'missing'
+fails '-: No such file or directory' mailmap_shortlog '-'
+fails '-n: No such file or directory' mailmap_shortlog '-- -n'
+fails 'folder: Is a directory' mailmap_shortlog '-ne mailmap folder'
+as_user="$as_other" fails 'unreadable: Permission denied' mailmap_shortlog 'mailmap unreadable'
+fails '\x1b[31m\x0a: No such file or directory' mailmap_shortlog "$'\\x1b[31m\\n'"
+fails $'name\xff: the name is not UTF-8' mailmap_shortlog "mailmap $'name\\xff'"
+fails 'standard input: Is a directory' mailmap_shortlog 'mailmap < folder'
+limit='ulimit -v 20000; '
+fails 'large: out of memory' mailmap_shortlog 'mailmap large'
+fails 'out of memory' mailmap_shortlog 'many'
+fails 'out of memory' mailmap_shortlog 'mailmap < large'
+fails 'out of memory' mailmap_shortlog 'mailmap < many'
+limit=''
+fails 'cannot write output' mailmap_shortlog 'mailmap > /dev/full'
+fails 'cannot write output' mailmap_shortlog 'mailmap >&-'
+fails 'cannot write output' mailmap_shortlog '--help > /dev/full'
+fails 'cannot write output' mailmap_shortlog '--version > /dev/full'
+usage='usage: mailmap_shortlog [-n] [-e] [-s] [--] [MAILMAP..]'
+fails "unknown option: --foo"$'\n'"$usage" mailmap_shortlog '--foo mailmap'
+fails "unknown option: -nx"$'\n'"$usage" mailmap_shortlog '-n -nx'
+fails "unknown option: -\\x1b"$'\n'"$usage" mailmap_shortlog "$'-\\x1b'"
 
 # prints TEXT STATUS PROGRAM ARGUMENTS: runs the program, which prints this text and nothing on standard error
 prints() {
@@ -116,7 +141,7 @@ prints() {
     runs=$((runs + 1))
 }
 
-for program in mailmap_check mailmap_verify; do
+for program in mailmap_check mailmap_verify mailmap_shortlog; do
     prints "$program $(cat "$here/../VERSION")" 0 $program '--version'
     ./$program --help | diff "$here/help/$program.txt" -
     ./$program -h | diff "$here/help/$program.txt" -
@@ -133,6 +158,7 @@ printf 'Jane <jane@x> <bugs@example.com>\n' > ' a '
 printf 'plain\n' > a
 prints 'Jane <jane@x>' 0 mailmap_check "' a ' < contacts"
 prints '' 0 mailmap_verify "' a '"
+prints $'     1\tJane' 0 mailmap_shortlog "' a ' < contacts"
 # There is memory for 200,000 lines.
 prints "$(cat many)" 0 mailmap_check 'many < <(sed s/Joe/x/ many)'
 prints "$(sed 's/^/ /' many | LC_ALL=C sort)" 0 mailmap_check '--compact many'
@@ -140,4 +166,5 @@ prints '' 0 mailmap_verify 'many'
 prints "$(cat many)" 0 mailmap_verify '--prune many'
 prints "$(sed 's/^.*$/& is & by many:/' many | cat -n | sed 's/^ *\([0-9]*\)\t\(.*\)/\2\1/; s/^Joe/x/')" 0 \
     mailmap_verify '--explain many < <(sed s/Joe/x/ many)'
+prints "$(sed 's/^Joe/     1\tJoe/' many | LC_ALL=C sort)" 0 mailmap_shortlog '-e many < many'
 echo "failures: each of $runs runs ends as it must"

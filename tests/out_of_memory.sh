@@ -1,6 +1,6 @@
 #!/usr/bin/env bash
 # Refuses each request for memory in turn: those of the library's calls, which the program out_of_memory makes and
-# judges, and those of mailmap_check and mailmap_verify.
+# judges, and those of mailmap_check, mailmap_verify and mailmap_shortlog.
 #
 # Each program is built once and run often. It is always the request of one number that is refused, so each run makes
 # one request more than the run before it, ahead of those that are looked at.
@@ -104,6 +104,7 @@ printf ' Joe R. Developer <joe@example.com> <bugs@example.com>\n' > "$work/compa
 printf 'mailmap:1: warning: no effect beside mailmap:1\n' > "$work/told"
 printf 'bob <BUGS@example.com> is Joe R. Developer <joe@example.com> by mailmap:1\n' > "$work/explained"
 printf 'not a contact is no contact\n' >> "$work/explained"
+printf '     1\tJoe R. Developer <joe@example.com>\n' > "$work/counted"
 
 # add_cases MODE FIRST..: the runs of a mode, whose arguments begin so
 add_cases() {
@@ -118,10 +119,11 @@ add_cases() {
     done
 }
 
-# What each program says of a failure. mailmap_check has numbers for the files and mailmap_verify their names.
+# What each program says of a failure. mailmap_check has numbers for the files, and the others have their names.
 declare -A failures=(
     [mailmap_check]='out of memory\|cannot read standard input\|cannot read file [1-9][0-9]*'
     [mailmap_verify]='out of memory\|empty: out of memory\|mailmap: out of memory'
+    [mailmap_shortlog]='out of memory\|empty: out of memory\|mailmap: out of memory'
 )
 
 # explained_before CASE: as many of the explanations as the case printed. Contacts are explained as they come.
@@ -199,5 +201,12 @@ refuse mailmap_verify 34 35 60 61 86 87 112 113
 says mailmap_verify 'out of memory' 'empty: out of memory' 'mailmap: out of memory'
 verifies=$((verifies + refusals))
 
-echo "refused memory: $calls requests of the library's calls, $checks of mailmap_check and" \
-    "$verifies of mailmap_verify, each refused, end as they must"
+rm -r "$work/runs"
+mkdir "$work/runs"
+add_cases counted -ne
+refuse mailmap_shortlog 34 35 60 61 86 87
+says mailmap_shortlog 'out of memory' 'empty: out of memory' 'mailmap: out of memory'
+counts="$refusals"
+
+echo "refused memory: $calls requests of the library's calls, $checks of mailmap_check," \
+    "$verifies of mailmap_verify and $counts of mailmap_shortlog, each refused, end as they must"

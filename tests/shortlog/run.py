@@ -17,8 +17,15 @@ from pathlib import Path
 
 sys.dont_write_bytecode = True
 sys.path.append(str(Path(__file__).resolve().parent.parent))
+sys.path.append(str(Path(__file__).resolve().parents[2] / "bench"))
+import measuring
+import runs
 from repository import Repository, has_git
+from runs import run, wants
 
+# how many contacts of a history differ, and how many times the peak of a short one a million contacts may take
+DIFFERENT = 5_000
+BOUND = 1.25
 # The four kinds of output, and ways to ask for each.
 ASKED = [
     [[], ["-s"], ["--"]],
@@ -27,19 +34,6 @@ ASKED = [
     [["-n", "-e"], ["-sne"], ["-en"], ["-e", "-ns"]],
 ]
 USAGE = b"usage: mailmap_shortlog [-n] [-e] [-s] [--] [MAILMAP..]\n"
-failed = 0
-
-
-def run(program, words, stdin=b""):
-    done = subprocess.run([program, *words], input=stdin, capture_output=True)
-    return done.returncode, done.stdout, done.stderr
-
-
-def wants(what, done, status, printed, said=b""):
-    global failed
-    if done != (status, printed, said):
-        failed += 1
-        print(f"{what}: {done[0]} {done[1][:400]} {done[2][:400]}\n    and not {status} {printed[:400]} {said[:400]}")
 
 
 def stored(program):
@@ -69,6 +63,9 @@ def options(program):
     wants("an empty name", run(program, [], b"<b@x>\n"), 0, b"     1\t\n")
     wants("a path like an option", run(program, ["--", "-n"], contacts), 0, b"     2\tJoe\n     1\ta\n")
     wants("an option after a path is a path", run(program, ["m1", "-n"], contacts), 0, b"     2\tJoe\n     1\ta\n")
+    wants("a dash is a path", run(program, ["-"], contacts), 2, b"",
+          b"mailmap_shortlog: -: No such file or directory\n")
+    wants("many options", run(program, ["-n"] * 100_000 + ["m1"], contacts), 0, both)
     long = b"x" * 200_000 + b" <l@x>\n"
     wants("a long line", run(program, [], contacts + b"\n" + long * 2), 0,
           b"     1\ta\n     2\tjd\n     2\t" + b"x" * 200_000 + b"\n")
@@ -105,6 +102,24 @@ def as_git(program):
     return True
 
 
+def peak(program, count):
+    """The largest resident set of a run on so many contacts, of which few differ."""
+    some = (number % DIFFERENT for number in range(count))
+    Path("history").write_bytes(b"".join(b"Jane %d <j%d@x>\n" % (number, number) for number in some))
+    ended = measuring.run(measuring.built("measure", os.getcwd(), "-static"), [program, "-ne", "m1"], stdin="history")
+    if ended.status or ended.complaints:
+        sys.exit(f"mailmap_shortlog: {count} contacts: status {ended.status} {ended.complaints.strip()}")
+    return ended.peak
+
+
+def peaks(program):
+    """Memory is that of the contacts that differ."""
+    few, many = peak(program, 2 * DIFFERENT), peak(program, 1_000_000)
+    if many > BOUND * few:
+        sys.exit(f"mailmap_shortlog: a million contacts take {many} bytes, and {2 * DIFFERENT} take {few}")
+    return measuring.mebibytes(many)
+
+
 def main(program):
     program = os.path.abspath(program)
     with tempfile.TemporaryDirectory() as folder:
@@ -112,10 +127,12 @@ def main(program):
         count = stored(program)
         options(program)
         git = as_git(program)
+        most = peaks(program)
         os.chdir("/")
-    if failed:
-        sys.exit(f"mailmap_shortlog: {failed} failed")
-    print(f"mailmap_shortlog: {count} stored cases{', and git prints the same' if git else '; git is not here'}")
+    if runs.failed:
+        sys.exit(f"mailmap_shortlog: {runs.failed} failed")
+    print(f"mailmap_shortlog: {count} stored cases, a million contacts take {most}"
+          f"{', and git prints the same' if git else '; git is not here'}")
 
 
 if __name__ == "__main__":

@@ -15,27 +15,15 @@ A line of explained.jsonl has mailmaps, contacts, and what `--explain` prints of
 import json
 import os
 import re
-import subprocess
 import sys
 import tempfile
 from pathlib import Path
 
 sys.dont_write_bytecode = True
+sys.path.append(str(Path(__file__).resolve().parent.parent))
+import runs
+from runs import run, wants
 from hostile import REFUSED, hostile  # the file beside this one
-
-failed = 0
-
-
-def run(program, words, stdin=b""):
-    done = subprocess.run([program, *words], input=stdin, capture_output=True)
-    return done.returncode, done.stdout, done.stderr
-
-
-def wants(what, done, status, printed, said=b""):
-    global failed
-    if done != (status, printed, said):
-        failed += 1
-        print(f"{what}: {done[0]} {done[1][:400]} {done[2][:400]}\n    and not {status} {printed[:400]} {said[:400]}")
 
 
 def as_standard_input(printed):
@@ -169,9 +157,9 @@ def main():
         os.chdir("/")
     print(
         f"findings: {count} stored mailmaps and {hostile_count} hostile ones, "
-        f"contacts of {explained_count} histories, {failed} runs differ"
+        f"contacts of {explained_count} histories, {runs.failed} runs differ"
     )
-    sys.exit(1 if failed else 0)
+    sys.exit(1 if runs.failed else 0)
 
 
 main()

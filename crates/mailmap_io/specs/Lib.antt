@@ -1,3 +1,5 @@
 pub mod Files
+pub mod Messages
 pub mod Outcome
 pub mod Printing
+pub mod Shown

@@ -4,9 +4,12 @@
 pub mod arguments;
 pub mod failure;
 pub mod files;
+pub mod messages;
 pub mod outcome;
 pub mod printer;
 pub mod read_error;
+pub mod run_error;
+pub mod shown;
 pub mod streams;
 
 /// The version of the programs, that of the file `VERSION`.

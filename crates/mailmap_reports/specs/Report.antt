@@ -8,20 +8,9 @@ use Rattle.gix_mailmap.specs.Contacts.{contact}
 use Rattle.gix_mailmap.specs.Entries.{Mapping}
 use Rattle.gix_mailmap.specs.Findings.{Contact, Finding, Reported, fault, ignored_text, git_reads, no_effect, itself_mapped}
 use Rattle.gix_mailmap.specs.Git.{GitReading, Nothing, Entry, Lines}
+pub use Rattle.mailmap_io.specs.Shown.{shown}
 use Rattle.mailmap_io.specs.declared.outcome.Outcome.{Outcome}
 use Rattle.mailmap_io.specs.declared.outcome.Outcome.TheVariants.{Clean, Found}
-
--- a hexadecimal digit: `0` to `9`, and `a` to `f`
-abbrev pub hex_digit : ℕ → ℕ
-hex_digit value = if nat_lt value 10 then 48 + value else 87 + value
-
--- a control byte, below 32 or 127, as `\x` and its two hexadecimal digits, and any other byte as it is
-abbrev pub shown_byte : ℕ → Text
-shown_byte byte = if nat_lt byte 32 || byte == 127 then 92 ∷ 120 ∷ hex_digit (byte / 16) ∷ hex_digit (byte % 16) ∷ [] else byte ∷ []
-
--- a text as it is shown at a terminal
-abbrev pub shown : Text → Text
-shown text = flat_map shown_byte text
 
 -- how the file of a buffer is shown: by its path, or if no path is given as standard input
 abbrev pub file_name : List Text → ℕ → Text

@@ -1,5 +1,5 @@
 //! What the program `mailmap_verify` does: what its arguments ask for, and the doing of it, over any reader, writer and
-//! file system. What it shares with `mailmap_check` is in `mailmap_io`.
+//! file system. What it shares with the other programs is in `mailmap_io`.
 #![tactic(auto)]
 
 pub mod answer;
@@ -9,5 +9,6 @@ pub mod failure;
 mod git;
 pub mod likeness;
 pub mod report;
-pub mod shown;
 pub mod task;
+
+pub use mailmap_io::shown;

@@ -1,5 +1,5 @@
 -- What a normal list says of lines is what its history says.
-use Rattle.std.proofs.Common.{◌≡◌, ◌∙◌, Bool, Option, Some, List, [], ◌∷◌, ◌++◌, ap, flat_map, option_map, option_to_list, refl, sym, unwrap_or}
+use Rattle.std.proofs.Common.{◌≡◌, ◌∙◌, Bool, Some, List, [], ◌∷◌, ◌++◌, ap, flat_map, option_map, option_to_list, refl, sym, unwrap_or}
 use Rattle.gix_mailmap.specs.Entries.{Mapping}
 use Rattle.gix_mailmap.specs.Folding.{Text}
 use Rattle.gix_mailmap.specs.Histories.{IsNormal, fields_for, no_fields}
@@ -8,7 +8,7 @@ use Rattle.gix_mailmap.specs.Trimming.{trim}
 use Rattle.mailmap_histories.proofs.Alike.{same_scan}
 use Rattle.mailmap_histories.proofs.Normal.{alike_normal}
 use Rattle.mailmap_shortlogs.specs.Counts.{Counted, standing}
-use Rattle.mailmap_shortlogs.specs.Shortlog.{contact_counted, line_counted, shown_replaced}
+use Rattle.mailmap_shortlogs.specs.Shortlog.{contact_counted, line_counted, replaced_text}
 
 module _ (with_email : Bool) (h n : List Mapping) (d : IsNormal h n) where
   same_fields : (name email : Text) → fields_for n name email ≡ fields_for h name email
@@ -17,7 +17,7 @@ module _ (with_email : Bool) (h n : List Mapping) (d : IsNormal h n) where
   same_contact : (contact : ParsedContact) → contact_counted with_email n contact ≡ contact_counted with_email h contact
   same_contact Absent = refl
   same_contact Unclosed = refl
-  same_contact (Closed name email rest) = ap (λ f. Some (shown_replaced with_email f name email)) (same_fields name email)
+  same_contact (Closed name email rest) = ap (λ f. Some (replaced_text with_email f name email)) (same_fields name email)
 
   pub same_standing : (counts : List Counted) → flat_map (standing (line_counted with_email n)) counts ≡ flat_map (standing (line_counted with_email h)) counts
   same_standing [] = refl

@@ -1,12 +1,11 @@
 -- Texts that are counted one after another.
 use Rattle.std.proofs.Common.{◌≡◌, ◌∙◌, ◌+◌, ◌<◌, add-one, ℕ, Bool, true, false, cond, Option, None, Some, List, [], ◌∷◌, ◌++◌, ap, arith, get_or, length, map, refl, set, suc, sym, subst, take, zero}
-use Rattle.std.specs.Prelude.{count_by, option_map, option_to_list, sum_by}
+use Rattle.std.specs.Prelude.{count_by, option_map, option_to_list}
 use Rattle.std.specs.List.{AllByRecursion, cons_option, filter_map, flat_map}
-use Rattle.std.proofs.lemmas.List.Elements.{All-from_recursion, recursion_from_All}
 use Rattle.std.proofs.lemmas.List.Sums.{sum_by-append, sum_by-cons, sum_by-set}
 use Rattle.gix_mailmap.specs.Folding.{Text}
 use Rattle.mailmap_histories.proofs.Parts.{all_append}
-use Rattle.std.proofs.lemmas.List.{get_or-map, length-map, map-append, map-set, take-map}
+use Rattle.std.proofs.lemmas.List.{get_or-map, length-map, map-append, map-set}
 use Rattle.std.proofs.Math.Seq.{take-suc}
 use Rattle.mailmap_shortlogs.specs.Counts.{AreCounts, Counted, counted, passing_count, standing}
 use Rattle.mailmap_shortlogs.specs.declared.counts.Tally.{Tally}

@@ -1,6 +1,5 @@
 -- Counts in order: that of their texts, or of their counts.
 use Rattle.std.proofs.Common.{◌≡◌, ◌≢◌, ◌∙◌, ◌+◌, ◌<◌, ◌≤◌, ℕ, Bool, true, false, cond, List, [], ◌∷◌, ◌++◌, ⊎_elim, Contains, Ordering, Less, Equal, Greater, ap, arith, bytes_eq, get_or, length, map, refl, suc, sym, take, zero}
-use Rattle.std.specs.Prelude.{count_by}
 use Rattle.std.specs.Cmp.{IsTotalOrder}
 use Rattle.std.specs.Cmp.Lexicographic.{nat_list_cmp_total, same_text}
 use Rattle.std.specs.List.{AllByRecursion}

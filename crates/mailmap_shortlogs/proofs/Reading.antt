@@ -1,7 +1,6 @@
 -- The lines of a text that comes in parts.
-use Rattle.std.proofs.Common.{◌≡◌, ◌≢◌, ◌⊎◌, ◌∙◌, ◌+◌, ◌-◌, ◌<◌, ◌≤◌, ℕ, Option, None, Some, IfSome, List, [], ◌∷◌, ◌++◌, add-one, ap, append-nil, append_assoc, arith, drop, inl, inr, length, map, refl, Bool, Result, Ok, Err, OnOk, cond, drop_of_length-le, is_ok, slice_index, subst, sym, take, take-append-drop, take_all}
-use Rattle.std.specs.Io.KnownBytes.{Consumes, IsAtEnd, Keeps}
-use Rattle.std.proofs.lemmas.Bool.{eqb-true}
+use Rattle.std.proofs.Common.{◌≡◌, ◌⊎◌, ◌∙◌, ◌+◌, ◌-◌, ◌<◌, ℕ, Option, None, Some, IfSome, List, [], ◌∷◌, ◌++◌, add-one, ap, append-nil, append_assoc, arith, drop, inl, inr, length, map, refl, Result, Ok, Err, OnOk, cond, is_ok, slice_index, subst, sym, take, take-append-drop, take_all}
+use Rattle.std.specs.Io.KnownBytes.{Consumes, IsAtEnd}
 use Rattle.std.proofs.lemmas.List.{length-append, length-drop, map-append}
 use Rattle.std.proofs.Math.Seq.{get_or-append_seam, take-suc}
 use Rattle.bstr.specs.Text.{lines_of, without_terminator}
@@ -34,12 +33,6 @@ ends_after xs ys before (inl none) = subst EndsLine (sym (ap (λ l. xs ++ l) non
 ends_after xs ys before (inr (front, is)) = inr (xs ++ front, ap (λ l. xs ++ l) is ∙ sym (append_assoc xs front (10 ∷ [])))
 
 -- ---- what a reader gives
-
-pub kept_then : (a b c : Option Text) (part : Text) → Keeps a b → Consumes b c part → Consumes a c part
-kept_then None b c part k h = tt
-kept_then (Some xs) None c part k h = absurd k
-kept_then (Some xs) (Some ys) None part k h = absurd h
-kept_then (Some xs) (Some ys) (Some zs) part k h = sym k ∙ h
 
 consumed_then : (a b c : Option Text) (first second : Text) → Consumes a b first → Consumes b c second → Consumes a c (first ++ second)
 consumed_then None b c first second f s = tt
@@ -117,9 +110,3 @@ takes_ended held part mid rest feed counts new lt is mid_is rest_is counts_mid =
 pub when_ok : {T E X : Type 0} (r : Result T E) (x a b : X) → x ≡ cond (is_ok r) a b → OnOk r (x ≡ a)
 when_ok (Ok t) x a b e = e
 when_ok (Err t) x a b e = tt
-
--- a whole buffer that was read into
-pub written_whole : (n : ℕ) (xs ys : Text) → length ys ≡ length xs → n ≡ length xs → take n (ys ++ drop (length ys) xs) ≡ ys
-written_whole n xs ys same all =
-    let nothing : drop (length ys) xs ≡ [] = drop_of_length-le xs (omega (arith, same)) in
-    ap (λ l. take n (ys ++ l)) nothing ∙ ap (take n) (append-nil ys) ∙ take_all n ys (omega (arith, same, all))

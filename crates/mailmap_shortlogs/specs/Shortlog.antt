@@ -14,18 +14,18 @@ use Rattle.gix_mailmap.specs.Trimming.{trim}
 use Rattle.mailmap_shortlogs.specs.Counts.{Counted}
 
 -- a name alone, or with its email in brackets after a blank, which is also there if the name is empty
-abbrev pub shown : Bool → Text → Text → Text
-shown with_email name email = if with_email then name ++ 32 ∷ 60 ∷ email ++ 62 ∷ [] else name
+abbrev pub answer_text : Bool → Text → Text → Text
+answer_text with_email name email = if with_email then name ++ 32 ∷ 60 ∷ email ++ 62 ∷ [] else name
 
 -- the same, with the fields of a mailmap in place of the contact's own
-abbrev pub shown_replaced : Bool → Fields → Text → Text → Text
-shown_replaced with_email f name email = shown with_email (unwrap_or f.name name) (unwrap_or f.email email)
+abbrev pub replaced_text : Bool → Fields → Text → Text → Text
+replaced_text with_email f name email = answer_text with_email (unwrap_or f.name name) (unwrap_or f.email email)
 
 -- what is counted for a line that begins with this contact: its answer by a history, or nothing if it is no contact
 abbrev pub contact_counted : Bool → List Mapping → ParsedContact → Option Text
 contact_counted with_email h Absent = None
 contact_counted with_email h Unclosed = None
-contact_counted with_email h (Closed name email rest) = Some (shown_replaced with_email (fields_for h name email) name email)
+contact_counted with_email h (Closed name email rest) = Some (replaced_text with_email (fields_for h name email) name email)
 
 -- what is counted for a line
 abbrev pub line_counted : Bool → List Mapping → Text → Option Text

@@ -6,7 +6,7 @@ ghost use Rattle.gix_mailmap.specs.Folding.{Text};
 ghost use Rattle.gix_mailmap.specs.Histories.{IsNormal, fields_for};
 ghost use Rattle.gix_mailmap.specs.Lines.{good};
 ghost use Rattle.mailmap_shortlogs.specs.Counts.{counted, standing};
-ghost use Rattle.mailmap_shortlogs.specs.Shortlog.{line_counted, shown as spec_shown, shown_replaced};
+ghost use Rattle.mailmap_shortlogs.specs.Shortlog.{line_counted, answer_text, replaced_text};
 
 use crate::counts::{Counts, Tally};
 use gix_mailmap::{Snapshot, parse_ignore_errors};
@@ -104,22 +104,27 @@ fn replaced(
     with_email: bool,
 ) -> Result<Vec<u8>, AllocError>
     ensures { IfOk result (λ text. text.items
-        ≡ shown_replaced with_email (fields_for snapshot.now name.now email.now) name.now email.now) }
+        ≡ replaced_text with_email (fields_for snapshot.now name.now email.now) name.now email.now) }
 {
     match snapshot.try_resolve_contact(name, email) {
-        Some(found) => shown(
+        Some(found) => answer_text(
             alloc,
             found.name.unwrap_or(name),
             found.email.unwrap_or(email),
             with_email,
         ),
-        None => shown(alloc, name, email, with_email),
+        None => answer_text(alloc, name, email, with_email),
     }
 }
 
 // A name alone, or with its email. As git has it, there is a blank before the email even if the name is empty.
-fn shown(alloc: Global, name: &[u8], email: &[u8], with_email: bool) -> Result<Vec<u8>, AllocError>
-    ensures { IfOk result (λ text. text.items ≡ spec_shown with_email name.now email.now) }
+fn answer_text(
+    alloc: Global,
+    name: &[u8],
+    email: &[u8],
+    with_email: bool,
+) -> Result<Vec<u8>, AllocError>
+    ensures { IfOk result (λ text. text.items ≡ answer_text with_email name.now email.now) }
 {
     let mut text = Vec::from_slice(alloc, name)?;
     if with_email {

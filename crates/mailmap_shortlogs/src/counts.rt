@@ -3,7 +3,8 @@ ghost use Rattle.std.specs.Prelude.{◌≡◌, ◌≢◌, ◌+◌, [], ◌++◌,
 ghost use Rattle.gix_mailmap.specs.Folding.{Text};
 ghost use Rattle.mailmap_shortlogs.specs.Counts.{AreCounts, Counted, counted};
 
-use crate::guesses::{Guesses, TRIES, hash_of};
+use crate::guesses::{Guesses, TRIES};
+use mailmap_repeats::hashes::hash_of;
 use std::alloc::{AllocError, Global};
 use std::marker::Model;
 

@@ -1,7 +1,6 @@
 //! Guesses of where a text is among others, by its hash. A wrong guess costs time and memory and changes nothing, so no
 //! contract speaks of it.
 use std::alloc::{AllocError, Global};
-use std::hash::{FoldHasher, Hasher};
 
 /// In how many slots, one after another, the index of a text may be. Half of the slots are empty, so few are looked at.
 /// Texts that were made to have one hash fill no more than these.
@@ -17,13 +16,6 @@ const EMPTY: u32 = u32::MAX;
 #[derive(Drop)]
 pub(crate) struct Guesses {
     slots: Vec<u32>,
-}
-
-/// The hash of a text.
-pub(crate) fn hash_of(text: &[u8]) -> u64 {
-    let mut hasher = FoldHasher::default();
-    hasher.write(text);
-    hasher.finish()
 }
 
 impl Guesses {

@@ -1,6 +1,6 @@
 //! The lines of a history, counted as they are read.
-ghost use Rattle.std.specs.Prelude.{◌≡◌, ◌++◌, ◌<◌, ◌≤◌, List, IfErr, IfOk, IfSome, OnOk, length, take};
-ghost use Rattle.std.specs.Io.KnownBytes.{Consumes, IsAtEnd};
+ghost use Rattle.std.specs.Prelude.{◌≡◌, ◌++◌, List, IfErr, IfOk, IfSome, OnOk};
+ghost use Rattle.std.specs.Io.KnownBytes.{IsAtEnd};
 ghost use Rattle.gix_mailmap.specs.Folding.{Text};
 ghost use Rattle.gix_mailmap.specs.Contacts.{lines};
 ghost use Rattle.gix_mailmap.specs.Parts.{EndsLine};
@@ -8,8 +8,9 @@ ghost use Rattle.mailmap_shortlogs.specs.Counts.{AreCounts};
 ghost use Rattle.mailmap_shortlogs.specs.Task.{EndsReading};
 
 use crate::counts::Counts;
-use crate::failure::Failure;
 use bstr::ByteSlice;
+use mailmap_io::run_error::RunError;
+use mailmap_io::streams::read_part;
 use std::alloc::{AllocError, Global};
 use std::io::{ErrorKind, Read};
 
@@ -19,17 +20,20 @@ const PART: usize = 64 * 1024;
 /// Counts each line of what a reader has left.
 ///
 /// It is read in parts, so memory grows with the lines that differ and with the longest line, not with the history.
-pub fn count_lines<R: Read>(alloc: Global, input: &mut R) -> Result<Counts, Failure>
+pub fn count_lines<R: Read>(alloc: Global, input: &mut R) -> Result<Counts, RunError>
     ensures ok { IfOk result (λ counts. (text : Text) × IfSome (R.remaining input.old) (λ bytes. text ≡ bytes)
         × AreCounts (lines text) counts) }
     ensures end { OnOk result (IsAtEnd (R.remaining input.new)) }
     ensures only { IfErr result EndsReading }
 {
     let mut counts = Counts::new(alloc);
-    let mut part = vec![in alloc; 0; PART]?;
     let mut held = Vec::new(alloc);
+    let mut part = [0; PART];
     for _ in 0..u64::MAX {
-        let count = read_part(input, part.as_mut_slice())?;
+        let count = match read_part(input, &mut part) {
+            Ok(count) => count,
+            Err(cause) => return Err(RunError::Input { cause }),
+        };
         if count == 0 {
             count_each(&mut counts, held.as_slice())?;
             return Ok(counts);
@@ -37,29 +41,8 @@ pub fn count_lines<R: Read>(alloc: Global, input: &mut R) -> Result<Counts, Fail
         take_part(&mut counts, &mut held, &part[..count])?;
     }
     // No input is so long.
-    Err(Failure::Input {
+    Err(RunError::Input {
         cause: ErrorKind::Other,
-    })
-}
-
-// One read into a part, which isn't empty: how many bytes it gave, none only at the end. An interrupted read is repeated.
-fn read_part<R: Read>(input: &mut R, part: &mut [u8]) -> Result<usize, Failure>
-    requires { 0 < length part.old }
-    ensures len { length part.new ≡ length part.old }
-    ensures within { IfOk result (λ count. count ≤ length part.new) }
-    ensures ok { IfOk result (λ count. Consumes (R.remaining input.old) (R.remaining input.new) (take count part.new)) }
-    ensures end { IfOk result (λ count. count ≡ 0 → IsAtEnd (R.remaining input.new)) }
-    ensures only { IfErr result EndsReading }
-{
-    for _ in 0..u64::MAX {
-        match input.read(part) {
-            Ok(count) => return Ok(count),
-            Err(e) if e.kind() == ErrorKind::Interrupted => {}
-            Err(e) => return Err(Failure::Input { cause: e.kind() }),
-        }
-    }
-    Err(Failure::Input {
-        cause: ErrorKind::Interrupted,
     })
 }
 

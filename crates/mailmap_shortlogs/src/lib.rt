@@ -4,7 +4,6 @@
 
 pub mod answers;
 pub mod counts;
-pub mod failure;
 mod guesses;
 pub mod history;
 pub mod shortlog;

@@ -12,14 +12,13 @@
 
 use mailmap_io::arguments::arguments;
 use mailmap_io::files::System;
+use mailmap_io::messages::{self, cause_text};
 use mailmap_io::outcome::{Outcome, exit_code};
-use mailmap_io::streams::write_all;
 use mailmap_reports::failure::Failure;
 use mailmap_reports::report::push_position;
 use mailmap_reports::shown::push_shown;
 use mailmap_reports::task::{Misuse, Task, perform, task_of};
 use std::alloc::{AllocError, Global};
-use std::io::ErrorKind;
 use std::process::ExitCode;
 
 // What follows a line that says what is wrong with the arguments.
@@ -57,16 +56,9 @@ fn failed(rt: &HostRuntime, paths: &[Vec<u8>], failure: Failure) -> ExitCode {
     exit_code(Err::<Outcome, Failure>(failure))
 }
 
-// Prints a line on standard error. If that fails as well, only the status reports the failure.
+// Says what ended the program. If that fails as well, only the status reports it.
 fn say(rt: &HostRuntime, line: Result<Vec<u8>, AllocError>) {
-    match line {
-        Ok(line) => {
-            let _ = write_all(&mut rt.stderr(), line.as_slice());
-        }
-        Err(_) => {
-            let _ = eprintln!(rt; "mailmap_verify: out of memory");
-        }
-    }
+    let _ = messages::say(&mut rt.stderr(), line, b"mailmap_verify: out of memory\n");
 }
 
 // What is wrong with the arguments, and the usage.
@@ -116,20 +108,4 @@ fn failure_line(alloc: Global, paths: &[Vec<u8>], failure: Failure) -> Result<Ve
     }
     line.push(b'\n')?;
     Ok(line)
-}
-
-// What kept a file from being read, as other programs say it.
-fn cause_text(cause: ErrorKind) -> &'static str {
-    match cause {
-        ErrorKind::NotFound => "No such file or directory",
-        ErrorKind::PermissionDenied => "Permission denied",
-        ErrorKind::IsADirectory => "Is a directory",
-        ErrorKind::NotADirectory => "Not a directory",
-        ErrorKind::InvalidFilename => "File name too long",
-        ErrorKind::FilesystemLoop => "Too many levels of symbolic links",
-        ErrorKind::OutOfMemory => "out of memory",
-        // What `System` gives for a name that it can't open.
-        ErrorKind::InvalidData => "the name is not UTF-8",
-        _ => "cannot be read",
-    }
 }

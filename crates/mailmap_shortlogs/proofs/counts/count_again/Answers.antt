@@ -1,4 +1,4 @@
-use Rattle.std.proofs.Common.{rules, ◌≡◌, ◌+◌, ◌<◌, ℕ, get_or, length}
+use Rattle.std.proofs.Common.{rules, ◌≡◌, ◌<◌, get_or, length}
 use Rattle.mailmap_shortlogs.proofs.Counting.{tallies_again}
 use Rattle.mailmap_shortlogs.proofs.counts.count_again.Goals as goal
 

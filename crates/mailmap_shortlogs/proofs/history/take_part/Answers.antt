@@ -1,4 +1,4 @@
-use Rattle.std.proofs.Common.{◌≡◌, ◌∙◌, ◌+◌, ◌-◌, ◌++◌, List, ap, drop, length, subst, take}
+use Rattle.std.proofs.Common.{◌∙◌, ◌+◌, ◌-◌, ◌++◌, List, ap, drop, length, subst, take}
 use Rattle.std.proofs.lemmas.Bool.{eqb-true}
 use Rattle.gix_mailmap.specs.Contacts.{lines}
 use Rattle.gix_mailmap.specs.Folding.{Text}

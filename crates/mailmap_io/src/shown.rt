@@ -1,6 +1,6 @@
 //! Texts as they are shown at a terminal.
 ghost use Rattle.std.specs.Prelude.{◌≡◌, ◌<◌, ◌++◌, ◌==◌, ◌||◌, OnOk, false, nat_lt};
-ghost use Rattle.mailmap_reports.specs.Report.{hex_digit, shown, shown_byte};
+ghost use Rattle.mailmap_io.specs.Shown.{hex_digit, shown, shown_byte};
 
 use std::alloc::AllocError;
 
