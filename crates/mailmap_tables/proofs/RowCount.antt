@@ -1,11 +1,12 @@
--- How many entries the tables of a snapshot list at most.
-use Rattle.std.proofs.Common.{◌+◌, ◌-◌, ◌≤◌, ◌||◌, if◌then◌else◌, Bool, true, false, is_some, ℕ, List, [], ◌∷◌, map, take, drop, length, length-append, arith, None}
-use Rattle.std.proofs.lemmas.List.{length-map, length-take}
+-- How many rows tables have, and how many entries they list at most.
+use Rattle.std.proofs.Common.{◌≡◌, ◌+◌, ◌-◌, ◌≤◌, ◌||◌, if◌then◌else◌, Bool, true, false, is_some, ℕ, List, [], ◌∷◌, map, take, drop, length, length-append, sum_by, arith, None}
+use Rattle.std.proofs.lemmas.List.{length-drop, length-map, length-take}
+use Rattle.std.proofs.lemmas.List.Sums.{sum_by-cons}
 use Rattle.mailmap_entries.specs.Folding.{Text}
 use Rattle.mailmap_tables.specs.Groups.{EmailGroup, listing, rows, own_rows, name_row}
 use Rattle.mailmap_entries.specs.Entries.{Mapping}
 use Rattle.mailmap_histories.specs.Histories.{mapping_with}
-use Rattle.mailmap_tables.specs.Pool.{names_of, name_group, email_group, Follow}
+use Rattle.mailmap_tables.specs.Pool.{names_of, name_group, email_group, end_of, Follow}
 use Rattle.mailmap_tables.specs.declared.texts.Texts.{Texts}
 use Rattle.mailmap_tables.specs.declared.tables.EmailRow.{EmailRow}
 
@@ -38,3 +39,13 @@ listed_most pool names k (r ∷ rs) follow =
     -- n elements at most are taken
     most : {X : Type 0} (n : ℕ) (xs : List X) → length (take n xs) ≤ n
     most n xs = omega (arith, length-take n xs)
+
+-- the names of emails, and those that no email has taken, are all names
+pub each_name : (pool : Text) (names : List Texts) (k : ℕ) (emails : List EmailRow) → Follow k (length names) emails
+    → k + (sum_by (λ (g : EmailGroup). length g.names) (map (email_group pool names) emails) + length (map (name_group pool) (drop (end_of k emails) names))) ≡ length names
+each_name pool names k [] follow = omega (arith, follow, length-map (drop k names) (name_group pool), length-drop k names)
+each_name pool names k (r ∷ rs) follow =
+    let own : List Texts = names_of names r in
+    let rest = each_name pool names r.names_end rs follow.2 in
+    let both = sum_by-cons (λ (g : EmailGroup). length g.names) (email_group pool names r) (map (email_group pool names) rs) in
+    omega (arith, rest, both, length-map own (name_group pool), length-take (r.names_end - r.names_start) (drop r.names_start names), length-drop r.names_start names, follow.0, follow.1)

@@ -1,5 +1,5 @@
 -- A normal list by emails: what the tables of a snapshot denote.
-use Rattle.std.specs.Prelude.{◌≡◌, ◌≢◌, ◌||◌, ◌++◌, if◌then◌else◌, is_some, Some, None, List, [], ◌∷◌, map}
+use Rattle.std.specs.Prelude.{◌≡◌, ◌≢◌, ◌+◌, ◌||◌, ◌++◌, ℕ, if◌then◌else◌, is_some, Some, None, List, [], ◌∷◌, length, map, sum_by}
 use Rattle.std.specs.List.{AllByRecursion, flat_map}
 use Rattle.std.specs.List.Sorted.{IsStrictlySortedBy}
 use Rattle.mailmap_entries.specs.Entries.{Mapping}
@@ -51,6 +51,10 @@ pub record Contents : Type 0 where
   pub pool : Text
   pub groups : List EmailGroup
   pub pending : List NameGroup
+
+-- the number of emails and names
+abbrev pub row_count : Contents → ℕ
+row_count t = length t.groups + (sum_by (λ g. length g.names) t.groups + length t.pending)
 
 -- the tables of a snapshot: each name has been taken by an email, and the emails are groups
 pub record IsComplete (t : Contents) : Type 0 where

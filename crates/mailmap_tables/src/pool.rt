@@ -1,6 +1,6 @@
 //! The pool: the bytes of all texts, one after another, and how many of them no row uses any more.
-ghost use Rattle.std.specs.Prelude.{◌≡◌, ◌≤◌, ◌<◌, ◌+◌, ◌++◌, [], IfOk, IsOk, IsTrue, OnOk, length, vec_len};
-ghost use Rattle.std.specs.Prelude.{vec_capacity};
+ghost use Rattle.std.specs.Prelude.{◌≡◌, ◌↔◌, ◌≤◌, ◌<◌, ◌+◌, ◌*◌, ◌++◌, [], IfOk, IsOk, IsTrue, OnOk, length};
+ghost use Rattle.std.specs.Prelude.{vec_capacity, vec_len};
 ghost use Rattle.std.specs.Option.{ForSome, option_copied, option_map, option_or};
 
 use crate::texts::{Span, Texts, fields, span_len, together};
@@ -164,14 +164,17 @@ impl Pool {
 
     /// Whether less than half of the bytes would be unused if `more` more were.
     pub(crate) fn stays_in_use(&self, more: usize) -> bool
-        ensures { IsTrue result → more < usize.MAX }
+        ensures value { IsTrue result ↔ (self.now.unused + more) * 2 < length self.now.bytes.items }
+        ensures small { IsTrue result → more < usize.MAX }
     {
         let unused = self.unused.saturating_add(more);
         unused < self.bytes.len().saturating_sub(unused)
     }
 
     /// Whether half of the bytes or more are unused.
-    pub(crate) fn is_half_unused(&self) -> bool {
+    pub(crate) fn is_half_unused(&self) -> bool
+        ensures { IsTrue result ↔ ((0 < self.now.unused) × (length self.now.bytes.items ≤ self.now.unused * 2)) }
+    {
         self.unused > 0 && self.unused >= self.bytes.len().saturating_sub(self.unused)
     }
 }

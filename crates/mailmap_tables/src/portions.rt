@@ -1,12 +1,12 @@
 //! The accepted entries of an iterator on their way into tables. If the same few keys come again and again, the entries
 //! are joined in portions. Then they take the memory of these keys and of one portion, however many entries there are.
 ghost use Rattle.std.specs.Prelude.{◌≡◌, ◌≢◌, ◌<◌, [], ◌++◌, ◌∷◌, List, IfOk, None, OnErr, OnOk, Some, false, true};
-ghost use Rattle.std.specs.Prelude.{map, unwrap_or};
+ghost use Rattle.std.specs.Prelude.{◌*◌, ◌/◌, length, map, max, min, unwrap_or};
 ghost use Rattle.std.specs.Iterator.{IsFinite, Drains, Yields};
 ghost use Rattle.mailmap_entries.specs.Entries.{Mapping, mapping_of};
 ghost use Rattle.mailmap_entries.specs.declared.entry.Entry.{Entry as Item};
 ghost use Rattle.mailmap_histories.specs.Histories.{accepted, is_accepted};
-ghost use Rattle.mailmap_tables.specs.Groups.{IsComplete};
+ghost use Rattle.mailmap_tables.specs.Groups.{IsComplete, row_count};
 ghost use Rattle.mailmap_tables.specs.Collecting.{IsCollected};
 
 use crate::join::{joined, rewritten_if_half_unused};
@@ -168,7 +168,9 @@ impl<'a> Collected<'a> {
 
 // How many entries make a portion to be joined with these tables. To join it passes on all rows of the tables and
 // copies their pool, so it has to have so many entries that these cost more.
-fn portion_after(tables: &Tables) -> usize {
+fn portion_after(tables: &Tables) -> usize
+    ensures { result ≡ max (max 16384 (min usize.MAX (row_count tables.now * 4))) (length tables.now.pool / 256) }
+{
     let view = tables.view();
     let rows = view.row_count().saturating_mul(4);
     MIN_PORTION.max(rows).max(view.pool.len() / BYTES_PER_ENTRY)

@@ -32,7 +32,7 @@ impl<'a> Model for View<'a> {
 }
 
 impl<'a> View<'a> {
-    ghost use Rattle.mailmap_tables.specs.Groups.{Contents, EmailGroup, listing};
+    ghost use Rattle.mailmap_tables.specs.Groups.{Contents, EmailGroup, listing, row_count};
     ghost use Rattle.mailmap_tables.specs.Pool.{spelled, LiesIn, NameLies, TextsLie, name_group, group_of, RowsLie};
     ghost use Rattle.mailmap_tables.specs.Texts.{email_span, name_span};
     ghost use Rattle.mailmap_tables.specs.Reserved.{own_bytes};
@@ -46,7 +46,8 @@ impl<'a> View<'a> {
 
     /// The number of rows in both tables. No listing is longer.
     pub fn row_count(&self) -> usize
-        ensures { length (listing self.now.groups) ≤ result }
+        ensures rows { result ≡ row_count self.now }
+        ensures listing { length (listing self.now.groups) ≤ result }
     {
         self.emails.len() + self.names.len()
     }

@@ -13,7 +13,7 @@ returns c =
     let own = c.existing_of-existing.result.own_len in
     let t = sum_by entry_bytes xs in
     let within : OwnWithin own c.args.tables.now.groups xs = subst (λ (v : Contents). OwnWithin own v.groups xs) c.view-2.ensures c.existing_of-existing.ensures in
-    let small : c.saturating_add-bytes.result < 18446744073709551615 = omega (arith, c.stays_in_use.ensures c.if-not-stays_in_use.false, c.saturating_add-unused.ensures) in
+    let small : c.saturating_add-bytes.result < 18446744073709551615 = omega (arith, c.stays_in_use.ensures.small c.if-not-stays_in_use.false, c.saturating_add-unused.ensures) in
     let len_is : c.texts_len-len.result ≡ t = omega (arith, c.texts_len-len.ensures, small, c.saturating_add-2.ensures, c.saturating_add-bytes.ensures) in
     let copied : length entries * (own + t) ≤ c.saturating_mul-copied.result =
     product_whole 18446744073709551615 (length entries) own t c.saturating_add.result c.saturating_mul-copied.result
