@@ -19,7 +19,7 @@ use Rattle.mailmap_findings.proofs.Placing.{apart_lines}
 use Rattle.mailmap_findings.proofs.Read.{good-lines}
 use Rattle.mailmap_findings.proofs.Renumbered.{entries-renumbered, texts-located}
 use Rattle.mailmap_findings.proofs.Walking.{InStep, First, is_first_at, without_first_at, passes, meets, first_met, step_by, starts, no_entry_at, located_elsewhere, same_itself}
-use Rattle.mailmap_findings.proofs.Wholes.{joined, joined-whole_lines, are_whole, whole_lines-joined, texts, some_whole, AreWhole}
+use Rattle.mailmap_findings.proofs.Wholes.{joined, joined-whole_lines, are_whole, whole_lines-joined, texts, some_whole, without_one, AreWhole}
 
 -- ---- of the lines that are left the entries are those that stay
 
@@ -86,6 +86,16 @@ module _ (buffer text : Text) (pruned : IsPruned buffer text) where
 
 pub good-one : (s : Text) → entries (located (lines (s ∷ []))) ≡ good s
 good-one s = good-lines 0 (s ∷ []) ∙ append-nil (good s)
+
+-- what is left of a text without one of its lines says what these lines say
+pub good-without : (s : Text) (a c : List Line) (l : Line) → lines (s ∷ []) ≡ a ++ l ∷ c → good (flat_map (λ k. k.text) (a ++ c)) ≡ entries (located (a ++ c))
+good-without s a c l whole =
+    let rest = flat_map (λ k. k.text) (a ++ c) in
+    let are = without_one a c l (subst (λ ls. AreWhole (texts ls)) whole (lines_whole s)) in
+    sym (good-one rest)
+    ∙ ap (λ ls. entries (located ls))
+    (one_buffer rest ∙ ap (located_from 0 1) (ap whole_lines (joined-texts (a ++ c)) ∙ whole_lines-joined (texts (a ++ c)) are))
+    ∙ entries-renumbered 0 1 (a ++ c)
 
 pub same_listing : (buffer text : Text) (n : List Mapping) → IsPruned buffer text → IsNormal (good buffer) n ↔ IsNormal (good text) n
 same_listing buffer text n pruned =

@@ -93,3 +93,15 @@ some_whole test (l ∷ ls) are =
       | true ↦ (⊎_elim (λ w. inl w) (λ w. inr (w.0, none_left test ls w.1)) are.0, some_whole test ls are.1)
       | false ↦ some_whole test ls are.1
     ]
+
+-- all but one
+some_there : (a c : List Line) (l : Line) → texts (a ++ l ∷ c) ≢ []
+some_there [] c l = λ e. cc
+some_there (k ∷ a) c l = λ e. cc
+
+pub without_one : (a c : List Line) (l : Line) → AreWhole (texts (a ++ l ∷ c)) → AreWhole (texts (a ++ c))
+without_one [] c l are = are.1
+without_one (k ∷ a) c l are = (
+  ⊎_elim (λ w. inl w) (λ w. absurd (some_there a c l w.1)) are.0,
+  without_one a c l are.1,
+)

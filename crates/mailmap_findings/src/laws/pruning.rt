@@ -1,5 +1,6 @@
 //! Laws of what is found in a pruned text.
 ghost use Rattle.std.specs.Prelude.{◌≡◌, ◌≢◌, ◌++◌, ◌∷◌, [], List, Some, false, filter, map};
+ghost use Rattle.std.specs.List.{flat_map};
 ghost use Rattle.mailmap_entries.specs.Entries.{Mapping};
 ghost use Rattle.mailmap_entries.specs.Folding.{Text};
 ghost use Rattle.mailmap_grammar.specs.Lines.{good};
@@ -19,9 +20,13 @@ pub fn law_pruned_findings()
         → left ≡ map (renumbered (lines_left buffer found)) (filter (is_left found) found) }
 {}
 
-/// No line of a pruned text that gives an entry can be deleted: without it the normal list would differ.
+/// No line of a pruned text that gives an entry can be deleted: without it the normal list would differ, that of the
+/// entries that are left as well as that of the text.
 pub fn law_none_left()
-    ensures { (buffer text : Text) (a c : List Line) (l : Line) (e : Mapping) (n m : List Mapping)
+    ensures entries { (buffer text : Text) (a c : List Line) (l : Line) (e : Mapping) (n m : List Mapping)
         → IsPruned buffer text → lines (text ∷ []) ≡ a ++ l ∷ c → entry l ≡ Some e
         → IsNormal (good text) n → IsNormal (entries (located (a ++ c))) m → n ≢ m }
+    ensures text { (buffer text : Text) (a c : List Line) (l : Line) (e : Mapping) (n m : List Mapping)
+        → IsPruned buffer text → lines (text ∷ []) ≡ a ++ l ∷ c → entry l ≡ Some e
+        → IsNormal (good text) n → IsNormal (good (flat_map (λ k. k.text) (a ++ c))) m → n ≢ m }
 {}
