@@ -17,7 +17,8 @@ returns-in_err-explain_part-clause-breaks_off g c = λ is.
     parts_broken (explained_line c.args.explainer.now) (g.R.Read.remaining c.args.input.now) (g.R.Read.remaining c.loop.input) (g.R.Read.remaining c.read_part.new.reader) c.loop.held.items
     (g.W.Write.contents c.args.output.now) (g.W.Write.contents c.loop.output) (g.W.Write.contents c.explain_part.new.output) (take c.in-Ok.count c.read_part.new.buffer) c.loop.invariant.0
     c.in-Ok.ensures.part
-    (subst (λ (x : Grounds). PrintsFront (SomeAnswered (explained_line x) (c.loop.held.items ++ take c.in-Ok.count c.read_part.new.buffer)) (g.W.Write.contents c.loop.output) (g.W.Write.contents c.explain_part.new.output)) c.loop.invariant.2 (c.explain_part.ensures.breaks_off failed))
+    (subst (λ (x : Grounds). PrintsFront (SomeAnswered (explained_line x) (c.loop.held.items ++ take c.in-Ok.count c.read_part.new.buffer))
+    (g.W.Write.contents c.loop.output) (g.W.Write.contents c.explain_part.new.output)) c.loop.invariant.2 (c.explain_part.ensures.breaks_off failed))
 
 pub returns-in_err-explain_part-clause-memory_fails : goal.returns-in_err-explain_part-clause-memory_fails
 returns-in_err-explain_part-clause-memory_fails g c = λ is.
@@ -25,14 +26,16 @@ returns-in_err-explain_part-clause-memory_fails g c = λ is.
     parts_first (explained_line c.args.explainer.now) (g.R.Read.remaining c.args.input.now) (g.R.Read.remaining c.loop.input) (g.R.Read.remaining c.read_part.new.reader) c.loop.held.items
     (g.W.Write.contents c.args.output.now) (g.W.Write.contents c.loop.output) (g.W.Write.contents c.explain_part.new.output) (take c.in-Ok.count c.read_part.new.buffer) c.loop.invariant.0
     c.in-Ok.ensures.part
-    (subst (λ (x : Grounds). Prints (SomeAnswered (explained_line x) (c.loop.held.items ++ take c.in-Ok.count c.read_part.new.buffer)) (g.W.Write.contents c.loop.output) (g.W.Write.contents c.explain_part.new.output)) c.loop.invariant.2 (c.explain_part.ensures.memory_fails failed))
+    (subst (λ (x : Grounds). Prints (SomeAnswered (explained_line x) (c.loop.held.items ++ take c.in-Ok.count c.read_part.new.buffer))
+    (g.W.Write.contents c.loop.output) (g.W.Write.contents c.explain_part.new.output)) c.loop.invariant.2 (c.explain_part.ensures.memory_fails failed))
 
 pub loop-preserved : goal.loop-preserved
 loop-preserved g c = (
   one_more (explained_line c.args.explainer.now) (g.R.Read.remaining c.args.input.now) (g.R.Read.remaining c.loop.input) (g.R.Read.remaining c.read_part.new.reader) c.loop.held.items
       c.explain_part.new.held.items (g.W.Write.contents c.args.output.now) (g.W.Write.contents c.loop.output) (g.W.Write.contents c.explain_part.new.output) (take c.in-Ok.count c.read_part.new.buffer)
       c.loop.invariant.0 c.in-Ok.ensures.part
-      (subst (λ (x : Grounds). Prints (λ made. AnswersFront (explained_line x) (c.loop.held.items ++ take c.in-Ok.count c.read_part.new.buffer) made c.explain_part.new.held.items) (g.W.Write.contents c.loop.output) (g.W.Write.contents c.explain_part.new.output)) c.loop.invariant.2 c.in_ok-explain_part.ensures.ok)
+      (subst (λ (x : Grounds). Prints (λ made. AnswersFront (explained_line x) (c.loop.held.items ++ take c.in-Ok.count c.read_part.new.buffer) made c.explain_part.new.held.items)
+      (g.W.Write.contents c.loop.output) (g.W.Write.contents c.explain_part.new.output)) c.loop.invariant.2 c.in_ok-explain_part.ensures.ok)
       c.in_ok-explain_part.ensures.keeps.0,
   c.in_ok-explain_part.ensures.keeps.1,
   c.explain_part.ensures.same ∙ c.loop.invariant.2,
