@@ -1,7 +1,7 @@
 -- What is said of contacts, line by line: what mailmaps make of each, and which of their lines give that.
 use Rattle.std.specs.Prelude.{◌≡◌, List, [], ◌∷◌, ◌++◌, Option, None, Some, IfSome, codes}
 use Rattle.std.specs.Io.KnownBytes.{Consumes}
-use Rattle.std.specs.List.{flat_map}
+use Rattle.std.specs.List.{All, flat_map}
 use Rattle.gix_mailmap.specs.Contacts.{contact, replaced}
 use Rattle.gix_mailmap.specs.Explanations.{giving_positions}
 use Rattle.gix_mailmap.specs.Folding.{Text}
@@ -13,6 +13,7 @@ use Rattle.gix_mailmap.specs.Positions.{lines, located, whole_lines}
 use Rattle.gix_mailmap.specs.Redundancy.{IsReduced, LocatedMapping, entries}
 use Rattle.gix_mailmap.specs.Trimming.{trim}
 use Rattle.mailmap_redundancy.specs.declared.located.Position.{Position}
+use Rattle.mailmap_repeats.specs.Kept.{Kept}
 use Rattle.mailmap_reports.specs.Report.{position_text, shown}
 
 -- ---- one line
@@ -50,6 +51,10 @@ shown_unless_blank (b ∷ line) text = shown text ++ 10 ∷ []
 -- the line of the output for a line of contacts
 abbrev pub explained_line : Grounds → Text → Text
 explained_line g line = shown_unless_blank (trim line) (contact_explained g (trim line) (trimmed_contact (cut (trim line))))
+
+-- each of these is a line and what is said of it
+abbrev pub ExplainsEach : Grounds → List Kept → Type 0
+ExplainsEach g kept = All (λ k. k.answer ≡ explained_line g k.line) kept
 
 -- ---- lines that come one after another
 

@@ -85,28 +85,28 @@ fn explain_by<R: Read, W: Write>(
 {
     let buffers = list_of(alloc, mailmaps)?;
     let mailmaps = Mailmaps::read(alloc, buffers.as_slice())?;
-    let explainer = Explainer::new(alloc, paths, &mailmaps)?;
-    explain_parts(alloc, &explainer, input, output)
+    let mut explainer = Explainer::new(alloc, paths, &mailmaps)?;
+    explain_parts(alloc, &mut explainer, input, output)
 }
 
 // Explains the contacts of the input part by part.
 fn explain_parts<R: Read, W: Write>(
     alloc: Global,
-    explainer: &Explainer<'_, '_, '_>,
+    explainer: &mut Explainer<'_, '_, '_>,
     input: &mut R,
     output: &mut W,
 ) -> Result<(), Failure>
-    ensures prints { OnOk result (Prints (AnswersAll (explained_line explainer.now) (R.remaining input.old))
+    ensures prints { OnOk result (Prints (AnswersAll (explained_line explainer.old) (R.remaining input.old))
         (W.contents output.old) (W.contents output.new)) }
     ensures reads_all { OnOk result (IsAtEnd (R.remaining input.new)) }
     ensures breaks_off { IsErrOf result Failure.Output → PrintsFront
-        (AnswersAll (explained_line explainer.now) (R.remaining input.old))
+        (AnswersAll (explained_line explainer.old) (R.remaining input.old))
         (W.contents output.old) (W.contents output.new) }
     ensures input_fails { IfErr result (λ e. IsOfInput e → Prints
-        (AnswersWholeLines (explained_line explainer.now) (R.remaining input.old) (R.remaining input.new))
+        (AnswersWholeLines (explained_line explainer.old) (R.remaining input.old) (R.remaining input.new))
         (W.contents output.old) (W.contents output.new)) }
     ensures memory_fails { IsErrOf result Failure.Memory → Prints
-        (AnswersLines (explained_line explainer.now) (R.remaining input.old) (R.remaining input.new))
+        (AnswersLines (explained_line explainer.old) (R.remaining input.old) (R.remaining input.new))
         (W.contents output.old) (W.contents output.new) }
     ensures only { IfErr result (λ e. IsOfInput e ⊎ (e ≡ Failure.Memory) ⊎ (e ≡ Failure.Output)) }
 {
@@ -119,9 +119,16 @@ fn explain_parts<R: Read, W: Write>(
             Err(cause) => return Err(Failure::Input { cause }),
         };
         if count == 0 {
-            return print_lines(explainer, held.as_slice(), &mut printer, output);
+            return print_lines(alloc, explainer, held.as_slice(), &mut printer, output);
         }
-        explain_part(explainer, &part[..count], &mut held, &mut printer, output)?;
+        explain_part(
+            alloc,
+            explainer,
+            &part[..count],
+            &mut held,
+            &mut printer,
+            output,
+        )?;
     }
     // No input is so long.
     Err(Failure::Input {
@@ -131,21 +138,23 @@ fn explain_parts<R: Read, W: Write>(
 
 // Explains the lines that end in a part, of which the first may have begun in what is held, and holds the rest.
 fn explain_part<W: Write>(
-    explainer: &Explainer<'_, '_, '_>,
+    alloc: Global,
+    explainer: &mut Explainer<'_, '_, '_>,
     part: &[u8],
     held: &mut Vec<u8>,
     printer: &mut Printer,
     output: &mut W,
 ) -> Result<(), Failure>
     requires nothing_is_held { printer.old ≡ [] }
-    ensures ok { OnOk result (Prints (λ made. AnswersFront (explained_line explainer.now) (held.old.items ++ part.now)
+    ensures ok { OnOk result (Prints (λ made. AnswersFront (explained_line explainer.old) (held.old.items ++ part.now)
         made held.new.items) (W.contents output.old) (W.contents output.new)) }
     ensures keeps { OnOk result ((HoldsNo 10 held.old.items → HoldsNo 10 held.new.items) × (printer.new ≡ [])) }
+    ensures same { explainer.new ≡ explainer.old }
     ensures memory_fails { IsErrOf result Failure.Memory → Prints
-        (λ made. (rest : Text) × AnswersFront (explained_line explainer.now) (held.old.items ++ part.now) made rest)
+        (λ made. (rest : Text) × AnswersFront (explained_line explainer.old) (held.old.items ++ part.now) made rest)
         (W.contents output.old) (W.contents output.new) }
     ensures breaks_off { IsErrOf result Failure.Output → PrintsFront
-        (λ made. (rest : Text) × AnswersFront (explained_line explainer.now) (held.old.items ++ part.now) made rest)
+        (λ made. (rest : Text) × AnswersFront (explained_line explainer.old) (held.old.items ++ part.now) made rest)
         (W.contents output.old) (W.contents output.new) }
     ensures only { IfErr result (λ e. (e ≡ Failure.Memory) ⊎ (e ≡ Failure.Output)) }
 {
@@ -154,7 +163,7 @@ fn explain_part<W: Write>(
         return Ok(());
     };
     held.extend_from_slice(&part[..feed + 1])?;
-    print_lines(explainer, held.as_slice(), printer, output)?;
+    print_lines(alloc, explainer, held.as_slice(), printer, output)?;
     held.clear();
     held.extend_from_slice(&part[feed + 1..])?;
     Ok(())
@@ -162,24 +171,28 @@ fn explain_part<W: Write>(
 
 // Prints what is said of each line of a text.
 fn print_lines<W: Write>(
-    explainer: &Explainer<'_, '_, '_>,
+    alloc: Global,
+    explainer: &mut Explainer<'_, '_, '_>,
     text: &[u8],
     printer: &mut Printer,
     output: &mut W,
 ) -> Result<(), Failure>
     requires nothing_is_held { printer.old ≡ [] }
     ensures ok { OnOk result (Appends (W.contents output.old) (W.contents output.new)
-        (each_line (explained_line explainer.now) text.now)) }
+        (each_line (explained_line explainer.old) text.now)) }
     ensures empty { OnOk result (printer.new ≡ []) }
+    ensures same { explainer.new ≡ explainer.old }
     ensures memory_fails { IsErrOf result Failure.Memory → Prints
-        (λ made. (rest : Text) × AnswersFront (explained_line explainer.now) text.now made rest)
+        (λ made. (rest : Text) × AnswersFront (explained_line explainer.old) text.now made rest)
         (W.contents output.old) (W.contents output.new) }
     ensures breaks_off { IsErrOf result Failure.Output → (count : ℕ) × Appends (W.contents output.old)
-        (W.contents output.new) (take count (each_line (explained_line explainer.now) text.now)) }
+        (W.contents output.new) (take count (each_line (explained_line explainer.old) text.now)) }
     ensures only { IfErr result (λ e. (e ≡ Failure.Memory) ⊎ (e ≡ Failure.Output)) }
 {
+    let mut explained = Vec::new(alloc);
     for line in text.lines_with_terminator() {
-        let Ok(explained) = explainer.explained_line(line) else {
+        explained.clear();
+        let Ok(()) = explainer.push_explained_line(&mut explained, line) else {
             flush(printer, output)?;
             return Err(Failure::Memory);
         };

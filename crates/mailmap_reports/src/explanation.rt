@@ -1,5 +1,5 @@
 //! What is said of one line of contacts.
-ghost use Rattle.std.specs.Prelude.{◌≡◌, ◌++◌, IfOk, OnOk, codes, map};
+ghost use Rattle.std.specs.Prelude.{◌≡◌, ◌++◌, IfOk, OnErr, OnOk, codes, map};
 ghost use Rattle.gix_mailmap.specs.Contacts.{replaced};
 ghost use Rattle.gix_mailmap.specs.Explanations.{explained, explained_by};
 ghost use Rattle.gix_mailmap.specs.Givers.{givers};
@@ -14,10 +14,14 @@ use gix_mailmap::check::push_contact;
 use gix_mailmap::explain::{Explanation, Explanations};
 use gix_mailmap::verify::Mailmaps;
 use mailmap_grammar::contacts::{ParsedContact, parse_name_and_email, trim};
+use mailmap_repeats::hashes::hash_of;
+use mailmap_repeats::table::LastAnswers;
 use std::alloc::{AllocError, Global};
 use std::marker::Model;
 
 /// Explains contacts by mailmaps, line by line.
+///
+/// It keeps the last 4,096 lines with what is said of them, in 1.1 MiB: most lines of a history come again.
 ///
 /// To a contract it is what the explanations are made of.
 #[derive(Drop)]
@@ -26,11 +30,12 @@ pub struct Explainer<'p, 'm, 'a> {
     // those of the mailmaps
     paths: &'p [Vec<u8>],
     explanations: Explanations<'m, 'a>,
+    last: LastAnswers,
 }
 
 impl<'p, 'm, 'a> Model for Explainer<'p, 'm, 'a> {
     ghost use Rattle.std.specs.Prelude.{map};
-    ghost use Rattle.mailmap_reports.specs.Explained.{Grounds};
+    ghost use Rattle.mailmap_reports.specs.Explained.{Grounds, ExplainsEach};
 
     ghost Value = { Grounds };
 
@@ -39,6 +44,13 @@ impl<'p, 'm, 'a> Model for Explainer<'p, 'm, 'a> {
       history = s.explanations.history;
       kept = s.explanations.kept;
     } };
+
+    // Each row of the table is a line and what is said of it.
+    ghost invariant = { λ s. ExplainsEach (record {
+      paths = map (λ path. path.items) s.paths.now;
+      history = s.explanations.history;
+      kept = s.explanations.kept;
+    }) s.last };
 }
 
 impl<'p, 'm, 'a> Explainer<'p, 'm, 'a> {
@@ -56,7 +68,26 @@ impl<'p, 'm, 'a> Explainer<'p, 'm, 'a> {
             alloc,
             paths,
             explanations: Explanations::new(alloc, mailmaps)?,
+            last: LastAnswers::new(alloc)?,
         })
+    }
+
+    /// Appends what is said of a line, as [`explained_line`](Explainer::explained_line) has it: from the lines that are
+    /// kept, if it is there.
+    ///
+    /// At an `Err` `text` is as before.
+    pub fn push_explained_line(&mut self, text: &mut Vec<u8>, line: &[u8]) -> Result<(), AllocError>
+        ensures ok { OnOk result (text.new.items ≡ text.old.items ++ explained_line self.old line.now) }
+        ensures err { OnErr result (text.new.items ≡ text.old.items) }
+        ensures same { self.new ≡ self.old }
+    {
+        let hash = hash_of(line);
+        if let Some(explained) = self.last.get(hash, line) {
+            return text.extend_from_slice(explained);
+        }
+        let explained = self.explained_line(line)?;
+        self.last.put(hash, line, explained.as_slice());
+        text.extend_from_slice(explained.as_slice())
     }
 
     /// What is said of a line of contacts, with a line feed: nothing of a blank line.

@@ -6,5 +6,6 @@ use Rattle.mailmap_reports.proofs.explain.explain_parts.Given as goal
 
 abbrev pub invariant-loop : goal.invariant-loop
 invariant-loop g l =
-    HasAnswered (explained_line l.explainer) (g.R.Read.remaining l.fn.input) (g.R.Read.remaining l.input) l.held.items (g.W.Write.contents l.fn.output) (g.W.Write.contents l.output)
+    HasAnswered (explained_line l.fn.explainer) (g.R.Read.remaining l.fn.input) (g.R.Read.remaining l.input) l.held.items (g.W.Write.contents l.fn.output) (g.W.Write.contents l.output)
     × (l.printer ≡ [])
+    × (l.explainer ≡ l.fn.explainer)
