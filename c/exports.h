@@ -29,7 +29,7 @@ uint32_t gix_mailmap_handle_lookup(gix_mailmap *map, const void *name, size_t na
 uint32_t gix_mailmap_handle_len(gix_mailmap *map, size_t *entries_len, size_t *texts_len);
 uint32_t gix_mailmap_handle_list(gix_mailmap *map, void *entries, size_t entries_len, void *texts,
                                  size_t texts_len);
-uint32_t gix_mailmap_handle_entry(gix_mailmap *map, size_t place, gix_mailmap_listed *entry, void *texts,
+uint32_t gix_mailmap_handle_entry(gix_mailmap *map, size_t index, gix_mailmap_listed *entry, void *texts,
                                   size_t texts_len);
 uint32_t gix_mailmap_handle_write(gix_mailmap *map, void *out, size_t out_len, size_t *needed);
 
@@ -51,6 +51,9 @@ typedef struct lengths {
 
 uint32_t gix_mailmap_text_report(const lengths *all, size_t count, const void *names, size_t names_len,
                                  const void *texts, size_t texts_len, void *out, size_t out_len, size_t *needed);
+uint32_t gix_mailmap_text_explain(const lengths *all, size_t count, const void *names, size_t names_len,
+                                  const void *texts, size_t texts_len, const void *contacts, size_t contacts_len,
+                                  void *out, size_t out_len, size_t *needed);
 uint32_t gix_mailmap_text_verify(const void *mailmap, size_t mailmap_len, void *out, size_t out_len, size_t *needed);
 
 #endif

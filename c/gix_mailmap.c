@@ -37,7 +37,7 @@ const char *gix_mailmap_status_text(gix_mailmap_status status)
     case GIX_MAILMAP_OUT_OF_MEMORY:
         return "out of memory";
     case GIX_MAILMAP_NO_ENTRY:
-        return "the mailmap has no entry with this number";
+        return "the mailmap has no entry at this index";
     case GIX_MAILMAP_NOT_AN_ENTRY:
         return "these texts make no entry";
     case GIX_MAILMAP_UNWRITABLE:
@@ -81,38 +81,40 @@ gix_mailmap_status gix_mailmap_add_entry(gix_mailmap *map, const char *new_name,
 }
 
 gix_mailmap_status gix_mailmap_lookup(const gix_mailmap *map, const char *name, size_t name_len, const char *email,
-                                      size_t email_len, char *GIX_MAILMAP_ALONE name_out, size_t name_out_len,
-                                      gix_mailmap_field *GIX_MAILMAP_ALONE new_name,
-                                      char *GIX_MAILMAP_ALONE email_out, size_t email_out_len,
-                                      gix_mailmap_field *GIX_MAILMAP_ALONE new_email)
+                                      size_t email_len, char *GIX_MAILMAP_RESTRICT name_out, size_t name_out_len,
+                                      gix_mailmap_field *GIX_MAILMAP_RESTRICT new_name,
+                                      char *GIX_MAILMAP_RESTRICT email_out, size_t email_out_len,
+                                      gix_mailmap_field *GIX_MAILMAP_RESTRICT new_email)
 {
     gix_mailmap own = *map;
     return gix_mailmap_handle_lookup(&own, text_at(name), name_len, text_at(email), email_len, room_at(name_out),
                                      name_out_len, new_name, room_at(email_out), email_out_len, new_email);
 }
 
-void gix_mailmap_len(const gix_mailmap *map, size_t *GIX_MAILMAP_ALONE entries_len, size_t *GIX_MAILMAP_ALONE texts_len)
+void gix_mailmap_len(const gix_mailmap *map, size_t *GIX_MAILMAP_RESTRICT entries_len,
+                     size_t *GIX_MAILMAP_RESTRICT texts_len)
 {
     gix_mailmap own = *map;
     gix_mailmap_handle_len(&own, entries_len, texts_len);
 }
 
-gix_mailmap_status gix_mailmap_list(const gix_mailmap *map, gix_mailmap_listed *GIX_MAILMAP_ALONE entries,
-                                    size_t entries_len, char *GIX_MAILMAP_ALONE texts, size_t texts_len)
+gix_mailmap_status gix_mailmap_list(const gix_mailmap *map, gix_mailmap_listed *GIX_MAILMAP_RESTRICT entries,
+                                    size_t entries_len, char *GIX_MAILMAP_RESTRICT texts, size_t texts_len)
 {
     gix_mailmap own = *map;
     return gix_mailmap_handle_list(&own, room_at(entries), entries_len, room_at(texts), texts_len);
 }
 
-gix_mailmap_status gix_mailmap_entry(const gix_mailmap *map, size_t place, gix_mailmap_listed *GIX_MAILMAP_ALONE entry,
-                                     char *GIX_MAILMAP_ALONE texts, size_t texts_len)
+gix_mailmap_status gix_mailmap_entry(const gix_mailmap *map, size_t index,
+                                     gix_mailmap_listed *GIX_MAILMAP_RESTRICT entry, char *GIX_MAILMAP_RESTRICT texts,
+                                     size_t texts_len)
 {
     gix_mailmap own = *map;
-    return gix_mailmap_handle_entry(&own, place, entry, room_at(texts), texts_len);
+    return gix_mailmap_handle_entry(&own, index, entry, room_at(texts), texts_len);
 }
 
-gix_mailmap_status gix_mailmap_write(const gix_mailmap *map, char *GIX_MAILMAP_ALONE out, size_t out_len,
-                                     size_t *GIX_MAILMAP_ALONE needed)
+gix_mailmap_status gix_mailmap_write(const gix_mailmap *map, char *GIX_MAILMAP_RESTRICT out, size_t out_len,
+                                     size_t *GIX_MAILMAP_RESTRICT needed)
 {
     gix_mailmap own = *map;
     return gix_mailmap_handle_write(&own, room_at(out), out_len, needed);
@@ -140,7 +142,7 @@ void gix_mailmap_stream_close(gix_mailmap_stream *stream)
 }
 
 gix_mailmap_status gix_mailmap_stream_push(gix_mailmap_stream *stream, const char *part, size_t part_len,
-                                           size_t *GIX_MAILMAP_ALONE taken)
+                                           size_t *GIX_MAILMAP_RESTRICT taken)
 {
     return gix_mailmap_stream_handle_push(stream, text_at(part), part_len, taken);
 }
@@ -150,7 +152,7 @@ gix_mailmap_status gix_mailmap_stream_finish(gix_mailmap_stream *stream)
     return gix_mailmap_stream_handle_finish(stream);
 }
 
-size_t gix_mailmap_stream_read(gix_mailmap_stream *stream, char *GIX_MAILMAP_ALONE out, size_t out_len)
+size_t gix_mailmap_stream_read(gix_mailmap_stream *stream, char *GIX_MAILMAP_RESTRICT out, size_t out_len)
 {
     size_t count = 0;
     gix_mailmap_stream_handle_read(stream, room_at(out), out_len, &count);
@@ -158,20 +160,21 @@ size_t gix_mailmap_stream_read(gix_mailmap_stream *stream, char *GIX_MAILMAP_ALO
 }
 
 gix_mailmap_status gix_mailmap_check(const char *mailmap, size_t mailmap_len, const char *contacts, size_t contacts_len,
-                                     char *GIX_MAILMAP_ALONE out, size_t out_len, size_t *GIX_MAILMAP_ALONE needed)
+                                     char *GIX_MAILMAP_RESTRICT out, size_t out_len,
+                                     size_t *GIX_MAILMAP_RESTRICT needed)
 {
     return gix_mailmap_text_check(text_at(mailmap), mailmap_len, text_at(contacts), contacts_len, room_at(out), out_len,
                                   needed);
 }
 
-gix_mailmap_status gix_mailmap_compact(const char *mailmap, size_t mailmap_len, char *GIX_MAILMAP_ALONE out,
-                                       size_t out_len, size_t *GIX_MAILMAP_ALONE needed)
+gix_mailmap_status gix_mailmap_compact(const char *mailmap, size_t mailmap_len, char *GIX_MAILMAP_RESTRICT out,
+                                       size_t out_len, size_t *GIX_MAILMAP_RESTRICT needed)
 {
     return gix_mailmap_text_compact(text_at(mailmap), mailmap_len, room_at(out), out_len, needed);
 }
 
-gix_mailmap_status gix_mailmap_prune(const char *mailmap, size_t mailmap_len, char *GIX_MAILMAP_ALONE out,
-                                     size_t out_len, size_t *GIX_MAILMAP_ALONE needed)
+gix_mailmap_status gix_mailmap_prune(const char *mailmap, size_t mailmap_len, char *GIX_MAILMAP_RESTRICT out,
+                                     size_t out_len, size_t *GIX_MAILMAP_RESTRICT needed)
 {
     return gix_mailmap_text_prune(text_at(mailmap), mailmap_len, room_at(out), out_len, needed);
 }
@@ -182,16 +185,23 @@ static size_t sum(size_t a, size_t b)
     return b <= SIZE_MAX - a ? a + b : SIZE_MAX;
 }
 
-/* Puts a text at an address, and gives the one behind it. */
+/* Puts a text at an address, and gives the one after it. */
 static char *append(char *to, const char *text, size_t len)
 {
     memcpy(to, text_at(text), len);
     return to + len;
 }
 
-/* The lengths of all names and texts, then all names, and then all texts are in one block of memory. */
-gix_mailmap_status gix_mailmap_report(const gix_mailmap_named *mailmaps, size_t count, char *GIX_MAILMAP_ALONE out,
-                                      size_t out_len, size_t *GIX_MAILMAP_ALONE needed)
+/* The names and the texts of some mailmaps in one block of memory: all lengths, then all names, and then all texts. */
+typedef struct block {
+    lengths *all;
+    lengths total;
+    char *names;
+    char *texts;
+} block;
+
+/* Makes a block, which is to be freed by its `all`. That is NULL if there is no memory for it. */
+static block block_of(const gix_mailmap_named *mailmaps, size_t count)
 {
     lengths total = {0, 0};
     for (size_t i = 0; i < count; i++) {
@@ -200,24 +210,48 @@ gix_mailmap_status gix_mailmap_report(const gix_mailmap_named *mailmaps, size_t 
     }
     size_t size = sum(count * sizeof(lengths) + 1, sum(total.name, total.text));
     lengths *all = size < SIZE_MAX ? malloc(size) : NULL;
-    *needed = 0;
     if (all == NULL)
-        return GIX_MAILMAP_OUT_OF_MEMORY;
+        return (block){NULL, total, NULL, NULL};
     char *names = (char *)(all + count), *texts = names + total.name, *name = names, *text = texts;
     for (size_t i = 0; i < count; i++) {
         all[i] = (lengths){mailmaps[i].name_len, mailmaps[i].text_len};
         name = append(name, mailmaps[i].name, mailmaps[i].name_len);
         text = append(text, mailmaps[i].text, mailmaps[i].text_len);
     }
-    gix_mailmap_status status = gix_mailmap_text_report(all, count, names, total.name, texts, total.text, room_at(out),
-                                                        out_len, needed);
-    free(all);
+    return (block){all, total, names, texts};
+}
+
+gix_mailmap_status gix_mailmap_report(const gix_mailmap_named *mailmaps, size_t count, char *GIX_MAILMAP_RESTRICT out,
+                                      size_t out_len, size_t *GIX_MAILMAP_RESTRICT needed)
+{
+    block b = block_of(mailmaps, count);
+    *needed = 0;
+    if (b.all == NULL)
+        return GIX_MAILMAP_OUT_OF_MEMORY;
+    gix_mailmap_status status = gix_mailmap_text_report(b.all, count, b.names, b.total.name, b.texts, b.total.text,
+                                                        room_at(out), out_len, needed);
+    free(b.all);
+    return status;
+}
+
+gix_mailmap_status gix_mailmap_explain(const gix_mailmap_named *mailmaps, size_t count, const char *contacts,
+                                       size_t contacts_len, char *GIX_MAILMAP_RESTRICT out, size_t out_len,
+                                       size_t *GIX_MAILMAP_RESTRICT needed)
+{
+    block b = block_of(mailmaps, count);
+    *needed = 0;
+    if (b.all == NULL)
+        return GIX_MAILMAP_OUT_OF_MEMORY;
+    gix_mailmap_status status = gix_mailmap_text_explain(b.all, count, b.names, b.total.name, b.texts, b.total.text,
+                                                         text_at(contacts), contacts_len, room_at(out), out_len,
+                                                         needed);
+    free(b.all);
     return status;
 }
 
 gix_mailmap_status gix_mailmap_verify(const char *mailmap, size_t mailmap_len,
-                                      gix_mailmap_finding *GIX_MAILMAP_ALONE out, size_t out_len,
-                                      size_t *GIX_MAILMAP_ALONE needed)
+                                      gix_mailmap_finding *GIX_MAILMAP_RESTRICT out, size_t out_len,
+                                      size_t *GIX_MAILMAP_RESTRICT needed)
 {
     return gix_mailmap_text_verify(text_at(mailmap), mailmap_len, room_at(out), out_len, needed);
 }

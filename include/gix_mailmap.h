@@ -18,7 +18,7 @@
  * a mailmap has copies of its own.
  *
  * A text of length 0, and a buffer or an array of length 0, may be NULL. So a call that is given NULL and 0 for its
- * buffer says how much is needed. It returns GIX_MAILMAP_TOO_SHORT, or GIX_MAILMAP_OK if that is nothing.
+ * buffer says how much is needed. It returns GIX_MAILMAP_TOO_SHORT, or GIX_MAILMAP_OK if nothing is needed.
  *
  *     size_t needed;
  *     if (gix_mailmap_compact(text, text_len, NULL, 0, &needed) == GIX_MAILMAP_OUT_OF_MEMORY)
@@ -34,8 +34,10 @@
  *
  * Memory comes from the program's malloc, realloc and free.
  *
- * The structs and the numbers below are part of the binary interface. What lies between the members of a struct is kept
- * for members to come; programs must not rely on it. New numbers may come at the end of an enum.
+ * The structs and the numbers below are part of the binary interface. The padding in a struct is reserved: a later
+ * version may have members there. New numbers may come at the end of an enum.
+ *
+ * The comment of a call ends with the statuses that it returns, without their prefix.
  */
 #ifndef GIX_MAILMAP_H
 #define GIX_MAILMAP_H
@@ -50,16 +52,16 @@
 #define GIX_MAILMAP_VERSION_MINOR 1
 #define GIX_MAILMAP_VERSION_PATCH 0
 
-/* What compilers can check: pointers that must not be NULL, by their places among the arguments, a status that must not
- * be dropped, and buffers that must not overlap with another argument. */
+/* For compilers: which arguments must not be NULL, that a status must not be ignored, and which buffers must not
+ * overlap with another argument. */
 #ifdef __GNUC__
 #define GIX_MAILMAP_NONNULL(...) __attribute__((nonnull(__VA_ARGS__)))
 #define GIX_MAILMAP_MUST_CHECK __attribute__((warn_unused_result))
-#define GIX_MAILMAP_ALONE __restrict
+#define GIX_MAILMAP_RESTRICT __restrict
 #else
 #define GIX_MAILMAP_NONNULL(...)
 #define GIX_MAILMAP_MUST_CHECK
-#define GIX_MAILMAP_ALONE
+#define GIX_MAILMAP_RESTRICT
 #endif
 
 #ifdef __cplusplus
@@ -72,12 +74,12 @@ typedef struct gix_mailmap gix_mailmap;
 /* A stream of contacts: gix_mailmap_stream_open makes one, and gix_mailmap_stream_close frees it. */
 typedef struct gix_mailmap_stream gix_mailmap_stream;
 
-/* What a call returns. If it isn't GIX_MAILMAP_OK, nothing changes, and nothing is written but what the call says. */
+/* What a call returns. Unless it is GIX_MAILMAP_OK, nothing changes, and a call writes only what its comment says. */
 typedef enum gix_mailmap_status {
     GIX_MAILMAP_OK = 0,            /* the call did its work */
     GIX_MAILMAP_TOO_SHORT = 1,     /* a buffer is too short; all buffers are as they were */
     GIX_MAILMAP_OUT_OF_MEMORY = 2, /* the mailmap or the stream is as it was */
-    GIX_MAILMAP_NO_ENTRY = 3,      /* the mailmap has no entry with this number */
+    GIX_MAILMAP_NO_ENTRY = 3,      /* the mailmap has no entry at this index */
     GIX_MAILMAP_NOT_AN_ENTRY = 4,  /* these texts make no entry */
     GIX_MAILMAP_UNWRITABLE = 5     /* no line can hold some entry of the mailmap */
 } gix_mailmap_status;
@@ -158,19 +160,21 @@ gix_mailmap_status gix_mailmap_add_entry(gix_mailmap *map, const char *new_name,
                                          size_t old_name_len, const char *old_email, size_t old_email_len)
     GIX_MAILMAP_NONNULL(1) GIX_MAILMAP_MUST_CHECK;
 
-/* Looks a name and an email up. The proper ones are copied to the beginning of the two buffers. One that the mailmap
- * doesn't give is the one that was asked for. Their lengths are written at OK and at TOO_SHORT.
- * OK; TOO_SHORT. */
+/* Looks a contact up by its name and email, and copies the proper name to `name_out` and the proper email to
+ * `email_out`. If the mailmap gives no new name, that is the contact's own name, and so it is with the email.
+ * `new_name` and `new_email` are written at OK and at TOO_SHORT: the lengths, and whether the mailmap gives the text.
+ * OK; TOO_SHORT: one of the buffers is too short, and both are as they were. */
 gix_mailmap_status gix_mailmap_lookup(const gix_mailmap *map, const char *name, size_t name_len, const char *email,
-                                      size_t email_len, char *GIX_MAILMAP_ALONE name_out, size_t name_out_len,
-                                      gix_mailmap_field *GIX_MAILMAP_ALONE new_name,
-                                      char *GIX_MAILMAP_ALONE email_out, size_t email_out_len,
-                                      gix_mailmap_field *GIX_MAILMAP_ALONE new_email)
+                                      size_t email_len, char *GIX_MAILMAP_RESTRICT name_out, size_t name_out_len,
+                                      gix_mailmap_field *GIX_MAILMAP_RESTRICT new_name,
+                                      char *GIX_MAILMAP_RESTRICT email_out, size_t email_out_len,
+                                      gix_mailmap_field *GIX_MAILMAP_RESTRICT new_email)
     GIX_MAILMAP_NONNULL(1, 8, 11) GIX_MAILMAP_MUST_CHECK;
 
-/* Says how many entries the mailmap lists, and how many bytes all their texts have together (SIZE_MAX if that is more
- * than a size_t holds). It goes over all entries. */
-void gix_mailmap_len(const gix_mailmap *map, size_t *GIX_MAILMAP_ALONE entries_len, size_t *GIX_MAILMAP_ALONE texts_len)
+/* Counts the entries of the mailmap, and the bytes of all their texts together (SIZE_MAX if that is more than a size_t
+ * holds). It goes over all entries. */
+void gix_mailmap_len(const gix_mailmap *map, size_t *GIX_MAILMAP_RESTRICT entries_len,
+                     size_t *GIX_MAILMAP_RESTRICT texts_len)
     GIX_MAILMAP_NONNULL(1, 2, 3);
 
 /* Lists the mailmap: one entry for each old email that is mapped whatever the name, and one for each old name of it.
@@ -178,23 +182,24 @@ void gix_mailmap_len(const gix_mailmap *map, size_t *GIX_MAILMAP_ALONE entries_l
  * texts are in `texts` from its `start` on. `entries_len` counts entries, `texts_len` bytes; gix_mailmap_len gives
  * how many are needed.
  * OK; TOO_SHORT: `entries` or `texts` is too short, and both are as they were. */
-gix_mailmap_status gix_mailmap_list(const gix_mailmap *map, gix_mailmap_listed *GIX_MAILMAP_ALONE entries,
-                                    size_t entries_len, char *GIX_MAILMAP_ALONE texts, size_t texts_len)
+gix_mailmap_status gix_mailmap_list(const gix_mailmap *map, gix_mailmap_listed *GIX_MAILMAP_RESTRICT entries,
+                                    size_t entries_len, char *GIX_MAILMAP_RESTRICT texts, size_t texts_len)
     GIX_MAILMAP_NONNULL(1) GIX_MAILMAP_MUST_CHECK;
 
-/* Writes one entry of the list, number `place` counted from 0, and copies its texts to the beginning of `texts`, so its
+/* Writes the entry of the list at an index, counted from 0, and copies its texts to the beginning of `texts`, so its
  * `start` is 0. It goes over the entries before it: use gix_mailmap_list for all of them.
  * OK; TOO_SHORT: `texts` is as it was, and the entry is written; NO_ENTRY. */
-gix_mailmap_status gix_mailmap_entry(const gix_mailmap *map, size_t place, gix_mailmap_listed *GIX_MAILMAP_ALONE entry,
-                                     char *GIX_MAILMAP_ALONE texts, size_t texts_len)
+gix_mailmap_status gix_mailmap_entry(const gix_mailmap *map, size_t index,
+                                     gix_mailmap_listed *GIX_MAILMAP_RESTRICT entry, char *GIX_MAILMAP_RESTRICT texts,
+                                     size_t texts_len)
     GIX_MAILMAP_NONNULL(1, 3) GIX_MAILMAP_MUST_CHECK;
 
 /* Writes the mailmap as a text, from which gix_mailmap_open makes the same one: a line for each entry, in their order.
- * `needed` is its length, and 0 at OUT_OF_MEMORY. At UNWRITABLE it is the number of the first entry that no line can
- * hold, counted from 0: only gix_mailmap_add_entry adds such ones.
+ * `needed` is its length, and 0 at OUT_OF_MEMORY. At UNWRITABLE it is the index of the first entry that no line can
+ * hold: only gix_mailmap_add_entry adds such ones.
  * OK; TOO_SHORT; OUT_OF_MEMORY; UNWRITABLE. */
-gix_mailmap_status gix_mailmap_write(const gix_mailmap *map, char *GIX_MAILMAP_ALONE out, size_t out_len,
-                                     size_t *GIX_MAILMAP_ALONE needed)
+gix_mailmap_status gix_mailmap_write(const gix_mailmap *map, char *GIX_MAILMAP_RESTRICT out, size_t out_len,
+                                     size_t *GIX_MAILMAP_RESTRICT needed)
     GIX_MAILMAP_NONNULL(1, 4) GIX_MAILMAP_MUST_CHECK;
 
 /* Answers each line of `contacts`, such as `Jane <jane@x>`, by what the mailmap maps: a line for each line, with a
@@ -202,21 +207,22 @@ gix_mailmap_status gix_mailmap_write(const gix_mailmap *map, char *GIX_MAILMAP_A
  * OUT_OF_MEMORY.
  * OK; TOO_SHORT; OUT_OF_MEMORY. */
 gix_mailmap_status gix_mailmap_check(const char *mailmap, size_t mailmap_len, const char *contacts, size_t contacts_len,
-                                     char *GIX_MAILMAP_ALONE out, size_t out_len, size_t *GIX_MAILMAP_ALONE needed)
+                                     char *GIX_MAILMAP_RESTRICT out, size_t out_len,
+                                     size_t *GIX_MAILMAP_RESTRICT needed)
     GIX_MAILMAP_NONNULL(7) GIX_MAILMAP_MUST_CHECK;
 
 /* Writes the mailmap anew, without what later lines replaced; it maps as before. `needed` is its length, and 0 at
  * OUT_OF_MEMORY.
  * OK; TOO_SHORT; OUT_OF_MEMORY. */
-gix_mailmap_status gix_mailmap_compact(const char *mailmap, size_t mailmap_len, char *GIX_MAILMAP_ALONE out,
-                                       size_t out_len, size_t *GIX_MAILMAP_ALONE needed)
+gix_mailmap_status gix_mailmap_compact(const char *mailmap, size_t mailmap_len, char *GIX_MAILMAP_RESTRICT out,
+                                       size_t out_len, size_t *GIX_MAILMAP_RESTRICT needed)
     GIX_MAILMAP_NONNULL(5) GIX_MAILMAP_MUST_CHECK;
 
 /* Writes the mailmap without the lines that have no effect. All other lines stay byte for byte, comments and faulty
  * lines too. `needed` is its length, and 0 at OUT_OF_MEMORY.
  * OK; TOO_SHORT; OUT_OF_MEMORY. */
-gix_mailmap_status gix_mailmap_prune(const char *mailmap, size_t mailmap_len, char *GIX_MAILMAP_ALONE out,
-                                     size_t out_len, size_t *GIX_MAILMAP_ALONE needed)
+gix_mailmap_status gix_mailmap_prune(const char *mailmap, size_t mailmap_len, char *GIX_MAILMAP_RESTRICT out,
+                                     size_t out_len, size_t *GIX_MAILMAP_RESTRICT needed)
     GIX_MAILMAP_NONNULL(5) GIX_MAILMAP_MUST_CHECK;
 
 /* Writes what is wrong with the lines of a mailmap, in their order. A line may have three findings. All lines of no
@@ -224,8 +230,8 @@ gix_mailmap_status gix_mailmap_prune(const char *mailmap, size_t mailmap_len, ch
  * all findings, and 0 at OUT_OF_MEMORY.
  * OK; TOO_SHORT; OUT_OF_MEMORY. */
 gix_mailmap_status gix_mailmap_verify(const char *mailmap, size_t mailmap_len,
-                                      gix_mailmap_finding *GIX_MAILMAP_ALONE out, size_t out_len,
-                                      size_t *GIX_MAILMAP_ALONE needed)
+                                      gix_mailmap_finding *GIX_MAILMAP_RESTRICT out, size_t out_len,
+                                      size_t *GIX_MAILMAP_RESTRICT needed)
     GIX_MAILMAP_NONNULL(5) GIX_MAILMAP_MUST_CHECK;
 
 /* Writes what is wrong with some mailmaps as text, as mailmap_verify prints it: a line for each finding, such as
@@ -233,9 +239,24 @@ gix_mailmap_status gix_mailmap_verify(const char *mailmap, size_t mailmap_len,
  * have no effect beside a later one of another mailmap. Control bytes are shown as `\x1b`. `count` is the number of
  * mailmaps. `needed` is the length of the text, and 0 at OUT_OF_MEMORY.
  * OK; TOO_SHORT; OUT_OF_MEMORY. */
-gix_mailmap_status gix_mailmap_report(const gix_mailmap_named *mailmaps, size_t count, char *GIX_MAILMAP_ALONE out,
-                                      size_t out_len, size_t *GIX_MAILMAP_ALONE needed)
+gix_mailmap_status gix_mailmap_report(const gix_mailmap_named *mailmaps, size_t count, char *GIX_MAILMAP_RESTRICT out,
+                                      size_t out_len, size_t *GIX_MAILMAP_RESTRICT needed)
     GIX_MAILMAP_NONNULL(5) GIX_MAILMAP_MUST_CHECK;
+
+/* Writes which lines of some mailmaps give contacts their new fields, as mailmap_verify --explain prints it: a line for
+ * each line of `contacts`, such as
+ *
+ *     jd <jd@y> is Jane Doe <jane@x> by team:1, own:3
+ *     joe <q@z> is not mapped
+ *     plain is no contact
+ *
+ * and none for a blank line. At most two lines give one contact its fields: one the name, and one the email. Mailmaps
+ * are as for gix_mailmap_report, and so are control bytes. `needed` is the length of the text, and 0 at OUT_OF_MEMORY.
+ * OK; TOO_SHORT; OUT_OF_MEMORY. */
+gix_mailmap_status gix_mailmap_explain(const gix_mailmap_named *mailmaps, size_t count, const char *contacts,
+                                       size_t contacts_len, char *GIX_MAILMAP_RESTRICT out, size_t out_len,
+                                       size_t *GIX_MAILMAP_RESTRICT needed)
+    GIX_MAILMAP_NONNULL(7) GIX_MAILMAP_MUST_CHECK;
 
 /* Opens a stream, whose contacts are answered by what the mailmap maps, as gix_mailmap_check answers them. The contacts
  * come in parts of any length, and a part may end in the middle of a line:
@@ -264,7 +285,7 @@ void gix_mailmap_stream_close(gix_mailmap_stream *stream);
  * push the rest. `taken` is 0 at OUT_OF_MEMORY.
  * OK; OUT_OF_MEMORY. */
 gix_mailmap_status gix_mailmap_stream_push(gix_mailmap_stream *stream, const char *part, size_t part_len,
-                                           size_t *GIX_MAILMAP_ALONE taken)
+                                           size_t *GIX_MAILMAP_RESTRICT taken)
     GIX_MAILMAP_NONNULL(1, 4) GIX_MAILMAP_MUST_CHECK;
 
 /* Answers the last line, which no line feed ended, if there is one. What is pushed after that begins a new line.
@@ -273,7 +294,7 @@ gix_mailmap_status gix_mailmap_stream_finish(gix_mailmap_stream *stream) GIX_MAI
 
 /* Copies the next answers to the beginning of `out`, and returns how many bytes: all that wait, or as many as fit. They
  * need not end with a line. It is 0 if none wait, or if `out_len` is 0. It needs no memory. */
-size_t gix_mailmap_stream_read(gix_mailmap_stream *stream, char *GIX_MAILMAP_ALONE out, size_t out_len)
+size_t gix_mailmap_stream_read(gix_mailmap_stream *stream, char *GIX_MAILMAP_RESTRICT out, size_t out_len)
     GIX_MAILMAP_NONNULL(1);
 
 #ifdef __cplusplus

@@ -1,14 +1,16 @@
 /* Every call of gix_mailmap.h with every status that it has. malloc, realloc and free are wrapped (-Wl,--wrap), so that
  * each request for memory can be refused in turn, and so that what is never given back shows. */
 #include "gix_mailmap.h"
+#include <malloc.h>
 #include <stdio.h>
 #include <stdlib.h>
 #include <string.h>
 
 static long refused_request = -1;
 static long requests = 0;
-/* how many blocks of memory are not given back */
+/* how many blocks of memory are not given back, and how many bytes they have */
 static long blocks = 0;
+static size_t in_use = 0;
 
 void *__real_malloc(size_t size);
 void *__real_realloc(void *at, size_t size);
@@ -21,19 +23,23 @@ void *__wrap_malloc(size_t size)
 {
     void *made = requests++ == refused_request || size > PTRDIFF_MAX ? NULL : __real_malloc(size);
     blocks += made != NULL;
+    in_use += malloc_usable_size(made);
     return made;
 }
 
 void *__wrap_realloc(void *at, size_t size)
 {
+    size_t before = malloc_usable_size(at);
     void *made = requests++ == refused_request ? NULL : __real_realloc(at, size);
     blocks += at == NULL && made != NULL;
+    in_use += made != NULL ? malloc_usable_size(made) - before : 0;
     return made;
 }
 
 void __wrap_free(void *at)
 {
     blocks -= at != NULL;
+    in_use -= malloc_usable_size(at);
     __real_free(at);
 }
 
@@ -198,6 +204,44 @@ static void report(void)
     gix_mailmap_named huge[2] = {{NULL, 0, "", SIZE_MAX}, {"", SIZE_MAX, "", 2}};
     WANT(gix_mailmap_report(huge, 1, NULL, 0, &needed) == GIX_MAILMAP_OUT_OF_MEMORY && needed == 0);
     WANT(gix_mailmap_report(huge, 2, NULL, 0, &needed) == GIX_MAILMAP_OUT_OF_MEMORY && needed == 0);
+}
+
+/* two mailmaps that together map a contact, and contacts with each answer */
+static const gix_mailmap_named GIVING[2] = {
+    {TEXT("team"), TEXT("Jane Doe <jane@x>\n<jane@x> <jd@y>\n")}, {TEXT("own"), TEXT("Jane Doe <jd@y>\nI\x1b <i@x>")}};
+static const char EXPLAINED[] = "jd <JD@y>\r\n\n  jane  <jane@x>\nbob <b@x>\nplain\ni <i@x>";
+static const char EXPLANATION[] =
+    "jd <JD@y> is Jane Doe <jane@x> by team:2, own:1\n"
+    "jane <jane@x> is Jane Doe <jane@x> by team:1\n"
+    "bob <b@x> is not mapped\n"
+    "plain is no contact\n"
+    "i <i@x> is I\\x1b <i@x> by own:2\n";
+
+static void explain(void)
+{
+    enum { LEN = sizeof EXPLANATION - 1 };
+    char out[LEN + 8], clean[LEN + 8];
+    memset(clean, '#', sizeof clean);
+    for (size_t room = 0; room <= sizeof out; room++) {
+        size_t needed = 99;
+        memcpy(out, clean, sizeof out);
+        gix_mailmap_status status = gix_mailmap_explain(GIVING, 2, TEXT(EXPLAINED), out, room, &needed);
+        WANT(status == (room < LEN ? GIX_MAILMAP_TOO_SHORT : GIX_MAILMAP_OK) && needed == LEN);
+        WANT(memcmp(out, room < LEN ? clean : EXPLANATION, LEN) == 0);
+        WANT(memcmp(out + LEN, clean, sizeof out - LEN) == 0);
+    }
+    size_t needed = 99;
+    buffer text = filled();
+    gix_mailmap_named nameless = {NULL, 0, TEXT("N <a@x>")}, huge = {"", SIZE_MAX, "", 2};
+    WANT(gix_mailmap_explain(NULL, 0, NULL, 0, NULL, 0, &needed) == GIX_MAILMAP_OK && needed == 0);
+    WANT(gix_mailmap_explain(GIVING, 2, NULL, 0, NULL, 0, &needed) == GIX_MAILMAP_OK && needed == 0);
+    WANT(gix_mailmap_explain(NULL, 0, TEXT("a <b>"), NULL, 0, &needed) == GIX_MAILMAP_TOO_SHORT && needed == 20);
+    WANT(gix_mailmap_explain(NULL, 0, TEXT("a <b>"), text.bytes, 64, &needed) == GIX_MAILMAP_OK && needed == 20);
+    WANT(holds(&text, "a <b> is not mapped\n"));
+    text = filled();
+    WANT(gix_mailmap_explain(&nameless, 1, TEXT("a <a@x>"), text.bytes, 64, &needed) == GIX_MAILMAP_OK && needed == 25);
+    WANT(holds(&text, "a <a@x> is N <a@x> by :1\n"));
+    WANT(gix_mailmap_explain(&huge, 1, TEXT("a <b>"), NULL, 0, &needed) == GIX_MAILMAP_OUT_OF_MEMORY && needed == 0);
 }
 
 static void looked_up(const gix_mailmap *map)
@@ -457,6 +501,30 @@ static void long_streams(void)
     free(all);
 }
 
+/* the memory of a long answer is given back once it is read */
+static void long_answers(void)
+{
+    enum { LEN = 4000000 };
+    gix_mailmap_stream *stream;
+    char *map = malloc(LEN + 6), out[4096];
+    if (map == NULL)
+        abort();
+    memset(map, 'n', LEN);
+    memcpy(map + LEN, " <a@x>", 6);
+    WANT(gix_mailmap_stream_open(&stream, map, LEN + 6) == GIX_MAILMAP_OK);
+    size_t before = in_use, taken = 0, len = 0, most = 0;
+    for (int round = 0; round < 3; round++) {
+        WANT(gix_mailmap_stream_push(stream, TEXT("a <a@x>\n"), &taken) == GIX_MAILMAP_OK && taken == 8);
+        most = in_use > most ? in_use : most;
+        for (size_t count; (count = gix_mailmap_stream_read(stream, out, sizeof out)) > 0; len += count)
+            ;
+        WANT(in_use <= before + 500000);
+    }
+    WANT(len == 3 * (LEN + 7) && most >= before + LEN);
+    gix_mailmap_stream_close(stream);
+    free(map);
+}
+
 /* NULL for each text, buffer and array of length 0, which also asks for a size */
 static void nulls(void)
 {
@@ -527,6 +595,9 @@ static int texts_once(void)
     char all[sizeof REPORT] = "#";
     WANT(is_done(gix_mailmap_report(BOTH, 2, all, sizeof all, &needed), &needed, &refused));
     WANT(needed ? needed == sizeof REPORT - 1 && memcmp(all, REPORT, needed) == 0 : all[0] == '#');
+    all[0] = '#';
+    WANT(is_done(gix_mailmap_explain(GIVING, 2, TEXT(EXPLAINED), all, sizeof all, &needed), &needed, &refused));
+    WANT(needed ? needed == sizeof EXPLANATION - 1 && memcmp(all, EXPLANATION, needed) == 0 : all[0] == '#');
     return refused;
 }
 
@@ -605,8 +676,8 @@ static bool refuses(long number)
 
 int main(void)
 {
-    void (*const parts[])(void) = {words,  check_and_compact, prune,        verify,       report, changes,
-                                   entries, streams,          long_streams, nulls};
+    void (*const parts[])(void) = {words,   check_and_compact, prune,   verify,       report, explain,
+                                   changes, entries,           streams, long_streams, long_answers, nulls};
     for (size_t i = 0; i < sizeof parts / sizeof parts[0]; i++) {
         parts[i]();
         WANT(blocks == 0);
@@ -614,7 +685,7 @@ int main(void)
     long number = 0;
     while (refuses(number))
         number++;
-    WANT(number > 0 && made_again == 2);
+    WANT(number > 0 && made_again == 3);
     printf("calls from C: %s, %ld requests for memory refused in turn\n", failures ? "failed" : "passed", number);
     return failures ? 1 : 0;
 }

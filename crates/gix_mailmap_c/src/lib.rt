@@ -7,12 +7,14 @@
 pub mod adding;
 mod buffers;
 mod copies;
+pub mod explain;
 pub mod field;
 pub mod findings;
 pub mod handle;
 mod held;
 pub mod listing;
 pub mod lookup;
+pub mod named;
 pub mod report;
 pub mod status;
 pub mod stream;

@@ -4,17 +4,10 @@ ghost use Rattle.gix_mailmap_c.specs.Handed.{IsHanded};
 ghost use Rattle.gix_mailmap_c.specs.Reported.{IsReportOf, cut_by};
 
 use crate::buffers::hand;
+use crate::named::{Lengths, names_of, texts_of};
 use gix_mailmap::verify::{Mailmaps, Verification};
 use mailmap_reports::report::print_findings;
 use std::alloc::{AllocError, Global};
-
-/// How long the name and the text of a mailmap are.
-#[repr(C)]
-#[derive(Clone, Copy)]
-pub struct Lengths {
-    pub name: usize,
-    pub text: usize,
-}
 
 /// Writes the line of each finding in some mailmaps, as [`print_findings`] prints them.
 ///
@@ -57,38 +50,4 @@ fn report(
         Ok(_) => Ok(text),
         Err(_) => Err(AllocError),
     }
-}
-
-// The name of each mailmap.
-fn names_of(alloc: Global, lengths: &[Lengths], names: &[u8]) -> Result<Vec<Vec<u8>>, AllocError>
-    ensures { IfOk result (λ each. map (λ name. name.items) each.items
-        ≡ cut_by (map (λ l. l.name) lengths.now) names.now) }
-{
-    let mut each = Vec::new(alloc);
-    let mut rest = names;
-    for part in lengths {
-        let (name, behind) = rest.split_at(part.name.min(rest.len()));
-        each.push(Vec::from_slice(alloc, name)?)?;
-        rest = behind;
-    }
-    Ok(each)
-}
-
-// The text of each mailmap.
-fn texts_of<'a>(
-    alloc: Global,
-    lengths: &[Lengths],
-    texts: &'a [u8],
-) -> Result<Vec<&'a [u8]>, AllocError>
-    ensures { IfOk result (λ each. map (λ text. text.now) each.items
-        ≡ cut_by (map (λ l. l.text) lengths.now) texts.now) }
-{
-    let mut each = Vec::new(alloc);
-    let mut rest = texts;
-    for part in lengths {
-        let (text, behind) = rest.split_at(part.text.min(rest.len()));
-        each.push(text)?;
-        rest = behind;
-    }
-    Ok(each)
 }

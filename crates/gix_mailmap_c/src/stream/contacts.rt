@@ -7,6 +7,9 @@ use gix_mailmap::check::ContactStream;
 use std::alloc::{AllocError, Global};
 use std::marker::Model;
 
+// More room than this is given back once all answers are read, so that one long answer takes no memory for ever.
+const MOST_ROOM: usize = 262144;
+
 /// A stream of contacts, and the answers to them that haven't been read yet.
 #[derive(Drop)]
 pub struct Contacts {
@@ -70,6 +73,9 @@ impl Contacts {
         if self.read == self.answers.len() {
             self.answers.clear();
             self.read = 0;
+            if self.answers.capacity() > MOST_ROOM {
+                self.answers.shrink_to(0);
+            }
         }
         count
     }

@@ -1,7 +1,7 @@
 -- The texts so far, and those that are left to cut off.
 use Rattle.std.proofs.Common.{◌≡◌, ◌++◌, drop, map}
 use Rattle.gix_mailmap_c.specs.Reported.{cut_by}
-use Rattle.gix_mailmap_c.proofs.report.texts_of.Given as goal
+use Rattle.gix_mailmap_c.proofs.named.texts_of.Given as goal
 
 abbrev pub invariant-loop-part : goal.invariant-loop-part
 invariant-loop-part l = map (λ text. text.now) l.each.items ++ cut_by (map (λ l. l.text) (drop l.part-index l.lengths)) l.rest ≡ cut_by (map (λ l. l.text) l.lengths) l.texts
