@@ -7,9 +7,6 @@ LIBRARY is the folder of `make lib`. It builds c_lookups.c with `cc -O2` against
 programs in turn, R times each (15 where it is not given), on the maps of N lines (100,000 where it is not given) with their
 contacts. All three read the first byte of each name and each email that stands in the end. A time is the least of all runs, since other work on the machine only ever adds to it. `to the library` is the
 handle's time divided by the library's own, `to libgit2` the handle's divided by libgit2's: 0.5 is half the time.
-
-Then one, two and four threads look all contacts up in one mailmap. `of one` is how many lookups they make in the time
-in which one thread makes one.
 """
 import argparse
 import os
@@ -21,7 +18,6 @@ from pathlib import Path
 
 KINDS = ["mixed", "sorted", "hundred"]
 REPEATS = "5"
-THREADS = [1, 2, 4]
 
 
 def fields(words):
@@ -35,7 +31,7 @@ def build(library, folder):
     here = Path(__file__).resolve().parent
     program = str(Path(folder) / "c_lookups")
     words = [os.environ.get("CC", "cc"), "-O2", "-std=c11", "-Wall", "-Wextra", "-Werror", f"-I{here.parent}/include"]
-    words += [str(here / "c_lookups.c"), f"{library}/libgix_mailmap.a", "-lgit2", "-pthread", "-o", program]
+    words += [str(here / "c_lookups.c"), f"{library}/libgix_mailmap.a", "-lgit2", "-o", program]
     if subprocess.run(words).returncode != 0:
         raise RuntimeError("c_lookups.c does not build: it wants libgit2's header and library")
     return program
@@ -76,24 +72,6 @@ def compare(program, bench, maps, lines, runs):
             row(contacts, kind, f"{seen['handle']['contacts']:,}", *times, *ratios)
 
 
-def share(program, maps, lines, runs):
-    row("threads", "map", "lookups a second", "of one")
-    row("--:", "---", "--:", "--:")
-    words = [program, "gix", f"{maps}/mixed-{lines}.mailmap", f"{maps}/mixed-{lines}.hits", REPEATS]
-    best, seen = {}, {}
-    for _ in range(runs):
-        for threads in THREADS:
-            found = fields([*words, str(threads)])
-            best[threads] = min(best.get(threads, found["min_ns"]), found["min_ns"])
-            seen[threads] = found
-    if len({(found["contacts"], found["texts"]) for found in seen.values()}) != 1:
-        raise RuntimeError(f"not the same answers: {seen}")
-    for threads in THREADS:
-        rate = threads * seen[threads]["contacts"] / best[threads]
-        alone = seen[1]["contacts"] / best[1]
-        row(str(threads), "mixed", f"{rate * 1e9:,.0f}", f"{rate / alone:.2f}")
-
-
 def main():
     parser = argparse.ArgumentParser(description=__doc__, formatter_class=argparse.RawDescriptionHelpFormatter)
     parser.add_argument("library", type=Path)
@@ -105,8 +83,6 @@ def main():
     with tempfile.TemporaryDirectory() as folder:
         program = build(given.library.resolve(), folder)
         compare(program, str(Path(given.bench).resolve()), given.maps, given.lines, given.runs)
-        print()
-        share(program, given.maps, given.lines, given.runs)
 
 
 if __name__ == "__main__":

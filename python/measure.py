@@ -1,17 +1,23 @@
 #!/usr/bin/env python3
 """Measures the package: many contacts at once beside lookups and beside the program, and the lock of a handle.
 
-    measure.py [PROGRAM]
+    measure.py [PROGRAM [ROUNDS]]
 
-PROGRAM is mailmap_check. Each time is the shortest of five, by the clock.
+PROGRAM is mailmap_check. Contacts are measured by processor time: each time is the shortest of 20 rounds, or of ROUNDS,
+in which the ways take turns. For files it begins with the reading of the mailmap. In parentheses it is divided by the
+program's, for which all of its process counts. Lookups and the lock are measured by the clock, and the shortest of five
+counts.
 """
 import ctypes
 import random
+import resource
 import subprocess
 import sys
 import tempfile
 import threading
 import time
+from collections import deque
+from functools import partial
 from pathlib import Path
 
 from gix_mailmap import Mailmap, _native
@@ -29,15 +35,28 @@ def shortest(work, times=5):
     return min(taken)
 
 
-def count(lines):
-    return sum(1 for _ in lines)
+def processor_time():
+    """That of this process and of the programs that it has run."""
+    used = [resource.getrusage(whose) for whose in (resource.RUSAGE_SELF, resource.RUSAGE_CHILDREN)]
+    return sum(one.ru_utime + one.ru_stime for one in used)
+
+
+def in_turn(ways, rounds):
+    """The least processor time of each way."""
+    least = [float("inf")] * len(ways)
+    for _ in range(rounds):
+        for number, way in enumerate(ways):
+            start = processor_time()
+            way()
+            least[number] = min(least[number], processor_time() - start)
+    return least
 
 
 def mailmap_of(entries):
     return b"".join(b"New Name %d <n%d@example.com> <o%d@example.org>\n" % (n, n, n) for n in range(entries))
 
 
-def stream(folder, entries, different, program):
+def stream(folder, entries, different, program, rounds):
     """A row: a million contacts of which some are different, by a mailmap."""
     text, rng = mailmap_of(entries), random.Random(1)
     people = [b"Some Person %d <o%d@example.org>\n" % (n, n) for n in range(different)]
@@ -51,24 +70,23 @@ def stream(folder, entries, different, program):
         for name, email in pairs:
             mailmap.lookup(name, email)
 
+    def of_list():
+        deque(mailmap.map_contacts(lines), maxlen=0)
+
     def of_file(mode, **encoding):
         with Mailmap(map_file.read_bytes()) as read, contacts.open(mode, **encoding) as file:
-            count(read.map_contacts(file))
+            deque(read.map_contacts(file), maxlen=0)
 
+    def run():
+        with contacts.open("rb") as file:
+            subprocess.run([program, map_file], stdin=file, stdout=subprocess.DEVNULL, check=True)
+
+    of_str = partial(of_file, "r", encoding="utf-8", errors="surrogateescape")
+    ways = [of_list, partial(of_file, "rb"), of_str, *([run] if program else [])]
     with Mailmap(text) as mailmap:
-        times = [
-            shortest(one_by_one) * CONTACTS / LOOKUPS,
-            shortest(lambda: count(mailmap.map_contacts(lines))),
-            shortest(lambda: of_file("rb")),
-            shortest(lambda: of_file("r", encoding="utf-8", errors="surrogateescape")),
-        ]
-    if program:
-        def run():
-            with contacts.open("rb") as file:
-                subprocess.run([program, map_file], stdin=file, stdout=subprocess.DEVNULL, check=True)
-
-        times.append(shortest(run))
-    print(f"| {entries:,} | {different:,} | {' | '.join(f'{taken:.2f} s' for taken in times)} |", flush=True)
+        times = [shortest(one_by_one) * CONTACTS / LOOKUPS, *in_turn(ways, rounds)]
+    cells = [f"{taken:.2f} s ({taken / times[-1]:.1f})" if program else f"{taken:.2f} s" for taken in times]
+    print(f"| {entries:,} | {different:,} | {' | '.join(cells)} |", flush=True)
 
 
 def lookups(kind, lock):
@@ -139,11 +157,12 @@ def pause(label, kind):
 
 def main():
     program = sys.argv[1] if sys.argv[1:] else None
+    rounds = int(sys.argv[2]) if sys.argv[2:] else 20
     columns = ["entries", "different", "lookups", "a list", "a file of bytes", "a file of str"]
     print(f"| {' | '.join(columns + ['the program'] * bool(program))} |")
     with tempfile.TemporaryDirectory() as folder:
         for entries, different in ((10_000, 3_000), (100_000, 3_000), (10_000, CONTACTS)):
-            stream(Path(folder), entries, different, program)
+            stream(Path(folder), entries, different, program, rounds)
     print("\n| a lookup | one thread | four threads |")
     for label, kind, has_lock in (
         ("CDLL", ctypes.CDLL, False), ("CDLL, lock", ctypes.CDLL, True),

@@ -14,7 +14,7 @@ is encoded; in a `str`, bytes that aren't UTF-8 are lone surrogates (`surrogatee
 All errors of the module are of the class Error. An argument of a wrong type is a TypeError.
 """
 
-from ._calls import check, compact, prune, report, verify
+from ._calls import check, compact, explain, prune, report, verify
 from ._errors import Closed, Error, NoEntry, NotAnEntry, OutOfMemory, Unwritable
 from ._mailmap import Mailmap
 from ._results import Answer, Entry, Finding, Kind
@@ -33,6 +33,7 @@ __all__ = [
     "Unwritable",
     "check",
     "compact",
+    "explain",
     "prune",
     "report",
     "verify",

@@ -100,6 +100,30 @@ def report(mailmaps: Iterable[tuple[Text, Text]]) -> Union[str, bytes]:
     return as_str(answer) if is_str else answer
 
 
+@overload
+def explain(mailmaps: Iterable[tuple[str, str]], contacts: str) -> str: ...
+
+
+@overload
+def explain(mailmaps: Iterable[tuple[Buffer, Buffer]], contacts: Buffer) -> bytes: ...
+
+
+def explain(mailmaps: Iterable[tuple[Text, Text]], contacts: Text) -> Union[str, bytes]:
+    """Which lines of mailmaps give contacts their new names and emails, as `mailmap_verify --explain` prints it: a line
+    for each line of `contacts`, and none for a blank one. Each mailmap comes with its name. Raises OutOfMemory.
+
+    >>> team, own = "<jane@x> <jd@y>\\n", "Jane Doe <jd@y>\\n"
+    >>> print(explain([("team", team), ("own", own)], "jd <jd@y>\\nbob <b@x>\\nplain"), end="")
+    jd <jd@y> is Jane Doe <jane@x> by team:1, own:1
+    bob <b@x> is not mapped
+    plain is no contact
+    """
+    pairs = [(name, text) for name, text in mailmaps]
+    is_str = are_str(contacts, *(text for pair in pairs for text in pair))
+    answer = _native.explain([(as_bytes(name), as_bytes(text)) for name, text in pairs], as_bytes(contacts))
+    return as_str(answer) if is_str else answer
+
+
 def _finding(line: int, number: int, beside: int) -> Finding:
     kind = Kind(number)
     return Finding(line, kind, beside if kind == Kind.NO_EFFECT else None)

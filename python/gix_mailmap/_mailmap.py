@@ -122,11 +122,13 @@ class Mailmap(Sequence[Entry[AnyStr]], Generic[AnyStr]):
         ...     list(mailmap.map_contacts(["jd <JD@y>\\n", "plain\\n"]))
         ['Jane Doe <jane@x>', 'plain']
 
-        Lines are taken in parts, so some are read ahead: 4096 at first, and later more. What is added meanwhile counts
-        from a later part on, and once the mailmap is closed there is no other part. A ValueError if a line has a line
-        feed before its end. Raises Unwritable, as `write` does, and OutOfMemory.
+        Lines are taken in parts of 1024, so some are read ahead. What is added meanwhile counts from a later part on,
+        and once the mailmap is closed there is no other part. A ValueError if a line has a line feed before its end.
+        Raises Unwritable, as `write` does, and OutOfMemory.
         """
-        return _stream.answers(self._as_text, len(self), lines)
+        if self.closed:
+            raise Closed("the mailmap is closed")
+        return _stream.answers(self._as_text, lines)
 
     def _as_text(self) -> bytes:
         """The mailmap as a text: the same one until something is added."""

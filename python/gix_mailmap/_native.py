@@ -13,9 +13,10 @@ import os
 import struct
 import threading
 import weakref
-from ctypes import POINTER, Structure, byref, c_bool, c_char_p, c_int, c_size_t, c_void_p, create_string_buffer
+from ctypes import POINTER, Structure, byref, c_bool, c_char_p, c_int, c_size_t, c_void_p, cast, create_string_buffer
+from functools import partial
 from pathlib import Path
-from typing import Any, Callable, NamedTuple, Optional
+from typing import Any, Callable, Iterator, NamedTuple, Optional
 
 from ._errors import Closed, Error, NoEntry, NotAnEntry, OutOfMemory, Unwritable
 
@@ -27,6 +28,9 @@ _OK, _TOO_SHORT, _OUT_OF_MEMORY, _NO_ENTRY, _NOT_AN_ENTRY, _UNWRITABLE = range(6
 # The buffers of a lookup that are kept for the next one have this length each. A longer text gets longer ones, for that
 # call only.
 _USUAL_LENGTH = 256
+
+# That of the buffer which a stream's answers are read into. A push stops once 64 KiB of them wait, so most fit at once.
+_STREAM_LENGTH = 131_072
 
 
 class _Field(Structure):
@@ -95,6 +99,11 @@ def _load() -> ctypes.CDLL:
         "prune": ([*text, *room, length], c_int),
         "verify": ([*text, *room, length], c_int),
         "report": ([POINTER(_Named), c_size_t, *room, length], c_int),
+        "explain": ([POINTER(_Named), c_size_t, *text, *room, length], c_int),
+        "stream_open": ([POINTER(c_void_p), *text], c_int),
+        "stream_close": ([c_void_p], None),
+        "stream_push": ([c_void_p, *text, length], c_int),
+        "stream_read": ([c_void_p, *room], c_size_t),
     }
     for name, (arguments, result) in calls.items():
         call = getattr(library, f"gix_mailmap_{name}")
@@ -164,12 +173,18 @@ def verify(mailmap: bytes) -> list[tuple[int, int, int]]:
 
 def report(mailmaps: list[tuple[bytes, bytes]]) -> bytes:
     """What is wrong with mailmaps, each with its name, as text."""
-    named = (_Named * len(mailmaps))(*(_Named(name, len(name), text, len(text)) for name, text in mailmaps))
+    return _filled(partial(_library.gix_mailmap_report, _named(mailmaps), len(mailmaps)), 1, 65_536)
 
-    def call(*room: object) -> int:
-        return int(_library.gix_mailmap_report(named, len(mailmaps), *room))
 
-    return _filled(call, 1, 65_536)
+def explain(mailmaps: list[tuple[bytes, bytes]], contacts: bytes) -> bytes:
+    """Which lines of mailmaps, each with its name, give contacts their new fields, as text."""
+    call = partial(_library.gix_mailmap_explain, _named(mailmaps), len(mailmaps))
+    return _filled(call, 1, 4 * len(contacts) + 4096, contacts)
+
+
+def _named(mailmaps: list[tuple[bytes, bytes]]) -> ctypes.Array[_Named]:
+    """Mailmaps by their names, as the library takes them."""
+    return (_Named * len(mailmaps))(*(_Named(name, len(name), text, len(text)) for name, text in mailmaps))
 
 
 class _Buffers:
@@ -193,18 +208,19 @@ class _Buffers:
 
 
 class _Held:
-    """A mailmap of the library. If it is closed during a call, it is freed as that ends."""
+    """A mailmap or a stream of the library. If it is closed during a call, it is freed as that ends."""
 
-    def __init__(self) -> None:
+    def __init__(self, opening: Callable[..., int], closing: Callable[..., None], text: bytes) -> None:
         self.lock = threading.RLock()
         self.closed = False
         self._calls = 0
+        self._closing = closing
         at = c_void_p()
-        _is_short(_library.gix_mailmap_open(byref(at), None, 0))
+        _is_short(opening(byref(at), text, len(text)))
         self._owned = {"at": at.value}
 
     def called(self, call: Callable[..., Any], *arguments: object) -> Any:
-        """What a call of the library with the mailmap returns."""
+        """What a call of the library with what is held returns."""
         with self.lock:
             # Counted before anything is looked at: from here on, a `close` in a `__del__` frees nothing.
             self._calls += 1
@@ -224,7 +240,7 @@ class _Held:
     def _free(self) -> None:
         if self.closed and not self._calls:
             # No other call gets what is taken out here.
-            _library.gix_mailmap_close(self._owned.pop("at", None))
+            self._closing(self._owned.pop("at", None))
 
 
 class Handle:
@@ -234,7 +250,7 @@ class Handle:
     """
 
     def __init__(self) -> None:
-        self._held = _Held()
+        self._held = _Held(_library.gix_mailmap_open, _library.gix_mailmap_close, b"")
         self._spare: list[_Buffers] = []
         # At the end of the process there is nothing to free, and other threads may still be at work.
         weakref.finalize(self, self._held.close).atexit = False
@@ -312,6 +328,32 @@ class Handle:
     def closed(self) -> bool:
         """Whether it is closed."""
         return self._held.closed
+
+
+class Stream:
+    """Contacts that come in parts, and their answers by the text of a mailmap. It is freed as nothing refers to it."""
+
+    def __init__(self, mailmap: bytes) -> None:
+        self._held = _Held(_library.gix_mailmap_stream_open, _library.gix_mailmap_stream_close, mailmap)
+        self._buffer = _buffer(_STREAM_LENGTH)
+        weakref.finalize(self, self._held.close).atexit = False
+
+    def answers(self, contacts: bytes) -> Iterator[bytes]:
+        """The answers to lines, each of which ends with a line feed: bytes after bytes, each time of whole lines."""
+        start, taken, at, length = cast(c_char_p(contacts), c_void_p).value or 0, c_size_t(), 0, len(contacts)
+        while at < length:
+            _is_short(self._held.called(_library.gix_mailmap_stream_push, start + at, length - at, byref(taken)))
+            at += taken.value
+            yield self._read()
+
+    def _read(self) -> bytes:
+        """All answers that wait."""
+        read = []
+        while True:
+            count = self._held.called(_library.gix_mailmap_stream_read, self._buffer, _STREAM_LENGTH)
+            read.append(_head(self._buffer, count))
+            if count < _STREAM_LENGTH:
+                return b"".join(read)
 
 
 def _cut(

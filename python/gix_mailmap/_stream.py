@@ -1,60 +1,44 @@
-"""Many contacts, answered in large parts.
-
-The library has no call yet that answers many contacts by an open mailmap. So a part goes to the one that reads a
-mailmap from its text first, and answers to lines that come again are kept.
-"""
+"""Many contacts, answered in parts by a stream of the library."""
 
 from __future__ import annotations
 
-from itertools import islice
+from itertools import chain, islice
 from operator import itemgetter
-from typing import AnyStr, Callable, Iterable, Iterator
+from typing import AnyStr, Callable, Generic, Iterable, Iterator
 
-from . import _native
+from ._native import Stream
 from ._texts import as_bytes, as_str
 
-# The mailmap is read again for each part. So the first part is short, for an early answer, and the others grow, up to
-# a few lines for each entry of the mailmap.
-_FIRST_PART = 4096
-_GROWTH = 4
-_LONGEST_PART = 16_384
-_LINES_AN_ENTRY = 4
+# How many lines are taken at a time.
+_PART = 1024
 
 # For how many lines the answers are kept.
-_KEPT = 262_144
+_KEPT = 65_536
 
-# After a part of which most lines are new, this many parts are answered as they are.
+# After a part of which most lines are new, this many parts are answered without a look at what is kept.
 _PAUSE = 7
 
 
-def answers(mailmap: Callable[[], bytes], entries: int, lines: Iterable[AnyStr]) -> Iterator[AnyStr]:
+def answers(mailmap: Callable[[], bytes], lines: Iterable[AnyStr]) -> Iterator[AnyStr]:
     """The answer to each line, without a line feed. `mailmap` is asked before each part: the same bytes as long as
     nothing changes."""
-    known: dict[AnyStr, AnyStr] = {}
-    text, pause = b"", 0
-    for part in _parts(lines, max(_LONGEST_PART, _LINES_AN_ENTRY * entries)):
+    return chain.from_iterable(_answered_parts(mailmap, lines))
+
+
+def _answered_parts(mailmap: Callable[[], bytes], lines: Iterable[AnyStr]) -> Iterator[list[AnyStr]]:
+    """The answers to part after part."""
+    text, answered = b"", None
+    for part in _parts(lines):
         before, text = text, mailmap()
-        if text is not before or len(known) > _KEPT:
-            known.clear()
-        if pause:
-            pause -= 1
-            yield from _answered(text, part)
-            continue
-        new = set(part).difference(known)
-        if 2 * len(new) > len(part):
-            pause = _PAUSE
-            yield from _answered(text, part)
-            continue
-        if new:
-            asked = list(new)
-            known.update(zip(asked, _answered(text, asked)))
-        yield from map(known.__getitem__, part)
+        if answered is None or text is not before:
+            answered = _Answers[AnyStr](text)
+        yield answered.of(part)
 
 
-def _parts(lines: Iterable[AnyStr], longest: int) -> Iterator[list[AnyStr]]:
-    """The lines in lists that grow. A line that may change is copied."""
-    left, length, is_text = iter(lines), min(_FIRST_PART, longest), set()
-    while part := list(islice(left, length)):
+def _parts(lines: Iterable[AnyStr]) -> Iterator[list[AnyStr]]:
+    """The lines in lists. A line that may change is copied."""
+    left, is_text = iter(lines), set()
+    while part := list(islice(left, _PART)):
         kinds = set(map(type, part))
         if not kinds <= {str, bytes}:
             part = [line if isinstance(line, str) else as_bytes(line) for line in part]
@@ -62,22 +46,49 @@ def _parts(lines: Iterable[AnyStr], longest: int) -> Iterator[list[AnyStr]]:
         if len(is_text) > 1:
             raise TypeError("str and bytes can't be mixed")
         yield part
-        length = min(_GROWTH * length, longest)
 
 
-def _answered(mailmap: bytes, lines: list[AnyStr]) -> Iterator[AnyStr]:
-    """The answer to each line, by one call."""
-    first = lines[0]
-    if isinstance(first, str):
-        feed, carriage_return = "\n", "\r"
-    else:
-        feed, carriage_return = b"\n", b"\r"
-    contacts = as_bytes(_joined(lines, feed, carriage_return))
-    if contacts.count(b"\n") != len(lines):
-        raise ValueError("a line has a line feed before its end")
-    answers = _native.check(mailmap, contacts)
-    texts = as_str(answers) if isinstance(first, str) else answers
-    return islice(texts.split(feed), len(lines))
+class _Answers(Generic[AnyStr]):
+    """Answers parts by one mailmap. Answers to lines that come again are kept: a table of Python's gives them in less
+    time than it takes to make a new text of an answer."""
+
+    def __init__(self, mailmap: bytes) -> None:
+        self._stream = Stream(mailmap)
+        self._known: dict[AnyStr, AnyStr] = {}
+        self._pause = 0
+
+    def of(self, lines: list[AnyStr]) -> list[AnyStr]:
+        """The answer to each line."""
+        if self._pause:
+            self._pause -= 1
+            return self._asked(lines)
+        try:
+            return list(map(self._known.__getitem__, lines))
+        except KeyError:
+            pass
+        if len(self._known) > _KEPT:
+            self._known.clear()
+        new = list(set(lines).difference(self._known))
+        if 2 * len(new) > len(lines):
+            self._pause = _PAUSE
+        self._known.update(zip(new, self._asked(new)))
+        return list(map(self._known.__getitem__, lines))
+
+    def _asked(self, lines: list[AnyStr]) -> list[AnyStr]:
+        """What the stream answers to each line."""
+        first = lines[0]
+        if isinstance(first, str):
+            feed, carriage_return = "\n", "\r"
+        else:
+            feed, carriage_return = b"\n", b"\r"
+        contacts = as_bytes(_joined(lines, feed, carriage_return))
+        if contacts.count(b"\n") != len(lines):
+            raise ValueError("a line has a line feed before its end")
+        answered: list[AnyStr] = []
+        for some in self._stream.answers(contacts):
+            answered += (as_str(some) if isinstance(first, str) else some).split(feed)
+            answered.pop()
+        return answered
 
 
 def _joined(lines: list[AnyStr], feed: AnyStr, carriage_return: AnyStr) -> AnyStr:

@@ -62,6 +62,29 @@ class Texts(unittest.TestCase):
         self.assertEqual(many.count(b": error: no email in brackets\n"), COUNT)
         self.assertTrue(many.endswith(b"\nmany:200000: error: no email in brackets\n"))
 
+    def test_explain(self):
+        both = [(b"team", b"Jane Doe <jane@x>\n<jane@x> <jd@y>\n"), (b"own", b"Jane Doe <jd@y>\nI\x1b <i@x>")]
+        cases = [
+            (b"jd <JD@y>", b"jd <JD@y> is Jane Doe <jane@x> by team:2, own:1\n"),
+            (b"  jane  <jane@x>\r", b"jane <jane@x> is Jane Doe <jane@x> by team:1\n"),
+            (b"bob <b@x>", b"bob <b@x> is not mapped\n"),
+            (b"plain", b"plain is no contact\n"),
+            (b"i <i@x>", b"i <i@x> is I\\x1b <i@x> by own:2\n"),
+            (b" ", b""),
+        ]
+        for contact, said in cases:
+            with self.subTest(contact=contact):
+                self.assertEqual(gix_mailmap.explain(iter(both), contact), said)
+        contacts = b"\n".join(contact for contact, _ in cases)
+        self.assertEqual(gix_mailmap.explain(both, contacts), b"".join(said for _, said in cases))
+        self.assertEqual(gix_mailmap.explain([], b"a <b>"), b"a <b> is not mapped\n")
+        self.assertEqual(gix_mailmap.explain([(b"", MAP)], b"j <joe@x>"), b"j <joe@x> is Joe <joe@x> by :2\n")
+        many = gix_mailmap.explain([(b"many", MANY)], MANY)
+        self.assertEqual(many.count(b" by many:"), COUNT)
+        self.assertTrue(many.endswith(b"\nN399999 <399999@x> is N399999 <399999@x> by many:200000\n"))
+        with self.assertRaises(TypeError):
+            gix_mailmap.explain(both, "a <b>")
+
     def test_more_findings_than_the_first_array_holds(self):
         found = [Finding(line, Kind.NO_EMAIL, None) for line in range(1, 1001)]
         self.assertEqual(gix_mailmap.verify(b"plain\n" * 1000), found)

@@ -40,8 +40,7 @@ class Stream(unittest.TestCase):
             for _ in range(200):
                 names = rng.choice([3, 30, 1000])
                 lines = [f"{rng.randrange(names)} <{rng.choice(LINES)}@y>" for _ in range(rng.randrange(200))]
-                sizes = {"_FIRST_PART": rng.randrange(1, 9), "_LONGEST_PART": rng.randrange(1, 40)}
-                with mock.patch.multiple(_stream, **sizes, _LINES_AN_ENTRY=1, _KEPT=rng.choice([0, 5, 1000])):
+                with mock.patch.multiple(_stream, _PART=rng.randrange(1, 40), _KEPT=rng.choice([0, 5, 1000])):
                     self.assertEqual(list(mailmap.map_contacts(lines)), by_check(lines))
 
     def test_lines_are_taken_as_answers_are_wanted(self):
@@ -50,7 +49,7 @@ class Stream(unittest.TestCase):
             self.assertEqual(set(itertools.islice(answers, 1_000_000)), {b"Jane Doe <jane@x>"})
 
     def test_a_changed_mailmap(self):
-        with Mailmap(MAP) as mailmap, mock.patch.multiple(_stream, _FIRST_PART=1, _GROWTH=1):
+        with Mailmap(MAP) as mailmap, mock.patch.multiple(_stream, _PART=1):
             answers = mailmap.map_contacts(itertools.repeat("jd <jd@y>"))
             self.assertEqual(next(answers), "Jane Doe <jane@x>")
             mailmap.add("JD <jd@y>")
@@ -58,6 +57,23 @@ class Stream(unittest.TestCase):
             mailmap.close()
             with self.assertRaises(Closed):
                 next(answers)
+
+    def test_long_answers(self):
+        """One longer than what is read of a stream at a time, also between short ones."""
+        name = "n" * 400_000
+        with Mailmap(f"{name} <a@x>") as mailmap:
+            lines = ["a <a@x>", "b <b@x>", "c <a@x>", "", "d"]
+            wanted = [f"{name} <a@x>", "b <b@x>", f"{name} <a@x>", "", "d"]
+            self.assertEqual(list(mailmap.map_contacts(lines)), wanted)
+            self.assertEqual(list(mailmap.map_contacts(lines * 20)), wanted * 20)
+
+    def test_lines_of_both_kinds(self):
+        with Mailmap(MAP) as mailmap, mock.patch.multiple(_stream, _PART=2):
+            for lines in (["a", b"a"], ["a", "b", b"a"], [b"a", b"a", b"a", "a"]):
+                with self.assertRaises(TypeError):
+                    list(mailmap.map_contacts(lines))
+            with self.assertRaises(TypeError):
+                list(mailmap.map_contacts([None]))
 
     def test_a_line_feed_inside(self):
         with Mailmap(MAP) as mailmap:

@@ -38,11 +38,14 @@ with Mailmap("") as of_str, Mailmap(b"", buffer, memoryview(buffer)) as of_bytes
     Mailmap("", b"")  # type: ignore[call-overload]
     gix_mailmap.compact(1)  # type: ignore[call-overload]
     gix_mailmap.report([("", b"")])  # type: ignore[list-item]
+    gix_mailmap.explain([("", "")], b"")  # type: ignore[list-item]
 
 assert_type(gix_mailmap.check("", ""), str)
 assert_type(gix_mailmap.compact(buffer), bytes)
 assert_type(gix_mailmap.prune(b""), bytes)
 assert_type(gix_mailmap.report([("", "")]), str)
 assert_type(gix_mailmap.report({b"": b""}.items()), bytes)
+assert_type(gix_mailmap.explain([("", "")], ""), str)
+assert_type(gix_mailmap.explain({b"": buffer}.items(), b""), bytes)
 assert_type(gix_mailmap.verify(""), list[Finding])
 assert_type(gix_mailmap.verify(b"")[0].kind, Kind)
