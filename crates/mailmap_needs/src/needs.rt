@@ -11,14 +11,17 @@
 //! ```
 ghost use Rattle.std.specs.Prelude.{◌≡◌, IfOk, filter, map, not, option_to_list};
 ghost use Rattle.std.specs.List.{list_any};
+ghost use Rattle.std.specs.Option.{option_map};
+ghost use Rattle.mailmap_findings.specs.Explanations.{explained};
 ghost use Rattle.mailmap_findings.specs.Positions.{lines, located, same_position, whole_lines};
+ghost use Rattle.mailmap_histories.specs.Histories.{scan};
 ghost use Rattle.mailmap_needs.specs.Needs as spec;
 ghost use Rattle.mailmap_needs.specs.Needs.{AreUnneeded, any_needs, contact_in, contact_needs, is_no_contact};
-ghost use Rattle.mailmap_redundancy.specs.Redundancy.{IsReduced};
+ghost use Rattle.mailmap_redundancy.specs.Redundancy.{IsReduced, entries};
 
 use crate::marks::Marks;
 use bstr::ByteSlice;
-use mailmap_findings::explain::Explanations;
+use mailmap_findings::explain::{Explanation, Explanations};
 use mailmap_findings::verify::{Mailmaps, Position};
 use mailmap_grammar::contacts::{ParsedContact, parse_name_and_email, trim};
 use std::alloc::{AllocError, Global};
@@ -55,12 +58,13 @@ impl<'m, 'a> Model for Needs<'m, 'a> {
 
     ghost Value = { spec.Needs };
 
-    ghost view = { λ s. record { kept = s.explanations.kept; left = s.marks } };
+    ghost view = { λ s. record { history = s.explanations.history; kept = s.explanations.kept; left = s.marks } };
 }
 
 impl<'m, 'a> Needs<'m, 'a> {
     /// No contact yet: none of the lines with an effect is needed. After this only [`Needs::unneeded`] asks for memory.
     pub fn new(alloc: Global, mailmaps: &'m Mailmaps<'_, 'a>) -> Result<Needs<'m, 'a>, AllocError>
+        ensures history { IfOk result (λ s. s.history ≡ located (lines mailmaps.now)) }
         ensures reduced { IfOk result (λ s. IsReduced (located (lines mailmaps.now)) s.kept) }
         ensures left { IfOk result (λ s. s.left ≡ map (λ x. x.position) s.kept) }
     {
@@ -75,6 +79,7 @@ impl<'m, 'a> Needs<'m, 'a> {
 
     /// Takes a contact. From then on the lines that it needs are left out of what no contact needs.
     pub fn take_contact(&mut self, name: &[u8], email: &[u8])
+        ensures history { self.new.history ≡ self.old.history }
         ensures kept { self.new.kept ≡ self.old.kept }
         ensures left { self.new.left ≡ filter (λ p. not (spec.needs self.old.kept name.now email.now p)) self.old.left }
     {
@@ -83,8 +88,16 @@ impl<'m, 'a> Needs<'m, 'a> {
         cross_off(&mut self.marks, needed.second);
     }
 
+    /// What a contact is mapped to, `None` if neither its name nor its email changes.
+    pub fn answer(&self, name: &[u8], email: &[u8]) -> Option<Explanation<'a>>
+        ensures { option_map explained result ≡ scan (entries self.now.history) name.now email.now }
+    {
+        self.explanations.of(name, email)
+    }
+
     /// Takes a line of contacts, with or without its line end. `false` says that it is neither a contact nor blank.
     pub fn take(&mut self, line: &[u8]) -> bool
+        ensures history { self.new.history ≡ self.old.history }
         ensures kept { self.new.kept ≡ self.old.kept }
         ensures left { self.new.left
             ≡ filter (λ p. not (contact_needs self.old.kept (contact_in line.now) p)) self.old.left }
@@ -103,6 +116,7 @@ impl<'m, 'a> Needs<'m, 'a> {
 
     // Takes each line of contacts.
     fn take_all(&mut self, contacts: &[u8])
+        ensures history { self.new.history ≡ self.old.history }
         ensures kept { self.new.kept ≡ self.old.kept }
         ensures left { self.new.left
             ≡ filter (λ p. not (any_needs self.old.kept (whole_lines contacts.now) p)) self.old.left }

@@ -5,5 +5,6 @@ use Rattle.mailmap_needs.proofs.needs.Needs.take_all.Given as goal
 
 abbrev pub invariant-loop-line : goal.invariant-loop-line
 invariant-loop-line l =
-    (l.self.kept ≡ l.initial.self.kept)
+    (l.self.history ≡ l.initial.self.history)
+    × (l.self.kept ≡ l.initial.self.kept)
     × (l.self.left ≡ filter (λ p. not (any_needs l.initial.self.kept (map (λ y. y.now) l.yielded) p)) l.initial.self.left)
