@@ -105,6 +105,8 @@ printf 'mailmap:1: warning: no effect beside mailmap:1\n' > "$work/told"
 printf 'bob <BUGS@example.com> is Joe R. Developer <joe@example.com> by mailmap:1\n' > "$work/explained"
 printf 'not a contact is no contact\n' >> "$work/explained"
 printf '     1\tJoe R. Developer <joe@example.com>\n' > "$work/counted"
+printf 'mailmap:1: warning: no contact needs it\n' > "$work/beside"
+printf '<stdin>:2: error: no contact\n' >> "$work/beside"
 
 # add_cases MODE FIRST..: the runs of a mode, whose arguments begin so
 add_cases() {
@@ -197,6 +199,15 @@ verifies="$refusals"
 rm -r "$work/runs"
 mkdir "$work/runs"
 add_cases explained --explain
+refuse mailmap_verify 34 35 60 61 86 87 112 113
+says mailmap_verify 'out of memory' 'empty: out of memory' 'mailmap: out of memory'
+verifies=$((verifies + refusals))
+
+# With contacts nothing is written before all of them are read, and little enough is written to be held till then.
+rm -r "$work/runs"
+mkdir "$work/runs"
+add_cases beside --contacts -
+for contacts in "$work/runs"/beside*[0-9]; do printf 'bob <b@example.com>\nnot a contact\n' > "$contacts"; done
 refuse mailmap_verify 34 35 60 61 86 87 112 113
 says mailmap_verify 'out of memory' 'empty: out of memory' 'mailmap: out of memory'
 verifies=$((verifies + refusals))

@@ -1,10 +1,10 @@
 #!/usr/bin/env python3
-"""Runs mailmap_check and mailmap_verify --explain with contacts that come as a stream.
+"""Runs mailmap_check, mailmap_verify --explain and mailmap_verify --contacts with contacts that come as a stream.
 
     streams.py MAILMAP_CHECK MAILMAP_VERIFY
 
-Each line has to be answered before the next one is written, lines may have any length and come again, and the peak of a
-long history has to stay below a bound, by itself and over that of a short one. A peak is the largest resident set, as
+By the first two each line has to be answered before the next one is written. Lines may have any length and come again,
+and the peak of a long history has to stay below a bound, by itself and over that of a short one. A peak is the largest resident set, as
 bench/measure.c counts it.
 """
 import os
@@ -111,11 +111,11 @@ def as_git(check: str) -> bool:
     return True
 
 
-def peak(asked: Asked, count: int) -> int:
+def peak(command: list[str], count: int) -> int:
     contacts = Path("contacts")
     some = (number % DIFFERENT for number in range(count))
     contacts.write_bytes(b"".join(b"Jane %d <j%d@x>\n" % (number, number) for number in some))
-    ended = run(built("measure", os.getcwd(), "-static"), asked.command, stdin=str(contacts))
+    ended = run(built("measure", os.getcwd(), "-static"), command, stdin=str(contacts))
     if ended.status or ended.complaints:
         raise Failed(f"{count} contacts: status {ended.status} {ended.complaints.strip()}")
     return ended.peak
@@ -147,10 +147,16 @@ def main() -> None:
             answered_in_turn(asked)
             answered_at_once(asked)
             closed(asked)
-            few, many = peak(asked, SHORT), peak(asked, HISTORY)
+            few, many = peak(asked.command, SHORT), peak(asked.command, HISTORY)
             if many > min(BOUND * few, MOST):
                 raise Failed(f"a million contacts take {mebibytes(many)}, and {SHORT} take {mebibytes(few)}")
             peaks.append(mebibytes(many))
+        # The answers that differ are kept, and no mailmap has a line that isn't needed.
+        beside = [verify, "--contacts", "-"]
+        few, many = peak(beside, SHORT), peak(beside, HISTORY)
+        if many > BOUND * few:
+            raise Failed(f"a million contacts take {mebibytes(many)}, and {SHORT} take {mebibytes(few)}")
+        peaks.append(mebibytes(many))
         answered_again(check)
         git = as_git(check)
         os.chdir("/")

@@ -10,7 +10,8 @@ lines meet; git reads many lines of git.jsonl otherwise. The answers are those o
 definitions alone, and asks each question of whole histories: a line has no effect if the history without it has the
 same list of mappings, tried line by line.
 
-A line of explained.jsonl has mailmaps, contacts, and what `--explain` prints of them, by the same model.
+A line of explained.jsonl has mailmaps, contacts, and by the same model what `--explain` prints of them, and the status
+and what is printed with `--contacts`, where the contacts are the file c.
 """
 import json
 import os
@@ -69,7 +70,18 @@ def explained(program):
             Path(name).write_bytes(bytes.fromhex(file))
         contacts, printed = bytes.fromhex(case["contacts"]), bytes.fromhex(case["explained"])
         wants(f"contacts {number}", run(program, ["--explain", *names], contacts), 0, printed)
+        wants_beside(program, f"contacts {number}", names, contacts, *case["with_contacts"])
     return len(cases)
+
+
+def wants_beside(program, what, names, contacts, status, printed):
+    """What is printed of mailmaps and contacts: of a file, and of standard input."""
+    printed = bytes.fromhex(printed)
+    Path("c").write_bytes(contacts)
+    wants(f"{what} beside mailmaps", run(program, ["--contacts", "c", *names]), status, printed)
+    begun = re.sub(rb"^c:(?=[0-9])", b"<stdin>:", printed, flags=re.MULTILINE)
+    printed = re.sub(rb"(, )c:(?=[0-9]+$)", rb"\1<stdin>:", begun, flags=re.MULTILINE)
+    wants(f"{what} of standard input beside mailmaps", run(program, ["--contacts", "-", *names], contacts), status, printed)
 
 
 def explanations(program):
@@ -91,6 +103,57 @@ def explanations(program):
     wants("explanations by -", run(program, ["--explain", "-"], contacts), 2, b"", said)
 
 
+def beside(program):
+    """The mailmap may be standard input, or there may be none; control bytes are shown; lines may be long and many."""
+    Path("team").write_bytes(b"Jane Doe <jane@x> <jd@old>\nJoe <joe@x>\n")
+    Path("\x1b").write_bytes(b"jd <JD@old>\njane\x1b <JANE@x>\r\n\n \t\nplain\nJane Doe <q@x>\njd <JD@old>\n")
+    unneeded = b"team:2: warning: no contact needs it\n"
+    said = (
+        b"\\x1b:2: warning: jane\\x1b <JANE@x> has the email of Jane Doe <jane@x>, \\x1b:1\n"
+        b"\\x1b:5: error: no contact\n"
+        b"\\x1b:6: note: Jane Doe <q@x> has the name of Jane Doe <jane@x>, \\x1b:1\n"
+    )
+    contacts, team = Path("\x1b").read_bytes(), Path("team").read_bytes()
+    wants("contacts", run(program, ["--contacts", "\x1b", "team"]), 1, unneeded + said)
+    wants("contacts and --", run(program, ["--contacts", "\x1b", "--", "team"]), 1, unneeded + said)
+    shown = unneeded.replace(b"team", b"<stdin>") + said
+    for words in [], ["-"], ["--"], ["--", "-"]:
+        wants("a mailmap of standard input", run(program, ["--contacts", "\x1b", *words], team), 1, shown)
+    shown = unneeded + said.replace(b"\\x1b:", b"<stdin>:")
+    wants("contacts of standard input", run(program, ["--contacts", "-", "team"], contacts), 1, shown)
+    wants("contacts without a mailmap", run(program, ["--contacts", "-"], b"J <j@x>\nJ <j@y>\n"), 0,
+          b"<stdin>:2: note: J <j@y> has the name of J <j@x>, <stdin>:1\n")
+    wants("no contacts", run(program, ["--contacts", "-", "team"]), 1, unneeded.replace(b"2", b"1") + unneeded)
+    said = b"mailmap_verify: -: No such file or directory\n"
+    wants("- beside -", run(program, ["--contacts", "-", "-"], contacts), 2, b"", said)
+    for file in "--", "--help":
+        Path(f"./{file}").write_bytes(b"J <j@x>\n")
+        wants("an option as a file", run(program, ["--contacts", file, "--", "m0"], b""), 2, b"",
+              b"mailmap_verify: m0: No such file or directory\n")
+        wants("an option as a file", run(program, ["--contacts", file], b"J <j@x>\n"), 0, b"")
+
+
+def many_beside(program, size=1 << 20):
+    """Contacts that come again say nothing more, however many; each may be long."""
+    long = b"x" * size
+    contacts = b"Joe <joe@x>\n" * 100_000 + long + b" <joe@x>\n" + long + b"\n" + long + b" <joe@x>"
+    Path("team").write_bytes(b"Joe <joe@x> <joe@y>\n")
+    printed = (
+        b"team:1: warning: no contact needs it\n"
+        b"<stdin>:100001: warning: " + long + b" <joe@x> has the email of Joe <joe@x>, <stdin>:1\n"
+        b"<stdin>:100002: error: no contact\n"
+    )
+    wants("long contacts", run(program, ["--contacts", "-", "team"], contacts), 1, printed)
+    contacts = b"".join(b"J%d <J%d@x>\n" % (k % 5000, k % 5000) for k in range(20_000))
+    wants("many contacts", run(program, ["--contacts", "-"], contacts), 0, b"")
+    contacts += contacts.lower()
+    printed = b"".join(
+        b"<stdin>:%d: warning: j%d <j%d@x> has the email of J%d <J%d@x>, <stdin>:%d\n" % (20_001 + k, k, k, k, k, k + 1)
+        for k in range(5000)
+    )
+    wants("many contacts that are alike", run(program, ["--contacts", "-"], contacts), 1, printed)
+
+
 def file_names(program):
     """Files are shown by the bytes of the arguments, as often as they are given."""
     names = ["a b:c", "./ä", "--help", "a b:c"]
@@ -103,7 +166,8 @@ def file_names(program):
 
 
 USAGE_LINE = (
-    b"usage: mailmap_verify [--] [FILE..] | --prune [--] [FILE] | --explain [--] FILE.. | --help | --version\n"
+    b"usage: mailmap_verify [--] [FILE..] | --prune [--] [FILE] | --explain [--] FILE..\n"
+    b"     | --contacts CONTACTS [--] [FILE..] | --help | --version\n"
 )
 
 
@@ -124,6 +188,9 @@ def options(program):
         (["-\xff\x1b"], b"unknown option: -\xc3\xbf\\x1b"),
         (["--prune", "--prune", "m1"], b"a second mode: --prune"),
         (["--prune", "--explain", "m1"], b"a second mode: --explain"),
+        (["--prune", "--contacts"], b"a second mode: --contacts"),
+        (["--contacts", "c", "--contacts", "c"], b"a second mode: --contacts"),
+        (["--contacts"], b"no file after --contacts"),
     ]:
         said = b"mailmap_verify: " + wrong + b"\n" + USAGE_LINE
         wants(f"a misuse: {words}", run(program, words), 2, b"", said)
@@ -152,6 +219,8 @@ def main():
             hostile_count += 1
         explained_count = explained(program)
         explanations(program)
+        beside(program)
+        many_beside(program)
         file_names(program)
         options(program)
         os.chdir("/")

@@ -8,6 +8,8 @@ mod check;
 #[cfg(test)]
 mod compaction;
 #[cfg(test)]
+mod contacts;
+#[cfg(test)]
 mod entries;
 #[cfg(test)]
 mod explaining;

@@ -81,6 +81,7 @@ fn arguments_ask_for_a_task_or_are_a_misuse(rt: HostRuntime) -> Result<(), Alloc
         match (task_of(arguments.as_slice()), *want) {
             (Ok(task), Ok((mode, paths))) => {
                 assert_eq!(rt; task.mode, mode);
+                assert!(rt; task.contacts.is_empty());
                 let paths = paths_of(rt.alloc(), paths)?;
                 assert_paths(&rt, task.paths, paths.as_slice(), 0);
             }
@@ -102,6 +103,7 @@ pub(crate) fn performed<R: Read, W: Write>(
     let paths = paths_of(alloc, names)?;
     let task = Task {
         mode,
+        contacts: b"",
         paths: paths.as_slice(),
     };
     perform(&SHELF, alloc, task, input, output)

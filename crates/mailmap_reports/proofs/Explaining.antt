@@ -14,19 +14,19 @@ use Rattle.gix_mailmap.specs.Positions.{whole_lines}
 use Rattle.mailmap_reports.specs.Explained.{AnswersAll, AnswersFront, AnswersLines, AnswersWholeLines, each_line}
 use Rattle.mailmap_reports.proofs.Fronts.{IsParted, front-all, front-lines, front-longer, front-more, front-none, front-whole}
 
--- ---- the lines of a text
+-- ---- what is printed, piece by piece, such as the answers to the lines of a text
 
 -- the answers so far were written, or are held
-abbrev pub HasPrinted : (Text → Text) → List Text → List Text → Option Text → Option Text → Text → Type 0
-HasPrinted answer all left before after held = (done : List Text) × (all ≡ done ++ left) × IsUnderway (flat_map answer done) before after held
+abbrev pub HasPrinted : {X : Type 0} → (X → Text) → List X → List X → Option Text → Option Text → Text → Type 0
+HasPrinted {X} answer all left before after held = (done : List X) × (all ≡ done ++ left) × IsUnderway (flat_map answer done) before after held
 
-pub printed_none : (answer : Text → Text) (all left : List Text) (before : Option Text) (held : Text) → left ≡ all → held ≡ [] → HasPrinted answer all left before before held
+unfoldable pub printed_none : {X : Type 0} (answer : X → Text) (all left : List X) (before : Option Text) (held : Text) → left ≡ all → held ≡ [] → HasPrinted answer all left before before held
 printed_none answer all left before held is none = ([], sym is, ([], Appends-nil before, sym none))
 
-next_is : (all done left rest : List Text) (line : Text) → all ≡ done ++ left → left ≡ line ∷ rest → all ≡ (done ++ line ∷ []) ++ rest
+pub next_is : {X : Type 0} (all done left rest : List X) (line : X) → all ≡ done ++ left → left ≡ line ∷ rest → all ≡ (done ++ line ∷ []) ++ rest
 next_is all done left rest line is step = is ∙ ap (λ l. done ++ l) step ∙ sym (append_assoc done (line ∷ []) rest)
 
-pub printed_more : (answer : Text → Text) (all left rest : List Text) (line piece : Text) (before between after : Option Text) (held later : Text) → HasPrinted answer all left before between held
+unfoldable pub printed_more : {X : Type 0} (answer : X → Text) (all left rest : List X) (line : X) (piece : Text) (before between after : Option Text) (held later : Text) → HasPrinted answer all left before between held
     → left ≡ line ∷ rest → piece ≡ answer line → IsUnderway (held ++ piece) between after later → HasPrinted answer all rest before after later
 printed_more answer all left rest line piece before between after held later h step is more = (
   h.0 ++ line ∷ [],
@@ -36,7 +36,7 @@ printed_more answer all left rest line piece before between after held later h s
 )
 
 -- printing breaks off in the answer to a line
-pub printed_broken : (answer : Text → Text) (all left rest : List Text) (line piece : Text) (before between after : Option Text) (held : Text) (n : ℕ) → HasPrinted answer all left before between held
+pub printed_broken : {X : Type 0} (answer : X → Text) (all left rest : List X) (line : X) (piece : Text) (before between after : Option Text) (held : Text) (n : ℕ) → HasPrinted answer all left before between held
     → left ≡ line ∷ rest → piece ≡ answer line → Appends between after (take n (held ++ piece)) → (count : ℕ) × Appends before after (take count (flat_map answer all))
 printed_broken answer all left rest line piece before between after held n h step is broken =
     let cut = underway-broken (flat_map answer h.0) piece before between after held n h.2 broken in
@@ -58,7 +58,7 @@ printed_first answer bytes left rest line before between after held h step writt
     )
 
 -- or that breaks off
-pub printed_first_broken : (answer : Text → Text) (all left : List Text) (before between after : Option Text) (held : Text) (n : ℕ) → HasPrinted answer all left before between held
+pub printed_first_broken : {X : Type 0} (answer : X → Text) (all left : List X) (before between after : Option Text) (held : Text) (n : ℕ) → HasPrinted answer all left before between held
     → Appends between after (take n held) → (count : ℕ) × Appends before after (take count (flat_map answer all))
 printed_first_broken answer all left before between after held n h broken =
     let cut = underway-rest_broken (flat_map answer h.0) before between after held n h.2 broken in
@@ -67,7 +67,7 @@ printed_first_broken answer all left before between after held n h broken =
     (longer.0, subst (λ t. Appends before after (take longer.0 t)) (sym whole) longer.1)
 
 -- all answers are written
-pub printed_all : (answer : Text → Text) (all left : List Text) (before between after : Option Text) (held : Text) → HasPrinted answer all left before between held → left ≡ [] → Appends between after held
+pub printed_all : {X : Type 0} (answer : X → Text) (all left : List X) (before between after : Option Text) (held : Text) → HasPrinted answer all left before between held → left ≡ [] → Appends between after held
     → Appends before after (flat_map answer all)
 printed_all answer all left before between after held h none written =
     let done : h.0 ≡ all = sym (h.1 ∙ ap (λ l. h.0 ++ l) none ∙ append-nil h.0) in

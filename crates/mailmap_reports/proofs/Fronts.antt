@@ -43,13 +43,13 @@ no_lines : (more : Text) → whole_lines more ≡ whole_lines [] ++ whole_lines 
 unfolding whole_lines
 no_lines more = refl
 
-lines_after : (whole more : Text) → EndsLine whole → whole_lines (whole ++ more) ≡ whole_lines whole ++ whole_lines more
+pub lines_after : (whole more : Text) → EndsLine whole → whole_lines (whole ++ more) ≡ whole_lines whole ++ whole_lines more
 lines_after whole more (inl none) = ap (λ w. whole_lines (w ++ more)) none ∙ no_lines more ∙ ap (λ w. whole_lines w ++ whole_lines more) (sym none)
 lines_after whole more (inr (front, is)) =
     ap (λ w. whole_lines (w ++ more)) is ∙ after_feed front more ∙ ap (λ w. whole_lines w ++ whole_lines more) (sym is)
 
 -- whole lines after whole lines are whole lines
-ends_after : (whole more : Text) → EndsLine whole → EndsLine more → EndsLine (whole ++ more)
+pub ends_after : (whole more : Text) → EndsLine whole → EndsLine more → EndsLine (whole ++ more)
 ends_after whole more before (inl none) = subst EndsLine (sym (ap (λ l. whole ++ l) none ∙ append-nil whole)) before
 ends_after whole more before (inr (front, is)) = inr (whole ++ front, ap (λ l. whole ++ l) is ∙ sym (append_assoc whole front (10 ∷ [])))
 

@@ -10,7 +10,7 @@ use Rattle.mailmap_reports.specs.Explained.{Explains, Grounds, explained_line, s
 use Rattle.mailmap_reports.specs.Report.{shown}
 use Rattle.mailmap_reports.specs.Task.{FailsFor, IsOfInput, OfFiles}
 use Rattle.mailmap_reports.specs.declared.failure.Failure.{Failure}
-use Rattle.mailmap_reports.specs.declared.failure.Failure.TheVariants.{File, Input, Memory, Output, ReadOtherwise, TooManyFiles}
+use Rattle.mailmap_reports.specs.declared.failure.Failure.TheVariants.{File, Input, Contacts as NoContacts, Memory, Output, ReadOtherwise, TooManyFiles}
 use Rattle.mailmap_reports.specs.declared.task.Mode.TheVariants.{Explain}
 
 -- a line that is not blank has a line of the output
@@ -47,19 +47,22 @@ pub of_files_front : (may_open : Text → Type 0) (known : Text → Option Text)
 of_files_front may_open known paths mailmaps IsText before after are prints = (prints.0, (mailmaps, are, prints.1), prints.2)
 
 -- explaining may fail in each of these ways
-pub fails_so : (may_open : Text → Type 0) (known : Text → Option Text) (input : Option Text) (paths : List Text) (e : Failure) → IsOfInput e ⊎ ((e ≡ Memory) ⊎ (e ≡ Output)) → FailsFor may_open known input Explain paths e
-fails_so may_open known input paths (File number cause) (inl of_input) = absurd of_input
-fails_so may_open known input paths (File number cause) (inr (inl is)) = cc
-fails_so may_open known input paths (File number cause) (inr (inr is)) = cc
-fails_so may_open known input paths (Input cause) how = ((λ e. cc), (λ e. cc), inl refl)
-fails_so may_open known input paths Memory how = tt
-fails_so may_open known input paths Output how = tt
-fails_so may_open known input paths TooManyFiles (inl of_input) = absurd of_input
-fails_so may_open known input paths TooManyFiles (inr (inl is)) = cc
-fails_so may_open known input paths TooManyFiles (inr (inr is)) = cc
-fails_so may_open known input paths (ReadOtherwise position) (inl of_input) = absurd of_input
-fails_so may_open known input paths (ReadOtherwise position) (inr (inl is)) = cc
-fails_so may_open known input paths (ReadOtherwise position) (inr (inr is)) = cc
+pub fails_so : (may_open : Text → Type 0) (known : Text → Option Text) (input : Option Text) (contacts : Text) (paths : List Text) (e : Failure) → IsOfInput e ⊎ ((e ≡ Memory) ⊎ (e ≡ Output)) → FailsFor may_open known input Explain contacts paths e
+fails_so may_open known input contacts paths (File number cause) (inl of_input) = absurd of_input
+fails_so may_open known input contacts paths (File number cause) (inr (inl is)) = cc
+fails_so may_open known input contacts paths (File number cause) (inr (inr is)) = cc
+fails_so may_open known input contacts paths (Input cause) how = ((λ e. cc), (λ e. cc), inl refl)
+fails_so may_open known input contacts paths (NoContacts cause) (inl of_input) = absurd of_input
+fails_so may_open known input contacts paths (NoContacts cause) (inr (inl is)) = cc
+fails_so may_open known input contacts paths (NoContacts cause) (inr (inr is)) = cc
+fails_so may_open known input contacts paths Memory how = tt
+fails_so may_open known input contacts paths Output how = tt
+fails_so may_open known input contacts paths TooManyFiles (inl of_input) = absurd of_input
+fails_so may_open known input contacts paths TooManyFiles (inr (inl is)) = cc
+fails_so may_open known input contacts paths TooManyFiles (inr (inr is)) = cc
+fails_so may_open known input contacts paths (ReadOtherwise position) (inl of_input) = absurd of_input
+fails_so may_open known input contacts paths (ReadOtherwise position) (inr (inl is)) = cc
+fails_so may_open known input contacts paths (ReadOtherwise position) (inr (inr is)) = cc
 
 -- what is said after a contact that is mapped, piece by piece
 pub mapped_pieces : (old one two three new is_text who by_text positions : Text) → one ≡ old ++ is_text → two ≡ one ++ who → three ≡ two ++ by_text → new ≡ three ++ positions

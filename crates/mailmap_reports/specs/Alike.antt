@@ -1,5 +1,5 @@
 -- What is reported of answers that are alike: a line for each likeness.
-use Rattle.std.specs.Prelude.{ℕ, ◌-◌, Option, None, Some, List, [], ◌∷◌, ◌++◌, codes, decimal, length, slice_get}
+use Rattle.std.specs.Prelude.{ℕ, Option, None, Some, List, [], ◌∷◌, ◌++◌, codes, decimal, slice_get}
 use Rattle.gix_mailmap.specs.Contacts.{contact}
 use Rattle.gix_mailmap.specs.Folding.{Text}
 use Rattle.mailmap_likeness.specs.Likeness.{Answered}
@@ -33,16 +33,13 @@ abbrev pub answer_at : List Answered → Option ℕ → Option Answered
 answer_at answers None = None
 answer_at answers (Some k) = slice_get answers k
 
-abbrev pub last_answer : List Answered → Option Answered
-last_answer answers = slice_get answers (length answers - 1)
-
 -- the lines of an answer, if there is one, beside these
 abbrev pub lines_of : Text → Option Answered → Option Answered → Option Answered → Text
 lines_of file None of_email of_name = []
 lines_of file (Some a) of_email of_name =
     line_beside (email_line file a) of_email ++ line_beside (name_line file a) of_name
 
--- the lines of the last answer: first beside the answer with its email, then beside the one with its name
-abbrev pub lines_of_last : Text → List Answered → Likeness → Text
-lines_of_last file answers likeness =
-    lines_of file (last_answer answers) (answer_at answers likeness.email) (answer_at answers likeness.name)
+-- the lines of the answer at an index: first beside the answer with its email, then beside the one with its name
+abbrev pub lines_of_answer : Text → List Answered → ℕ → Likeness → Text
+lines_of_answer file answers index likeness =
+    lines_of file (slice_get answers index) (answer_at answers likeness.email) (answer_at answers likeness.name)

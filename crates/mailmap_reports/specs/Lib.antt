@@ -1,4 +1,5 @@
 pub mod Alike
+pub mod Contacts
 pub mod Explained
 pub mod Report
 pub mod Task

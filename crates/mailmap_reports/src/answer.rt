@@ -1,6 +1,7 @@
 //! What is printed.
 ghost use Rattle.std.specs.Prelude.{◌≡◌, ◌≢◌, ◌<◌, ◌⊎◌, ◌∷◌, ◌++◌, [], ℕ, List, Option, IfErr, IfOk, IsErrOf, OnErr, OnOk, codes, length, map};
 ghost use Rattle.std.specs.Io.KnownBytes.{Consumes, IsAtEnd};
+ghost use Rattle.gix_mailmap.specs.Folding.{Text};
 ghost use Rattle.mailmap_io.specs.Printing.{Prints, PrintsFront};
 ghost use Rattle.mailmap_io.specs.declared.outcome.Outcome.{Outcome as TheOutcome};
 ghost use Rattle.mailmap_io.specs.Files.{AreRead};
@@ -19,8 +20,8 @@ use mailmap_io::streams::read_to_end;
 use std::alloc::{AllocError, Global};
 use std::io::{Read, Write};
 
-/// What a task prints, if it isn't to verify or to explain: the usage, the version, or the one mailmap without its lines
-/// of no effect. Only a mailmap of which git reads each line as the library does is pruned.
+/// What a task prints, if it is for help, for the version or to prune: the usage, the version, or the one mailmap without
+/// its lines of no effect. Only a mailmap of which git reads each line as the library does is pruned.
 ///
 /// Standard input is read only if no path is given.
 pub fn answer_to<F: FileSystem, R: Read>(
@@ -29,15 +30,16 @@ pub fn answer_to<F: FileSystem, R: Read>(
     task: Task<'_>,
     input: &mut R,
 ) -> Result<Vec<u8>, Failure>
-    ensures ok { task.entry.mode ≢ Mode.Verify → task.entry.mode ≢ Mode.Explain
+    ensures ok { task.entry.mode ≢ Mode.Verify → task.entry.mode ≢ Mode.Explain → task.entry.mode ≢ Mode.Contacts
         → IfOk result (λ text. IsAnswer (F.may_open system.now) (F.bytes system.now) (R.remaining input.old)
-        task.entry.mode (map (λ path. path.items) task.entry.paths.now) Outcome.Clean text.items) }
+        task.entry.mode task.entry.contacts.now (map (λ path. path.items) task.entry.paths.now) Outcome.Clean
+        text.items) }
     ensures unread { task.entry.paths.now ≢ [] → input.new ≡ input.old }
     ensures unread_for_help { task.entry.mode ≡ Mode.Help → input.new ≡ input.old }
     ensures unread_for_version { task.entry.mode ≡ Mode.Version → input.new ≡ input.old }
-    ensures fails { task.entry.mode ≢ Mode.Verify → task.entry.mode ≢ Mode.Explain
+    ensures fails { task.entry.mode ≢ Mode.Verify → task.entry.mode ≢ Mode.Explain → task.entry.mode ≢ Mode.Contacts
         → IfErr result (FailsFor (F.may_open system.now) (F.bytes system.now) (R.remaining input.old)
-        task.entry.mode (map (λ path. path.items) task.entry.paths.now)) }
+        task.entry.mode task.entry.contacts.now (map (λ path. path.items) task.entry.paths.now)) }
     ensures too_many { task.entry.mode ≡ Mode.Prune → 1 < length task.entry.paths.now
         → IsErrOf result Failure.TooManyFiles }
     ensures no_output { ¬ IsErrOf result Failure.Output }
@@ -102,8 +104,9 @@ pub fn read_mailmaps<F: FileSystem, R: Read>(
     ensures ok { IfOk result (λ mailmaps. AreMailmaps (F.may_open system.now) (F.bytes system.now)
         (map (λ path. path.items) paths.now) (R.remaining input.old) (map (λ m. m.items) mailmaps.items)) }
     ensures unread { paths.now ≢ [] → input.new ≡ input.old }
-    ensures fails { IfErr result (FailsFor (F.may_open system.now) (F.bytes system.now) (R.remaining input.old)
-        Mode.Verify (map (λ path. path.items) paths.now)) }
+    ensures fails { (mode : TheMode) (contacts : Text) → mode ≢ Mode.Help → mode ≢ Mode.Version → IfErr result
+        (FailsFor (F.may_open system.now) (F.bytes system.now) (R.remaining input.old) mode contacts
+        (map (λ path. path.items) paths.now)) }
     ensures no_output { ¬ IsErrOf result Failure.Output }
 {
     if !paths.is_empty() {
@@ -122,8 +125,8 @@ pub fn read_files<F: FileSystem>(
 ) -> Result<Vec<Vec<u8>>, Failure>
     ensures ok { IfOk result (λ mailmaps. AreRead (F.may_open system.now) (F.bytes system.now)
         (map (λ path. path.items) paths.now) (map (λ m. m.items) mailmaps.items)) }
-    ensures fails { (input : Option (List ℕ)) (mode : TheMode) → IfErr result (FailsFor (F.may_open system.now)
-        (F.bytes system.now) input mode (map (λ path. path.items) paths.now)) }
+    ensures fails { (input : Option (List ℕ)) (mode : TheMode) (contacts : Text) → IfErr result (FailsFor
+        (F.may_open system.now) (F.bytes system.now) input mode contacts (map (λ path. path.items) paths.now)) }
     ensures no_input { IfErr result (λ e. ¬ IsOfInput e) }
     ensures no_output { ¬ IsErrOf result Failure.Output }
 {
@@ -144,8 +147,8 @@ fn read_mailmap<F: FileSystem, R: Read>(
     ensures ok { IfOk result (λ mailmap. AreMailmaps (F.may_open system.now) (F.bytes system.now)
         (map (λ path. path.items) paths.now) (R.remaining input.old) (mailmap.items ∷ [])) }
     ensures unread { paths.now ≢ [] → input.new ≡ input.old }
-    ensures fails { IfErr result (FailsFor (F.may_open system.now) (F.bytes system.now) (R.remaining input.old)
-        Mode.Prune (map (λ path. path.items) paths.now)) }
+    ensures fails { (contacts : Text) → IfErr result (FailsFor (F.may_open system.now) (F.bytes system.now)
+        (R.remaining input.old) Mode.Prune contacts (map (λ path. path.items) paths.now)) }
     ensures too_many { 1 < length paths.now → IsErrOf result Failure.TooManyFiles }
     ensures no_output { ¬ IsErrOf result Failure.Output }
 {

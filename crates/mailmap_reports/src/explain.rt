@@ -55,8 +55,8 @@ pub fn explain<F: FileSystem, R: Read, W: Write>(
         (λ mailmaps. ExplainsLines (map (λ path. path.items) paths.now) mailmaps
         (R.remaining input.old) (R.remaining input.new))) (W.contents output.old) (W.contents output.new) }
     ensures silent_at_files { IfErr result (λ e. IsOfFile e → output.new ≡ output.old) }
-    ensures fails { IfErr result (FailsFor (F.may_open system.now) (F.bytes system.now) (R.remaining input.old)
-        Mode.Explain (map (λ path. path.items) paths.now)) }
+    ensures fails { (contacts : Text) → IfErr result (FailsFor (F.may_open system.now) (F.bytes system.now)
+        (R.remaining input.old) Mode.Explain contacts (map (λ path. path.items) paths.now)) }
 {
     let mailmaps = read_files(system, alloc, paths)?;
     explain_by(alloc, paths, mailmaps.as_slice(), input, output)
@@ -202,7 +202,11 @@ fn print_lines<W: Write>(
 }
 
 // Prints a piece.
-fn print<W: Write>(printer: &mut Printer, piece: &[u8], output: &mut W) -> Result<(), Failure>
+pub(crate) fn print<W: Write>(
+    printer: &mut Printer,
+    piece: &[u8],
+    output: &mut W,
+) -> Result<(), Failure>
     ensures ok { OnOk result (IsUnderway (printer.old ++ piece.now) (W.contents output.old) (W.contents output.new)
         printer.new) }
     ensures err { OnErr result ((count : ℕ) × Appends (W.contents output.old) (W.contents output.new)
@@ -213,7 +217,7 @@ fn print<W: Write>(printer: &mut Printer, piece: &[u8], output: &mut W) -> Resul
 }
 
 // Writes what is held, and flushes.
-fn flush<W: Write>(printer: &mut Printer, output: &mut W) -> Result<(), Failure>
+pub(crate) fn flush<W: Write>(printer: &mut Printer, output: &mut W) -> Result<(), Failure>
     ensures ok { OnOk result (Appends (W.contents output.old) (W.contents output.new) printer.old) }
     ensures err { OnErr result ((count : ℕ) × Appends (W.contents output.old) (W.contents output.new)
         (take count printer.old)) }

@@ -13,6 +13,8 @@ pub enum Failure {
     File { number: usize, cause: ErrorKind },
     /// What kept standard input from being read.
     Input { cause: ErrorKind },
+    /// What kept the file with contacts from being read.
+    Contacts { cause: ErrorKind },
     /// Memory for the lists of files, or for the work on what was read.
     Memory,
     /// Standard output, whatever kept it from being written.

@@ -3,10 +3,12 @@
 #![tactic(auto)]
 
 pub mod answer;
+pub mod contacts;
 pub mod explain;
 pub mod explanation;
 pub mod failure;
 mod git;
+mod history;
 pub mod likeness;
 pub mod report;
 pub mod task;

@@ -2,8 +2,8 @@
 ghost use Rattle.std.specs.Prelude.{◌≡◌, ◌++◌, IfOk, OnOk, map};
 ghost use Rattle.std.specs.Option.{option_copied, option_map};
 ghost use Rattle.mailmap_likeness.specs.Likeness.{answered};
-ghost use Rattle.mailmap_reports.specs.Alike.{alike_text, answer_at, email_line, last_answer, line_beside};
-ghost use Rattle.mailmap_reports.specs.Alike.{lines_of_last, name_line, place_text};
+ghost use Rattle.mailmap_reports.specs.Alike.{alike_text, answer_at, email_line, line_beside};
+ghost use Rattle.mailmap_reports.specs.Alike.{lines_of_answer, name_line, place_text};
 
 use crate::shown::push_shown;
 use gix_mailmap::check::push_contact;
@@ -11,10 +11,10 @@ use itoa::Buffer;
 use mailmap_likeness::answers::{Answer, Likeness};
 use std::alloc::{AllocError, Global};
 
-/// The lines that report what the last of some answers is like, each with its line feed: none, one or two.
+/// The lines that report what the answer at an index is like, each with its line feed: none, one or two.
 ///
-/// `file` is what the contacts came from, and control bytes are shown as `\x1b`. If the last answer has the email of
-/// one and the name of another, the lines are
+/// `file` is what the contacts came from, and control bytes are shown as `\x1b`. If the answer has the email of one and
+/// the name of another, the lines are
 ///
 /// ```text
 /// history:7: warning: Jane <JANE@x> has the email of J. Doe <jane@x>, history:3
@@ -26,11 +26,12 @@ pub fn likeness_lines(
     alloc: Global,
     file: &[u8],
     answers: &[Answer],
+    index: usize,
     likeness: Likeness,
 ) -> Result<Vec<u8>, AllocError>
-    ensures { IfOk result (λ text. text.items ≡ lines_of_last file.now (map answered answers.now) likeness) }
+    ensures { IfOk result (λ text. text.items ≡ lines_of_answer file.now (map answered answers.now) index likeness) }
 {
-    let Some(answer) = last(answers) else {
+    let Some(answer) = get(answers, Some(index)) else {
         return Ok(Vec::new(alloc));
     };
     let of_email = get(answers, likeness.email);
@@ -39,13 +40,6 @@ pub fn likeness_lines(
     push_email_line(&mut text, file, answer, of_email)?;
     push_name_line(&mut text, file, answer, of_name)?;
     Ok(text)
-}
-
-// The last answer.
-fn last(answers: &[Answer]) -> Option<&Answer>
-    ensures { option_map answered (option_copied result) ≡ last_answer (map answered answers.now) }
-{
-    answers.last()
 }
 
 // The answer at an index, if there is one.
@@ -136,7 +130,7 @@ fn push_alike(
 }
 
 // Appends a file and a line of it.
-fn push_place(text: &mut Vec<u8>, file: &[u8], line: usize) -> Result<(), AllocError>
+pub(crate) fn push_place(text: &mut Vec<u8>, file: &[u8], line: usize) -> Result<(), AllocError>
     ensures { OnOk result (text.new.items ≡ text.old.items ++ place_text file.now line) }
 {
     let mut digits = Buffer::new();

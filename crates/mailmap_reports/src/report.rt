@@ -81,7 +81,11 @@ fn print_finding<W: Write>(
 }
 
 // The line of a finding, with its line feed.
-fn line_of(alloc: Global, paths: &[Vec<u8>], finding: &Finding<'_>) -> Result<Vec<u8>, AllocError>
+pub(crate) fn line_of(
+    alloc: Global,
+    paths: &[Vec<u8>],
+    finding: &Finding<'_>,
+) -> Result<Vec<u8>, AllocError>
     ensures { IfOk result (λ line. line.items
         ≡ finding_line (map (λ path. path.items) paths.now) (finding_of finding.now)) }
 {

@@ -1,11 +1,13 @@
 //! What the arguments of `mailmap_verify` ask for, and the doing of it.
-ghost use Rattle.std.specs.Prelude.{◌≡◌, ◌≢◌, ◌<◌, ◌⊎◌, [], IfErr, IfOk, IsErr, IsErrOf, None, Ok, drop, length, map};
+ghost use Rattle.std.specs.Prelude.{◌≡◌, ◌≢◌, ◌<◌, ◌⊎◌, [], IfErr, IfOk, IsErr, IsErrOf, Ok, drop, false, length, map};
 ghost use Rattle.mailmap_io.specs.Printing.{Prints, PrintsFront};
 ghost use Rattle.mailmap_io.specs.declared.outcome.Outcome.{Outcome as TheOutcome};
 ghost use Rattle.mailmap_reports.specs.Explained.{ExplainsLines, ExplainsWholeLines};
-ghost use Rattle.mailmap_reports.specs.Task.{FailsFor, IsAnswer, IsOfFile, IsOfInput, OfFiles, asked, asked_of, reads_contacts, task_with, word_of};
+ghost use Rattle.mailmap_reports.specs.Task.{FailsFor, IsAnswer, IsOfFile, IsOfInput, OfFiles, asked, asked_beside};
+ghost use Rattle.mailmap_reports.specs.Task.{asked_in, asked_of, reads_contacts, task, task_with, word_of};
 
 use crate::answer::{answer_to, print_report, read_mailmaps};
+use crate::contacts::verify_contacts;
 use crate::explain::explain;
 use crate::failure::Failure;
 use mailmap_io::files::FileSystem;
@@ -19,9 +21,12 @@ pub const USAGE: &str = "\
 usage: mailmap_verify [--] [FILE..]          prints what is wrong with the mailmaps
        mailmap_verify --prune [--] [FILE]    prints the mailmap without the lines that have no effect
        mailmap_verify --explain [--] FILE..  prints which lines map each contact of standard input
+       mailmap_verify --contacts CONTACTS [--] [FILE..]
+                                             also prints which lines no contact needs, and which contacts are alike
        mailmap_verify -h | --help            prints this
        mailmap_verify --version              prints the version
-Without a FILE, and for a single -, the mailmap is read from standard input, but not by --explain.
+Without a FILE, and for a single -, the mailmap is read from standard input, unless that has contacts: always for
+--explain, and if CONTACTS is -.
 Status 0: nothing is wrong. 1: something was found. 2: a failure.
 ";
 
@@ -38,6 +43,8 @@ pub enum Mode {
     Prune,
     /// What the mailmaps make of the contacts of standard input is printed, and by which lines.
     Explain,
+    /// What is found in the mailmaps and in contacts is printed, and which lines the contacts don't need.
+    Contacts,
 }
 
 /// What the arguments ask for.
@@ -45,6 +52,8 @@ pub enum Mode {
 pub struct Task<'a> {
     /// What is done.
     pub mode: Mode,
+    /// The path of the file with contacts, `-` for standard input. It counts only for [`Mode::Contacts`].
+    pub contacts: &'a [u8],
     /// The paths of the mailmaps. If there is none, standard input has the one mailmap, unless it has contacts.
     pub paths: &'a [Vec<u8>],
 }
@@ -56,6 +65,8 @@ pub enum Misuse<'a> {
     UnknownOption(&'a [u8]),
     /// An option for a mode after another one, or after itself.
     SecondMode(&'a [u8]),
+    /// `--contacts` without an argument after it.
+    NoFile(&'a [u8]),
 }
 
 /// What an argument is, if it comes where an option may be.
@@ -69,6 +80,8 @@ pub(crate) enum Word {
     Version,
     /// The option for a mode, such as `--prune`.
     Mode(Mode),
+    /// `--contacts`, whose next argument is a file, whatever it looks like.
+    Contacts,
     /// An option that isn't known.
     Unknown,
     /// The first path.
@@ -78,37 +91,72 @@ pub(crate) enum Word {
 /// What the arguments ask for, of which the first is the program's own name.
 ///
 /// Options are read from left to right, up to the first path or `--`. The first of `-h`, `--help`, `--version`, a second
-/// mode and an option that isn't known ends the reading: `--prune --help` asks for help, `--foo --help` is a misuse.
+/// mode and an option that isn't known ends the reading: `--prune --help` asks for help, `--foo --help` is a misuse. The
+/// argument after `--contacts` is its file, whatever it looks like.
 pub fn task_of(arguments: &[Vec<u8>]) -> Result<Task<'_>, Misuse<'_>>
-    ensures { asked_of result ≡ asked None (drop 1 (map (λ a. a.items) arguments.now)) }
+    ensures { asked_of result ≡ asked (drop 1 (map (λ a. a.items) arguments.now)) }
 {
     match arguments {
-        [] => read_options(None, arguments),
-        [_, words @ ..] => read_options(None, words),
+        [] => read_options(arguments),
+        [_, words @ ..] => read_options(words),
     }
 }
 
-// What the arguments after those that were read ask for, if the mode was given or not.
-fn read_options(mode: Option<Mode>, arguments: &[Vec<u8>]) -> Result<Task<'_>, Misuse<'_>>
-    ensures { asked_of result ≡ asked mode (map (λ a. a.items) arguments.now) }
+// What the arguments ask for.
+fn read_options(arguments: &[Vec<u8>]) -> Result<Task<'_>, Misuse<'_>>
+    ensures { asked_of result ≡ asked (map (λ a. a.items) arguments.now) }
 {
     let [argument, rest @ ..] = arguments else {
-        return Ok(task_with(mode, arguments));
+        return Ok(task_with(Mode::Verify, b"", arguments));
     };
     match word_of(argument.as_slice()) {
-        Word::End => Ok(task_with(mode, rest)),
-        Word::Help => Ok(Task {
-            mode: Mode::Help,
-            paths: &[],
-        }),
-        Word::Version => Ok(Task {
-            mode: Mode::Version,
-            paths: &[],
-        }),
-        Word::Mode(_) if mode.is_some() => Err(Misuse::SecondMode(argument.as_slice())),
-        Word::Mode(first) => read_options(Some(first), rest),
+        Word::Mode(mode) => read_more(mode, b"", rest),
+        Word::Contacts => read_file(argument.as_slice(), rest),
+        Word::End | Word::Help | Word::Version | Word::Unknown | Word::Path => {
+            read_more(Mode::Verify, b"", arguments)
+        }
+    }
+}
+
+// What the arguments after `--contacts` ask for, of which the first is its file.
+fn read_file<'a>(option: &'a [u8], arguments: &'a [Vec<u8>]) -> Result<Task<'a>, Misuse<'a>>
+    ensures { asked_of result ≡ asked_beside option.now (map (λ a. a.items) arguments.now) }
+{
+    match arguments {
+        [] => Err(Misuse::NoFile(option)),
+        [file, rest @ ..] => read_more(Mode::Contacts, file.as_slice(), rest),
+    }
+}
+
+// What the arguments ask for if the mode is known.
+fn read_more<'a>(
+    mode: Mode,
+    contacts: &'a [u8],
+    arguments: &'a [Vec<u8>],
+) -> Result<Task<'a>, Misuse<'a>>
+    ensures { asked_of result ≡ asked_in mode contacts.now (map (λ a. a.items) arguments.now) }
+{
+    let [argument, rest @ ..] = arguments else {
+        return Ok(task_with(mode, contacts, arguments));
+    };
+    match word_of(argument.as_slice()) {
+        Word::End => Ok(task_with(mode, contacts, rest)),
+        Word::Help => Ok(told(Mode::Help)),
+        Word::Version => Ok(told(Mode::Version)),
+        Word::Mode(_) | Word::Contacts => Err(Misuse::SecondMode(argument.as_slice())),
         Word::Unknown => Err(Misuse::UnknownOption(argument.as_slice())),
-        Word::Path => Ok(task_with(mode, arguments)),
+        Word::Path => Ok(task_with(mode, contacts, arguments)),
+    }
+}
+
+// The task of a mode that has no file.
+fn told(mode: Mode) -> Task<'static>
+    ensures { asked_of (Ok result) ≡ task mode [] [] }
+{
+    Task {
+        mode,
+        contacts: &[],
+        paths: &[],
     }
 }
 
@@ -131,6 +179,9 @@ fn word_of(argument: &[u8]) -> Word
     if argument == b"--explain".as_slice() {
         return Word::Mode(Mode::Explain);
     }
+    if argument == b"--contacts".as_slice() {
+        return Word::Contacts;
+    }
     match argument {
         [b'-', _, ..] => Word::Unknown,
         _ => Word::Path,
@@ -138,23 +189,32 @@ fn word_of(argument: &[u8]) -> Word
 }
 
 // The task with these paths. A single `-` is standard input, as no path is, unless standard input has contacts.
-fn task_with(mode: Option<Mode>, paths: &[Vec<u8>]) -> Task<'_>
-    ensures { asked_of (Ok result) ≡ task_with mode (map (λ a. a.items) paths.now) }
+fn task_with<'a>(mode: Mode, contacts: &'a [u8], paths: &'a [Vec<u8>]) -> Task<'a>
+    ensures { asked_of (Ok result) ≡ task_with mode contacts.now (map (λ a. a.items) paths.now) }
 {
-    let mode = mode.unwrap_or(Mode::Verify);
     match paths {
-        [path] if !reads_contacts(mode) && path.as_slice() == b"-".as_slice() => {
-            Task { mode, paths: &[] }
-        }
-        _ => Task { mode, paths },
+        [path] if !reads_contacts(mode, contacts) && path.as_slice() == b"-".as_slice() => Task {
+            mode,
+            contacts,
+            paths: &[],
+        },
+        _ => Task {
+            mode,
+            contacts,
+            paths,
+        },
     }
 }
 
 // Whether standard input has contacts, and so no mailmap.
-fn reads_contacts(mode: Mode) -> bool
-    ensures { result ≡ reads_contacts mode }
+fn reads_contacts(mode: Mode, contacts: &[u8]) -> bool
+    ensures { result ≡ reads_contacts mode contacts.now }
 {
-    matches!(mode, Mode::Explain)
+    match mode {
+        Mode::Explain => true,
+        Mode::Contacts => contacts == b"-".as_slice(),
+        Mode::Help | Mode::Version | Mode::Verify | Mode::Prune => false,
+    }
 }
 
 /// Does what is asked for, and says whether something was found.
@@ -169,37 +229,39 @@ pub fn perform<F: FileSystem, R: Read, W: Write>(
     input: &mut R,
     output: &mut W,
 ) -> Result<Outcome, Failure>
-    // The answer is written, once and with nothing beside it.
-    ensures prints { IfOk result (λ outcome. Prints
+    // The answer is written, once and with nothing beside it. With contacts this is only tested.
+    ensures prints { task.entry.mode ≢ Mode.Contacts → IfOk result (λ outcome. Prints
         (IsAnswer (F.may_open system.now) (F.bytes system.now) (R.remaining input.old) task.entry.mode
-        (map (λ path. path.items) task.entry.paths.now) outcome)
+        task.entry.contacts.now (map (λ path. path.items) task.entry.paths.now) outcome)
         (W.contents output.old) (W.contents output.new)) }
 
     // Where files are given, and for help and the version, standard input isn't read, unless it has contacts.
-    ensures unread { task.entry.mode ≢ Mode.Explain → task.entry.paths.now ≢ [] → input.new ≡ input.old }
+    ensures unread { reads_contacts task.entry.mode task.entry.contacts.now ≡ false → task.entry.paths.now ≢ []
+        → input.new ≡ input.old }
     ensures unread_for_help { task.entry.mode ≡ Mode.Help → input.new ≡ input.old }
     ensures unread_for_version { task.entry.mode ≡ Mode.Version → input.new ≡ input.old }
 
     // Which task each failure can be of.
     ensures fails { IfErr result (FailsFor (F.may_open system.now) (F.bytes system.now) (R.remaining input.old)
-        task.entry.mode (map (λ path. path.items) task.entry.paths.now)) }
+        task.entry.mode task.entry.contacts.now (map (λ path. path.items) task.entry.paths.now)) }
 
     // Only one mailmap can be pruned; that is said before anything is read.
     ensures too_many { task.entry.mode ≡ Mode.Prune → 1 < length task.entry.paths.now
         → IsErrOf result Failure.TooManyFiles }
 
     // Output that breaks off is the beginning of the answer.
-    ensures breaks_off { IsErrOf result Failure.Output → (outcome : TheOutcome) × PrintsFront
+    ensures breaks_off { task.entry.mode ≢ Mode.Contacts → IsErrOf result Failure.Output → (outcome : TheOutcome) × PrintsFront
         (IsAnswer (F.may_open system.now) (F.bytes system.now) (R.remaining input.old) task.entry.mode
-        (map (λ path. path.items) task.entry.paths.now) outcome)
+        task.entry.contacts.now (map (λ path. path.items) task.entry.paths.now) outcome)
         (W.contents output.old) (W.contents output.new) }
 
     // So it is if memory runs out while findings are printed; at all other failures nothing is written, unless contacts
     // are explained.
-    ensures memory { task.entry.mode ≢ Mode.Explain → IsErrOf result Failure.Memory → (output.new ≡ output.old)
+    ensures memory { task.entry.mode ≢ Mode.Explain → task.entry.mode ≢ Mode.Contacts
+        → IsErrOf result Failure.Memory → (output.new ≡ output.old)
         ⊎ ((task.entry.mode ≡ Mode.Verify) × ((outcome : TheOutcome) × PrintsFront
         (IsAnswer (F.may_open system.now) (F.bytes system.now) (R.remaining input.old) task.entry.mode
-        (map (λ path. path.items) task.entry.paths.now) outcome)
+        task.entry.contacts.now (map (λ path. path.items) task.entry.paths.now) outcome)
         (W.contents output.old) (W.contents output.new))) }
     ensures silent { task.entry.mode ≢ Mode.Explain → IsErr result → ¬ IsErrOf result Failure.Output
         → ¬ IsErrOf result Failure.Memory → output.new ≡ output.old }
@@ -224,6 +286,9 @@ pub fn perform<F: FileSystem, R: Read, W: Write>(
     if task.mode == Mode::Verify {
         let mailmaps = read_mailmaps(system, alloc, task.paths, input)?;
         return print_report(alloc, task.paths, mailmaps.as_slice(), output);
+    }
+    if task.mode == Mode::Contacts {
+        return verify_contacts(system, alloc, task.contacts, task.paths, input, output);
     }
     let answer = answer_to(system, alloc, task, input)?;
     write_all(output, answer.as_slice()).map_err(|_| Failure::Output)?;

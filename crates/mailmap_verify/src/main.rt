@@ -23,13 +23,14 @@ use std::process::ExitCode;
 
 // What follows a line that says what is wrong with the arguments.
 const USAGE_LINE: &str = "\
-usage: mailmap_verify [--] [FILE..] | --prune [--] [FILE] | --explain [--] FILE.. | --help | --version
+usage: mailmap_verify [--] [FILE..] | --prune [--] [FILE] | --explain [--] FILE..
+     | --contacts CONTACTS [--] [FILE..] | --help | --version
 ";
 
 fn main(rt: HostRuntime) -> ExitCode {
     let arguments = match arguments(&rt, rt.alloc()) {
         Ok(arguments) => arguments,
-        Err(_) => return failed(&rt, &[], Failure::Memory),
+        Err(_) => return failed(&rt, b"", &[], Failure::Memory),
     };
     match task_of(arguments.as_slice()) {
         Ok(task) => done(&rt, task),
@@ -45,14 +46,14 @@ fn done(rt: &HostRuntime, task: Task<'_>) -> ExitCode {
     let system = System { files: rt };
     let ended = perform(&system, rt.alloc(), task, &mut rt.stdin(), &mut rt.stdout());
     match ended {
-        Err(failure) => failed(rt, task.paths, failure),
+        Err(failure) => failed(rt, task.contacts, task.paths, failure),
         Ok(_) => exit_code(ended),
     }
 }
 
 // Says a failure.
-fn failed(rt: &HostRuntime, paths: &[Vec<u8>], failure: Failure) -> ExitCode {
-    say(rt, failure_line(rt.alloc(), paths, failure));
+fn failed(rt: &HostRuntime, contacts: &[u8], paths: &[Vec<u8>], failure: Failure) -> ExitCode {
+    say(rt, failure_line(rt.alloc(), contacts, paths, failure));
     exit_code(Err::<Outcome, Failure>(failure))
 }
 
@@ -73,6 +74,10 @@ fn misuse_lines(alloc: Global, misuse: Misuse<'_>) -> Result<Vec<u8>, AllocError
             lines.extend_from_slice(b"a second mode: ")?;
             option
         }
+        Misuse::NoFile(option) => {
+            lines.extend_from_slice(b"no file after ")?;
+            option
+        }
     };
     push_shown(&mut lines, option)?;
     lines.push(b'\n')?;
@@ -81,13 +86,23 @@ fn misuse_lines(alloc: Global, misuse: Misuse<'_>) -> Result<Vec<u8>, AllocError
 }
 
 // The line of a failure: the file or the stream, and what kept it from being read.
-fn failure_line(alloc: Global, paths: &[Vec<u8>], failure: Failure) -> Result<Vec<u8>, AllocError> {
+fn failure_line(
+    alloc: Global,
+    contacts: &[u8],
+    paths: &[Vec<u8>],
+    failure: Failure,
+) -> Result<Vec<u8>, AllocError> {
     let mut line = Vec::from_slice(alloc, b"mailmap_verify: ")?;
     match failure {
         Failure::File { number, cause } => {
             if let Some(path) = paths.get(number.saturating_sub(1)) {
                 push_shown(&mut line, path.as_slice())?;
             }
+            line.extend_from_slice(b": ")?;
+            line.extend_from_slice(cause_text(cause).as_bytes())?;
+        }
+        Failure::Contacts { cause } => {
+            push_shown(&mut line, contacts)?;
             line.extend_from_slice(b": ")?;
             line.extend_from_slice(cause_text(cause).as_bytes())?;
         }

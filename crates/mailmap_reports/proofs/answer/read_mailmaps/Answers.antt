@@ -1,7 +1,6 @@
 use Rattle.std.proofs.Common.{◌≡◌, ◌==◌, ◌∙◌, ℕ, List, [], ◌∷◌, Option, Vec, Global, false, length, map, sym}
 use Rattle.std.proofs.lemmas.Result.{IfOk-weaker}
 use Rattle.mailmap_io.specs.Files.{AreRead}
-use Rattle.mailmap_reports.specs.declared.task.Mode.TheVariants.{Verify}
 use Rattle.mailmap_reports.specs.Task.{AreMailmaps}
 use Rattle.mailmap_reports.proofs.answer.read_mailmaps.Goals as goal
 
@@ -20,4 +19,4 @@ returns-then-not-is_empty-clause-ok g c =
     (sym c.is_empty.ensures ∙ some) read) c.read_files.ensures.ok
 
 pub returns-then-not-is_empty-clause-fails : goal.returns-then-not-is_empty-clause-fails
-returns-then-not-is_empty-clause-fails g c = c.read_files.ensures.fails (g.R.Read.remaining c.args.input.now) Verify
+returns-then-not-is_empty-clause-fails g c = λ mode contacts _ _. c.read_files.ensures.fails (g.R.Read.remaining c.args.input.now) mode contacts

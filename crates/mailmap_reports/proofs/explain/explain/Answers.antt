@@ -35,4 +35,4 @@ returns-clause-memory_fails g c = λ is.
 pub returns-in_err-mailmaps-clause-fails : goal.returns-in_err-mailmaps-clause-fails
 returns-in_err-mailmaps-clause-fails g c =
     let failed : c.from_residual.result ≡ Err c.in_err-mailmaps.field-0.0 = search rules in
-    rw failed (c.in_err-mailmaps.ensures.fails (g.R.Read.remaining c.args.input.now) Explain)
+    λ contacts. rw failed (c.in_err-mailmaps.ensures.fails (g.R.Read.remaining c.args.input.now) Explain contacts)

@@ -1,0 +1,164 @@
+//! The contacts of a history: which lines of mailmaps they don't need, and what is reported of themselves.
+ghost use Rattle.std.specs.Prelude.{◌≡◌, ◌||◌, ◌++◌, IfErr, IfOk, IsOkUnless, List, OnErr, OnOk, is_some};
+ghost use Rattle.std.specs.List.{flat_map};
+ghost use Rattle.gix_mailmap.specs.Redundancy.{entries};
+ghost use Rattle.mailmap_likeness.specs.Likeness.{Answered, IsAdded};
+ghost use Rattle.mailmap_reports.specs.Contacts.{answer_of, noted};
+
+use crate::failure::Failure;
+use gix_mailmap::needs::Needs;
+use gix_mailmap::verify::Mailmaps;
+use mailmap_grammar::contacts::{ParsedContact, parse_name_and_email, trim};
+use mailmap_likeness::answers::{Added, Answers, Likeness};
+use mailmap_repeats::hashes::hash_of;
+use mailmap_repeats::table::LastAnswers;
+use std::alloc::{AllocError, Global};
+
+/// What is reported of a line of contacts.
+#[derive(Clone, Copy, Debug, PartialEq, Eq)]
+pub(crate) enum Notice {
+    /// The line with this number is no contact.
+    NoContact(usize),
+    /// The answer with this index is like others.
+    Alike(usize, Likeness),
+}
+
+/// The lines of contacts so far: what they need of mailmaps, their answers, and what is reported of them.
+///
+/// Memory grows with the mailmaps, with the answers that differ, and with the lines that are no contacts.
+#[derive(Drop)]
+pub(crate) struct History<'m, 'a> {
+    pub(crate) needs: Needs<'m, 'a>,
+    pub(crate) answers: Answers,
+    pub(crate) notices: Vec<Notice>,
+    // whether one of them counts for the exit status
+    pub(crate) found: bool,
+    // how many lines there are
+    count: usize,
+    // contacts that came: one that comes again changes nothing
+    last: LastAnswers,
+}
+
+impl<'m, 'a> History<'m, 'a> {
+    /// No line yet.
+    pub(crate) fn new(
+        alloc: Global,
+        mailmaps: &'m Mailmaps<'_, 'a>,
+    ) -> Result<History<'m, 'a>, AllocError> {
+        let needs = Needs::new(alloc, mailmaps)?;
+        let answers = Answers::new(alloc);
+        let notices = Vec::new(alloc);
+        let last = LastAnswers::new(alloc)?;
+        Ok(History {
+            needs,
+            answers,
+            notices,
+            found: false,
+            count: 0,
+            last,
+        })
+    }
+
+    /// Takes a line of contacts, with or without its line end.
+    pub(crate) fn take(&mut self, line: &[u8]) -> Result<(), Failure>
+        ensures only { IsOkUnless result Failure.Memory }
+    {
+        // No history is so long.
+        let Some(number) = self.count.checked_add(1) else {
+            return Err(Failure::Memory);
+        };
+        let hash = hash_of(line);
+        if let Some(_) = self.last.get(hash, line) {
+            self.count = number;
+            return Ok(());
+        }
+        let is_contact = self.take_new(line, number)?;
+        keep_if(is_contact, &mut self.last, hash, line);
+        self.count = number;
+        Ok(())
+    }
+
+    // Takes a line, and says whether it is a contact.
+    fn take_new(&mut self, line: &[u8], number: usize) -> Result<bool, Failure>
+        ensures only { IfErr result (λ e. e ≡ Failure.Memory) }
+    {
+        let text = trim(line);
+        match parse_name_and_email(text) {
+            ParsedContact::Closed { name, email, .. } => {
+                self.take_contact(name, email, number)?;
+                Ok(true)
+            }
+            ParsedContact::Absent => self.take_none(text.is_empty(), number),
+            ParsedContact::Unclosed => self.take_none(false, number),
+        }
+    }
+
+    // Takes a line that is blank, or no contact.
+    fn take_none(&mut self, is_blank: bool, number: usize) -> Result<bool, Failure>
+        ensures only { IfErr result (λ e. e ≡ Failure.Memory) }
+    {
+        if is_blank {
+            return Ok(false);
+        }
+        self.found = true;
+        self.notices.push(Notice::NoContact(number))?;
+        Ok(false)
+    }
+
+    // Takes a contact: what it needs, and its answer.
+    fn take_contact(&mut self, name: &[u8], email: &[u8], number: usize) -> Result<(), Failure>
+        ensures only { IsOkUnless result Failure.Memory }
+    {
+        self.needs.take_contact(name, email);
+        let index = self.answers.as_slice().len();
+        let added = add_answer(&self.needs, &mut self.answers, name, email, number)?;
+        match added {
+            Added::New(likeness) => self.note(index, likeness),
+            Added::Known => Ok(()),
+        }
+    }
+
+    // Notes what an answer is like, if it is like any.
+    fn note(&mut self, index: usize, likeness: Likeness) -> Result<(), Failure>
+        ensures notes { OnOk result ((answers : List Answered) → flat_map (noted answers) self.new.notices.items
+            ≡ flat_map (noted answers) self.old.notices.items ++ noted answers (Notice.Alike index likeness)) }
+        ensures found { OnOk result (self.new.found ≡ (self.old.found || is_some likeness.email)) }
+        ensures only { IsOkUnless result Failure.Memory }
+    {
+        if likeness.email.is_none() && likeness.name.is_none() {
+            return Ok(());
+        }
+        self.found = self.found || likeness.email.is_some();
+        self.notices.push(Notice::Alike(index, likeness))?;
+        Ok(())
+    }
+}
+
+// Keeps a line, if it is a contact.
+fn keep_if(is_kept: bool, last: &mut LastAnswers, hash: u64, line: &[u8]) {
+    if is_kept {
+        last.put(hash, line, b"");
+    }
+}
+
+// Adds the answer to a contact.
+fn add_answer(
+    needs: &Needs<'_, '_>,
+    answers: &mut Answers,
+    name: &[u8],
+    email: &[u8],
+    number: usize,
+) -> Result<Added, AllocError>
+    ensures ok { IfOk result (λ added. IsAdded
+        (answer_of (entries needs.now.history) name.now email.now number) answers.old answers.new added) }
+    ensures err { OnErr result (answers.new ≡ answers.old) }
+{
+    match needs.answer(name, email) {
+        Some(found) => answers.add(
+            found.name.unwrap_or(name),
+            found.email.unwrap_or(email),
+            number,
+        ),
+        None => answers.add(name, email, number),
+    }
+}
