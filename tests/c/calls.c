@@ -657,8 +657,8 @@ static int stream_once(void)
     return refused;
 }
 
-/* Requests that were refused, and then made again for less: those of the vector of findings, which grows three times for
- * the nine of them. If it can't have all the room at once, it asks for less. */
+/* Requests that were refused, and then made again for less: those of the vector of findings, which grows three times
+ * for the nine of them. If it can't have all the room at once, it asks for less. */
 static int made_again;
 
 /* One run with one refused request: false once there is no request of that number. */
