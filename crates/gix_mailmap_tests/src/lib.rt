@@ -1,5 +1,5 @@
 //! Tests of snapshots, what they list, find, write and answer to signatures and contacts, of sources that are merged, and
-//! of the runs of `mailmap_check` and `mailmap_verify`. Those of lines, entries and signatures are in
+//! of the runs of `mailmap_check`, `mailmap_verify` and `mailmap_shortlog`. Those of lines, entries and signatures are in
 //! `mailmap_reading_tests`.
 #![tactic(auto)]
 
@@ -9,6 +9,8 @@ mod check;
 mod compaction;
 #[cfg(test)]
 mod contacts;
+#[cfg(test)]
+mod counting;
 #[cfg(test)]
 mod entries;
 #[cfg(test)]
