@@ -105,7 +105,9 @@ fn contacts_are_reported_beside_mailmaps(rt: HostRuntime) {
             "-",
             &["one"],
             Ok(Outcome::Found),
-            b"one:1: error: no email in brackets\n<stdin>:2: error: no contact\n",
+            b"one:1: error: no email in brackets\n\
+              <stdin>:2: error: no contact\n\
+              <stdin>:3: note: B <M@y> has the name of b <A@x>, <stdin>:1\n",
         ),
         (
             "three",
