@@ -1,4 +1,4 @@
--- Without the lines that are told to have no effect or to be needed by no contact, each contact is answered as before.
+-- Without the lines that are reported to have no effect or to be needed by no contact, each contact is answered as before.
 use Rattle.std.proofs.Common.{◌≡◌, Bool, true, false, cond, List, [], ◌∷◌, ◌++◌, append-nil, Option, Some, None, filter, map, not, option_to_list, refl, sym, ap, subst, ◌∙◌, arith, ⊎_elim}
 use Rattle.std.specs.Prelude.{◌&&◌, ◌==◌, nat_lt, Contains}
 use Rattle.std.specs.List.{AllByRecursion, cons_option, flat_map, list_any}
@@ -22,7 +22,7 @@ use Rattle.mailmap_findings.specs.Positions.{Line, entry, lines, located, same_p
 use Rattle.mailmap_findings.proofs.Deleted.{left_entries}
 use Rattle.mailmap_findings.proofs.Read.{good-lines}
 use Rattle.mailmap_findings.proofs.Walking.{same_is, same_itself}
-use Rattle.mailmap_needs.specs.Needs.{AreUnneeded, any_needs, contact_in, contact_needs, is_told, needs, unneeded}
+use Rattle.mailmap_needs.specs.Needs.{AreUnneeded, any_needs, contact_in, contact_needs, is_reported, needs, unneeded}
 use Rattle.mailmap_needs.proofs.Taking.{filter_both}
 
 -- ---- the positions that an answer needs are those of the entries that it needs
@@ -69,7 +69,7 @@ all_among name None first =
 all_among name (Some y) first =
     subst (AllByRecursion (λ x. IsAmong (in_order name (Some y)) x.position)) (sym (append-nil (option_to_list name ++ y ∷ []))) (both_among name (Some y))
 
--- ---- what is needed is not told
+-- ---- what is needed is not reported
 
 module _ (kept : List LocatedMapping) (contacts : List Text) where
   abbrev is_unneeded : Position → Bool
@@ -110,13 +110,13 @@ module _ (p : Position → Bool) where
 
 pub answered : (buffers : List Text) (contacts : Text) (found : List Finding) (missing : List Position) (line name email rest : Text) → AreFindings buffers found → AreUnneeded buffers contacts missing
     → Contains (whole_lines contacts) line → contact_in line ≡ Closed name email rest
-    → scan (entries (located (filter (λ l. not (is_told found missing l)) (lines buffers)))) name email ≡ scan (flat_map good buffers) name email
+    → scan (entries (located (filter (λ l. not (is_reported found missing l)) (lines buffers)))) name email ≡ scan (flat_map good buffers) name email
 answered buffers contacts found missing line name email rest are un there is =
     let ls = lines buffers in
     let all = whole_lines contacts in
     let is_missing : Position → Bool = λ p. list_any (same_position p) missing in
     let stays : LocatedMapping → Bool = λ x. not (is_missing x.position) in
-    let left : located (filter (λ (l : Line). not (is_told found missing l)) ls) ≡ filter stays un.kept =
+    let left : located (filter (λ (l : Line). not (is_reported found missing l)) ls) ≡ filter stays un.kept =
     ap located (sym (filter_both (is_redundant found) (λ (l : Line). is_missing l.position) ls))
     ∙ located_filter (λ p. not (is_missing p)) (filter (λ (l : Line). not (is_redundant found l)) ls)
     ∙ ap (filter stays) (left_entries buffers found are ∙ one_reduced (located ls) are.kept un.kept are.reduced un.reduced) in

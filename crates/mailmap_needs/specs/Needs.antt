@@ -56,9 +56,9 @@ pub record AreUnneeded (buffers : List Text) (contacts : Text) (found : List Pos
   pub reduced : IsReduced (located (lines buffers)) kept
   pub whole : found ≡ unneeded kept (whole_lines contacts)
 
--- whether a line is told to have no effect, or to be needed by no contact
-abbrev pub is_told : List Finding → List Position → Line → Bool
-is_told found missing l = is_redundant found l || list_any (same_position l.position) missing
+-- whether a line is reported to have no effect, or to be needed by no contact
+abbrev pub is_reported : List Finding → List Position → Line → Bool
+is_reported found missing l = is_redundant found l || list_any (same_position l.position) missing
 
 -- ---- contacts that are taken one after another
 

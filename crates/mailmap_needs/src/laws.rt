@@ -6,18 +6,18 @@ ghost use Rattle.mailmap_findings.specs.Findings.{AreFindings, Finding};
 ghost use Rattle.mailmap_findings.specs.Positions.{lines, located, whole_lines};
 ghost use Rattle.mailmap_grammar.specs.Lines.{Closed, good};
 ghost use Rattle.mailmap_histories.specs.Histories.{scan};
-ghost use Rattle.mailmap_needs.specs.Needs.{AreUnneeded, contact_in, is_told};
+ghost use Rattle.mailmap_needs.specs.Needs.{AreUnneeded, contact_in, is_reported};
 ghost use Rattle.mailmap_redundancy.specs.Redundancy.{entries};
 ghost use Rattle.mailmap_redundancy.specs.declared.located.Position.{Position};
 
-/// All lines that are told to have no effect, and all that are told to be needed by no contact, can be deleted at once:
+/// All lines that are reported to have no effect, and all that no contact is reported to need, can be deleted at once:
 /// by the other lines each of the contacts is answered as before.
 pub fn law_contacts_stay()
     ensures { (buffers : List Text) (contacts : Text) (found : List Finding) (missing : List Position)
         (line name email rest : Text)
         → AreFindings buffers found → AreUnneeded buffers contacts missing
         → Contains (whole_lines contacts) line → contact_in line ≡ Closed name email rest
-        → scan (entries (located (filter (λ l. not (is_told found missing l)) (lines buffers)))) name email
+        → scan (entries (located (filter (λ l. not (is_reported found missing l)) (lines buffers)))) name email
         ≡ scan (flat_map good buffers) name email }
 {}
 

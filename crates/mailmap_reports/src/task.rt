@@ -141,8 +141,8 @@ fn read_more<'a>(
     };
     match word_of(argument.as_slice()) {
         Word::End => Ok(task_with(mode, contacts, rest)),
-        Word::Help => Ok(told(Mode::Help)),
-        Word::Version => Ok(told(Mode::Version)),
+        Word::Help => Ok(without_files(Mode::Help)),
+        Word::Version => Ok(without_files(Mode::Version)),
         Word::Mode(_) | Word::Contacts => Err(Misuse::SecondMode(argument.as_slice())),
         Word::Unknown => Err(Misuse::UnknownOption(argument.as_slice())),
         Word::Path => Ok(task_with(mode, contacts, arguments)),
@@ -150,7 +150,7 @@ fn read_more<'a>(
 }
 
 // The task of a mode that has no file.
-fn told(mode: Mode) -> Task<'static>
+fn without_files(mode: Mode) -> Task<'static>
     ensures { asked_of (Ok result) ≡ task mode [] [] }
 {
     Task {
