@@ -128,13 +128,14 @@ declare -A failures=(
     [mailmap_shortlog]='out of memory\|empty: out of memory\|mailmap: out of memory'
 )
 
-# explained_before CASE: as many of the explanations as the case printed. Contacts are explained as they come.
-explained_before() {
-    head -n "$(sed -n "/^== $1\$/,/^== /p" "$printed" | grep -vc '^== ')" "$work/explained"
+# first_lines CASE MODE: as many of the lines of the mode's text as the case printed.
+first_lines() {
+    head -n "$(sed -n "/^== $1\$/,/^== /p" "$printed" | grep -vc '^== ')" "$work/$2"
 }
 
 # wants PROGRAM: judges a run of all cases. At status 0 or 1 all has to be printed, which is the text of the mode's
-# name, and at status 2 nothing, or the first of the explanations, with one line on standard error.
+# name, and at status 2 nothing, with one line on standard error. But contacts are explained as they come, and with
+# contacts what is found of mailmaps is written before the lines about contacts are made: then it may be the first lines.
 wants() {
     local program="$1" run name runs
     while read -r run; do
@@ -143,7 +144,9 @@ wants() {
         echo "== $name"
         case "$run" in
         *' run=ended status='[01]' '*) cat "$work/${name%%[0-9]*}" ;;
-        *' run=ended status=2 '*) [ "${name%%[0-9]*}" != explained ] || explained_before "$name" ;;
+        *' run=ended status=2 '*)
+            case "$name" in explained* | beside*) first_lines "$name" "${name%%[0-9]*}" ;; esac
+            ;;
         *) fail "$program: another status" ;;
         esac
     done < <(grep '^case=' "$said") > "$work/expected"
@@ -203,7 +206,7 @@ refuse mailmap_verify 34 35 60 61 86 87 112 113
 says mailmap_verify 'out of memory' 'empty: out of memory' 'mailmap: out of memory'
 verifies=$((verifies + refusals))
 
-# With contacts nothing is written before all of them are read, and little enough is written to be held till then.
+# Nothing is written before all contacts are read.
 rm -r "$work/runs"
 mkdir "$work/runs"
 add_cases beside --contacts -
