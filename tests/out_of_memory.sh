@@ -86,8 +86,9 @@ none_between \
     "the request behind the calls that take none"
 
 # Where a request was refused and no call reported it, it was that of a collect, which asks again for less: in entries,
-# twice in verify, and in each merge that gives texts up, which calls entries. Of so few texts half are soon out of use, so
-# two more merges than the one that is made for it give some up: that of Snapshot::merge, and that of the third source.
+# twice in verify, and in each merge that gives texts up, which calls entries. Of so few texts half are soon out of use,
+# so two more merges than the one that is made for it give some up: that of Snapshot::merge, and that of the third
+# source.
 untold="$(sed -n '/^refused/p' "$printed" | sed '1,/^refused: [^n]/d' | grep -cx 'refused: nothing' || true)"
 [ "$untold" = 6 ] || fail "$untold refusals that no call reported"
 calls="$(grep '^refused' "$printed" | grep -cvx 'refused: nothing')"
@@ -135,7 +136,8 @@ first_lines() {
 
 # wants PROGRAM: judges a run of all cases. At status 0 or 1 all has to be printed, which is the text of the mode's
 # name, and at status 2 nothing, with one line on standard error. But contacts are explained as they come, and with
-# contacts what is found of mailmaps is written before the lines about contacts are made: then it may be the first lines.
+# contacts what is found of mailmaps is written before the lines about contacts are made: then the first lines may be
+# there.
 wants() {
     local program="$1" run name runs
     while read -r run; do
