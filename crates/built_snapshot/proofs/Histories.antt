@@ -1,5 +1,5 @@
 -- How the history of what is built grows: by what an iterator says, source by source, and batch by batch.
-use Rattle.std.proofs.Common.{◌≡◌, ◌+◌, ◌<◌, ◌≤◌, ℕ, Bool, true, false, cond, Option, List, [], ◌∷◌, ◌++◌, map, take, length, get_or, Result, Ok, Err, OnOk, OnErr, is_ok, set, append-nil, length-set, length-take-le, refl, sym, ap, ap₂, subst, ◌∙◌, arith, append_assoc, take_all}
+use Rattle.std.proofs.Common.{◌≡◌, ◌+◌, ◌<◌, ◌≤◌, ℕ, Bool, cond, Option, List, [], ◌∷◌, ◌++◌, map, take, length, get_or, Result, Ok, Err, OnOk, OnErr, is_ok, set, append-nil, length-take-le, refl, sym, ap, ap₂, subst, ◌∙◌, arith, append_assoc, take_all}
 use Rattle.std.specs.Iterator.{Drains}
 use Rattle.std.proofs.lemmas.Iterator.{YieldsList, items_from_drains}
 use Rattle.std.proofs.lemmas.List.{length-append, map-id, take_more, take_more_set}

@@ -1,4 +1,4 @@
-use Rattle.std.proofs.Common.{rules, ◌≡◌, ◌+◌, ◌∙◌, ◌++◌, ◌∷◌, [], ap, length, map, subst, sym, take}
+use Rattle.std.proofs.Common.{rules, ◌+◌, ◌∙◌, ◌++◌, ◌∷◌, [], ap, length, map, subst, sym, take}
 use Rattle.std.proofs.lemmas.List.{length-map, map_push, places, with_items_is}
 use Rattle.std.specs.Vec.{with_items}
 use Rattle.gix_mailmap.specs.Building.{IsBuilt, nothing}

@@ -1,4 +1,4 @@
-use Rattle.std.proofs.Common.{◌∙◌, ◌++◌, [], Result, Ok, Err, OnOk, List, map, ap, append-nil, subst, sym}
+use Rattle.std.proofs.Common.{◌∙◌, ◌++◌, [], Result, Ok, Err, OnOk, map, ap, append-nil, subst, sym}
 use Rattle.std.proofs.lemmas.Iterator.{YieldsList-from_slice}
 use Rattle.std.proofs.lemmas.Iterator.Consumers.{YieldsList-from_copied}
 use Rattle.gix_mailmap.specs.Building.{merged}

@@ -1,5 +1,4 @@
-use Rattle.std.proofs.Common.{Result, Ok, Err, List, map, subst}
-use Rattle.std.specs.Iterator.{Drains}
+use Rattle.std.proofs.Common.{Result, Ok, Err, map, subst}
 use Rattle.std.specs.Result.{IfOk}
 use Rattle.std.proofs.lemmas.Iterator.{YieldsList-from_slice}
 use Rattle.std.proofs.lemmas.Iterator.Consumers.{YieldsList-from_copied}
