@@ -6,9 +6,10 @@
 PORT is mailmap_check, and ORIGINAL a program over the original crate, called as peers.py says. PROGRAM is another
 mailmap_check, such as one of an earlier version. `--write` puts the tables into docs/BENCHMARKS.md.
 
-The map is mixed-1000 of make_maps.py. The histories have a million or ten million contacts, of which 4,000 differ: the
-second one in the order of frequency comes half as often as the first one, the third one a third as often, and so on. A
-quarter of the 4,000 is mapped. One more list has 100,000 contacts that all differ.
+libgit2 is the program libgit2_check.c, which needs Debian's libgit2-dev. The map is mixed-1000 of make_maps.py. The
+histories have a million or ten million contacts, of which 4,000 differ: the second one in the order of frequency comes
+half as often as the first one, the third one a third as often, and so on. A quarter of the 4,000 is mapped. One more
+list has 100,000 contacts that all differ.
 
 All programs run in turn, at least twice each and for S seconds a row (8 where it is not given). A time is the shortest
 of all runs, from the start of the process to its end, and the peak the largest resident set (measure.c). All write into
@@ -29,7 +30,8 @@ from measuring import HERE, MILLION, Failed, built, duration, mebibytes, output,
 LINES = 1_000
 DIFFERENT = 4_000
 UNREPEATED = 100_000
-PORT, BEFORE, ORIGINAL, GIT = "mailmap_check", "before", "original", "git"
+PORT, BEFORE, ORIGINAL, GIT, LIBGIT2 = "mailmap_check", "before", "original", "git", "libgit2"
+PEERS = (ORIGINAL, GIT, LIBGIT2)
 # of the port's time to that of a peer at a million contacts, and to the version before at contacts that all differ
 TIME_AIMS = {ORIGINAL: 0.5, GIT: 0.25}
 DIFFER_AIM = 1.0
@@ -68,7 +70,9 @@ class Programs:
         output(["git", "init", "-q", f"{folder}/repository"], env=self.settings)
         git = ["git", "-C", f"{folder}/repository", "-c", f"mailmap.file={self.mailmap}", "check-mailmap", "--stdin"]
         original = [os.path.abspath(given.original), "check", str(self.mailmap)]
-        self.words = {PORT: [os.path.abspath(given.port), str(self.mailmap)], ORIGINAL: original, GIT: git}
+        libgit2 = [built("libgit2_check", folder, "-lgit2"), str(self.mailmap)]
+        port = [os.path.abspath(given.port), str(self.mailmap)]
+        self.words = {PORT: port, ORIGINAL: original, GIT: git, LIBGIT2: libgit2}
         if given.before:
             self.words[BEFORE] = [os.path.abspath(given.before), str(self.mailmap)]
 
@@ -102,11 +106,11 @@ def compared(what, found, peer, aim):
 
 def times_table(found):
     head = ["contacts", " mailmap_check", "beside", " its time", " port / it", " aim"]
-    rows = [compared("a million, 4,000 differ", found["million"], peer, TIME_AIMS[peer]) for peer in (ORIGINAL, GIT)]
+    rows = [compared("a million, 4,000 differ", found["million"], peer, TIME_AIMS.get(peer)) for peer in PEERS]
     if BEFORE in found["million"]:
         rows.append(compared("a million, 4,000 differ", found["million"], BEFORE, None))
         rows.append(compared("100,000, all differ", found["differ"], BEFORE, DIFFER_AIM))
-    rows += [compared("100,000, all differ", found["differ"], peer, None) for peer in (ORIGINAL, GIT)]
+    rows += [compared("100,000, all differ", found["differ"], peer, None) for peer in PEERS]
     ten, million = found["ten"][PORT], found["million"][PORT]
     grown = ratio(ten["time"], million["time"], GROWTH_AIM)
     rows.append(["ten million, 4,000 differ", duration(ten["time"]), "a million", duration(million["time"]), *grown])
@@ -114,7 +118,7 @@ def times_table(found):
 
 
 def memory_table(found):
-    names = [name for name in (PORT, BEFORE, ORIGINAL, GIT) if name in found["million"]]
+    names = [name for name in (PORT, BEFORE, *PEERS) if name in found["million"]]
     head = ["peak memory for", *[f" {name}" for name in names], " aim"]
     rows = []
     for contacts, what in [("differ", "100,000, all differ"), ("million", "a million"), ("ten", "ten million")]:
@@ -134,7 +138,7 @@ def main():
     given = parser.parse_args()
     with scratch() as folder:
         programs = Programs(given, Path(folder))
-        found = {contacts: programs.row(contacts, (PORT, BEFORE, ORIGINAL, GIT), given.seconds)
+        found = {contacts: programs.row(contacts, (PORT, BEFORE, *PEERS), given.seconds)
                  for contacts in ("million", "differ")}
         found["ten"] = programs.row("ten", (PORT, BEFORE), given.seconds)
     texts = {"streams": times_table(found), "stream memory": memory_table(found)}
