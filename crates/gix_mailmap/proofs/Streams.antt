@@ -13,7 +13,7 @@ use Rattle.mailmap_entries.specs.Folding.{Text}
 use Rattle.mailmap_grammar.specs.Lines.{HoldsNo}
 use Rattle.gix_mailmap.specs.Contacts.{answer, answers, lines}
 use Rattle.gix_mailmap.specs.Parts.{EndsLine}
-use Rattle.gix_mailmap.specs.Streams.{AnswersFront, Stream}
+use Rattle.gix_mailmap.specs.Streams.{AnswersFront, AnswersParts, Stream}
 use Rattle.gix_mailmap.proofs.Contacts.{lines-given}
 
 -- whole lines are empty, or a line feed is their last byte
@@ -65,6 +65,21 @@ front-more m bytes text rest more made left a b = record {
 pub front-all : (m : List Mapping) (bytes text rest : Text) → AnswersFront m bytes text rest → text ++ answers m rest ≡ answers m bytes
 front-all m bytes text rest a =
     ap (λ l. l ++ answers m rest) a.text_is ∙ sym (answers-append m a.whole rest a.ends) ∙ ap (answers m) (sym a.bytes_are)
+
+-- whatever the parts are, the answers to them are those to whole lines of all
+front-parts : (m : List Mapping) (kept : Text) (parts : List Text) (text rest : Text) → AnswersParts m kept parts text rest
+    → AnswersFront m (kept ++ flat_map (λ part. part) parts) text rest
+front-parts m kept [] text rest (none, same) =
+    subst (λ k. AnswersFront m (kept ++ []) text k) (append-nil kept ∙ sym same)
+    (subst (λ t. AnswersFront m (kept ++ []) t (kept ++ [])) (sym none) (front-none m (kept ++ [])))
+front-parts m kept (part ∷ parts) text rest (made, next, later, is, first, others) =
+    subst (λ t. AnswersFront m (kept ++ (part ++ flat_map (λ p. p) parts)) t rest) (sym is)
+    (subst (λ b. AnswersFront m b (made ++ later) rest) (append_assoc kept part (flat_map (λ p. p) parts))
+    (front-more m (kept ++ part) made next (flat_map (λ p. p) parts) later rest first (front-parts m next parts later rest others)))
+
+-- and with those to what is kept at the end they are those to all
+pub all-parts : (m : List Mapping) (parts : List Text) (text kept : Text) → AnswersParts m [] parts text kept → text ++ answers m kept ≡ answers m (flat_map (λ part. part) parts)
+all-parts m parts text kept each = front-all m (flat_map (λ part. part) parts) text kept (front-parts m [] parts text kept each)
 
 -- ---- one line
 

@@ -1,5 +1,5 @@
 -- Contacts that come in parts: what is answered of them, and what is kept.
-use Rattle.std.specs.Prelude.{◌≡◌, List, ◌++◌}
+use Rattle.std.specs.Prelude.{◌≡◌, List, [], ◌∷◌, ◌++◌}
 use Rattle.std.specs.List.{All}
 use Rattle.mailmap_entries.specs.Entries.{Mapping}
 use Rattle.mailmap_entries.specs.Folding.{Text}
@@ -18,6 +18,13 @@ pub record AnswersFront (mappings : List Mapping) (bytes text rest : Text) : Typ
   pub ends : EndsLine whole
   pub bytes_are : bytes ≡ whole ++ rest
   pub text_is : text ≡ answers mappings whole
+
+-- the parts come one after another, after bytes that are kept: the text is the answers to each in turn, and `rest` is
+-- kept after the last
+abbrev pub AnswersParts : List Mapping → Text → List Text → Text → Text → Type 0
+AnswersParts mappings kept [] text rest = (text ≡ []) × (rest ≡ kept)
+AnswersParts mappings kept (part ∷ parts) text rest =
+    (made next later : Text) × (text ≡ made ++ later) × AnswersFront mappings (kept ++ part) made next × AnswersParts mappings next parts later rest
 
 -- each of these is a line and its answer
 abbrev pub AnswersAll : List Mapping → List Kept → Type 0

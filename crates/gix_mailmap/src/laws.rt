@@ -1,8 +1,11 @@
 //! Laws of the definitions. Each function runs nothing: its contract is the law.
-ghost use Rattle.std.specs.Prelude.{◌≡◌, ◌↔◌, List};
+ghost use Rattle.std.specs.Prelude.{◌≡◌, ◌↔◌, ◌++◌, [], List};
+ghost use Rattle.std.specs.List.{flat_map};
+ghost use Rattle.mailmap_entries.specs.Entries.{Mapping};
 ghost use Rattle.mailmap_entries.specs.Folding.{Text};
-ghost use Rattle.gix_mailmap.specs.Contacts.{AreLines, lines};
+ghost use Rattle.gix_mailmap.specs.Contacts.{AreLines, answers, lines};
 ghost use Rattle.gix_mailmap.specs.Parts.{IsSplit};
+ghost use Rattle.gix_mailmap.specs.Streams.{AnswersFront, AnswersParts};
 
 mod ignored;
 mod text;
@@ -24,7 +27,9 @@ pub use mailmap_redundancy::laws::{
     law_each_key_stays, law_givers, law_needed, law_none_can_go, law_passes, law_same_listing,
     law_settled, law_some_stay,
 };
-pub use mailmap_signatures::laws::{law_equal_signatures, law_equal_times, law_time};
+pub use mailmap_signatures::laws::{
+    law_equal_commit_signatures, law_equal_signatures, law_equal_times, law_time,
+};
 pub use text::{law_strict, law_text};
 
 /// An input is split in one way.
@@ -36,4 +41,17 @@ pub fn law_parts()
 /// feed; the last piece, if no line feed ends it, is a line as it is.
 pub fn law_lines()
     ensures { (s : Text) (ls : List Text) → (lines s ≡ ls) ↔ AreLines s ls }
+{}
+
+/// Contacts may be pushed to a stream in any parts, each of which is what a push took. What is answered to these, and at
+/// the end to what is kept, is together what [`check`](crate::check::check()) answers to all of them at once. Until then
+/// the answers are those to whole lines at the front of what was pushed, and a push adds its own after these.
+pub fn law_stream()
+    ensures begins { (m : List Mapping) (bytes : Text) → AnswersFront m bytes [] bytes }
+    ensures adds_up { (m : List Mapping) (before text kept taken made rest : Text) → AnswersFront m before text kept
+        → AnswersFront m (kept ++ taken) made rest → AnswersFront m (before ++ taken) (text ++ made) rest }
+    ensures ends { (m : List Mapping) (all text kept : Text) → AnswersFront m all text kept
+        → text ++ answers m kept ≡ answers m all }
+    ensures parts { (m : List Mapping) (parts : List Text) (text kept : Text) → AnswersParts m [] parts text kept
+        → text ++ answers m kept ≡ answers m (flat_map (λ part. part) parts) }
 {}

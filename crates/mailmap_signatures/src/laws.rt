@@ -4,13 +4,17 @@ ghost use Rattle.std.specs.Cmp.{IsTotalOrder};
 ghost use Rattle.std.specs.Hash as fed;
 ghost use Rattle.std.specs.declared.cmp.Ordering.{Ordering};
 ghost use Rattle.mailmap_entries.specs.Folding.{Text};
-ghost use Rattle.mailmap_signatures.specs.SignatureFields.{SignatureFields, cow_fields, signature_cmp, signature_writes};
+ghost use Rattle.mailmap_signatures.specs.SignatureFields.{SignatureFields, cow_fields, owned_fields, signature_cmp};
+ghost use Rattle.mailmap_signatures.specs.SignatureFields.{signature_writes};
 ghost use Rattle.mailmap_signatures.specs.Times.{IsTimeOf, Spells, time_cmp};
+ghost use Rattle.mailmap_signatures.specs.declared.actor.Signature as the_owned;
+ghost use Rattle.mailmap_signatures.specs.declared.actor.SignatureRef as the_ref;
 ghost use Rattle.mailmap_signatures.specs.declared.cow.Signature as the_signature;
 ghost use Rattle.mailmap_signatures.specs.declared.date.Time.{Time};
 
+use crate::actor::SignatureRef;
 use crate::cow::Signature;
-use crate::date;
+use crate::{actor, date};
 use std::hash::Hash;
 
 /// A text spells one time at most, so the time of a signature follows from its text.
@@ -27,6 +31,15 @@ pub fn law_equal_times()
     ensures total { IsTotalOrder time_cmp }
     ensures same { (a b : Time) → (time_cmp a b ≡ Ordering.Equal) ↔ (a ≡ b) }
     ensures hash { (a : Time) → ⟦<date::Time as Hash>⟧.hash_input a ≡ fed.i64 a.seconds ++ fed.i32 a.offset }
+{}
+
+/// The signatures of commits are equal exactly if their names, their emails and their times are: the time of a borrowed
+/// one is a text, so two spellings of one time are different, and that of an owned one is the time itself.
+pub fn law_equal_commit_signatures()
+    ensures borrowed { (a b : the_ref.SignatureRef) → (⟦<SignatureRef<'static> as PartialEq>⟧.eq a b ≡ true)
+        ↔ ((a.name.now ≡ b.name.now) × (a.email.now ≡ b.email.now) × (a.time.now ≡ b.time.now)) }
+    ensures owned { (a b : the_owned.Signature)
+        → (⟦<actor::Signature as PartialEq>⟧.eq a b ≡ true) ↔ (owned_fields a ≡ owned_fields b) }
 {}
 
 /// Signatures that are copied on write are compared and hashed by the bytes of their texts and by their time, whoever

@@ -17,11 +17,11 @@ pub fn split(input: &[u8]) -> (&[u8], &[u8])
     let mut index = 0;
     let mut lines = input.lines_with_terminator();
     while let Some(line) = lines.next() {
-        let behind = index + line.len();
+        let after = index + line.len();
         if is_divider(line) {
-            return (&input[..index], &input[behind..]);
+            return (&input[..index], &input[after..]);
         }
-        index = behind;
+        index = after;
     }
     (&[], input)
 }

@@ -22,6 +22,9 @@ const ENOUGH: usize = 65536;
 /// It keeps what the buffers map, the beginning of a line that hasn't ended yet, and the last 4,096 lines with their
 /// answers: a line that comes again is mostly answered from these. They take 1.1 MiB, however long the lines are.
 ///
+/// Whatever the parts are, the answers to them and to the last line are together those of `check`:
+/// [`law_stream`](crate::laws::law_stream()).
+///
 /// ```text
 /// let mut stream = ContactStream::new(alloc, &[b"Jane Doe <jane@x>"])?;
 /// stream.push(b"jane <JANE@x>\njan", &mut text)?; // takes all 17 bytes; the text is `Jane Doe <jane@x>\n`

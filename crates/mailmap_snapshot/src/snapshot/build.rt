@@ -48,8 +48,8 @@ impl Snapshot {
     ) -> Result<(), AllocError>
         requires can { I.can_next entries }
         requires finite { IsFinite (I.remaining entries) }
-        // The entries of `entries` come after those that were listed, and after any history that the snapshot stood
-        // for. If none of them is accepted nothing changes.
+        // The entries of `entries` come after those that were listed, and after any history that gives what was listed.
+        // If none of them is accepted nothing changes.
         ensures ok { OnOk result
             ((xs : List Item) × Drains I.next_gives entries xs × IsMerged self.old (map mapping_of xs) self.new) }
         ensures err { OnErr result (self.new ≡ self.old) }

@@ -25,8 +25,8 @@ impl Snapshot {
     /// whether it was merged. If memory ran out, that source changed nothing, and the next one is merged all the same.
     pub fn merge_sources(&mut self, sources: &[Source<'_>], made: &mut [bool])
         requires { length sources.now ≡ length made.old }
-        // What the sources marked as made say comes after what was listed, and after any history that the snapshot
-        // stood for. If none of it is accepted, nothing changes.
+        // What the sources marked as made say comes after what was listed, and after any history that gives what was
+        // listed. If none of it is accepted, nothing changes.
         ensures merged { IsMerged self.old (history sources.now made.new) self.new }
         ensures none_made { All (λ is_made. is_made ≡ false) made.new → self.new ≡ self.old }
 
