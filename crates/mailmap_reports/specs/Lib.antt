@@ -2,4 +2,5 @@ pub mod Alike
 pub mod Contacts
 pub mod Explained
 pub mod Report
+pub mod Taken
 pub mod Task
