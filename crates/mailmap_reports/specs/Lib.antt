@@ -3,4 +3,5 @@ pub mod Contacts
 pub mod Explained
 pub mod Report
 pub mod Taken
+pub mod Taking
 pub mod Task

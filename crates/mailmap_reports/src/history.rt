@@ -1,9 +1,11 @@
 //! The contacts of a history: which lines of mailmaps they don't need, and what is reported of themselves.
-ghost use Rattle.std.specs.Prelude.{◌≡◌, ◌||◌, ◌++◌, IfErr, IfOk, IsOkUnless, List, OnErr, OnOk, is_some};
+ghost use Rattle.std.specs.Prelude.{◌≡◌, ◌||◌, ◌++◌, ◌∷◌, [], IfErr, IfOk, IsOkUnless, List, OnErr, OnOk, is_some};
 ghost use Rattle.std.specs.List.{flat_map};
+ghost use Rattle.gix_mailmap.specs.Folding.{Text};
 ghost use Rattle.gix_mailmap.specs.Redundancy.{entries};
 ghost use Rattle.mailmap_likeness.specs.Likeness.{Answered, IsAdded};
 ghost use Rattle.mailmap_reports.specs.Contacts.{answer_of, noted};
+ghost use Rattle.mailmap_reports.specs.Taken.{HasTaken};
 
 use crate::failure::Failure;
 use gix_mailmap::needs::Needs;
@@ -44,7 +46,9 @@ impl<'m, 'a> History<'m, 'a> {
     pub(crate) fn new(
         alloc: Global,
         mailmaps: &'m Mailmaps<'_, 'a>,
-    ) -> Result<History<'m, 'a>, AllocError> {
+    ) -> Result<History<'m, 'a>, AllocError>
+        ensures { IfOk result (λ s. HasTaken mailmaps.now [] s) }
+    {
         let needs = Needs::new(alloc, mailmaps)?;
         let answers = Answers::new(alloc);
         let notices = Vec::new(alloc);
@@ -61,6 +65,8 @@ impl<'m, 'a> History<'m, 'a> {
 
     /// Takes a line of contacts, with or without its line end.
     pub(crate) fn take(&mut self, line: &[u8]) -> Result<(), Failure>
+        ensures takes { (mailmaps contacts : List Text) → HasTaken mailmaps contacts self.old
+            → OnOk result (HasTaken mailmaps (contacts ++ line.now ∷ []) self.new) }
         ensures only { IsOkUnless result Failure.Memory }
     {
         // No history is so long.
