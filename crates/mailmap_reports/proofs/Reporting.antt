@@ -1,5 +1,5 @@
 -- The report of mailmaps and of the contacts that a history has taken.
-use Rattle.std.proofs.Common.{◌≡◌, ◌++◌, ◌∙◌, ℕ, Bool, List, [], ◌∷◌, Option, ap, false, if◌then◌else◌, refl, sym, take, true}
+use Rattle.std.proofs.Common.{◌≡◌, ◌++◌, ◌∙◌, ℕ, Bool, List, [], ◌∷◌, Option, ap, false, if◌then◌else◌, refl, subst, sym, take, true}
 use Rattle.std.specs.Io.KnownBytes.{Appends}
 use Rattle.std.specs.List.{flat_map, list_any}
 use Rattle.std.proofs.KnownBytes.{Appends-nil, Appends-trans}
@@ -17,8 +17,11 @@ use Rattle.mailmap_likeness.specs.Likeness.{Answered}
 use Rattle.mailmap_redundancy.specs.declared.located.Position.{Position}
 use Rattle.mailmap_reports.specs.Contacts.{IsReportBeside, Said, both_texts, counts, noted, outcome_of_both, remark_line, said_after, said_line, said_text}
 use Rattle.mailmap_reports.specs.Taken.{HasTaken}
+use Rattle.mailmap_reports.specs.Task.{AreContacts, AreMailmapsBeside, IsAnswer, contacts_name, is_dash}
 use Rattle.mailmap_reports.specs.declared.history.History.{History}
 use Rattle.mailmap_reports.specs.declared.history.Notice.{Notice}
+use Rattle.mailmap_reports.specs.declared.task.Mode.TheVariants.{Contacts as TheContacts}
+use Rattle.mailmap_reports.proofs.TakingLines.{of_unread}
 
 -- ---- notices
 
@@ -27,6 +30,11 @@ pub said_each : (file : Text) (answers : List Answered) (notices : List Notice) 
 said_each file answers [] = refl
 said_each file answers (n ∷ notices) =
     flat_map-append (said_line file) (noted answers n) (flat_map (noted answers) notices) ∙ ap (λ t. said_text file (noted answers n) ++ t) (said_each file answers notices)
+
+pub said_same : (file other : Text) (answers others : List Answered) (notices rest : List Notice) → file ≡ other → answers ≡ others → notices ≡ rest
+    → said_text file (flat_map (noted answers) notices) ≡ said_text other (flat_map (noted others) rest)
+said_same file other answers others notices rest e f g =
+    ap (λ t. said_text t (flat_map (noted answers) notices)) e ∙ ap (λ l. said_text other (flat_map (noted l) notices)) f ∙ ap (λ l. said_text other (flat_map (noted others) l)) g
 
 -- ---- how the run ends
 
@@ -95,3 +103,26 @@ pub begins_second : (paths : List Text) (file : Text) (mailmaps : List Text) (ta
 begins_second paths file mailmaps taken s remarks before between after n h are first part =
     begins paths file mailmaps taken s remarks before after h are
     (Appends-both before between after (flat_map (remark_line paths) remarks) (said_text file (flat_map (noted s.answers) s.notices.items)) n first part)
+
+-- ---- of the mailmaps and the contacts that were read
+
+-- what mailmaps and contacts were read for
+abbrev pub AreReadBeside : (Text → Type 0) → (Text → Option Text) → Option Text → Text → List Text → List Text → Text → Type 0
+AreReadBeside may_open known input contacts paths mailmaps taken =
+    AreMailmapsBeside may_open known contacts paths input mailmaps × AreContacts may_open known contacts input taken
+
+pub read_beside : (may_open : Text → Type 0) (known : Text → Option Text) (contacts : Text) (input left : Option Text) (paths mailmaps others : List Text) (taken : Text)
+    → AreMailmapsBeside may_open known contacts paths input mailmaps → mailmaps ≡ others → (is_dash contacts ≡ true → left ≡ input) → AreContacts may_open known contacts left taken
+    → AreReadBeside may_open known input contacts paths others taken
+read_beside may_open known contacts input left paths mailmaps others taken are same unread is =
+    (subst (AreMailmapsBeside may_open known contacts paths input) same are, of_unread may_open known contacts input left taken unread is)
+
+pub prints_answer : (may_open : Text → Type 0) (known : Text → Option Text) (input : Option Text) (contacts : Text) (paths mailmaps : List Text) (taken : Text) (outcome : Outcome) (before after : Option Text)
+    → AreReadBeside may_open known input contacts paths mailmaps taken → Prints (IsReportBeside paths (contacts_name contacts) mailmaps taken outcome) before after
+    → Prints (IsAnswer may_open known input TheContacts contacts paths outcome) before after
+prints_answer may_open known input contacts paths mailmaps taken outcome before after are p = (p.0, (mailmaps, taken, are.0, are.1, p.1), p.2)
+
+pub begins_answer : (may_open : Text → Type 0) (known : Text → Option Text) (input : Option Text) (contacts : Text) (paths mailmaps : List Text) (taken : Text) (before after : Option Text)
+    → AreReadBeside may_open known input contacts paths mailmaps taken → BeginsReport paths (contacts_name contacts) mailmaps taken before after
+    → (outcome : Outcome) × PrintsFront (IsAnswer may_open known input TheContacts contacts paths outcome) before after
+begins_answer may_open known input contacts paths mailmaps taken before after are p = (p.0, (p.1.0, (mailmaps, taken, are.0, are.1, p.1.1), p.1.2))
