@@ -1,5 +1,5 @@
 -- Lines of contacts that a history takes as they are read: what was read, and what was taken of it.
-use Rattle.std.proofs.Common.{◌≡◌, ◌++◌, ◌∙◌, List, [], Option, None, Some, IfSome, ap, append-nil, append_assoc, false, inl, refl, subst, sym, true}
+use Rattle.std.proofs.Common.{◌≡◌, ◌++◌, ◌∙◌, List, [], Option, None, Some, IfSome, ap, append-nil, append_assoc, inl, refl, subst, sym, true}
 use Rattle.std.specs.Io.KnownBytes.{Consumes, IsAtEnd}
 use Rattle.std.proofs.KnownBytes.{Consumes-nil, Consumes-trans}
 use Rattle.gix_mailmap.specs.Folding.{Text}
@@ -80,19 +80,7 @@ parts_all old now later held s t u h none end takes = (
   subst (λ l. Takes (whole_lines l) s u) (sym (append-nil h.read ∙ h.read_is)) (takes_text h.ended held s t u h.ends h.takes takes),
 )
 
--- ---- the contacts of the input, or of a file
-
-pub of_input : (may_open : Text → Type 0) (known : Text → Option Text) (contacts : Text) (input : Option Text) (text : Text) → is_dash contacts ≡ true → IfSome input (λ bytes. text ≡ bytes)
-    → AreContacts may_open known contacts input text
-of_input may_open known contacts input text dash is = (λ _. is, λ no_dash. cc)
-
-known_text : (known file : Option Text) (text : Text) → IfSome known (λ bytes. file ≡ Some bytes) → IfSome file (λ bytes. text ≡ bytes) → IfSome known (λ bytes. text ≡ bytes)
-known_text None file text opened is = tt
-known_text (Some bytes) file text opened is = subst (λ f. IfSome f (λ b. text ≡ b)) opened is
-
-pub of_file : (may_open : Text → Type 0) (known : Text → Option Text) (contacts : Text) (input file : Option Text) (text : Text) → is_dash contacts ≡ false → may_open contacts
-    → IfSome (known contacts) (λ bytes. file ≡ Some bytes) → IfSome file (λ bytes. text ≡ bytes) → AreContacts may_open known contacts input text
-of_file may_open known contacts input file text no_dash may opened is = (λ dash. cc, λ _. (may, known_text (known contacts) file text opened is))
+-- ---- the contacts of the input
 
 -- an input of contacts that was not read before
 pub of_unread : (may_open : Text → Type 0) (known : Text → Option Text) (contacts : Text) (input left : Option Text) (text : Text) → (is_dash contacts ≡ true → left ≡ input)

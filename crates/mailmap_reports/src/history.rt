@@ -65,7 +65,7 @@ impl<'m, 'a> History<'m, 'a> {
 
     /// Takes a line of contacts, with or without its line end.
     pub(crate) fn take(&mut self, line: &[u8]) -> Result<(), Failure>
-        ensures takes { (mailmaps contacts : List Text) → HasTaken mailmaps contacts self.old
+        ensures taken { (mailmaps contacts : List Text) → HasTaken mailmaps contacts self.old
             → OnOk result (HasTaken mailmaps (contacts ++ line.now ∷ []) self.new) }
         ensures only { IsOkUnless result Failure.Memory }
     {

@@ -255,7 +255,7 @@ pub fn perform<F: FileSystem, R: Read, W: Write>(
         task.entry.contacts.now (map (λ path. path.items) task.entry.paths.now) outcome)
         (W.contents output.old) (W.contents output.new) }
 
-    // So it is if memory runs out while findings are printed; at all other failures nothing is written, unless contacts
+    // So it is if memory runs out while a report is printed; at all other failures nothing is written, unless contacts
     // are explained.
     ensures memory { task.entry.mode ≢ Mode.Explain → IsErrOf result Failure.Memory → (output.new ≡ output.old)
         ⊎ (((task.entry.mode ≡ Mode.Verify) ⊎ (task.entry.mode ≡ Mode.Contacts)) × ((outcome : TheOutcome) × PrintsFront

@@ -19,7 +19,7 @@ loop-line-preserved c =
     let done = c.loop-line.invariant.0 in (
       done ++ line ∷ [],
       next_is (whole_lines c.args.text.now) done c.loop-line.line-iterator c.next.new.self line c.loop-line.invariant.1 c.in-Some.ensures.steps,
-      takes_more done (line ∷ []) c.args.history.now c.loop-line.history c.take.new.self c.loop-line.invariant.2 c.in_ok-take.ensures.takes,
+      takes_more done (line ∷ []) c.args.history.now c.loop-line.history c.take.new.self c.loop-line.invariant.2 c.in_ok-take.ensures.taken,
     )
 
 pub returns-clause-takes : goal.returns-clause-takes
