@@ -1,3 +1,5 @@
 mod Fronts
 mod Explaining
 mod Grounded
+mod Firsts
+mod Taking
