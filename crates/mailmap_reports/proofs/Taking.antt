@@ -1,10 +1,10 @@
 -- What follows from lines of contacts, when one more is taken.
 use Rattle.std.proofs.Common.{◌≡◌, ◌⊎◌, ◌∙◌, ◌+◌, ◌<◌, ℕ, zero, suc, Bool, true, false, IsTrue, Option, None, Some, List, [], ◌∷◌, ◌++◌, Vec, Global, add-zero, ap, append-nil, append_assoc, arith, filter, get_or, inl, inr, length, map, not, refl, subst, sym}
-use Rattle.std.specs.Prelude.{◌||◌, if◌then◌else◌, is_some, slice_get}
+use Rattle.std.specs.Prelude.{◌||◌, ◌==◌, OnOk, Result, Ok, Err, if◌then◌else◌, is_some, slice_get}
 use Rattle.std.specs.Cmp.Lexicographic.{bytes_decides}
 use Rattle.std.specs.List.{Contains, flat_map, list_any}
 use Rattle.std.specs.Str.{bytes_eq}
-use Rattle.std.proofs.lemmas.Bool.{and_from, cond-false, cond-true, or_left, or_right}
+use Rattle.std.proofs.lemmas.Bool.{and_from, cond-false, cond-true, ne_eqb, or_left, or_right}
 use Rattle.std.proofs.lemmas.List.{length-append}
 use Rattle.std.proofs.lemmas.List.Elements.{Contains-append_left, Contains-push, filter_agree}
 use Rattle.std.proofs.lemmas.List.Folds.{list_any-append, list_any_at}
@@ -368,3 +368,13 @@ taken_nothing mailmaps needs_now answers notices last history reduced left no_an
       let none : Contains [] k = subst (λ l. Contains l k) no_line among in
       absurd (omega (arith, none.1));
 }
+
+-- ---- by two clauses of a call
+
+pub empty_by_length : (t : Text) → (length t == 0) ≡ is_empty t
+empty_by_length [] = refl
+empty_by_length (b ∷ t) = ne_eqb (length (b ∷ t)) 0 (λ e. omega (arith, e))
+
+pub on_ok_both : {T E P Q R : Type 0} (r : Result T E) → (P → Q → R) → OnOk r P → OnOk r Q → OnOk r R
+on_ok_both (Ok x) f p q = f p q
+on_ok_both (Err e) f p q = tt
