@@ -1,6 +1,5 @@
-use Rattle.std.proofs.Common.{rules, ◌≡◌, ◌∙◌, List, [], ℕ, Vec, Global, map, subst, take}
+use Rattle.std.proofs.Common.{rules, ◌∙◌, List, [], ℕ, Vec, Global, map, subst, take}
 use Rattle.std.specs.Io.KnownBytes.{Appends}
-use Rattle.std.specs.List.{flat_map}
 use Rattle.mailmap_entries.proofs.Results.{on_err}
 use Rattle.gix_mailmap.specs.Findings.{AreFindings}
 use Rattle.gix_mailmap.specs.Positions.{lines, located, whole_lines}
@@ -8,9 +7,9 @@ use Rattle.gix_mailmap.specs.Redundancy.{entries}
 use Rattle.gix_mailmap.specs.Remarks.{AreRemarks}
 use Rattle.mailmap_io.specs.declared.outcome.Outcome.TheVariants.{Found}
 use Rattle.mailmap_likeness.specs.Likeness.{answered}
-use Rattle.mailmap_reports.specs.Contacts.{noted, said_after, said_text}
+use Rattle.mailmap_reports.specs.Contacts.{said_after}
 use Rattle.mailmap_reports.specs.Task.{contacts_name}
-use Rattle.mailmap_reports.proofs.Reporting.{BeginsReport, are_unneeded, begins_first, begins_none, begins_second, found_beside, none_beside, prints_both, said_same}
+use Rattle.mailmap_reports.proofs.Reporting.{are_unneeded, begins_first, begins_none, begins_second, found_beside, none_beside, prints_both, said_same}
 use Rattle.mailmap_reports.proofs.contacts.print_both.Goals as goal
 
 pub returns-in_err-verification-clause-err : goal.returns-in_err-verification-clause-err

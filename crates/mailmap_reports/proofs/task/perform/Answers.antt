@@ -1,4 +1,4 @@
-use Rattle.std.proofs.Common.{rules, ◌≡◌, ◌≢◌, ◌⊎◌, Err, IfErr, List, ℕ, Option, Vec, Global, inl, inr, map, subst, sym}
+use Rattle.std.proofs.Common.{rules, ◌≡◌, ◌≢◌, ◌⊎◌, Err, List, ℕ, Option, Vec, Global, inl, inr, map, subst, sym}
 use Rattle.std.proofs.lemmas.Result.{IfOk-weaker}
 use Rattle.mailmap_io.specs.declared.outcome.Outcome.{Outcome}
 use Rattle.mailmap_reports.specs.Task.{AreMailmaps, FailsFor, IsAnswer, IsReport}
