@@ -5,14 +5,15 @@ use Rattle.std.specs.Cmp.Lexicographic.{same_text}
 use Rattle.std.specs.List.{list_any, position_from}
 use Rattle.std.specs.Option.{option_map}
 use Rattle.std.specs.Str.{bytes_eq}
-use Rattle.std.proofs.lemmas.Bool.{and_parts, false≢true, or_cases, or_left, or_right}
+use Rattle.std.proofs.lemmas.Bool.{and_parts, or_cases, or_left, or_right}
 use Rattle.std.proofs.lemmas.Iterator.Adapters.{position_from-zero}
 use Rattle.gix_mailmap.specs.Folding.{Text, folded}
 use Rattle.mailmap_likeness.specs.Likeness.{Answered, first_with_email, first_with_name, has_email, has_name, is_answer}
 use Rattle.mailmap_likeness.specs.Places.{or_else}
+use Rattle.mailmap_likeness.proofs.Placing.{or_none}
 use Rattle.mailmap_likeness.proofs.Positions.{position_within}
 use Rattle.mailmap_reports.specs.Alike.{answer_at}
-use Rattle.mailmap_reports.specs.Taken.{HaveSameFirsts, first_of}
+use Rattle.mailmap_reports.specs.Taken.{HaveSameFirsts}
 
 -- the first answer that passes
 abbrev pub first : (Answered → Bool) → List Answered → Option Answered
@@ -70,10 +71,6 @@ first-push p [] x = refl
 first-push p (a ∷ ys) x =
     elim (p a) as (λ b. cond b (Some a) (first p (ys ++ x ∷ [])) ≡ or_else (cond b (Some a) (first p ys)) (cond (p x) (Some x) None)) [ true ↦ refl | false ↦ first-push p ys x ]
 
-or_none : (o : Option Answered) → or_else o None ≡ o
-or_none None = refl
-or_none (Some a) = refl
-
 some_or : (o later : Option Answered) → is_some o ≡ true → or_else o later ≡ o
 some_or None later some = cc
 some_or (Some a) later some = refl
@@ -82,12 +79,12 @@ some_or (Some a) later some = refl
 passes : (test : Text → Text → Bool) (name email : Text) (ys : List Answered) → list_any (is_answer name email) ys ≡ true → test name email ≡ true → list_any (λ a. test a.name a.email) ys ≡ true
 passes test name email [] came pass = cc
 passes test name email (a ∷ ys) came pass = elim (or_cases (is_answer name email a) (list_any (is_answer name email) ys) came) [
-      | inl same ↦
-        let parts = and_parts (bytes_eq name a.name) (bytes_eq email a.email) same in
-        or_left (test a.name a.email) (list_any (λ a. test a.name a.email) ys)
-        ((λ i. test (sym (same_text name a.name (sym parts.0)) i) (sym (same_text email a.email (sym parts.1)) i)) ∙ pass)
-      | inr later ↦ or_right (test a.name a.email) (list_any (λ a. test a.name a.email) ys) (passes test name email ys later pass)
-    ]
+  | inl same ↦
+      let parts = and_parts (bytes_eq name a.name) (bytes_eq email a.email) same in
+      or_left (test a.name a.email) (list_any (λ a. test a.name a.email) ys)
+      ((λ i. test (sym (same_text name a.name (sym parts.0)) i) (sym (same_text email a.email (sym parts.1)) i)) ∙ pass)
+  | inr later ↦ or_right (test a.name a.email) (list_any (λ a. test a.name a.email) ys) (passes test name email ys later pass)
+]
 
 none_more : (b : Bool) (o : Option Answered) (a : Answered) → (b ≡ true → is_some o ≡ true) → or_else o (cond b (Some a) None) ≡ o
 none_more true o a some = some_or o (Some a) (some refl)
@@ -133,12 +130,12 @@ firsts_name ys all (c ∷ name) email same = same (λ n e. bytes_eq (folded (c �
 
 -- ---- answers that come later
 
-slice_get-left : (ys later : List Answered) (k : ℕ) → k < length ys → slice_get (ys ++ later) k ≡ slice_get ys k
+slice_get-left : {X : Type 0} (ys later : List X) (k : ℕ) → k < length ys → slice_get (ys ++ later) k ≡ slice_get ys k
 slice_get-left [] later k within = absurd (omega arith)
 slice_get-left (a ∷ ys) later zero within = refl
 slice_get-left (a ∷ ys) later (suc k) within = slice_get-left ys later k (omega arith)
 
-pub slice_get-here : (ys : List Answered) (a : Answered) (later : List Answered) → slice_get (ys ++ a ∷ later) (length ys) ≡ Some a
+pub slice_get-here : {X : Type 0} (ys : List X) (a : X) (later : List X) → slice_get (ys ++ a ∷ later) (length ys) ≡ Some a
 slice_get-here [] a later = refl
 slice_get-here (x ∷ ys) a later = slice_get-here ys a later
 

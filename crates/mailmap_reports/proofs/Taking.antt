@@ -8,6 +8,7 @@ use Rattle.std.proofs.lemmas.Bool.{and_from, cond-false, cond-true, ne_eqb, or_l
 use Rattle.std.proofs.lemmas.List.{length-append}
 use Rattle.std.proofs.lemmas.List.Elements.{Contains-append_left, Contains-push, filter_agree}
 use Rattle.std.proofs.lemmas.List.Folds.{list_any-append, list_any_at}
+use Rattle.std.proofs.Math.Bool.{or-false}
 use Rattle.gix_mailmap.specs.Entries.{Mapping}
 use Rattle.gix_mailmap.specs.Folding.{Text}
 use Rattle.gix_mailmap.specs.Lines.{ParsedContact, Absent, Unclosed, Closed}
@@ -15,7 +16,7 @@ use Rattle.gix_mailmap.specs.Needs.{Needs, any_needs, contact_in, contact_needs,
 use Rattle.gix_mailmap.specs.Positions.{lines, located}
 use Rattle.gix_mailmap.specs.Redundancy.{IsReduced, LocatedMapping, entries}
 use Rattle.gix_mailmap.specs.Trimming.{trim}
-use Rattle.mailmap_needs.proofs.Taking.{taken_more}
+use Rattle.mailmap_needs.proofs.Taking.{no_contact_takes, taken_more}
 use Rattle.mailmap_redundancy.specs.declared.located.Position.{Position}
 use Rattle.mailmap_repeats.specs.Kept.{Kept}
 use Rattle.mailmap_likeness.specs.Likeness.{Answered, IsAdded, first_with_email, first_with_name, has_email, is_answer}
@@ -50,8 +51,8 @@ answers_from-push h n (x ∷ xs) line =
 
 -- ---- the state after one more line
 
--- What a line after others changes.
-pub record Follows (h : List Mapping) (contacts : List Text) (line : Text) (s t : History) : Type 0 where
+-- What a line changes that comes after others.
+pub record TakesLine (h : List Mapping) (contacts : List Text) (line : Text) (s t : History) : Type 0 where
   pub history : t.needs.history ≡ s.needs.history
   pub kept : t.needs.kept ≡ s.needs.kept
   pub left : t.needs.left ≡ filter (λ p. not (contact_needs s.needs.kept (contact_in line) p)) s.needs.left
@@ -61,7 +62,7 @@ pub record Follows (h : List Mapping) (contacts : List Text) (line : Text) (s t 
   pub firsts : HaveSameFirsts t.answers (answers_from h 1 contacts ++ answer_on h (length contacts + 1) (contact_in line))
   pub last : t.last ≡ s.last
 
-pub taken_line : (mailmaps contacts : List Text) (line : Text) (s t : History) → HasTaken mailmaps contacts s → Follows (entries (located (lines mailmaps))) contacts line s t → HasTaken mailmaps (contacts ++ line ∷ []) t
+pub taken_line : (mailmaps contacts : List Text) (line : Text) (s t : History) → HasTaken mailmaps contacts s → TakesLine (entries (located (lines mailmaps))) contacts line s t → HasTaken mailmaps (contacts ++ line ∷ []) t
 taken_line mailmaps contacts line s t taken next =
     let h = entries (located (lines mailmaps)) in
     let all : List Text = contacts ++ line ∷ [] in
@@ -94,17 +95,10 @@ no_contact_on h n Absent none = refl
 no_contact_on h n Unclosed none = refl
 no_contact_on h n (Closed name email rest) none = cc
 
-no_contact_needs : (kept : List LocatedMapping) (c : ParsedContact) (p : Position) → is_contact c ≡ false → contact_needs kept c p ≡ false
-no_contact_needs kept Absent p none = refl
-no_contact_needs kept Unclosed p none = refl
-no_contact_needs kept (Closed name email rest) p none = cc
-
-filter_all : {X : Type 0} (xs : List X) → filter (λ x. true) xs ≡ xs
-filter_all [] = refl
-filter_all (x ∷ xs) = ap (λ l. x ∷ l) (filter_all xs)
-
 needs_none : (kept : List LocatedMapping) (c : ParsedContact) (ps : List Position) → is_contact c ≡ false → ps ≡ filter (λ p. not (contact_needs kept c p)) ps
-needs_none kept c ps none = sym (filter_agree (λ p. not (contact_needs kept c p)) (λ p. true) (λ p. ap not (no_contact_needs kept c p none)) ps ∙ filter_all ps)
+needs_none kept Absent ps none = no_contact_takes kept ps
+needs_none kept Unclosed ps none = no_contact_takes kept ps
+needs_none kept (Closed name email rest) ps none = cc
 
 -- what is said of a line that is blank or not
 abbrev pub said_of_none : Bool → ℕ → List Said
@@ -165,20 +159,20 @@ said_of_line-contact h contacts line name email rest is =
     ∙ append-nil (f (answer_of h name email n))
 
 -- What a contact with this answer changes.
-pub record Answers (h : List Mapping) (contacts : List Text) (a : Answered) (s : History) (answers : List Answered) (notices : Vec Notice Global) (found : Bool) : Type 0 where
+pub record TakesAnswer (h : List Mapping) (contacts : List Text) (a : Answered) (s : History) (answers : List Answered) (notices : Vec Notice Global) (found : Bool) : Type 0 where
   pub said : (later : List Answered) → flat_map (noted (answers ++ later)) notices.items ≡ said_after h [] contacts ++ said_of_answer (answers_from h 1 contacts) a
   pub found_is : found ≡ (s.found || list_any counts (said_of_answer (answers_from h 1 contacts) a))
   pub firsts : HaveSameFirsts answers (answers_from h 1 contacts ++ a ∷ [])
 
 -- What it needs is crossed off.
-pub record Crosses (name email : Text) (old new : Needs) : Type 0 where
+pub record CrossesOff (name email : Text) (old new : Needs) : Type 0 where
   pub history : new.history ≡ old.history
   pub kept : new.kept ≡ old.kept
   pub left : new.left ≡ filter (λ p. not (needs old.kept name email p)) old.left
 
 pub taken_contact : (mailmaps contacts : List Text) (line name email rest : Text) (s : History) (needs_now : Needs) (answers : List Answered) (notices : Vec Notice Global) (found : Bool) (number : ℕ)
-    → HasTaken mailmaps contacts s → number ≡ length contacts + 1 → contact_in line ≡ Closed name email rest → Crosses name email s.needs needs_now
-    → Answers (entries (located (lines mailmaps))) contacts (answer_of (entries (located (lines mailmaps))) name email number) s answers notices found
+    → HasTaken mailmaps contacts s → number ≡ length contacts + 1 → contact_in line ≡ Closed name email rest → CrossesOff name email s.needs needs_now
+    → TakesAnswer (entries (located (lines mailmaps))) contacts (answer_of (entries (located (lines mailmaps))) name email number) s answers notices found
     → HasTaken mailmaps (contacts ++ line ∷ []) (record { needs = needs_now; answers = answers; notices = notices; found = found; count = number; last = s.last })
 taken_contact mailmaps contacts line name email rest s needs_now answers notices found number taken number_is is crosses its =
     let h = entries (located (lines mailmaps)) in
@@ -200,16 +194,12 @@ taken_contact mailmaps contacts line name email rest s needs_now answers notices
 
 -- ---- its answer is known
 
-or_false : (b : Bool) → b ≡ (b || false)
-or_false true = refl
-or_false false = refl
-
 said_known : (all : List Answered) (a : Answered) → list_any (is_answer a.name a.email) all ≡ true → said_of_answer all a ≡ []
 said_known all a came =
     cond-true (list_any (is_answer a.name a.email) all) [] (said_beside (Some a) (answer_at all (first_with_email a.email all)) (answer_at all (first_with_name a.name a.email all))) came
 
 pub answer_known : (mailmaps contacts : List Text) (a : Answered) (s : History) (answers : List Answered) → HasTaken mailmaps contacts s → answers ≡ s.answers
-    → list_any (is_answer a.name a.email) s.answers ≡ true → Answers (entries (located (lines mailmaps))) contacts a s answers s.notices s.found
+    → list_any (is_answer a.name a.email) s.answers ≡ true → TakesAnswer (entries (located (lines mailmaps))) contacts a s answers s.notices s.found
 answer_known mailmaps contacts a s answers taken same came =
     let h = entries (located (lines mailmaps)) in
     let all = answers_from h 1 contacts in
@@ -219,7 +209,7 @@ answer_known mailmaps contacts a s answers taken same came =
       said = λ later.
           ap (λ ys. flat_map (noted (ys ++ later)) s.notices.items) same ∙ taken.said_later later ∙ sym (append-nil (said_after h [] contacts))
           ∙ ap (λ l. said_after h [] contacts ++ l) (sym nothing);
-      found_is = or_false s.found ∙ ap (λ l. s.found || list_any counts l) (sym nothing);
+      found_is = sym (or-false s.found) ∙ ap (λ l. s.found || list_any counts l) (sym nothing);
       firsts = subst (λ ys. HaveSameFirsts ys (all ++ a ∷ [])) (sym same) (firsts_known s.answers all a taken.firsts among);
     }
 
@@ -239,7 +229,7 @@ counts_beside a (Some b) (Some c) = refl
 pub answer_new : (mailmaps contacts : List Text) (a : Answered) (s : History) (answers : List Answered) (notices : Vec Notice Global) (found : Bool) (index : ℕ) (likeness : Likeness) → HasTaken mailmaps contacts s
     → IsAdded a s.answers answers (New likeness) → index ≡ length s.answers
     → ((ys : List Answered) → flat_map (noted ys) notices.items ≡ flat_map (noted ys) s.notices.items ++ noted ys (Alike index likeness)) → found ≡ (s.found || is_some likeness.email)
-    → Answers (entries (located (lines mailmaps))) contacts a s answers notices found
+    → TakesAnswer (entries (located (lines mailmaps))) contacts a s answers notices found
 answer_new mailmaps contacts a s answers notices found index likeness taken added index_is notes found_is =
     let h = entries (located (lines mailmaps)) in
     let all = answers_from h 1 contacts in
@@ -345,9 +335,9 @@ taken_kept mailmaps contacts line s last is_kept taken is keeps = record {
   said_later = taken.said_later;
   firsts = taken.firsts;
   came = λ k among. elim (keeps k among) [
-        | inl before ↦ taken.came k before
-        | inr now ↦ (subst (Contains (contacts ++ line ∷ [])) (sym now.1) (Contains-push contacts line), ap (λ l. is_contact (contact_in l)) now.1 ∙ sym is ∙ now.0)
-      ];
+    | inl before ↦ taken.came k before
+    | inr now ↦ (subst (Contains (contacts ++ line ∷ [])) (sym now.1) (Contains-push contacts line), ap (λ l. is_contact (contact_in l)) now.1 ∙ sym is ∙ now.0)
+  ];
 }
 
 -- ---- no line yet
@@ -358,7 +348,7 @@ pub taken_nothing : (mailmaps : List Text) (needs_now : Needs) (answers : List A
 taken_nothing mailmaps needs_now answers notices last history reduced left no_answer no_notice no_line = record {
   history = history;
   reduced = reduced;
-  left = left ∙ sym (filter_all (map (λ (x : LocatedMapping). x.position) needs_now.kept));
+  left = left ∙ no_contact_takes needs_now.kept (map (λ (x : LocatedMapping). x.position) needs_now.kept);
   count = refl;
   said = ap (flat_map (noted answers)) no_notice;
   found = refl;

@@ -1,5 +1,5 @@
 -- Lines of contacts that are taken one after another, and what follows from them.
-use Rattle.std.specs.Prelude.{◌≡◌, ◌++◌, ℕ, Bool, true, List, [], ◌∷◌, Option, length, position}
+use Rattle.std.specs.Prelude.{◌≡◌, ◌++◌, Bool, true, List, [], Option, length, position}
 use Rattle.std.specs.List.{Contains, flat_map, list_any}
 use Rattle.gix_mailmap.specs.Folding.{Text}
 use Rattle.gix_mailmap.specs.Needs.{contact_in, is_contact, unneeded}

@@ -1,6 +1,6 @@
 //! The contacts of a history: which lines of mailmaps they don't need, and what is reported of themselves.
-ghost use Rattle.std.specs.Prelude.{◌≡◌, ◌⊎◌, ◌+◌, ◌||◌, ◌∷◌, ◌++◌, [], Contains, IfErr, IfOk, IsOkUnless, IsTrue, List};
-ghost use Rattle.std.specs.Prelude.{OnErr, OnOk, false, if◌then◌else◌, is_some, length, not};
+ghost use Rattle.std.specs.Prelude.{◌≡◌, ◌⊎◌, ◌+◌, ◌||◌, ◌∷◌, ◌++◌, [], Contains, IfErr, IfOk, IsOkUnless};
+ghost use Rattle.std.specs.Prelude.{IsTrue, List, OnErr, OnOk, false, if◌then◌else◌, is_some, length, not};
 ghost use Rattle.std.specs.List.{flat_map};
 ghost use Rattle.gix_mailmap.specs.Folding.{Text};
 ghost use Rattle.gix_mailmap.specs.Lines.{Closed};

@@ -1,4 +1,4 @@
-use Rattle.std.proofs.Common.{◌≡◌, ◌∙◌, ◌+◌, ap, arith, length}
+use Rattle.std.proofs.Common.{◌≡◌, ◌+◌, arith, length}
 use Rattle.mailmap_reports.proofs.Taking.{taken_again, taken_kept}
 use Rattle.mailmap_reports.proofs.history.History.take.Goals as goal
 

@@ -1,4 +1,4 @@
-use Rattle.std.proofs.Common.{◌≡◌, ◌==◌, ◌∙◌, Bool, false, ap, length, refl, sym}
+use Rattle.std.proofs.Common.{◌≡◌, ◌∙◌, false, ap, sym}
 use Rattle.gix_mailmap.specs.Lines.{Absent, Closed, Unclosed, cut, trimmed_contact}
 use Rattle.gix_mailmap.specs.Needs.{contact_in, is_contact, is_empty}
 use Rattle.gix_mailmap.specs.Trimming.{trim}
