@@ -1,3 +1,7 @@
 mod Fronts
 mod Explaining
 mod Grounded
+mod Firsts
+mod Taking
+mod TakingLines
+mod Reporting

@@ -2,4 +2,6 @@ pub mod Alike
 pub mod Contacts
 pub mod Explained
 pub mod Report
+pub mod Taken
+pub mod Taking
 pub mod Task

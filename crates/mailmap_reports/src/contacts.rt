@@ -1,14 +1,21 @@
 //! Mailmaps and the contacts of a history: what is found in both, line by line.
-ghost use Rattle.std.specs.Prelude.{◌≡◌, ◌≢◌, ◌⊎◌, ◌++◌, [], ℕ, IfErr, IfOk, IsErr, IsErrOf, List, OnErr, OnOk, Option};
-ghost use Rattle.std.specs.Prelude.{false, map, take, true};
+ghost use Rattle.std.specs.Prelude.{◌≡◌, ◌≢◌, ◌⊎◌, ◌++◌, [], ℕ, IfErr, IfOk, IfSome, IsErr, IsErrOf, List, OnErr, OnOk};
+ghost use Rattle.std.specs.Prelude.{Option, false, map, take, true};
 ghost use Rattle.std.specs.Io.KnownBytes.{Appends};
 ghost use Rattle.std.specs.List.{flat_map};
 ghost use Rattle.gix_mailmap.specs.Folding.{Text};
+ghost use Rattle.gix_mailmap.specs.Parts.{EndsLine};
+ghost use Rattle.gix_mailmap.specs.Positions.{whole_lines};
 ghost use Rattle.gix_mailmap.specs.Remarks.{remark_of};
-ghost use Rattle.mailmap_io.specs.Printing.{IsUnderway};
+ghost use Rattle.mailmap_io.specs.Printing.{IsUnderway, Prints, PrintsFront};
+ghost use Rattle.mailmap_io.specs.declared.outcome.Outcome.{Outcome as TheOutcome};
 ghost use Rattle.mailmap_likeness.specs.Likeness.{answered};
-ghost use Rattle.mailmap_reports.specs.Contacts.{no_contact, noted, outcome_of_both, remark_line, said_line, said_text};
-ghost use Rattle.mailmap_reports.specs.Task.{AreMailmapsBeside, FailsFor, IsOfInput, contacts_name, is_dash};
+ghost use Rattle.mailmap_reports.specs.Contacts.{IsReportBeside, no_contact, noted, outcome_of_both, remark_line};
+ghost use Rattle.mailmap_reports.specs.Contacts.{said_line, said_text};
+ghost use Rattle.mailmap_reports.specs.Taken.{HasTaken};
+ghost use Rattle.mailmap_reports.specs.Taking.{Takes};
+ghost use Rattle.mailmap_reports.specs.Task.{AreContacts, AreMailmapsBeside, FailsFor, IsAnswer, IsOfInput};
+ghost use Rattle.mailmap_reports.specs.Task.{contacts_name, is_dash};
 
 use crate::answer::{read_files, read_mailmaps};
 use crate::explain::{flush, print};
@@ -44,6 +51,19 @@ pub fn verify_contacts<F: FileSystem, R: Read, W: Write>(
     input: &mut R,
     output: &mut W,
 ) -> Result<Outcome, Failure>
+    // The report is written, once and with nothing beside it.
+    ensures prints { IfOk result (λ outcome. Prints
+        (IsAnswer (F.may_open system.now) (F.bytes system.now) (R.remaining input.old) Mode.Contacts contacts.now
+        (map (λ path. path.items) paths.now) outcome) (W.contents output.old) (W.contents output.new)) }
+
+    // Output that breaks off is the beginning of it. If memory runs out, that or nothing was written.
+    ensures breaks_off { IsErrOf result Failure.Output → (outcome : TheOutcome) × PrintsFront
+        (IsAnswer (F.may_open system.now) (F.bytes system.now) (R.remaining input.old) Mode.Contacts contacts.now
+        (map (λ path. path.items) paths.now) outcome) (W.contents output.old) (W.contents output.new) }
+    ensures memory { IsErrOf result Failure.Memory → (output.new ≡ output.old)
+        ⊎ ((outcome : TheOutcome) × PrintsFront
+        (IsAnswer (F.may_open system.now) (F.bytes system.now) (R.remaining input.old) Mode.Contacts contacts.now
+        (map (λ path. path.items) paths.now) outcome) (W.contents output.old) (W.contents output.new)) }
     ensures silent { IsErr result → ¬ IsErrOf result Failure.Output → ¬ IsErrOf result Failure.Memory
         → output.new ≡ output.old }
     ensures unread { is_dash contacts.now ≡ false → paths.now ≢ [] → input.new ≡ input.old }
@@ -88,6 +108,8 @@ fn read_contacts<F: FileSystem, R: Read>(
     input: &mut R,
     history: &mut History<'_, '_>,
 ) -> Result<(), Failure>
+    ensures takes { OnOk result ((text : Text) × AreContacts (F.may_open system.now) (F.bytes system.now)
+        contacts.now (R.remaining input.old) text × Takes (whole_lines text) history.old history.new) }
     ensures unread { is_dash contacts.now ≡ false → input.new ≡ input.old }
     ensures fails { (before : Option Text) (paths : List Text) → IfErr result (FailsFor (F.may_open system.now)
         (F.bytes system.now) before Mode.Contacts contacts.now paths) }
@@ -113,6 +135,8 @@ fn take_all<R: Read>(
     reader: &mut R,
     history: &mut History<'_, '_>,
 ) -> Result<(), Failure>
+    ensures takes { OnOk result ((text : Text) × IfSome (R.remaining reader.old) (λ bytes. text ≡ bytes)
+        × Takes (whole_lines text) history.old history.new) }
     ensures only { IfErr result (λ e. IsOfInput e ⊎ (e ≡ Failure.Memory)) }
 {
     let mut held = Vec::new(alloc);
@@ -135,6 +159,9 @@ fn take_all<R: Read>(
 
 // Takes the lines that end in a part, of which the first may have begun in what is held, and holds the rest.
 fn take_part(history: &mut History<'_, '_>, part: &[u8], held: &mut Vec<u8>) -> Result<(), Failure>
+    ensures takes { OnOk result ((ended : Text) × EndsLine ended
+        × (held.old.items ++ part.now ≡ ended ++ held.new.items)
+        × Takes (whole_lines ended) history.old history.new) }
     ensures only { IfErr result (λ e. e ≡ Failure.Memory) }
 {
     let Some(feed) = part.rfind_byte(b'\n') else {
@@ -150,6 +177,7 @@ fn take_part(history: &mut History<'_, '_>, part: &[u8], held: &mut Vec<u8>) -> 
 
 // Takes each line of a text.
 fn take_lines(history: &mut History<'_, '_>, text: &[u8]) -> Result<(), Failure>
+    ensures takes { OnOk result (Takes (whole_lines text.now) history.old history.new) }
     ensures only { IfErr result (λ e. e ≡ Failure.Memory) }
 {
     for line in text.lines_with_terminator() {
@@ -167,6 +195,12 @@ fn print_both<W: Write>(
     history: &History<'_, '_>,
     output: &mut W,
 ) -> Result<Outcome, Failure>
+    ensures ok { (taken : Text) → HasTaken mailmaps.now (whole_lines taken) history.now → IfOk result (λ outcome.
+        Prints (IsReportBeside (map (λ path. path.items) paths.now) (contacts_name contacts.now) mailmaps.now taken
+        outcome) (W.contents output.old) (W.contents output.new)) }
+    ensures err { (taken : Text) → HasTaken mailmaps.now (whole_lines taken) history.now → OnErr result
+        ((outcome : TheOutcome) × PrintsFront (IsReportBeside (map (λ path. path.items) paths.now)
+        (contacts_name contacts.now) mailmaps.now taken outcome) (W.contents output.old) (W.contents output.new)) }
     ensures only { IfErr result (λ e. (e ≡ Failure.Memory) ⊎ (e ≡ Failure.Output)) }
 {
     let verification = Verification::new(alloc, mailmaps)?;
@@ -279,6 +313,10 @@ fn print_notices<W: Write>(
     notices: &[Notice],
     output: &mut W,
 ) -> Result<(), Failure>
+    ensures ok { OnOk result (Appends (W.contents output.old) (W.contents output.new)
+        (said_text file.now (flat_map (noted (map answered answers.now)) notices.now))) }
+    ensures err { OnErr result ((count : ℕ) × Appends (W.contents output.old) (W.contents output.new)
+        (take count (said_text file.now (flat_map (noted (map answered answers.now)) notices.now)))) }
     ensures only { IfErr result (λ e. (e ≡ Failure.Memory) ⊎ (e ≡ Failure.Output)) }
 {
     let mut printer = Printer::new(alloc)?;

@@ -1,9 +1,15 @@
 //! The contacts of a history: which lines of mailmaps they don't need, and what is reported of themselves.
-ghost use Rattle.std.specs.Prelude.{◌≡◌, ◌||◌, ◌++◌, IfErr, IfOk, IsOkUnless, List, OnErr, OnOk, is_some};
+ghost use Rattle.std.specs.Prelude.{◌≡◌, ◌⊎◌, ◌+◌, ◌||◌, ◌∷◌, ◌++◌, [], Contains, IfErr, IfOk, IsOkUnless};
+ghost use Rattle.std.specs.Prelude.{IsTrue, List, OnErr, OnOk, false, if◌then◌else◌, is_some, length, not};
 ghost use Rattle.std.specs.List.{flat_map};
+ghost use Rattle.gix_mailmap.specs.Folding.{Text};
+ghost use Rattle.gix_mailmap.specs.Lines.{Closed};
+ghost use Rattle.gix_mailmap.specs.Needs.{contact_in, is_contact};
 ghost use Rattle.gix_mailmap.specs.Redundancy.{entries};
 ghost use Rattle.mailmap_likeness.specs.Likeness.{Answered, IsAdded};
-ghost use Rattle.mailmap_reports.specs.Contacts.{answer_of, noted};
+ghost use Rattle.mailmap_repeats.specs.Kept.{Kept};
+ghost use Rattle.mailmap_reports.specs.Contacts.{answer_of, no_contact, noted};
+ghost use Rattle.mailmap_reports.specs.Taken.{HasTaken};
 
 use crate::failure::Failure;
 use gix_mailmap::needs::Needs;
@@ -44,7 +50,9 @@ impl<'m, 'a> History<'m, 'a> {
     pub(crate) fn new(
         alloc: Global,
         mailmaps: &'m Mailmaps<'_, 'a>,
-    ) -> Result<History<'m, 'a>, AllocError> {
+    ) -> Result<History<'m, 'a>, AllocError>
+        ensures { IfOk result (λ s. HasTaken mailmaps.now [] s) }
+    {
         let needs = Needs::new(alloc, mailmaps)?;
         let answers = Answers::new(alloc);
         let notices = Vec::new(alloc);
@@ -61,6 +69,8 @@ impl<'m, 'a> History<'m, 'a> {
 
     /// Takes a line of contacts, with or without its line end.
     pub(crate) fn take(&mut self, line: &[u8]) -> Result<(), Failure>
+        ensures taken { (mailmaps contacts : List Text) → HasTaken mailmaps contacts self.old
+            → OnOk result (HasTaken mailmaps (contacts ++ line.now ∷ []) self.new) }
         ensures only { IsOkUnless result Failure.Memory }
     {
         // No history is so long.
@@ -78,8 +88,12 @@ impl<'m, 'a> History<'m, 'a> {
         Ok(())
     }
 
-    // Takes a line, and says whether it is a contact.
+    // Takes a line, but for its number, and says whether it is a contact.
     fn take_new(&mut self, line: &[u8], number: usize) -> Result<bool, Failure>
+        ensures taken { (mailmaps contacts : List Text) → HasTaken mailmaps contacts self.old
+            → number ≡ length contacts + 1
+            → OnOk result (HasTaken mailmaps (contacts ++ line.now ∷ []) (record self.new { count = number })) }
+        ensures contact { IfOk result (λ b. b ≡ is_contact (contact_in line.now)) }
         ensures only { IfErr result (λ e. e ≡ Failure.Memory) }
     {
         let text = trim(line);
@@ -88,54 +102,78 @@ impl<'m, 'a> History<'m, 'a> {
                 self.take_contact(name, email, number)?;
                 Ok(true)
             }
-            ParsedContact::Absent => self.take_none(text.is_empty(), number),
-            ParsedContact::Unclosed => self.take_none(false, number),
+            ParsedContact::Absent => {
+                let is_blank = text.is_empty();
+                note_none(&mut self.notices, &mut self.found, is_blank, number)
+            }
+            ParsedContact::Unclosed => note_none(&mut self.notices, &mut self.found, false, number),
         }
     }
 
-    // Takes a line that is blank, or no contact.
-    fn take_none(&mut self, is_blank: bool, number: usize) -> Result<bool, Failure>
-        ensures only { IfErr result (λ e. e ≡ Failure.Memory) }
-    {
-        if is_blank {
-            return Ok(false);
-        }
-        self.found = true;
-        self.notices.push(Notice::NoContact(number))?;
-        Ok(false)
-    }
-
-    // Takes a contact: what it needs, and its answer.
+    // Takes a contact, but for its number: what it needs, and its answer.
     fn take_contact(&mut self, name: &[u8], email: &[u8], number: usize) -> Result<(), Failure>
+        ensures taken { (mailmaps contacts : List Text) (line rest : Text) → HasTaken mailmaps contacts self.old
+            → number ≡ length contacts + 1 → contact_in line ≡ Closed name.now email.now rest
+            → OnOk result (HasTaken mailmaps (contacts ++ line ∷ []) (record self.new { count = number })) }
         ensures only { IsOkUnless result Failure.Memory }
     {
         self.needs.take_contact(name, email);
         let index = self.answers.as_slice().len();
         let added = add_answer(&self.needs, &mut self.answers, name, email, number)?;
         match added {
-            Added::New(likeness) => self.note(index, likeness),
+            Added::New(likeness) => {
+                note_alike(&mut self.notices, &mut self.found, index, likeness)
+            }
             Added::Known => Ok(()),
         }
     }
+}
 
-    // Notes what an answer is like, if it is like any.
-    fn note(&mut self, index: usize, likeness: Likeness) -> Result<(), Failure>
-        ensures notes { OnOk result ((answers : List Answered) → flat_map (noted answers) self.new.notices.items
-            ≡ flat_map (noted answers) self.old.notices.items ++ noted answers (Notice.Alike index likeness)) }
-        ensures found { OnOk result (self.new.found ≡ (self.old.found || is_some likeness.email)) }
-        ensures only { IsOkUnless result Failure.Memory }
-    {
-        if likeness.email.is_none() && likeness.name.is_none() {
-            return Ok(());
-        }
-        self.found = self.found || likeness.email.is_some();
-        self.notices.push(Notice::Alike(index, likeness))?;
-        Ok(())
+// Notes a line that is no contact, if it isn't blank. `false` says that it is none.
+fn note_none(
+    notices: &mut Vec<Notice>,
+    found: &mut bool,
+    is_blank: bool,
+    number: usize,
+) -> Result<bool, Failure>
+    ensures notes { OnOk result ((answers : List Answered) → flat_map (noted answers) notices.new.items
+        ≡ flat_map (noted answers) notices.old.items ++ (if is_blank then [] else no_contact number ∷ [])) }
+    ensures found { OnOk result (found.new ≡ (found.old || not is_blank)) }
+    ensures none { IfOk result (λ b. b ≡ false) }
+    ensures only { IfErr result (λ e. e ≡ Failure.Memory) }
+{
+    if is_blank {
+        return Ok(false);
     }
+    *found = true;
+    notices.push(Notice::NoContact(number))?;
+    Ok(false)
+}
+
+// Notes what an answer is like, if it is like any.
+fn note_alike(
+    notices: &mut Vec<Notice>,
+    found: &mut bool,
+    index: usize,
+    likeness: Likeness,
+) -> Result<(), Failure>
+    ensures notes { OnOk result ((answers : List Answered) → flat_map (noted answers) notices.new.items
+        ≡ flat_map (noted answers) notices.old.items ++ noted answers (Notice.Alike index likeness)) }
+    ensures found { OnOk result (found.new ≡ (found.old || is_some likeness.email)) }
+    ensures only { IsOkUnless result Failure.Memory }
+{
+    if likeness.email.is_none() && likeness.name.is_none() {
+        return Ok(());
+    }
+    *found = *found || likeness.email.is_some();
+    notices.push(Notice::Alike(index, likeness))?;
+    Ok(())
 }
 
 // Keeps a line, if it is a contact.
-fn keep_if(is_kept: bool, last: &mut LastAnswers, hash: u64, line: &[u8]) {
+fn keep_if(is_kept: bool, last: &mut LastAnswers, hash: u64, line: &[u8])
+    ensures { (k : Kept) → Contains last.new k → Contains last.old k ⊎ (IsTrue is_kept × (k.line ≡ line.now)) }
+{
     if is_kept {
         last.put(hash, line, b"");
     }

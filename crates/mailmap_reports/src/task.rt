@@ -229,8 +229,8 @@ pub fn perform<F: FileSystem, R: Read, W: Write>(
     input: &mut R,
     output: &mut W,
 ) -> Result<Outcome, Failure>
-    // The answer is written, once and with nothing beside it. With contacts this is only tested.
-    ensures prints { task.entry.mode ≢ Mode.Contacts → IfOk result (λ outcome. Prints
+    // The answer is written, once and with nothing beside it.
+    ensures prints { IfOk result (λ outcome. Prints
         (IsAnswer (F.may_open system.now) (F.bytes system.now) (R.remaining input.old) task.entry.mode
         task.entry.contacts.now (map (λ path. path.items) task.entry.paths.now) outcome)
         (W.contents output.old) (W.contents output.new)) }
@@ -250,16 +250,15 @@ pub fn perform<F: FileSystem, R: Read, W: Write>(
         → IsErrOf result Failure.TooManyFiles }
 
     // Output that breaks off is the beginning of the answer.
-    ensures breaks_off { task.entry.mode ≢ Mode.Contacts → IsErrOf result Failure.Output → (outcome : TheOutcome) × PrintsFront
+    ensures breaks_off { IsErrOf result Failure.Output → (outcome : TheOutcome) × PrintsFront
         (IsAnswer (F.may_open system.now) (F.bytes system.now) (R.remaining input.old) task.entry.mode
         task.entry.contacts.now (map (λ path. path.items) task.entry.paths.now) outcome)
         (W.contents output.old) (W.contents output.new) }
 
-    // So it is if memory runs out while findings are printed; at all other failures nothing is written, unless contacts
+    // So it is if memory runs out while a report is printed; at all other failures nothing is written, unless contacts
     // are explained.
-    ensures memory { task.entry.mode ≢ Mode.Explain → task.entry.mode ≢ Mode.Contacts
-        → IsErrOf result Failure.Memory → (output.new ≡ output.old)
-        ⊎ ((task.entry.mode ≡ Mode.Verify) × ((outcome : TheOutcome) × PrintsFront
+    ensures memory { task.entry.mode ≢ Mode.Explain → IsErrOf result Failure.Memory → (output.new ≡ output.old)
+        ⊎ (((task.entry.mode ≡ Mode.Verify) ⊎ (task.entry.mode ≡ Mode.Contacts)) × ((outcome : TheOutcome) × PrintsFront
         (IsAnswer (F.may_open system.now) (F.bytes system.now) (R.remaining input.old) task.entry.mode
         task.entry.contacts.now (map (λ path. path.items) task.entry.paths.now) outcome)
         (W.contents output.old) (W.contents output.new))) }

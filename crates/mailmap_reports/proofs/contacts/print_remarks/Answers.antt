@@ -1,4 +1,4 @@
-use Rattle.std.proofs.Common.{rules, ◌≡◌, ◌∙◌, ◌++◌, List, [], ◌∷◌, ℕ, Option, Vec, Global, ap, append-nil, map, refl, sym}
+use Rattle.std.proofs.Common.{◌≡◌, ◌∙◌, ◌++◌, List, [], ◌∷◌, ℕ, Vec, Global, ap, append-nil, map, refl, sym}
 use Rattle.std.proofs.lemmas.Result.{err_from_is_err_and}
 use Rattle.gix_mailmap.specs.Remarks.{Remark, remark_of}
 use Rattle.mailmap_io.specs.declared.outcome.Outcome.TheVariants.{Found}

@@ -1,0 +1,14 @@
+use Rattle.std.proofs.Common.{◌≡◌, ◌+◌, arith, length}
+use Rattle.mailmap_reports.proofs.Taking.{taken_again, taken_kept}
+use Rattle.mailmap_reports.proofs.history.History.take.Goals as goal
+
+pub returns-in-Some-get-clause-taken : goal.returns-in-Some-get-clause-taken
+returns-in-Some-get-clause-taken c = λ mailmaps contacts taken.
+    let number_is : c.in-Some.number ≡ length contacts + 1 = omega (arith, taken.count, c.in-Some.ensures) in
+    taken_again mailmaps contacts c.args.line.now c.in-Some-get.field-0.now c.args.self.now c.in-Some.number taken number_is c.in-Some-get.ensures
+
+pub returns-clause-taken : goal.returns-clause-taken
+returns-clause-taken c = λ mailmaps contacts taken.
+    let number_is : c.in-Some.number ≡ length contacts + 1 = omega (arith, taken.count, c.in-Some.ensures) in
+    taken_kept mailmaps contacts c.args.line.now (record c.take_new.new.self { count = c.in-Some.number }) c.keep_if.new.last c.in_ok-is_contact.is_contact
+    (c.in_ok-is_contact.ensures.taken mailmaps contacts taken number_is) c.in_ok-is_contact.ensures.contact c.keep_if.ensures
