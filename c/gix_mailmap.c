@@ -8,6 +8,7 @@
 
 _Static_assert(sizeof(gix_mailmap_field) == 16 && sizeof(gix_mailmap_listed) == 72, "as in the proved calls");
 _Static_assert(sizeof(gix_mailmap_finding) == 24 && offsetof(gix_mailmap_finding, beside) == 16, "the same");
+_Static_assert(sizeof(gix_mailmap_position) == 16 && offsetof(gix_mailmap_position, line) == 8, "the same");
 
 /* what stands for NULL, aligned for all elements; nothing reads or writes it */
 static uint64_t nothing;
@@ -245,6 +246,20 @@ gix_mailmap_status gix_mailmap_explain(const gix_mailmap_named *mailmaps, size_t
     gix_mailmap_status status = gix_mailmap_text_explain(b.all, count, b.names, b.total.name, b.texts, b.total.text,
                                                          text_at(contacts), contacts_len, room_at(out), out_len,
                                                          needed);
+    free(b.all);
+    return status;
+}
+
+gix_mailmap_status gix_mailmap_unneeded(const gix_mailmap_named *mailmaps, size_t count, const char *contacts,
+                                        size_t contacts_len, gix_mailmap_position *GIX_MAILMAP_RESTRICT out,
+                                        size_t out_len, size_t *GIX_MAILMAP_RESTRICT needed)
+{
+    block b = block_of(mailmaps, count);
+    *needed = 0;
+    if (b.all == NULL)
+        return GIX_MAILMAP_OUT_OF_MEMORY;
+    gix_mailmap_status status = gix_mailmap_text_unneeded(b.all, count, b.texts, b.total.text, text_at(contacts),
+                                                          contacts_len, room_at(out), out_len, needed);
     free(b.all);
     return status;
 }

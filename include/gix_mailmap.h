@@ -131,6 +131,12 @@ typedef struct gix_mailmap_named {
     size_t text_len;
 } gix_mailmap_named;
 
+/* Where a line of some mailmaps is: the index of its mailmap, counted from 0, and its number there, counted from 1. */
+typedef struct gix_mailmap_position {
+    size_t buffer;
+    size_t line;
+} gix_mailmap_position;
+
 /* The version of the library, as `0.1.0`. */
 const char *gix_mailmap_version(void);
 
@@ -256,6 +262,18 @@ gix_mailmap_status gix_mailmap_report(const gix_mailmap_named *mailmaps, size_t 
 gix_mailmap_status gix_mailmap_explain(const gix_mailmap_named *mailmaps, size_t count, const char *contacts,
                                        size_t contacts_len, char *GIX_MAILMAP_RESTRICT out, size_t out_len,
                                        size_t *GIX_MAILMAP_RESTRICT needed)
+    GIX_MAILMAP_NONNULL(7) GIX_MAILMAP_MUST_CHECK;
+
+/* Lists the lines of some mailmaps that have an effect and that no contact needs, in their order. `contacts` has a
+ * contact on each line, such as all those of a history; lines that are no contacts need nothing. A contact needs the
+ * line that gives its new name, and the one that gives its new email. If no line gives an email, it needs the first
+ * line for its old email, which says how that is spelled. Without the lines that are listed, and without those of no
+ * effect, all these contacts are answered as before. Mailmaps are as for gix_mailmap_report; their names are not used.
+ * `out_len` counts positions. `needed` is the number of all lines that are listed, and 0 at OUT_OF_MEMORY.
+ * OK; TOO_SHORT; OUT_OF_MEMORY. */
+gix_mailmap_status gix_mailmap_unneeded(const gix_mailmap_named *mailmaps, size_t count, const char *contacts,
+                                        size_t contacts_len, gix_mailmap_position *GIX_MAILMAP_RESTRICT out,
+                                        size_t out_len, size_t *GIX_MAILMAP_RESTRICT needed)
     GIX_MAILMAP_NONNULL(7) GIX_MAILMAP_MUST_CHECK;
 
 /* Opens a stream, whose contacts are answered by what the mailmap maps, as gix_mailmap_check answers them. The contacts

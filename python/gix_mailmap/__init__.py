@@ -14,10 +14,10 @@ is encoded; in a `str`, bytes that aren't UTF-8 are lone surrogates (`surrogatee
 All errors of the module are of the class Error. An argument of a wrong type is a TypeError.
 """
 
-from ._calls import check, compact, explain, prune, report, verify
+from ._calls import check, compact, explain, prune, report, unneeded, verify
 from ._errors import Closed, Error, NoEntry, NotAnEntry, OutOfMemory, Unwritable
 from ._mailmap import Mailmap
-from ._results import Answer, Entry, Finding, Kind
+from ._results import Answer, Entry, Finding, Kind, Position
 
 __all__ = [
     "Answer",
@@ -30,11 +30,13 @@ __all__ = [
     "NoEntry",
     "NotAnEntry",
     "OutOfMemory",
+    "Position",
     "Unwritable",
     "check",
     "compact",
     "explain",
     "prune",
     "report",
+    "unneeded",
     "verify",
 ]

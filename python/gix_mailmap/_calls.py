@@ -5,7 +5,7 @@ from __future__ import annotations
 from typing import Callable, Iterable, Union, overload
 
 from . import _native
-from ._results import Finding, Kind
+from ._results import Finding, Kind, Position
 from ._texts import Buffer, Text, are_str, as_bytes, as_str
 
 
@@ -122,6 +122,29 @@ def explain(mailmaps: Iterable[tuple[Text, Text]], contacts: Text) -> Union[str,
     is_str = are_str(contacts, *(text for pair in pairs for text in pair))
     answer = _native.explain([(as_bytes(name), as_bytes(text)) for name, text in pairs], as_bytes(contacts))
     return as_str(answer) if is_str else answer
+
+
+@overload
+def unneeded(mailmaps: Iterable[tuple[str, str]], contacts: str) -> list[Position]: ...
+
+
+@overload
+def unneeded(mailmaps: Iterable[tuple[Buffer, Buffer]], contacts: Buffer) -> list[Position]: ...
+
+
+def unneeded(mailmaps: Iterable[tuple[Text, Text]], contacts: Text) -> list[Position]:
+    """The lines of mailmaps that have an effect and that none of the contacts needs, in their order. Each mailmap comes
+    with its name, as for `explain`, and `contacts` has a contact on each line. Raises OutOfMemory.
+
+    >>> team, own = "Joe <joe@x>\\n<jane@x> <jd@y>\\n", "Jane Doe <jd@y>\\nBob <b@x>\\n"
+    >>> unneeded([("team", team), ("own", own)], "jd <jd@y>\\nal <al@x>")
+    [Position(mailmap=0, line=1), Position(mailmap=1, line=2)]
+    """
+    pairs = [(name, text) for name, text in mailmaps]
+    # a TypeError if kinds are mixed
+    are_str(contacts, *(text for pair in pairs for text in pair))
+    listed = _native.unneeded([(as_bytes(name), as_bytes(text)) for name, text in pairs], as_bytes(contacts))
+    return [Position(mailmap, line) for mailmap, line in listed]
 
 
 def _finding(line: int, number: int, beside: int) -> Finding:

@@ -45,6 +45,8 @@ class _Named(Structure):
 _LISTED = struct.Struct("@N N? N? N? N? 0N")
 # gix_mailmap_finding: line, kind and beside
 _FINDING = struct.Struct("@N I N 0N")
+# gix_mailmap_position: buffer and line
+_POSITION = struct.Struct("@N N")
 
 
 class Fields(NamedTuple):
@@ -100,6 +102,7 @@ def _load() -> ctypes.CDLL:
         "verify": ([*text, *room, length], c_int),
         "report": ([POINTER(_Named), c_size_t, *room, length], c_int),
         "explain": ([POINTER(_Named), c_size_t, *text, *room, length], c_int),
+        "unneeded": ([POINTER(_Named), c_size_t, *text, *room, length], c_int),
         "stream_open": ([POINTER(c_void_p), *text], c_int),
         "stream_close": ([c_void_p], None),
         "stream_push": ([c_void_p, *text, length], c_int),
@@ -180,6 +183,13 @@ def explain(mailmaps: list[tuple[bytes, bytes]], contacts: bytes) -> bytes:
     """Which lines of mailmaps, each with its name, give contacts their new fields, as text."""
     call = partial(_library.gix_mailmap_explain, _named(mailmaps), len(mailmaps))
     return _filled(call, 1, 4 * len(contacts) + 4096, contacts)
+
+
+def unneeded(mailmaps: list[tuple[bytes, bytes]], contacts: bytes) -> list[tuple[int, int]]:
+    """Index of the mailmap and number of each line that no contact needs."""
+    call = partial(_library.gix_mailmap_unneeded, _named(mailmaps), len(mailmaps))
+    listed = _filled(call, _POSITION.size, 64, contacts)
+    return [(mailmap, line) for mailmap, line in _POSITION.iter_unpack(listed)]
 
 
 def _named(mailmaps: list[tuple[bytes, bytes]]) -> ctypes.Array[_Named]:

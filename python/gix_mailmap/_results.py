@@ -69,3 +69,10 @@ class Finding(NamedTuple):
     line: int
     kind: Kind
     beside: Optional[int]
+
+
+class Position(NamedTuple):
+    """Where a line of some mailmaps is: the index of its mailmap, counted from 0, and its number, counted from 1."""
+
+    mailmap: int
+    line: int

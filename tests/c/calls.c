@@ -244,6 +244,42 @@ static void explain(void)
     WANT(gix_mailmap_explain(&huge, 1, TEXT("a <b>"), NULL, 0, &needed) == GIX_MAILMAP_OUT_OF_MEMORY && needed == 0);
 }
 
+/* two mailmaps, of which the second has a line of no effect, and contacts of which the first needs two lines */
+static const gix_mailmap_named NEEDED[2] = {
+    {TEXT("team"), TEXT("Joe <joe@x>\n<jane@x> <jd@y>\n")},
+    {TEXT("own"), TEXT("Jane Doe <jd@y>\nBob <b@x>\n# Bob\nRobert <b@x>\nplain\nAl <al@x>")}};
+static const char NEEDING[] = "jd <JD@y>\r\n\nplain\nbob <c@x>\n";
+
+static bool is_position(gix_mailmap_position p, size_t buffer, size_t line)
+{
+    return p.buffer == buffer && p.line == line;
+}
+
+static void unneeded(void)
+{
+    gix_mailmap_position listed[4];
+    for (size_t room = 0; room <= 4; room++) {
+        size_t needed = 99;
+        for (size_t i = 0; i < 4; i++)
+            listed[i] = (gix_mailmap_position){97, 98};
+        gix_mailmap_status status = gix_mailmap_unneeded(NEEDED, 2, TEXT(NEEDING), listed, room, &needed);
+        WANT(status == (room < 3 ? GIX_MAILMAP_TOO_SHORT : GIX_MAILMAP_OK) && needed == 3);
+        WANT(room < 3 ? is_position(listed[0], 97, 98) : is_position(listed[0], 0, 1));
+        WANT(room < 3 ? is_position(listed[1], 97, 98) : is_position(listed[1], 1, 4));
+        WANT(room < 3 ? is_position(listed[2], 97, 98) : is_position(listed[2], 1, 6));
+        WANT(is_position(listed[3], 97, 98));
+    }
+    size_t needed = 99;
+    gix_mailmap_named nameless = {NULL, 0, TEXT("N <a@x>")}, huge = {"", SIZE_MAX, "", 2};
+    WANT(gix_mailmap_unneeded(NULL, 0, NULL, 0, NULL, 0, &needed) == GIX_MAILMAP_OK && needed == 0);
+    WANT(gix_mailmap_unneeded(NULL, 0, TEXT("a <b>"), NULL, 0, &needed) == GIX_MAILMAP_OK && needed == 0);
+    WANT(gix_mailmap_unneeded(NEEDED, 2, NULL, 0, NULL, 0, &needed) == GIX_MAILMAP_TOO_SHORT && needed == 5);
+    WANT(gix_mailmap_unneeded(&nameless, 1, TEXT("n <a@x>"), NULL, 0, &needed) == GIX_MAILMAP_OK && needed == 0);
+    WANT(gix_mailmap_unneeded(&nameless, 1, TEXT("a <b>"), listed, 1, &needed) == GIX_MAILMAP_OK && needed == 1);
+    WANT(is_position(listed[0], 0, 1));
+    WANT(gix_mailmap_unneeded(&huge, 1, TEXT("a <b>"), NULL, 0, &needed) == GIX_MAILMAP_OUT_OF_MEMORY && needed == 0);
+}
+
 static void looked_up(const gix_mailmap *map)
 {
     buffer name = filled(), email = filled();
@@ -598,6 +634,9 @@ static int texts_once(void)
     all[0] = '#';
     WANT(is_done(gix_mailmap_explain(GIVING, 2, TEXT(EXPLAINED), all, sizeof all, &needed), &needed, &refused));
     WANT(needed ? needed == sizeof EXPLANATION - 1 && memcmp(all, EXPLANATION, needed) == 0 : all[0] == '#');
+    gix_mailmap_position listed[3] = {{97, 98}};
+    WANT(is_done(gix_mailmap_unneeded(NEEDED, 2, TEXT(NEEDING), listed, 3, &needed), &needed, &refused));
+    WANT(needed ? needed == 3 && is_position(listed[2], 1, 6) : is_position(listed[0], 97, 98));
     return refused;
 }
 
@@ -676,7 +715,7 @@ static bool refuses(long number)
 
 int main(void)
 {
-    void (*const parts[])(void) = {words,   check_and_compact, prune,   verify,       report, explain,
+    void (*const parts[])(void) = {words,   check_and_compact, prune,   verify,       report,       explain, unneeded,
                                    changes, entries,           streams, long_streams, long_answers, nulls};
     for (size_t i = 0; i < sizeof parts / sizeof parts[0]; i++) {
         parts[i]();

@@ -3,7 +3,7 @@ import gc
 import unittest
 
 import gix_mailmap
-from gix_mailmap import Answer, Closed, Entry, Finding, Kind, Mailmap, NotAnEntry, Unwritable
+from gix_mailmap import Answer, Closed, Entry, Finding, Kind, Mailmap, NotAnEntry, Position, Unwritable
 
 MAP = b"Jane Doe <jane@x> <jd@y>\nJoe <joe@x>\n"
 JANE = Entry(b"Jane Doe", b"jane@x", None, b"jd@y")
@@ -84,6 +84,26 @@ class Texts(unittest.TestCase):
         self.assertTrue(many.endswith(b"\nN399999 <399999@x> is N399999 <399999@x> by many:200000\n"))
         with self.assertRaises(TypeError):
             gix_mailmap.explain(both, "a <b>")
+
+    def test_unneeded(self):
+        team, own = b"Joe <joe@x>\n<jane@x> <jd@y>\n", b"Jane Doe <jd@y>\nBob <b@x>\n# Bob\nRobert <b@x>\nplain\n"
+        both = [(b"team", team), (b"own", own)]
+        cases = [
+            (b"", [(0, 1), (0, 2), (1, 1), (1, 4)]),
+            (b"plain\n\nal <al@x>", [(0, 1), (0, 2), (1, 1), (1, 4)]),
+            (b"jd <JD@y>\r\n", [(0, 1), (1, 4)]),
+            (b"bob <B@x>\njd <jd@y>", [(0, 1)]),
+            (b"joe <joe@x>\nbob <b@x>\njd <jd@y>", []),
+        ]
+        for contacts, positions in cases:
+            with self.subTest(contacts=contacts):
+                listed = gix_mailmap.unneeded(iter(both), contacts)
+                self.assertEqual(listed, [Position(*position) for position in positions])
+        self.assertEqual(gix_mailmap.unneeded([], b"a <b>"), [])
+        self.assertEqual(gix_mailmap.unneeded([(b"a\0b", b"\0\nN <e@x>")], b""), [Position(mailmap=0, line=2)])
+        self.assertEqual(gix_mailmap.unneeded([(b"many", MANY)], MANY), [])
+        every = [Position(0, line) for line in range(1, COUNT + 1)]
+        self.assertEqual(gix_mailmap.unneeded([(b"many", MANY)], b"plain"), every)
 
     def test_more_findings_than_the_first_array_holds(self):
         found = [Finding(line, Kind.NO_EMAIL, None) for line in range(1, 1001)]

@@ -3,7 +3,7 @@ import unittest
 
 import gix_mailmap
 from gix_mailmap import (
-    Answer, Closed, Entry, Error, Finding, Kind, Mailmap, NoEntry, NotAnEntry, OutOfMemory, Unwritable,
+    Answer, Closed, Entry, Error, Finding, Kind, Mailmap, NoEntry, NotAnEntry, OutOfMemory, Position, Unwritable,
 )
 
 TEXT = "Jörg Doe <j@x> <jd@y>\n"
@@ -45,6 +45,9 @@ class Kinds(unittest.TestCase):
         self.assertEqual(gix_mailmap.report([("ä", "x")]), "ä:1: error: no email in brackets\n")
         for kind in (bytes, bytearray, memoryview):
             self.assertEqual(gix_mailmap.report([(kind(b"a"), kind(b"x"))]), b"a:1: error: no email in brackets\n")
+        self.assertEqual(gix_mailmap.unneeded([("ä", TEXT)], "jö <ä>"), [Position(0, 1)])
+        for kind in (bytes, bytearray, memoryview):
+            self.assertEqual(gix_mailmap.unneeded([(kind(b"a"), kind(TEXT.encode()))], kind(b"j <jd@y>")), [])
 
     def test_what_is_not_utf_8(self):
         text = JOERG.decode(errors="surrogateescape")
@@ -68,6 +71,8 @@ class Kinds(unittest.TestCase):
                 lambda: gix_mailmap.check("", b""),
                 lambda: gix_mailmap.report([("", b"")]),
                 lambda: gix_mailmap.report([("", ""), (b"", b"")]),
+                lambda: gix_mailmap.unneeded([("", b"")], ""),
+                lambda: gix_mailmap.unneeded([("", "")], b""),
                 lambda: list(of_str.map_contacts(["", b""])),
                 lambda: list(of_str.map_contacts(["x"] * 10_000 + [b""])),
             ]

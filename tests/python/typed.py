@@ -2,7 +2,7 @@
 from typing import Iterator, Sequence, assert_type
 
 import gix_mailmap
-from gix_mailmap import Answer, Entry, Finding, Kind, Mailmap
+from gix_mailmap import Answer, Entry, Finding, Kind, Mailmap, Position
 
 buffer = bytearray()
 with Mailmap("") as of_str, Mailmap(b"", buffer, memoryview(buffer)) as of_bytes:
@@ -39,6 +39,7 @@ with Mailmap("") as of_str, Mailmap(b"", buffer, memoryview(buffer)) as of_bytes
     gix_mailmap.compact(1)  # type: ignore[call-overload]
     gix_mailmap.report([("", b"")])  # type: ignore[list-item]
     gix_mailmap.explain([("", "")], b"")  # type: ignore[list-item]
+    gix_mailmap.unneeded([("", "")], b"")  # type: ignore[list-item]
 
 assert_type(gix_mailmap.check("", ""), str)
 assert_type(gix_mailmap.compact(buffer), bytes)
@@ -47,5 +48,7 @@ assert_type(gix_mailmap.report([("", "")]), str)
 assert_type(gix_mailmap.report({b"": b""}.items()), bytes)
 assert_type(gix_mailmap.explain([("", "")], ""), str)
 assert_type(gix_mailmap.explain({b"": buffer}.items(), b""), bytes)
+assert_type(gix_mailmap.unneeded([("", "")], ""), list[Position])
+assert_type(gix_mailmap.unneeded({b"": buffer}.items(), b"")[0].mailmap, int)
 assert_type(gix_mailmap.verify(""), list[Finding])
 assert_type(gix_mailmap.verify(b"")[0].kind, Kind)

@@ -5,7 +5,7 @@ use Rattle.std.proofs.Math.ListN.{set}
 use Rattle.std.proofs.lemmas.List.{take_more_set, drop-set-lt, drop-drop, take-append-drop}
 use Rattle.mailmap_entries.specs.Entries.{Mapping}
 use Rattle.mailmap_entries.specs.Folding.{Text}
-use Rattle.gix_mailmap_c.specs.Listed.{IsBehind, all_listed, entry_text, given}
+use Rattle.gix_mailmap_c.specs.Listed.{IsAfter, all_listed, entry_text, given}
 
 module _ {X : Type 0} where
   -- a part of `all` is at the front of the buffer, up to the index, and the others are left; after the index the buffer
@@ -20,7 +20,7 @@ module _ {X : Type 0} where
   later n k e xs ys at same =
       ap (λ p. drop p xs) at ∙ sym (drop-drop k n xs) ∙ ap (drop k) same ∙ drop-drop k n ys ∙ ap (λ p. drop p ys) (sym at)
 
-  pub copied_more : (s left all : List X) (end next : ℕ) (now new old : List X) → Copied (s ++ left) all end now old → IsBehind s end now new next → Copied left all next new old
+  pub copied_more : (s left all : List X) (end next : ℕ) (now new old : List X) → Copied (s ++ left) all end now old → IsAfter s end now new next → Copied left all next new old
   copied_more s left all end next now new old c b =
       record {
         until = omega (arith, c.until, b.until, length-append s left);
@@ -36,8 +36,8 @@ module _ {X : Type 0} where
       ∙ ap (λ l. all ++ l) (c.rest ∙ ap (λ p. drop p old) whole)
 
   -- one list after another
-  pub behind_both : (s t a m b : List X) (start mid end : ℕ) → IsBehind s start a m mid → IsBehind t mid m b end → IsBehind (s ++ t) start a b end
-  behind_both s t a m b start mid end p q =
+  pub after_both : (s t a m b : List X) (start mid end : ℕ) → IsAfter s start a m mid → IsAfter t mid m b end → IsAfter (s ++ t) start a b end
+  after_both s t a m b start mid end p q =
       record {
         until = omega (arith, p.until, q.until, length-append s t);
         front = q.front ∙ ap (λ l. l ++ t) p.front ∙ append_assoc (take start a) s t;
@@ -45,8 +45,8 @@ module _ {X : Type 0} where
       }
 
   -- an element that is set
-  pub behind_set : (xs : List X) (index : ℕ) (x : X) → index < length xs → IsBehind (x ∷ []) index xs (set xs index x) (index + 1)
-  behind_set xs index x lt =
+  pub after_set : (xs : List X) (index : ℕ) (x : X) → index < length xs → IsAfter (x ∷ []) index xs (set xs index x) (index + 1)
+  after_set xs index x lt =
       record {
         until = refl;
         front = take_more_set xs index x lt;
@@ -71,12 +71,12 @@ listed_room start index n left rest all m e until room =
     omega (arith, length-all_listed start left, length-all_listed 0 all, ap length e, until, room)
 
 -- the four texts of an entry, one after another
-pub behind_entry : (m : Mapping) (name email old : Option Text) (last : Text) → name ≡ m.new_name → email ≡ m.new_email → old ≡ m.old_name → last ≡ m.old_email
-    → (o p q r s : Text) (a b c d e : ℕ) → IsBehind (given name) a o p b → IsBehind (given email) b p q c → IsBehind (given old) c q r d → IsBehind last d r s e
-    → IsBehind (entry_text m) a o s e
-behind_entry m name email old last n k l t o p q r s a b c d e first second third fourth =
-    let P : Text → Type 0 = λ text. IsBehind text a o s e in
-    let two = behind_both (given name) (given email) o p q a b c first second in
-    let three = behind_both (given name ++ given email) (given old) o q r a c d two third in
-    let four = behind_both (given name ++ given email ++ given old) last o r s a d e three fourth in
+pub after_entry : (m : Mapping) (name email old : Option Text) (last : Text) → name ≡ m.new_name → email ≡ m.new_email → old ≡ m.old_name → last ≡ m.old_email
+    → (o p q r s : Text) (a b c d e : ℕ) → IsAfter (given name) a o p b → IsAfter (given email) b p q c → IsAfter (given old) c q r d → IsAfter last d r s e
+    → IsAfter (entry_text m) a o s e
+after_entry m name email old last n k l t o p q r s a b c d e first second third fourth =
+    let P : Text → Type 0 = λ text. IsAfter text a o s e in
+    let two = after_both (given name) (given email) o p q a b c first second in
+    let three = after_both (given name ++ given email) (given old) o q r a c d two third in
+    let four = after_both (given name ++ given email ++ given old) last o r s a d e three fourth in
     subst P (λ i. given (n i) ++ given (k i) ++ given (l i) ++ t i) four

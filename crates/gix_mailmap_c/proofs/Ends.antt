@@ -15,11 +15,11 @@ module _ {X : Type 0} where
       let long : length (take n s) ≡ n = length-take-le n s covers in
       let before : take m first ≡ take m s =
       ap (take m) first_is ∙ take-append-le m (take n s) (drop n b) (omega (arith, long, meet)) ∙ take-take m n s meet in
-      let behind : drop k (drop m first) ≡ drop (length s) b =
+      let after : drop k (drop m first) ≡ drop (length s) b =
       drop-drop k m first ∙ ap (λ i. drop i first) end ∙ ap (drop (length s)) first_is ∙ drop-append-drop n b (take n s) (length s) covers long in
       ap (λ (l : List X). l ++ (back ++ drop k (drop m first))) before
       ∙ ap (λ (l : List X). take m s ++ (l ++ drop k (drop m first))) back_is
-      ∙ ap (λ (l : List X). take m s ++ (drop m s ++ l)) behind
+      ∙ ap (λ (l : List X). take m s ++ (drop m s ++ l)) after
       ∙ sym (append_assoc (take m s) (drop m s) (drop (length s) b))
       ∙ ap (λ (l : List X). l ++ drop (length s) b) (take-append-drop m s)
 

@@ -10,7 +10,7 @@ abbrev pub unless_empty : Text → Option Text
 unless_empty [] = None
 unless_empty (byte ∷ text) = Some (byte ∷ text)
 
--- an entry needs something new, and with an old name a new email
+-- an entry needs a new name or a new email, and with an old name a new email
 abbrev pub if_entry : Option Text → Option Text → Option Text → Text → Option Mapping
 if_entry None None old_name old_email = None
 if_entry (Some name) None (Some old) old_email = None
@@ -19,11 +19,14 @@ if_entry new_name (Some email) old_name old_email = Some (mapping new_name (Some
 
 -- the entry of four texts, of which all but the old email aren't there if they are empty
 abbrev pub entry_given : Text → Text → Text → Text → Option Mapping
-entry_given new_name new_email old_name old_email = if_entry (unless_empty new_name) (unless_empty new_email) (unless_empty old_name) old_email
+entry_given new_name new_email old_name old_email =
+    if_entry (unless_empty new_name) (unless_empty new_email) (unless_empty old_name) old_email
 
 -- status 0: the entry is merged after what the handle held; 2: out of memory; 4: there is no entry; 6: the handle is
 -- closed
 abbrev pub AddsGiven : Option (List Mapping) → Option Mapping → Option (List Mapping) → ℕ → Type 0
 AddsGiven None given new status = Leaves 6 None new status
 AddsGiven (Some n) None new status = Leaves 4 (Some n) new status
-AddsGiven (Some n) (Some e) new status = ((status ≡ 0) × ((m : List Mapping) × (new ≡ Some m) × IsMerged n (e ∷ []) m)) ⊎ Leaves 2 (Some n) new status
+AddsGiven (Some n) (Some e) new status =
+    ((status ≡ 0) × ((m : List Mapping) × (new ≡ Some m) × IsMerged n (e ∷ []) m))
+    ⊎ Leaves 2 (Some n) new status

@@ -11,5 +11,7 @@ pub record IsDescribed (given : Option Text) (other : Text) (described : Field) 
   pub is_given : described.is_given ≡ is_some given
 
 -- the name and the email that these fields give, or else those asked for, are put into two buffers
-pub record IsAnswered (f : Fields) (name email name_before name_after email_before email_after : Text) (status : ℕ) : Type 0 where
-  pub put : ArePut (unwrap_or f.name name) name_before name_after (unwrap_or f.email email) email_before email_after status
+pub record IsAnswered (f : Fields) (name email name_before name_after email_before email_after : Text) (status : ℕ)
+    : Type 0 where
+  pub put :
+      ArePut (unwrap_or f.name name) name_before name_after (unwrap_or f.email email) email_before email_after status

@@ -1,4 +1,4 @@
--- What a call writes into the caller's buffers: bytes of texts, or findings.
+-- What a call writes into the caller's buffers: bytes of texts, findings, or positions.
 use Rattle.std.specs.Prelude.{◌≡◌, ◌<◌, ◌≤◌, ◌++◌, ◌⊎◌, ℕ, List, length, drop}
 
 -- the text is at the front of the buffer, and the rest of the buffer is as it was
@@ -8,7 +8,9 @@ pub record IsWritten {X : Type 0} (text before after : List X) : Type 0 where
 
 -- status 0: the text is written; 1: the buffer is too short for it, and is as it was
 abbrev pub IsWrittenOrShort : {X : Type 0} → List X → List X → List X → ℕ → Type 0
-IsWrittenOrShort text before after status = ((status ≡ 0) × IsWritten text before after) ⊎ ((status ≡ 1) × (length before < length text) × (after ≡ before))
+IsWrittenOrShort text before after status =
+    ((status ≡ 0) × IsWritten text before after)
+    ⊎ ((status ≡ 1) × (length before < length text) × (after ≡ before))
 
 -- a text is put into a buffer, if it fits, and its length is given
 pub record IsPut {X : Type 0} (text before after : List X) (needed status : ℕ) : Type 0 where
@@ -23,10 +25,13 @@ pub record IsOutOfMemory {X : Type 0} (before after : List X) (needed status : �
 
 -- a text of which P holds is put into a buffer, or out of memory
 abbrev pub IsHanded : {X : Type 0} → (List X → Type 0) → List X → List X → ℕ → ℕ → Type 0
-IsHanded {X} P before after needed status = ((text : List X) × P text × IsPut text before after needed status) ⊎ IsOutOfMemory before after needed status
+IsHanded {X} P before after needed status =
+    ((text : List X) × P text × IsPut text before after needed status)
+    ⊎ IsOutOfMemory before after needed status
 
 -- status 0: each of two texts is written into its buffer; 1: one of the buffers is too short, and both are as they were
 abbrev pub ArePut : List ℕ → List ℕ → List ℕ → List ℕ → List ℕ → List ℕ → ℕ → Type 0
 ArePut s s_before s_after t t_before t_after status =
     ((status ≡ 0) × IsWritten s s_before s_after × IsWritten t t_before t_after)
-    ⊎ ((status ≡ 1) × ((length s_before < length s) ⊎ (length t_before < length t)) × (s_after ≡ s_before) × (t_after ≡ t_before))
+    ⊎ ((status ≡ 1) × ((length s_before < length s) ⊎ (length t_before < length t))
+    × (s_after ≡ s_before) × (t_after ≡ t_before))

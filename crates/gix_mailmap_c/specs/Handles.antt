@@ -21,10 +21,14 @@ Leaves code old new status = (status ≡ code) × (new ≡ old)
 -- status 0: a closed handle holds what a text says; 2: out of memory; 7: it was open, and is as it was
 abbrev pub Opens : List Mapping → Option (List Mapping) → Option (List Mapping) → ℕ → Type 0
 Opens said (Some n) new status = Leaves 7 (Some n) new status
-Opens said None new status = ((status ≡ 0) × ((n : List Mapping) × (new ≡ Some n) × IsNormal said n)) ⊎ Leaves 2 None new status
+Opens said None new status =
+    ((status ≡ 0) × ((n : List Mapping) × (new ≡ Some n) × IsNormal said n))
+    ⊎ Leaves 2 None new status
 
--- status 0: what a text says is merged after what the handle held; 2: out of memory, which a text without an
--- accepted entry asks for none of; 6: the handle is closed
+-- status 0: what a text says is merged after what the handle held; 2: out of memory, and the text says an entry that
+-- is accepted; 6: the handle is closed
 abbrev pub Adds : List Mapping → Option (List Mapping) → Option (List Mapping) → ℕ → Type 0
-Adds said (Some n) new status = ((status ≡ 0) × ((m : List Mapping) × (new ≡ Some m) × IsMerged n said m)) ⊎ ((accepted said ≢ []) × Leaves 2 (Some n) new status)
+Adds said (Some n) new status =
+    ((status ≡ 0) × ((m : List Mapping) × (new ≡ Some m) × IsMerged n said m))
+    ⊎ ((accepted said ≢ []) × Leaves 2 (Some n) new status)
 Adds said None new status = Leaves 6 None new status

@@ -12,3 +12,4 @@ pub mod StreamHeld
 pub mod StreamLent
 pub mod StreamCalls
 pub mod Reported
+pub mod Unneeded

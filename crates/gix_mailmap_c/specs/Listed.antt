@@ -25,7 +25,13 @@ field_of t = record { len = length (given t); is_given = is_some t }
 
 -- an entry whose texts begin at an offset
 abbrev pub listed_at : ℕ → Mapping → Listed
-listed_at start m = record { start = start; new_name = field_of m.new_name; new_email = field_of m.new_email; old_name = field_of m.old_name; old_email = field_of (Some m.old_email) }
+listed_at start m = record {
+  start = start;
+  new_name = field_of m.new_name;
+  new_email = field_of m.new_email;
+  old_name = field_of m.old_name;
+  old_email = field_of (Some m.old_email);
+}
 
 -- entries whose texts are one after another, the first at an offset
 abbrev pub all_listed : ℕ → List Mapping → List Listed
@@ -33,7 +39,7 @@ all_listed start [] = []
 all_listed start (m ∷ ms) = listed_at start m ∷ all_listed (start + length (entry_text m)) ms
 
 -- a list is put after an index: what is before it stays, and so does what is after its end
-pub record IsBehind {X : Type 0} (s : List X) (start : ℕ) (before after : List X) (end : ℕ) : Type 0 where
+pub record IsAfter {X : Type 0} (s : List X) (start : ℕ) (before after : List X) (end : ℕ) : Type 0 where
   pub until : end ≡ start + length s
   pub front : take end after ≡ take start before ++ s
   pub rest : drop end after ≡ drop end before
@@ -50,10 +56,13 @@ pub record IsAllWritten (ms : List Mapping) (before after : Text) : Type 0 where
 abbrev pub Lists : List Mapping → List Listed → List Listed → Text → Text → ℕ → Type 0
 Lists ms e_before e_after t_before t_after status =
     ((status ≡ 0) × AreListed ms e_before e_after × IsAllWritten ms t_before t_after)
-    ⊎ ((status ≡ 1) × ((length e_before < length ms) ⊎ (length t_before < length (all_text ms))) × (e_after ≡ e_before) × (t_after ≡ t_before))
+    ⊎ ((status ≡ 1) × ((length e_before < length ms) ⊎ (length t_before < length (all_text ms)))
+    × (e_after ≡ e_before) × (t_after ≡ t_before))
 
 -- the entry at an index is listed, and its texts are written if there is room for them; status 3: there is no such
 -- entry, and all is as it was
 abbrev pub ListsOne : Option Mapping → Listed → Listed → Text → Text → ℕ → Type 0
-ListsOne None e_before e_after t_before t_after status = (status ≡ 3) × (e_after ≡ e_before) × (t_after ≡ t_before)
-ListsOne (Some m) e_before e_after t_before t_after status = (e_after ≡ listed_at 0 m) × IsWrittenOrShort (entry_text m) t_before t_after status
+ListsOne None e_before e_after t_before t_after status =
+    (status ≡ 3) × (e_after ≡ e_before) × (t_after ≡ t_before)
+ListsOne (Some m) e_before e_after t_before t_after status =
+    (e_after ≡ listed_at 0 m) × IsWrittenOrShort (entry_text m) t_before t_after status

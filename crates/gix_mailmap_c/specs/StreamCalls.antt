@@ -32,4 +32,5 @@ Finishes None new status = Leaves 6 None new status
 abbrev pub Reads : Option Pending → Option Pending → Text → Text → ℕ → ℕ → ℕ → Type 0
 Reads (Some p) new out_before out before count status =
     (status ≡ 0) × ((q : Pending) × (new ≡ Some q) × AreRead p q out_before out count)
-Reads None new out_before out before count status = (out ≡ out_before) × (count ≡ before) × Leaves 6 None new status
+Reads None new out_before out before count status =
+    (out ≡ out_before) × (count ≡ before) × Leaves 6 None new status

@@ -15,8 +15,8 @@ use std::iter;
 /// Adds an entry after those that the mailmap has. Its texts are taken as they are, and none is read as a line. A new
 /// name, a new email or an old name that is empty isn't there.
 ///
-/// `OK`; `OUT_OF_MEMORY`; `NOT_AN_ENTRY`: there is nothing new, or an old name without a new email; `CLOSED`. But at
-/// `OK`, the mailmap stays as it was.
+/// At `OK` the mailmap has the entry, at any other status it stays as it was. `OUT_OF_MEMORY`; `NOT_AN_ENTRY`: there is
+/// neither a new name nor a new email, or an old name without a new email; `CLOSED`.
 #[unsafe(no_mangle)]
 pub extern "C" fn gix_mailmap_handle_add_entry(
     m: &mut Mailmap,

@@ -6,7 +6,7 @@ ghost use Rattle.mailmap_histories.specs.Histories.{IsNormal, accepted};
 ghost use Rattle.gix_mailmap_c.specs.Handles.{contents, Opens, Adds};
 
 use crate::held::lent::snapshot;
-use crate::held::{Mailmap, Parts, closed, end, into_parts, is_open, opened};
+use crate::held::{Mailmap, Parts, closed, discard_closed, into_parts, is_open, opened};
 use crate::status::{CLOSED, OK, OPEN, OUT_OF_MEMORY};
 use gix_mailmap::{Snapshot, parse_ignore_errors};
 use std::alloc::{AllocError, Global};
@@ -80,7 +80,7 @@ fn take(alloc: Global, m: &mut Mailmap) -> Option<Box<Snapshot>>
     if is_open(&mut taken) {
         Some(into_parts(taken).into_box())
     } else {
-        end(taken);
+        discard_closed(taken);
         None
     }
 }
@@ -90,5 +90,5 @@ fn put_back(m: &mut Mailmap, snapshot: Box<Snapshot>)
     requires { contents m.old ≡ None }
     ensures { contents m.new ≡ Some snapshot.value }
 {
-    end(std::mem::replace(m, opened(Parts::of(snapshot))));
+    discard_closed(std::mem::replace(m, opened(Parts::of(snapshot))));
 }

@@ -71,7 +71,7 @@ pub(crate) fn closed(alloc: Global) -> Mailmap
     }
 }
 
-pub(crate) fn end(m: Mailmap)
+pub(crate) fn discard_closed(m: Mailmap)
     requires { m.is_open ≡ false }
 {
     let Mailmap {

@@ -19,4 +19,5 @@ pub mod report;
 pub mod status;
 pub mod stream;
 pub mod texts;
+pub mod unneeded;
 pub mod writing;

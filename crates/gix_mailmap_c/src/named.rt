@@ -24,9 +24,9 @@ pub(crate) fn names_of(
     let mut each = Vec::new(alloc);
     let mut rest = names;
     for part in lengths {
-        let (name, behind) = rest.split_at(part.name.min(rest.len()));
+        let (name, after) = rest.split_at(part.name.min(rest.len()));
         each.push(Vec::from_slice(alloc, name)?)?;
-        rest = behind;
+        rest = after;
     }
     Ok(each)
 }
@@ -43,9 +43,9 @@ pub(crate) fn texts_of<'a>(
     let mut each = Vec::new(alloc);
     let mut rest = texts;
     for part in lengths {
-        let (text, behind) = rest.split_at(part.text.min(rest.len()));
+        let (text, after) = rest.split_at(part.text.min(rest.len()));
         each.push(text)?;
-        rest = behind;
+        rest = after;
     }
     Ok(each)
 }

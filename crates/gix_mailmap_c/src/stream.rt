@@ -9,7 +9,7 @@ mod held;
 use crate::held::Parts;
 use crate::status::{CLOSED, OK, OPEN, OUT_OF_MEMORY};
 use contacts::Contacts;
-use held::{Stream, closed, end, into_parts, is_open, lent, opened};
+use held::{Stream, closed, discard_closed, into_parts, is_open, lent, opened};
 use std::alloc::{AllocError, Global};
 
 /// Opens a closed handle on a stream whose contacts are answered by what `mailmap` maps.
@@ -120,7 +120,7 @@ fn take(alloc: Global, s: &mut Stream) -> Option<Box<Contacts>>
     if is_open(&mut taken) {
         Some(into_parts(taken).into_box())
     } else {
-        end(taken);
+        discard_closed(taken);
         None
     }
 }
@@ -130,5 +130,5 @@ fn put_back(s: &mut Stream, contacts: Box<Contacts>)
     requires { pending s.old ≡ None }
     ensures { pending s.new ≡ Some contacts.value }
 {
-    end(std::mem::replace(s, opened(Parts::of(contacts))));
+    discard_closed(std::mem::replace(s, opened(Parts::of(contacts))));
 }

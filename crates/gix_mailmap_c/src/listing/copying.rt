@@ -2,7 +2,7 @@
 ghost use Rattle.std.specs.Prelude.{◌≡◌, ◌≤◌, ◌<◌, ◌+◌, ◌^◌, length, MatchOption};
 ghost use Rattle.std.specs.Option.{option_copied};
 ghost use Rattle.mailmap_entries.specs.Entries.{mapping_of};
-ghost use Rattle.gix_mailmap_c.specs.Listed.{all_text, entry_text, given, AreListed, IsAllWritten, IsBehind};
+ghost use Rattle.gix_mailmap_c.specs.Listed.{all_text, entry_text, given, AreListed, IsAllWritten, IsAfter};
 
 use crate::listing::Listed;
 use gix_mailmap::{Entry, Snapshot};
@@ -70,7 +70,7 @@ pub(crate) fn copy_texts(snapshot: &Snapshot, out: &mut [u8])
 /// Copies the texts of an entry to an offset in a buffer, and gives the offset after them.
 pub(crate) fn copy_entry(entry: &Entry<'_>, out: &mut [u8], start: usize) -> usize
     requires { start + length (entry_text (mapping_of entry.now)) ≤ length out.old }
-    ensures { IsBehind (entry_text (mapping_of entry.now)) start out.old out.new result }
+    ensures { IsAfter (entry_text (mapping_of entry.now)) start out.old out.new result }
 {
     let end = copy_text(entry.new_name(), out, start);
     let end = copy_text(entry.new_email(), out, end);
@@ -81,7 +81,7 @@ pub(crate) fn copy_entry(entry: &Entry<'_>, out: &mut [u8], start: usize) -> usi
 // Copies a text, if there is one.
 fn copy_text(text: Option<&[u8]>, out: &mut [u8], start: usize) -> usize
     requires { start + length (given (option_copied text)) ≤ length out.old }
-    ensures { IsBehind (given (option_copied text.entry)) start out.old out.new result }
+    ensures { IsAfter (given (option_copied text.entry)) start out.old out.new result }
 {
     let text = text.unwrap_or(&[]);
     let end = start + text.len();

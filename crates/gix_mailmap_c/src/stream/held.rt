@@ -70,7 +70,7 @@ pub(crate) fn closed(alloc: Global) -> Stream
     }
 }
 
-pub(crate) fn end(s: Stream)
+pub(crate) fn discard_closed(s: Stream)
     requires { s.is_open ≡ false }
 {
     let Stream {

@@ -4,7 +4,7 @@ use Rattle.mailmap_findings.specs.Findings.{finding_of}
 use Rattle.mailmap_findings.specs.declared.verify.Finding as library
 use Rattle.gix_mailmap_c.specs.Findings.{all_reported, one_reported}
 use Rattle.gix_mailmap_c.specs.declared.findings.Finding.{Finding}
-use Rattle.gix_mailmap_c.proofs.Copying.{Copied, copied_more, copied_all, behind_set}
+use Rattle.gix_mailmap_c.proofs.Copying.{Copied, copied_more, copied_all, after_set}
 use Rattle.gix_mailmap_c.proofs.findings.report.Goals as goal
 
 pub loop-finding-preserved : goal.loop-finding-preserved
@@ -26,7 +26,7 @@ loop-finding-preserved c =
     let before : Copied (one ∷ left) all index out old = subst (λ (l : List Finding). Copied l all index out old) cut c.loop-finding.invariant.reported in
     let lt : index < length out = omega (arith, c.loop-finding.invariant.index, c.requires) in
     record {
-      reported = copied_more (one ∷ []) left all index (index + 1) out _ old before (behind_set out index one lt);
+      reported = copied_more (one ∷ []) left all index (index + 1) out _ old before (after_set out index one lt);
       index = omega (arith, c.loop-finding.invariant.index);
     }
 

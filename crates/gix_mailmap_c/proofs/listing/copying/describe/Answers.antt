@@ -2,7 +2,7 @@ use Rattle.std.proofs.Common.{◌≡◌, ◌+◌, ◌<◌, [], ◌∷◌, ◌++�
 use Rattle.mailmap_entries.specs.Entries.{Mapping, mapping_of}
 use Rattle.gix_mailmap_c.specs.Listed.{all_text, entry_text, all_listed}
 use Rattle.gix_mailmap_c.specs.declared.listing.Listed.{Listed}
-use Rattle.gix_mailmap_c.proofs.Copying.{Copied, copied_more, copied_all, behind_set, listed_room, length-all_listed}
+use Rattle.gix_mailmap_c.proofs.Copying.{Copied, copied_more, copied_all, after_set, listed_room, length-all_listed}
 use Rattle.gix_mailmap_c.proofs.listing.copying.describe.Goals as goal
 
 pub bounds-listed-index : goal.bounds-listed-index
@@ -29,7 +29,7 @@ loop-entry-preserved c =
     let here = listed_room start index (length c.args.listed.now) c.loop-entry.entry-iterator rest c.args.snapshot.now m c.in-Some.ensures.steps c.loop-entry.invariant.listed.until c.requires.room in
     let lt : index < length listed = omega (arith, here) in
     record {
-      listed = copied_more (one ∷ []) (all_listed next rest) all index (index + 1) listed _ c.args.listed.now before (behind_set listed index one lt);
+      listed = copied_more (one ∷ []) (all_listed next rest) all index (index + 1) listed _ c.args.listed.now before (after_set listed index one lt);
       start = omega (arith, c.loop-entry.invariant.start, ap (λ (ms : List Mapping). length (all_text ms)) c.in-Some.ensures.steps, length-append (entry_text m) (all_text rest), c.texts_len-start.ensures);
     }
 

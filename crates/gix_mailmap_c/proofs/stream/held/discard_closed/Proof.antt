@@ -2,17 +2,17 @@ use Rattle.gix_mailmap_c.proofs.Steps.{[], ◌∷◌, refl, proved, fact, vunit,
 use types.Part.{whole, sub}
 use types.ByLocal.{get_in}
 use denote.RawPtr.{rawptr_Lawful}
-use Rattle.gix_mailmap_c.specs.contracts.stream.held.end as f
-use Rattle.gix_mailmap_c.proofs.stream.held.end.Statement.{statement}
-use Rattle.gix_mailmap_c.proofs.stream.held.end.Code as code
+use Rattle.gix_mailmap_c.specs.contracts.stream.held.discard_closed as f
+use Rattle.gix_mailmap_c.proofs.stream.held.discard_closed.Statement.{statement}
+use Rattle.gix_mailmap_c.proofs.stream.held.discard_closed.Code as code
 use Rattle.gix_mailmap_c.specs.contracts.stream.held.Stream.{the_row as R}
 use Rattle.gix_mailmap_c.proofs.stream.held.Stream.TheLaws.{lowers, the_row_laws}
 
 abbrev stayed : Stays f.ended.signature.params f.ended.kept
 stayed = (stay_dropped _ yes, tt)
 
-pub end_spec : {M : Type 1} → statement M
-end_spec 𝓤 𝓛 𝓜 𝓡 wired =
+pub discard_closed_spec : {M : Type 1} → statement M
+discard_closed_spec 𝓤 𝓛 𝓜 𝓡 wired =
     let c = f.clauses 𝓛 𝓜.mem 𝓡.returns in let W = walk_of 𝓛 f.ended stayed c in
     proved 𝓛 f.ended stayed c 𝓜 𝓡 (Goes-dropped 𝓛 0 (plain (λ _. R)) yes (λ κs x w. refl), tt)
     f.Key.name code.function (code.unfolded 𝓤 𝓛.H 𝓜 𝓡 wired)

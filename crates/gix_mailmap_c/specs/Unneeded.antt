@@ -1,0 +1,18 @@
+-- How the lines that no contact needs are listed.
+use Rattle.std.specs.Prelude.{◌≡◌, List, map}
+use Rattle.mailmap_entries.specs.Folding.{Text}
+use Rattle.mailmap_needs.specs.Needs.{AreUnneeded}
+use Rattle.mailmap_redundancy.specs.declared.located.Position as library
+use Rattle.gix_mailmap_c.specs.declared.unneeded.Position.{Position}
+
+abbrev pub one_listed : library.Position → Position
+one_listed p = record { buffer = p.buffer; line = p.line }
+
+abbrev pub all_listed : List library.Position → List Position
+all_listed ps = map one_listed ps
+
+-- the lines of these mailmaps that have an effect and that no contact needs are listed, in their order
+pub record AreUnneededOf (mailmaps : List Text) (contacts : Text) (listed : List Position) : Type 0 where
+  pub found : List library.Position
+  pub whole : AreUnneeded mailmaps contacts found
+  pub each : listed ≡ all_listed found
