@@ -42,6 +42,15 @@ nothing_left() {
     same "$2: what is left" "$left" ''
 }
 
+# what is to be proved again after an edit of a file, in the order of the Makefile
+proved_again() {
+    built -n -W "$1" build lib | sed -n 's/^echo .Proving and building \(the \)\?\([a-z_]*\).*/\2/p' | xargs
+}
+every=$(proved_again crates/mailmap_entries/src/lib.rt)
+same 'an edit of mailmap_entries' "$every" 'mailmap_check mailmap_verify mailmap_shortlog libraries'
+same 'an edit of mailmap_shortlogs' "$(proved_again crates/mailmap_shortlogs/src/lib.rt)" mailmap_shortlog
+same 'an edit of mailmap_reports' "$(proved_again crates/mailmap_reports/src/lib.rt)" 'mailmap_verify libraries'
+
 # what docs/C.md names has to be of this version
 for named in "$so.$version" "$so.$(interface)\`" "gix_mailmap-$version-linux" "gix-mailmap_${version}_amd64.deb"; do
     if ! grep -qF "$named" "$top/docs/C.md"; then
@@ -54,7 +63,7 @@ done
 folders=(PREFIX=/srv/own BINDIR=/srv/bin INCLUDEDIR=/srv/own/headers LIBDIR=/srv/own/lib64 MANDIR=/srv/pages
     PYTHONDIR=/srv/python)
 root="$work/root"
-listed() { find "$root" -type f -printf '%P %m %T@ %s\n' -o -type l -printf '%P %l\n' | grep -v '\.pc ' | sort; }
+listed() { find "$root" ! -type d -printf '%P %m %T@ %s %l\n' | sort; }
 built install DESTDIR="$root" "${folders[@]}"
 once="$(listed)"
 built install DESTDIR="$root" "${folders[@]}"
