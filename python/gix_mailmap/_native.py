@@ -4,6 +4,8 @@ Threads: other threads run during a call. So each handle has a lock, and a call 
 done. The library lets calls read a mailmap at the same time, but none may close it meanwhile. The lock is one that a
 thread may take again, since the garbage collector may run a `__del__` with calls of its own at any time. No such call
 can begin while the library is at work for the same thread.
+
+Forks: a fork waits until no other thread is in a call, and in the child each handle has a lock that is free.
 """
 
 from __future__ import annotations
@@ -13,6 +15,7 @@ import os
 import struct
 import threading
 import weakref
+from contextlib import ExitStack
 from ctypes import POINTER, Structure, byref, c_bool, c_char_p, c_int, c_size_t, c_void_p, cast, create_string_buffer
 from functools import partial
 from pathlib import Path
@@ -207,6 +210,10 @@ class _Buffers:
         return self.name.raw[: name.len], self.email.raw[: email.len], name.is_given, email.is_given
 
 
+# All that is held, for a fork.
+_alive: set[weakref.ref[_Held]] = set()
+
+
 class _Held:
     """A mailmap or a stream of the library. If it is closed during a call, it is freed as that ends."""
 
@@ -218,6 +225,7 @@ class _Held:
         at = c_void_p()
         _is_short(opening(byref(at), text, len(text)))
         self._owned = {"at": at.value}
+        _alive.add(weakref.ref(self, _alive.discard))
 
     def called(self, call: Callable[..., Any], *arguments: object) -> Any:
         """What a call of the library with what is held returns."""
@@ -243,7 +251,57 @@ class _Held:
             self._closing(self._owned.pop("at", None))
 
 
-class Handle:
+class _Forking(threading.local):
+    """The locks that a thread holds while it forks."""
+
+    locks = ExitStack()
+
+
+_forking = _Forking()
+
+
+def _all_held() -> list[_Held]:
+    return [held for held in (reference() for reference in _alive.copy()) if held is not None]
+
+
+def _before_fork() -> None:
+    """Takes all locks, so that no other thread is in a call. One that has a lock may wait for another, in a `__del__`:
+    so after some time without a lock all are given back, and the next try has more time."""
+    patience = 0.1
+    while True:
+        with ExitStack() as locks:
+            for held in _all_held():
+                if not held.lock.acquire(timeout=patience):
+                    break
+                locks.callback(held.lock.release)
+            else:
+                _forking.locks = locks.pop_all()
+                return
+        patience *= 2
+
+
+def _after_fork_in_parent() -> None:
+    _forking.locks.close()
+
+
+def _after_fork_in_child() -> None:
+    for held in _all_held():
+        held.lock = threading.RLock()
+
+
+os.register_at_fork(
+    before=_before_fork, after_in_parent=_after_fork_in_parent, after_in_child=_after_fork_in_child
+)
+
+
+class _Uncopied:
+    """What can't be copied, since two would free the same memory."""
+
+    def __reduce__(self) -> NoReturn:
+        raise TypeError(f"a {type(self).__name__} can't be copied or pickled")
+
+
+class Handle(_Uncopied):
     """A mailmap that the library holds, until `close` or until nothing refers to it any more.
 
     Threads may share it.
@@ -330,7 +388,7 @@ class Handle:
         return self._held.closed
 
 
-class Stream:
+class Stream(_Uncopied):
     """Contacts that come in parts, and their answers by the text of a mailmap. It is freed as nothing refers to it."""
 
     def __init__(self, mailmap: bytes) -> None:
