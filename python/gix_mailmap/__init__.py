@@ -11,13 +11,16 @@ Texts are `str` or bytes, and what a call answers is of the same kind. Bytes may
 is encoded; in a `str`, bytes that aren't UTF-8 are lone surrogates (`surrogateescape`). A `bytearray` and a
 `memoryview` are taken as bytes.
 
-All errors of the module are of the class Error. An argument of a wrong type is a TypeError.
+The errors of the module are of the class Error, and also of Python's own class for that case. Others are a TypeError
+for an argument of a wrong type, a ValueError of `index` and of a slice, as of a list, and an ImportError if no library
+is found.
 """
 
 from ._calls import check, compact, explain, prune, report, verify
-from ._errors import Closed, Error, NoEntry, NotAnEntry, OutOfMemory, Unwritable
+from ._errors import Closed, Error, NoEntry, NotALine, NotAnEntry, NotAText, OutOfMemory, Unwritable
 from ._mailmap import Mailmap
 from ._results import Answer, Entry, Finding, Kind
+from ._version import __version__ as __version__
 
 __all__ = [
     "Answer",
@@ -28,6 +31,8 @@ __all__ = [
     "Kind",
     "Mailmap",
     "NoEntry",
+    "NotALine",
+    "NotAText",
     "NotAnEntry",
     "OutOfMemory",
     "Unwritable",

@@ -19,11 +19,14 @@ from contextlib import ExitStack
 from ctypes import POINTER, Structure, byref, c_bool, c_char_p, c_int, c_size_t, c_void_p, cast, create_string_buffer
 from functools import partial
 from pathlib import Path
-from typing import Any, Callable, Iterator, NamedTuple, Optional
+from typing import Any, Callable, Iterator, NamedTuple, NoReturn, Optional
 
 from ._errors import Closed, Error, NoEntry, NotAnEntry, OutOfMemory, Unwritable
+from ._version import __version__
 
+# the library beside this file, and that of the system, which has the number of the binary interface
 _NAME = "libgix_mailmap.so"
+_SONAME = "libgix_mailmap.so.1"
 _VARIABLE = "GIX_MAILMAP_LIBRARY"
 
 _OK, _TOO_SHORT, _OUT_OF_MEMORY, _NO_ENTRY, _NOT_AN_ENTRY, _UNWRITABLE = range(6)
@@ -62,16 +65,16 @@ class Fields(NamedTuple):
 def _paths() -> list[str]:
     """Where the library may be: where the environment says, or else beside this file, or where the system looks."""
     named = os.environ.get(_VARIABLE)
-    return [named] if named else [str(Path(__file__).with_name(_NAME)), _NAME]
+    return [named] if named else [str(Path(__file__).with_name(_NAME)), _SONAME]
 
 
-def _found() -> ctypes.CDLL:
-    """The library at the first path that has one. An ImportError names all of them."""
+def _load() -> ctypes.CDLL:
+    """The library at the first path that has one for this package. An ImportError names all of them."""
     tried = []
     for path in _paths():
         try:
-            return ctypes.CDLL(path)
-        except OSError as error:
+            return _with_types(ctypes.CDLL(path))
+        except (OSError, AttributeError, ImportError) as error:
             tried.append(f"  {path}: {error}")
     raise ImportError("\n".join([
         f"gix_mailmap finds no {_NAME} that it can load. It tried:",
@@ -80,9 +83,13 @@ def _found() -> ctypes.CDLL:
     ]))
 
 
-def _load() -> ctypes.CDLL:
-    """The library, with the types of its calls."""
-    library = _found()
+def _with_types(library: ctypes.CDLL) -> ctypes.CDLL:
+    """The library, with the types of its calls. An AttributeError if it lacks one, and an ImportError if the first
+    number of its version is another than that of the package."""
+    library.gix_mailmap_version.restype = c_char_p
+    version = library.gix_mailmap_version().decode()
+    if version.split(".")[0] != __version__.split(".")[0]:
+        raise ImportError(f"its version is {version}, and that of the package {__version__}")
     text, room = [c_void_p, c_size_t], [c_void_p, c_size_t]
     length, field = POINTER(c_size_t), POINTER(_Field)
     calls: dict[str, tuple[list[Any], Any]] = {
