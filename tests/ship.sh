@@ -51,6 +51,10 @@ same 'an edit of mailmap_entries' "$every" 'mailmap_check mailmap_verify mailmap
 same 'an edit of mailmap_shortlogs' "$(proved_again crates/mailmap_shortlogs/src/lib.rt)" mailmap_shortlog
 same 'an edit of mailmap_reports' "$(proved_again crates/mailmap_reports/src/lib.rt)" 'mailmap_verify libraries'
 
+# the caller's flags, both where it compiles and where it links
+flags="$(built -n -W c/gix_mailmap.c lib CPPFLAGS=-DOWN CFLAGS=-g3 LDFLAGS=-Wl,-O1 | grep -o -e '-DOWN -g3' -e '-g3 -Wl,-O1')"
+same 'make lib with flags' "$flags" $'-DOWN -g3\n-g3 -Wl,-O1'
+
 # what docs/C.md names has to be of this version
 for named in "$so.$version" "$so.$(interface)\`" "gix_mailmap-$version-linux" "gix-mailmap_${version}_amd64.deb"; do
     if ! grep -qF "$named" "$top/docs/C.md"; then
