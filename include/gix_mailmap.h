@@ -36,8 +36,8 @@
  *
  * The structs and the numbers below are part of the binary interface. A struct keeps its size and its members. The
  * padding in one that a call writes is reserved: a later version may write members there. One that a call reads has no
- * padding, and what is to be read beside it comes with a new struct and a new call. New numbers may come at the end of
- * an enum.
+ * padding: if a later version has to read more, that comes with a new struct and a new call. New numbers may come at
+ * the end of an enum.
  *
  * The comment of a call ends with the statuses that it returns, without their prefix.
  */
@@ -283,8 +283,8 @@ gix_mailmap_status gix_mailmap_stream_open(gix_mailmap_stream **stream, const ch
 void gix_mailmap_stream_close(gix_mailmap_stream *stream);
 
 /* Takes contacts from the beginning of `part`, and answers each line that ends in them. What is after the last line
- * feed is kept until more comes. `taken` is how many bytes it took: at least one, unless part_len is 0. It is fewer
- * than part_len if 64 KiB of answers wait to be read, or if memory runs out after some lines: read the answers, and
+ * feed is kept until more comes. `taken` is how many bytes it took: at least one, unless `part_len` is 0. It is fewer
+ * than `part_len` if 64 KiB of answers wait to be read, or if memory runs out after some lines: read the answers, and
  * push the rest. `taken` is 0 at OUT_OF_MEMORY.
  * OK; OUT_OF_MEMORY. */
 gix_mailmap_status gix_mailmap_stream_push(gix_mailmap_stream *stream, const char *part, size_t part_len,
