@@ -42,9 +42,13 @@ nothing_left() {
     same "$2: what is left" "$left" ''
 }
 
-# what is to be proved again after an edit of a file, in the order of the Makefile
+# what `make build lib` would do after an edit of a file; that there is no toolchain is of no matter
+planned() {
+    built -n -W "$@" build lib 2> "$work/said"
+}
+# what it would prove, in the order of the Makefile
 proved_again() {
-    built -n -W "$1" build lib | sed -n 's/^echo .Proving and building \(the \)\?\([a-z_]*\).*/\2/p' | xargs
+    planned "$1" | sed -n 's/^echo .Proving and building \(the \)\?\([a-z_]*\).*/\2/p' | xargs
 }
 every=$(proved_again crates/mailmap_entries/src/lib.rt)
 same 'an edit of mailmap_entries' "$every" 'mailmap_check mailmap_verify mailmap_shortlog libraries'
@@ -52,8 +56,8 @@ same 'an edit of mailmap_shortlogs' "$(proved_again crates/mailmap_shortlogs/src
 same 'an edit of mailmap_reports' "$(proved_again crates/mailmap_reports/src/lib.rt)" 'mailmap_verify libraries'
 
 # the caller's flags, both where it compiles and where it links
-flags="$(built -n -W c/gix_mailmap.c lib CPPFLAGS=-DOWN CFLAGS=-g3 LDFLAGS=-Wl,-O1 | grep -o -e '-DOWN -g3' -e '-g3 -Wl,-O1')"
-same 'make lib with flags' "$flags" $'-DOWN -g3\n-g3 -Wl,-O1'
+planned c/gix_mailmap.c CPPFLAGS=-DOWN CFLAGS=-g3 LDFLAGS=-Wl,-O1 > "$work/plan"
+same 'make lib with flags' "$(grep -o -e '-DOWN -g3' -e '-g3 -Wl,-O1' "$work/plan")" $'-DOWN -g3\n-g3 -Wl,-O1'
 
 # what docs/C.md names has to be of this version
 for named in "$so.$version" "$so.$(interface)\`" "gix_mailmap-$version-linux" "gix-mailmap_${version}_amd64.deb"; do
