@@ -63,27 +63,32 @@ void use(gix_mailmap *map, const gix_mailmap *read, char *out, size_t *len)
     }
 }
 END
-    "$cc" -std=c11 "${strict[@]}" -c "$work/use.c" -o "$work/use.o" 2> "$work/said"
+    "$compiler" -std=c11 "${strict[@]}" -c "$work/use.c" -o "$work/use.o" 2> "$work/said"
 }
 # what the header has the compiler refuse
 refused() {
     if takes "$1"; then
-        echo "the compiler takes: $1"
+        echo "$compiler takes: $1"
         exit 1
     fi
 }
-if ! takes 'out[0] = (char)gix_mailmap_write(read, out, 1, len);'; then
-    cat "$work/said"
-    exit 1
-fi
-refused 'gix_mailmap_add(map, "", 0);'
-refused 'out[0] = (char)gix_mailmap_write(NULL, out, 1, len);'
-refused 'out[0] = (char)gix_mailmap_write(map, out, 1, NULL);'
-refused 'out[0] = (char)gix_mailmap_add(read, "", 0);'
-refused 'gix_mailmap copy = *map;'
-if "$cc" -Q --help=warnings 2> "$work/said" | grep -q Wrestrict; then
-    refused 'out[0] = (char)gix_mailmap_compact(out, 8, out, 8, len);'
-fi
+for compiler in "$cc" clang; do
+    if [ -z "$(command -v "$compiler")" ]; then
+        continue
+    fi
+    if ! takes 'out[0] = (char)gix_mailmap_write(read, out, 1, len);'; then
+        cat "$work/said"
+        exit 1
+    fi
+    refused 'gix_mailmap_add(map, "", 0);'
+    refused 'out[0] = (char)gix_mailmap_write(NULL, out, 1, len);'
+    refused 'out[0] = (char)gix_mailmap_write(map, out, 1, NULL);'
+    refused 'out[0] = (char)gix_mailmap_add(read, "", 0);'
+    refused 'gix_mailmap copy = *map;'
+    if "$compiler" -Q --help=warnings 2> "$work/said" | grep -q Wrestrict; then
+        refused 'out[0] = (char)gix_mailmap_compact(out, 8, out, 8, len);'
+    fi
+done
 
 # four threads; the words go to the compiler
 threads() {
