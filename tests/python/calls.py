@@ -6,7 +6,6 @@ import unittest
 
 import gix_mailmap
 from gix_mailmap import Answer, Closed, Entry, Finding, Kind, Mailmap, NotAnEntry, Unwritable
-from gix_mailmap._native import Stream
 
 MAP = b"Jane Doe <jane@x> <jd@y>\nJoe <joe@x>\n"
 JANE = Entry(b"Jane Doe", b"jane@x", None, b"jd@y")
@@ -197,7 +196,7 @@ class Handles(unittest.TestCase):
     def test_no_copies(self):
         with Mailmap(MAP) as mailmap:
             for call in (copy.copy, copy.deepcopy, pickle.dumps):
-                for whole in (mailmap, mailmap._handle, Stream(MAP)):
+                for whole in (mailmap, mailmap._handle, gix_mailmap._native.Stream(MAP)):
                     with self.assertRaisesRegex(TypeError, "can't be copied or pickled"):
                         call(whole)
 

@@ -4,9 +4,9 @@ from unittest import mock
 
 import gix_mailmap
 from gix_mailmap import (
-    Answer, Closed, Entry, Error, Finding, Kind, Mailmap, NoEntry, NotALine, NotAnEntry, NotAText, OutOfMemory,
-    Unwritable, _native,
+    Answer, Closed, Entry, Error, Finding, Kind, Mailmap, NoEntry, NotAnEntry, OutOfMemory, Unwritable,
 )
+from gix_mailmap import NotALine, NotAText, _native
 
 TEXT = "Jörg Doe <j@x> <jd@y>\n"
 JOERG = b"J\xf6rg <j@x>\n"

@@ -5,7 +5,6 @@ import gix_mailmap
 from gix_mailmap import Answer, Entry, Finding, Kind, Mailmap
 
 
-
 class Own(Mailmap[str]):
     pass
 
@@ -56,6 +55,6 @@ assert_type(gix_mailmap.report([("", "")]), str)
 assert_type(gix_mailmap.report({b"": b""}.items()), bytes)
 assert_type(gix_mailmap.explain([("", "")], ""), str)
 assert_type(gix_mailmap.explain({b"": buffer}.items(), b""), bytes)
-assert_type(gix_mailmap.__version__, str)
 assert_type(gix_mailmap.verify(""), list[Finding])
 assert_type(gix_mailmap.verify(b"")[0].kind, Kind)
+assert_type(gix_mailmap.__version__, str)
