@@ -33,28 +33,29 @@ SHARED = libgix_mailmap.so.$(VERSION)
 SONAME = libgix_mailmap.so.$(ABI)
 LINKED = libgix_mailmap.so
 
-# what a proof reads
-SOURCES = crates.txt $(shell find crates -name out -prune -o -type f \( -name '*.rt' -o -name '*.antt' \) -print)
+# what the proof of a crate reads: its files, and those of the crates below it
+sources = crates.txt $(shell find $$(awk -v of=$(1) -f packaging/below.awk crates.txt) \
+    -name out -prune -o -type f \( -name '*.rt' -o -name '*.antt' \) -print)
 
 .PHONY: build run test edits install install_lib uninstall lib wheel dist deb
 build: $(PROGRAM) $(VERIFIER) $(COUNTER)
 
-$(PROGRAM): $(SOURCES)
+$(PROGRAM): $(call sources,mailmap_check)
 	@echo 'Proving and building mailmap_check, with all that it stands on. The first time this takes some minutes.'
 	cd crates/mailmap_check && rt run < stdin > /dev/null
 	touch $@
 
-$(VERIFIER): $(SOURCES)
+$(VERIFIER): $(call sources,mailmap_verify)
 	@echo 'Proving and building mailmap_verify, with all that it stands on. The first time this takes some minutes.'
 	cd crates/mailmap_verify && rt run -- --help > /dev/null
 	touch $@
 
-$(COUNTER): $(SOURCES)
+$(COUNTER): $(call sources,mailmap_shortlog)
 	@echo 'Proving and building mailmap_shortlog, with all that it stands on. The first time this takes some minutes.'
 	cd crates/mailmap_shortlog && rt run -- --help > /dev/null
 	touch $@
 
-$(DUMP): $(SOURCES)
+$(DUMP): $(call sources,mailmap_dump)
 	@echo 'Proving and building mailmap_dump.'
 	cd crates/mailmap_dump && rt run > /dev/null
 	touch $@
@@ -65,16 +66,17 @@ run: $(PROGRAM)
 lib: $(LIB)/c/libgix_mailmap.a $(LIB)/c/$(SHARED)
 
 # the proved calls
-$(PROVED): $(SOURCES)
+$(PROVED): $(call sources,gix_mailmap_c)
 	@echo 'Proving and building the libraries for C.'
 	cd crates/gix_mailmap_c && rt lib > /dev/null
 	touch $@
 
 # The static library: the proved calls, what they need of the toolchain, and the functions before them, in one object
-# that shows only the calls of the header.
+# that shows only the calls of the header. CPPFLAGS, CFLAGS and LDFLAGS come after the flags that are set here.
 $(LIB)/c/libgix_mailmap.a: $(PROVED) $(wildcard c/*) include/gix_mailmap.h include/gix_mailmap.map
 	rm -rf $(LIB)/c && mkdir $(LIB)/c
-	$(CC) -std=c11 -O2 -fPIC -Wall -Wextra -Wpedantic -Werror -Iinclude -c c/gix_mailmap.c -o $(LIB)/c/calls.o
+	$(CC) -std=c11 -O2 -fPIC -Wall -Wextra -Wpedantic -Werror -Iinclude $(CPPFLAGS) $(CFLAGS) -c c/gix_mailmap.c \
+	    -o $(LIB)/c/calls.o
 	$(LD) -r -o $(LIB)/c/gix_mailmap.o $(LIB)/c/calls.o $(PROVED) $(HEAP)
 	sed -n 's/^ *\(gix_mailmap_[a-z_]*\);$$/\1/p' include/gix_mailmap.map > $(LIB)/c/shown
 	objcopy --keep-global-symbols=$(LIB)/c/shown $(LIB)/c/gix_mailmap.o
@@ -85,7 +87,7 @@ $(LIB)/c/libgix_mailmap.a: $(PROVED) $(wildcard c/*) include/gix_mailmap.h inclu
 $(LIB)/c/$(SHARED): $(LIB)/c/libgix_mailmap.a include/gix_mailmap.map VERSION Makefile
 	rm -f $(LIB)/c/$(LINKED)*
 	$(CC) -shared -o $@ -Wl,-soname,$(SONAME) -Wl,--version-script,include/gix_mailmap.map \
-	    -Wl,--whole-archive $< -Wl,--no-whole-archive
+	    -Wl,--whole-archive $< -Wl,--no-whole-archive $(CFLAGS) $(LDFLAGS)
 	ln $@ $(LIB)/c/$(SONAME)
 	ln $@ $(LIB)/c/$(LINKED)
 	ln -sf ../../$(LIB)/c/$(LINKED) python/gix_mailmap/$(LINKED)
@@ -132,21 +134,30 @@ PACKAGE = python/gix_mailmap/py.typed $(wildcard python/gix_mailmap/*.py)
 # a folder as pkg-config has it: from the prefix on, where it is below that
 BELOW = $(patsubst $(PREFIX)/%,$${prefix}/%,$(1))
 
+# what pkg-config reads, and what Python's own tools do
+FOR_PKG_CONFIG = sed -e 's|@PREFIX@|$(PREFIX)|' -e 's|@INCLUDEDIR@|$(call BELOW,$(INCLUDEDIR))|' \
+    -e 's|@LIBDIR@|$(call BELOW,$(LIBDIR))|' -e 's|@VERSION@|$(VERSION)|' include/gix_mailmap.pc.in
+INFO = gix_mailmap-$(VERSION).dist-info
+METADATA = sed -e 's|@VERSION@|$(VERSION)|' packaging/METADATA.in
+# the shared library, as it is named from the package for Python
+FROM_PYTHON = $$(realpath -sm --relative-to=$(PYTHONDIR)/gix_mailmap $(LIBDIR))/$(SONAME)
+# installs what a command prints as a file, and a link, where they are not there yet
+install_printed = made=$$(mktemp) && $(1) > $$made && install -C -m 644 $$made $(2) && rm $$made
+install_link = [ "$$(readlink $(2))" = "$(1)" ] || ln -sf $(1) $(2)
+
 # what `make lib` has built
 install_lib:
-	mkdir -p $(DESTDIR)$(INCLUDEDIR) $(DESTDIR)$(LIBDIR)/pkgconfig $(DESTDIR)$(PYTHONDIR)/gix_mailmap
+	mkdir -p $(DESTDIR)$(INCLUDEDIR) $(DESTDIR)$(LIBDIR)/pkgconfig
+	mkdir -p $(DESTDIR)$(PYTHONDIR)/gix_mailmap $(DESTDIR)$(PYTHONDIR)/$(INFO)
 	install -C -m 644 include/gix_mailmap.h $(DESTDIR)$(INCLUDEDIR)
 	install -C -m 644 $(LIB)/c/libgix_mailmap.a $(DESTDIR)$(LIBDIR)
 	install -C -m 755 $(LIB)/c/$(SHARED) $(DESTDIR)$(LIBDIR)
-	ln -sf $(SHARED) $(DESTDIR)$(LIBDIR)/$(SONAME)
-	ln -sf $(SONAME) $(DESTDIR)$(LIBDIR)/$(LINKED)
-	sed -e 's|@PREFIX@|$(PREFIX)|' -e 's|@INCLUDEDIR@|$(call BELOW,$(INCLUDEDIR))|' \
-	    -e 's|@LIBDIR@|$(call BELOW,$(LIBDIR))|' -e 's|@VERSION@|$(VERSION)|' \
-	    include/gix_mailmap.pc.in > $(DESTDIR)$(LIBDIR)/pkgconfig/gix_mailmap.pc
-	chmod 644 $(DESTDIR)$(LIBDIR)/pkgconfig/gix_mailmap.pc
+	$(call install_link,$(SHARED),$(DESTDIR)$(LIBDIR)/$(SONAME))
+	$(call install_link,$(SONAME),$(DESTDIR)$(LIBDIR)/$(LINKED))
+	$(call install_printed,$(FOR_PKG_CONFIG),$(DESTDIR)$(LIBDIR)/pkgconfig/gix_mailmap.pc)
 	install -C -m 644 $(PACKAGE) $(DESTDIR)$(PYTHONDIR)/gix_mailmap
-	ln -sf $$(realpath -sm --relative-to=$(PYTHONDIR)/gix_mailmap $(LIBDIR))/$(SONAME) \
-	    $(DESTDIR)$(PYTHONDIR)/gix_mailmap/$(LINKED)
+	$(call install_link,$(FROM_PYTHON),$(DESTDIR)$(PYTHONDIR)/gix_mailmap/$(LINKED))
+	$(call install_printed,$(METADATA),$(DESTDIR)$(PYTHONDIR)/$(INFO)/METADATA)
 
 # Folders that others may use, such as bin, stay.
 uninstall:
@@ -156,7 +167,8 @@ uninstall:
 	rm -f $(addprefix $(DESTDIR)$(LIBDIR)/,libgix_mailmap.a $(SHARED) $(SONAME) $(LINKED) pkgconfig/gix_mailmap.pc)
 	rm -f $(addprefix $(DESTDIR)$(PYTHONDIR)/gix_mailmap/,$(notdir $(PACKAGE)) $(LINKED))
 	rm -rf $(DESTDIR)$(PYTHONDIR)/gix_mailmap/__pycache__
-	for folder in $(PYTHONDIR)/gix_mailmap $(PREFIX)/share/gix_mailmap/python $(PREFIX)/share/gix_mailmap; do \
+	rm -f $(DESTDIR)$(PYTHONDIR)/$(INFO)/METADATA
+	for folder in $(PYTHONDIR)/gix_mailmap $(PYTHONDIR)/$(INFO) $(PREFIX)/share/gix_mailmap/python $(PREFIX)/share/gix_mailmap; do \
 	    [ ! -d $(DESTDIR)$$folder ] || rmdir --ignore-fail-on-non-empty $(DESTDIR)$$folder; done
 
 # Packages. The same files give the same package: its files have one time, and root owns them.
@@ -166,8 +178,8 @@ TARBALL = gix_mailmap-$(VERSION)-linux-x86_64
 DEBIAN = gix-mailmap_$(VERSION)_amd64
 MAINTAINER ?= The maintainers of gix_mailmap <maintainers@gix-mailmap.invalid>
 # the oldest version of glibc that all of it runs with
-GLIBC = $(shell grep -aoh 'GLIBC_2\.[0-9]*' $(PROGRAM) $(VERIFIER) $(LIB)/c/$(SHARED) | sort -V | tail -n 1 \
-    | cut -d _ -f 2)
+GLIBC = $(shell grep -aoh 'GLIBC_2\.[0-9]*' $(PROGRAM) $(VERIFIER) $(COUNTER) $(LIB)/c/$(SHARED) | sort -V \
+    | tail -n 1 | cut -d _ -f 2)
 FILLED = sed -e 's|@VERSION@|$(VERSION)|' -e 's|@GLIBC@|$(GLIBC)|' -e 's|@MAINTAINER@|$(MAINTAINER)|'
 
 dist: build lib
@@ -189,6 +201,7 @@ deb: build lib
 	    LIBDIR=/usr/lib/x86_64-linux-gnu MANDIR=/usr/share/man PYTHONDIR=/usr/lib/python3/dist-packages
 	gzip -9n $(DIST)/$(DEBIAN)/usr/share/man/man1/*.1
 	install -D -m 644 LICENSE $(DIST)/$(DEBIAN)/usr/share/doc/gix-mailmap/copyright
+	echo debian > $(DIST)/$(DEBIAN)/usr/lib/python3/dist-packages/$(INFO)/INSTALLER
 	mkdir $(DIST)/$(DEBIAN)/DEBIAN
 	cd $(DIST)/$(DEBIAN) && find usr -type f | LC_ALL=C sort | xargs md5sum > DEBIAN/md5sums
 	$(FILLED) packaging/control.in > $(DIST)/$(DEBIAN)/DEBIAN/control

@@ -3,12 +3,9 @@
  * each is given a handle of its own, a copy that ends with the call, and only looks at what it leads to. And texts that
  * an array points to are put together. */
 #include "exports.h"
+#include "layout.h"
 #include <stdlib.h>
 #include <string.h>
-
-_Static_assert(sizeof(gix_mailmap_field) == 16 && sizeof(gix_mailmap_listed) == 72, "as in the proved calls");
-_Static_assert(sizeof(gix_mailmap_finding) == 24 && offsetof(gix_mailmap_finding, beside) == 16, "the same");
-_Static_assert(sizeof(gix_mailmap_position) == 16 && offsetof(gix_mailmap_position, line) == 8, "the same");
 
 /* what stands for NULL, aligned for all elements; nothing reads or writes it */
 static uint64_t nothing;

@@ -34,8 +34,10 @@
  *
  * Memory comes from the program's malloc, realloc and free.
  *
- * The structs and the numbers below are part of the binary interface. The padding in a struct is reserved: a later
- * version may have members there. New numbers may come at the end of an enum.
+ * The structs and the numbers below are part of the binary interface. A struct keeps its size and its members. The
+ * padding in one that a call writes is reserved: a later version may write members there. One that a call reads has no
+ * padding: if a later version has to read more, that comes with a new struct and a new call. New numbers may come at
+ * the end of an enum.
  *
  * The comment of a call ends with the statuses that it returns, without their prefix.
  */
@@ -101,7 +103,8 @@ typedef struct gix_mailmap_listed {
 } gix_mailmap_listed;
 
 /* What may be wrong with a line. A line with one of the first four faults gives no entry. One with the fifth is read as
- * if it ended before the second `<`: `Jane <jane@x> <jd@y` maps jane@x to the name Jane, and `<jane@x> <jd@y` gives no entry. */
+ * if it ended before the second `<`: `Jane <jane@x> <jd@y` maps jane@x to the name Jane, and `<jane@x> <jd@y` gives no
+ * entry. */
 typedef enum gix_mailmap_kind {
     GIX_MAILMAP_NO_EMAIL = 1,                /* there is no `<` */
     GIX_MAILMAP_MISSING_CLOSING_BRACKET = 2, /* the first `<` has no `>` after it */
@@ -148,7 +151,7 @@ const char *gix_mailmap_status_text(gix_mailmap_status status);
 gix_mailmap_status gix_mailmap_open(gix_mailmap **map, const char *text, size_t text_len)
     GIX_MAILMAP_NONNULL(1) GIX_MAILMAP_MUST_CHECK;
 
-/* Frees a mailmap. NULL is none, and nothing happens. */
+/* Frees a mailmap. NULL is allowed and does nothing. */
 void gix_mailmap_close(gix_mailmap *map);
 
 /* Adds the entries of a text after those that are there. Lines that can't be read are left out. A later entry with an
@@ -158,8 +161,8 @@ void gix_mailmap_close(gix_mailmap *map);
 gix_mailmap_status gix_mailmap_add(gix_mailmap *map, const char *text, size_t text_len)
     GIX_MAILMAP_NONNULL(1) GIX_MAILMAP_MUST_CHECK;
 
-/* Adds one entry, as gix_mailmap_add does. Its texts are taken as they are, and none is read as a line. A new name, a
- * new email and an old name that are empty aren't there.
+/* Adds one entry, as gix_mailmap_add does. Its texts are taken as they are, and none is read as a line. An empty new
+ * name, new email or old name counts as missing.
  * OK; OUT_OF_MEMORY; NOT_AN_ENTRY: there is no new name and no new email, or an old name and no new email. */
 gix_mailmap_status gix_mailmap_add_entry(gix_mailmap *map, const char *new_name, size_t new_name_len,
                                          const char *new_email, size_t new_email_len, const char *old_name,
@@ -167,8 +170,8 @@ gix_mailmap_status gix_mailmap_add_entry(gix_mailmap *map, const char *new_name,
     GIX_MAILMAP_NONNULL(1) GIX_MAILMAP_MUST_CHECK;
 
 /* Looks a contact up by its name and email, and copies the proper name to `name_out` and the proper email to
- * `email_out`. If the mailmap gives no new name, that is the contact's own name, and so it is with the email.
- * `new_name` and `new_email` are written at OK and at TOO_SHORT: the lengths, and whether the mailmap gives the text.
+ * `email_out`. If the mailmap gives no new name, that is the contact's own name; likewise for the email. `new_name`
+ * and `new_email` are written at OK and at TOO_SHORT: the lengths, and whether the mailmap gives the text.
  * OK; TOO_SHORT: one of the buffers is too short, and both are as they were. */
 gix_mailmap_status gix_mailmap_lookup(const gix_mailmap *map, const char *name, size_t name_len, const char *email,
                                       size_t email_len, char *GIX_MAILMAP_RESTRICT name_out, size_t name_out_len,
@@ -294,12 +297,12 @@ gix_mailmap_status gix_mailmap_unneeded(const gix_mailmap_named *mailmaps, size_
 gix_mailmap_status gix_mailmap_stream_open(gix_mailmap_stream **stream, const char *mailmap, size_t mailmap_len)
     GIX_MAILMAP_NONNULL(1) GIX_MAILMAP_MUST_CHECK;
 
-/* Frees a stream, with all answers that weren't read. NULL is none, and nothing happens. */
+/* Frees a stream, with all answers that weren't read. NULL is allowed and does nothing. */
 void gix_mailmap_stream_close(gix_mailmap_stream *stream);
 
 /* Takes contacts from the beginning of `part`, and answers each line that ends in them. What is after the last line
- * feed is kept until more comes. `taken` is how many bytes it took: one at least, unless there is none. It is fewer
- * than there are if 64 KiB of answers wait to be read, or if memory runs out after some lines: read the answers, and
+ * feed is kept until more comes. `taken` is how many bytes it took: at least one, unless `part_len` is 0. It is fewer
+ * than `part_len` if 64 KiB of answers wait to be read, or if memory runs out after some lines: read the answers, and
  * push the rest. `taken` is 0 at OUT_OF_MEMORY.
  * OK; OUT_OF_MEMORY. */
 gix_mailmap_status gix_mailmap_stream_push(gix_mailmap_stream *stream, const char *part, size_t part_len,

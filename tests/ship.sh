@@ -42,6 +42,23 @@ nothing_left() {
     same "$2: what is left" "$left" ''
 }
 
+# what `make build lib` would do after an edit of a file; that there is no toolchain is of no matter
+planned() {
+    built -n -W "$@" build lib 2> "$work/said"
+}
+# what it would prove, in the order of the Makefile
+proved_again() {
+    planned "$1" | sed -n 's/^echo .Proving and building \(the \)\?\([a-z_]*\).*/\2/p' | xargs
+}
+every=$(proved_again crates/mailmap_entries/src/lib.rt)
+same 'an edit of mailmap_entries' "$every" 'mailmap_check mailmap_verify mailmap_shortlog libraries'
+same 'an edit of mailmap_shortlogs' "$(proved_again crates/mailmap_shortlogs/src/lib.rt)" mailmap_shortlog
+same 'an edit of mailmap_reports' "$(proved_again crates/mailmap_reports/src/lib.rt)" 'mailmap_verify libraries'
+
+# the caller's flags, both where it compiles and where it links
+planned c/gix_mailmap.c CPPFLAGS=-DOWN CFLAGS=-g3 LDFLAGS=-Wl,-O1 > "$work/plan"
+same 'make lib with flags' "$(grep -o -e '-DOWN -g3' -e '-g3 -Wl,-O1' "$work/plan")" $'-DOWN -g3\n-g3 -Wl,-O1'
+
 # what docs/C.md names has to be of this version
 for named in "$so.$version" "$so.$(interface)\`" "gix_mailmap-$version-linux" "gix-mailmap_${version}_amd64.deb"; do
     if ! grep -qF "$named" "$top/docs/C.md"; then
@@ -54,7 +71,7 @@ done
 folders=(PREFIX=/srv/own BINDIR=/srv/bin INCLUDEDIR=/srv/own/headers LIBDIR=/srv/own/lib64 MANDIR=/srv/pages
     PYTHONDIR=/srv/python)
 root="$work/root"
-listed() { find "$root" -type f -printf '%P %m %T@ %s\n' -o -type l -printf '%P %l\n' | grep -v '\.pc ' | sort; }
+listed() { find "$root" ! -type d -printf '%P %m %T@ %s %l\n' | sort; }
 built install DESTDIR="$root" "${folders[@]}"
 once="$(listed)"
 built install DESTDIR="$root" "${folders[@]}"

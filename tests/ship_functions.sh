@@ -38,7 +38,7 @@ not a contact'
 # they print. The folders are named as if ROOT were the whole system.
 page_programs_answer() {
     local what="$1" root="$2" include="$2$3" libdir="$2$4" python="$2$5"
-    local cc="${CC:-cc}" page="$work/page" wanted built
+    local cc="${CC:-cc}" page="$work/page" wanted built found
     local flags=(-std=c11 -Wall -Wextra -Wpedantic -Werror)
     mkdir -p "$page/loaded"
     "$top/tests/c/page.py" "$top/docs/C.md" "$page"
@@ -60,4 +60,6 @@ page_programs_answer() {
     "$cc" "${flags[@]}" "-I$include" "$page/example.c" "$libdir/libgix_mailmap.a" -o "$page/static"
     same "$what: the C program, static," "$("$page/static")" "$wanted"
     same "$what: the Python program" "$(PYTHONPATH="$python" python3 "$page/example.py")" "$wanted"
+    found="$(PYTHONPATH="$python" python3 -c 'from importlib import metadata; print(metadata.version("gix-mailmap"))')"
+    same "$what: the Python package" "$found" "$(cat "$top/VERSION")"
 }

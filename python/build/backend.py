@@ -42,6 +42,7 @@ def build_editable(
     wheel_directory: str, config_settings: Settings = None, metadata_directory: Optional[str] = None
 ) -> str:
     """Writes a wheel that leads to the package in the source tree, for `pip install -e`."""
+    _library()
     return _write(Path(wheel_directory), {"gix_mailmap.pth": f"{PACKAGE.parent}\n".encode()}, "py3-none-any")
 
 
@@ -53,7 +54,10 @@ def build_sdist(sdist_directory: str, config_settings: Settings = None) -> str:
 def _library() -> bytes:
     path = Path(os.environ.get("GIX_MAILMAP_LIBRARY") or LIBRARY)
     if not path.is_file():
-        raise SystemExit(f"there is no shared library at {path}: run `make lib` first")
+        raise SystemExit(
+            f"there is no shared library at {path}: run `make lib` first, which needs the toolchain (rt), "
+            "or name a library that is built in the variable GIX_MAILMAP_LIBRARY of the environment"
+        )
     return path.read_bytes()
 
 

@@ -11,13 +11,23 @@ Texts are `str` or bytes, and what a call answers is of the same kind. Bytes may
 is encoded; in a `str`, bytes that aren't UTF-8 are lone surrogates (`surrogateescape`). A `bytearray` and a
 `memoryview` are taken as bytes.
 
-All errors of the module are of the class Error. An argument of a wrong type is a TypeError.
+The errors of the module are of the class Error, and also of Python's own class for that case. Others are a TypeError
+for an argument of a wrong type, a ValueError of `index` and of a slice, as of a list, and an ImportError if no library
+is found.
 """
 
+<<<<<<< HEAD
 from ._calls import check, compact, explain, prune, report, unneeded, verify
 from ._errors import Closed, Error, NoEntry, NotAnEntry, OutOfMemory, Unwritable
 from ._mailmap import Mailmap
 from ._results import Answer, Entry, Finding, Kind, Position
+=======
+from ._calls import check, compact, explain, prune, report, verify
+from ._errors import Closed, Error, NoEntry, NotALine, NotAnEntry, NotAText, OutOfMemory, Unwritable
+from ._mailmap import Mailmap
+from ._results import Answer, Entry, Finding, Kind
+from ._version import __version__ as __version__
+>>>>>>> 6321e7f44a6c1bee018e9e168b8227e98a149206
 
 __all__ = [
     "Answer",
@@ -28,6 +38,8 @@ __all__ = [
     "Kind",
     "Mailmap",
     "NoEntry",
+    "NotALine",
+    "NotAText",
     "NotAnEntry",
     "OutOfMemory",
     "Position",

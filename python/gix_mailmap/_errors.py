@@ -21,5 +21,13 @@ class NotAnEntry(Error, ValueError):
     """Texts that make no entry: they give no new name and no new email, or an old name without a new email."""
 
 
+class NotALine(Error, ValueError):
+    """Of a line for `map_contacts`: it has a line feed before its end."""
+
+
+class NotAText(Error, UnicodeEncodeError):
+    """A `str` with a surrogate that stands for no byte, so that it has no bytes."""
+
+
 class Unwritable(Error, ValueError):
     """No line can hold some entry of the mailmap, which `add_entry` has added."""

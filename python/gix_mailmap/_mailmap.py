@@ -6,13 +6,17 @@ import operator
 import sys
 from collections.abc import Sequence
 from types import TracebackType
-from typing import Any, AnyStr, Generic, Iterable, Iterator, Optional, Union, cast, overload
+from typing import Any, AnyStr, Generic, Iterable, Iterator, NoReturn, Optional, Self, Union, cast, overload
 
 from . import _stream
-from ._errors import Closed, NoEntry
+from ._errors import Closed, NoEntry, Unwritable
 from ._native import Fields, Handle
 from ._results import Answer, Entry
 from ._texts import Buffer, Text, are_str, as_bytes, as_str
+
+
+# What the mailmap is after some change, as a text, if it can be one.
+_Written = tuple[object, Optional[bytes]]
 
 
 class Mailmap(Sequence[Entry[AnyStr]], Generic[AnyStr]):
@@ -28,6 +32,9 @@ class Mailmap(Sequence[Entry[AnyStr]], Generic[AnyStr]):
 
     Threads may share it: a call waits until the one before is done. Each call except `close` and `closed` raises Closed
     once the mailmap is closed. A mailmap that nothing refers to is closed.
+
+    A forked process has a mailmap of its own. There is no copy and no pickle of one: `Mailmap(mailmap.write())` opens
+    another one with the same entries.
     """
 
     @overload
@@ -38,16 +45,21 @@ class Mailmap(Sequence[Entry[AnyStr]], Generic[AnyStr]):
 
     def __init__(self, *texts: Text) -> None:
         """Opens the mailmaps `texts`, of which later ones come after earlier ones: where two entries are for the same
-        contact, the later one counts. Lines that can't be read are left out. Raises
-        OutOfMemory."""
+        contact, the later one counts. Lines that can't be read are left out. Raises OutOfMemory."""
         self._is_str = are_str(*texts)
         self._handle = Handle()
         self._changed = object()
-        self._written: tuple[object, bytes] = object(), b""
+        self._written: _Written = object(), None
         for text in texts:
             self._add(text)
 
-    def add(self, text: Union[AnyStr, Buffer]) -> None:
+    @overload
+    def add(self: Mailmap[bytes], text: Buffer) -> None: ...
+
+    @overload
+    def add(self: Mailmap[str], text: str) -> None: ...
+
+    def add(self, text: Text) -> None:
         """Adds the entries of a mailmap after those that are held. Raises OutOfMemory."""
         if isinstance(text, str) != self._is_str:
             raise TypeError("str and bytes can't be mixed")
@@ -68,6 +80,8 @@ class Mailmap(Sequence[Entry[AnyStr]], Generic[AnyStr]):
 
         Raises NotAnEntry if there is no new name and no new email, or an old name without a new email, and OutOfMemory.
         """
+        if not isinstance(entry, Entry):
+            raise TypeError(f"an Entry is wanted, not {type(entry).__name__}")
         if are_str(*(text for text in entry if text is not None)) != self._is_str:
             raise TypeError("str and bytes can't be mixed")
         new_name, new_email, old_name = (None if text is None else as_bytes(text) for text in entry[:3])
@@ -123,24 +137,38 @@ class Mailmap(Sequence[Entry[AnyStr]], Generic[AnyStr]):
         ['Jane Doe <jane@x>', 'plain']
 
         Lines are taken in parts of 1024, so some are read ahead. What is added meanwhile counts from a later part on,
-        and once the mailmap is closed there is no other part. A ValueError if a line has a line feed before its end.
-        Raises Unwritable, as `write` does, and OutOfMemory.
+        and once the mailmap is closed there is no other part. Each call reads the whole mailmap, so give it all lines
+        that there are. With an entry that no line can hold, it is no faster than lookups.
+
+        Raises NotALine if a line has a line feed before its end, NotAText, and OutOfMemory.
         """
+        if isinstance(lines, (str, bytes, bytearray, memoryview)):
+            raise TypeError(f"lines are wanted, not one {type(lines).__name__}")
         if self.closed:
             raise Closed("the mailmap is closed")
-        return _stream.answers(self._as_text, lines)
+        return _stream.answers(self._as_text, self._handle.lookup, lines)
 
-    def _as_text(self) -> bytes:
-        """The mailmap as a text: the same one until something is added."""
-        changed, text = self._written
+    def _as_text(self) -> _Written:
+        """The mailmap as a text, or none if no line can hold some entry. It is the same pair until something is
+        added."""
+        written = self._written
         if self.closed:
             raise Closed("the mailmap is closed")
         # What is added from here on makes the text an old one, whether it is in the entries or not.
-        if changed is not self._changed:
-            changed = self._changed
-            text = self._handle.write()
-            self._written = changed, text
-        return text
+        changed = self._changed
+        if changed is not written[0]:
+            try:
+                written = changed, self._handle.write()
+            except Unwritable:
+                written = changed, None
+            self._written = written
+            if self.closed:
+                self._forget()
+        return written
+
+    def _forget(self) -> None:
+        """Drops the text."""
+        self._written = object(), None
 
     def entries(self) -> list[Entry[AnyStr]]:
         """All entries as they are now."""
@@ -200,13 +228,17 @@ class Mailmap(Sequence[Entry[AnyStr]], Generic[AnyStr]):
     def close(self) -> None:
         """Closes the mailmap, and frees its memory. A closed one stays closed."""
         self._handle.close()
+        self._forget()
 
     @property
     def closed(self) -> bool:
         """Whether it is closed."""
         return self._handle.closed
 
-    def __enter__(self) -> Mailmap[AnyStr]:
+    def __reduce__(self) -> NoReturn:
+        raise TypeError("a Mailmap can't be copied or pickled: open another one with what its write() gives")
+
+    def __enter__(self) -> Self:
         if self.closed:
             raise Closed("the mailmap is closed")
         return self

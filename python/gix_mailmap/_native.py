@@ -4,6 +4,8 @@ Threads: other threads run during a call. So each handle has a lock, and a call 
 done. The library lets calls read a mailmap at the same time, but none may close it meanwhile. The lock is one that a
 thread may take again, since the garbage collector may run a `__del__` with calls of its own at any time. No such call
 can begin while the library is at work for the same thread.
+
+Forks: a fork waits until no other thread is in a call, and in the child each handle has a lock that is free.
 """
 
 from __future__ import annotations
@@ -13,14 +15,18 @@ import os
 import struct
 import threading
 import weakref
+from contextlib import ExitStack
 from ctypes import POINTER, Structure, byref, c_bool, c_char_p, c_int, c_size_t, c_void_p, cast, create_string_buffer
 from functools import partial
 from pathlib import Path
-from typing import Any, Callable, Iterator, NamedTuple, Optional
+from typing import Any, Callable, Iterator, NamedTuple, NoReturn, Optional
 
 from ._errors import Closed, Error, NoEntry, NotAnEntry, OutOfMemory, Unwritable
+from ._version import __version__
 
+# the library beside this file, and that of the system, which has the number of the binary interface
 _NAME = "libgix_mailmap.so"
+_SONAME = "libgix_mailmap.so.1"
 _VARIABLE = "GIX_MAILMAP_LIBRARY"
 
 _OK, _TOO_SHORT, _OUT_OF_MEMORY, _NO_ENTRY, _NOT_AN_ENTRY, _UNWRITABLE = range(6)
@@ -61,16 +67,16 @@ class Fields(NamedTuple):
 def _paths() -> list[str]:
     """Where the library may be: where the environment says, or else beside this file, or where the system looks."""
     named = os.environ.get(_VARIABLE)
-    return [named] if named else [str(Path(__file__).with_name(_NAME)), _NAME]
+    return [named] if named else [str(Path(__file__).with_name(_NAME)), _SONAME]
 
 
-def _found() -> ctypes.CDLL:
-    """The library at the first path that has one. An ImportError names all of them."""
+def _load() -> ctypes.CDLL:
+    """The library at the first path that has one for this package. An ImportError names all of them."""
     tried = []
     for path in _paths():
         try:
-            return ctypes.CDLL(path)
-        except OSError as error:
+            return _with_types(ctypes.CDLL(path))
+        except (OSError, AttributeError, ImportError) as error:
             tried.append(f"  {path}: {error}")
     raise ImportError("\n".join([
         f"gix_mailmap finds no {_NAME} that it can load. It tried:",
@@ -79,9 +85,13 @@ def _found() -> ctypes.CDLL:
     ]))
 
 
-def _load() -> ctypes.CDLL:
-    """The library, with the types of its calls."""
-    library = _found()
+def _with_types(library: ctypes.CDLL) -> ctypes.CDLL:
+    """The library, with the types of its calls. An AttributeError if it lacks one, and an ImportError if the first
+    number of its version is another than that of the package."""
+    library.gix_mailmap_version.restype = c_char_p
+    version = library.gix_mailmap_version().decode()
+    if version.split(".")[0] != __version__.split(".")[0]:
+        raise ImportError(f"its version is {version}, and that of the package {__version__}")
     text, room = [c_void_p, c_size_t], [c_void_p, c_size_t]
     length, field = POINTER(c_size_t), POINTER(_Field)
     calls: dict[str, tuple[list[Any], Any]] = {
@@ -217,6 +227,10 @@ class _Buffers:
         return self.name.raw[: name.len], self.email.raw[: email.len], name.is_given, email.is_given
 
 
+# All that is held, for a fork.
+_alive: set[weakref.ref[_Held]] = set()
+
+
 class _Held:
     """A mailmap or a stream of the library. If it is closed during a call, it is freed as that ends."""
 
@@ -228,6 +242,7 @@ class _Held:
         at = c_void_p()
         _is_short(opening(byref(at), text, len(text)))
         self._owned = {"at": at.value}
+        _alive.add(weakref.ref(self, _alive.discard))
 
     def called(self, call: Callable[..., Any], *arguments: object) -> Any:
         """What a call of the library with what is held returns."""
@@ -253,7 +268,57 @@ class _Held:
             self._closing(self._owned.pop("at", None))
 
 
-class Handle:
+class _Forking(threading.local):
+    """The locks that a thread holds while it forks."""
+
+    locks = ExitStack()
+
+
+_forking = _Forking()
+
+
+def _all_held() -> list[_Held]:
+    return [held for held in (reference() for reference in _alive.copy()) if held is not None]
+
+
+def _before_fork() -> None:
+    """Takes all locks, so that no other thread is in a call. One that has a lock may wait for another, in a `__del__`:
+    so after some time without a lock all are given back, and the next try has more time."""
+    patience = 0.1
+    while True:
+        with ExitStack() as locks:
+            for held in _all_held():
+                if not held.lock.acquire(timeout=patience):
+                    break
+                locks.callback(held.lock.release)
+            else:
+                _forking.locks = locks.pop_all()
+                return
+        patience *= 2
+
+
+def _after_fork_in_parent() -> None:
+    _forking.locks.close()
+
+
+def _after_fork_in_child() -> None:
+    for held in _all_held():
+        held.lock = threading.RLock()
+
+
+os.register_at_fork(
+    before=_before_fork, after_in_parent=_after_fork_in_parent, after_in_child=_after_fork_in_child
+)
+
+
+class _Uncopied:
+    """What can't be copied, since two would free the same memory."""
+
+    def __reduce__(self) -> NoReturn:
+        raise TypeError(f"a {type(self).__name__} can't be copied or pickled")
+
+
+class Handle(_Uncopied):
     """A mailmap that the library holds, until `close` or until nothing refers to it any more.
 
     Threads may share it.
@@ -340,7 +405,7 @@ class Handle:
         return self._held.closed
 
 
-class Stream:
+class Stream(_Uncopied):
     """Contacts that come in parts, and their answers by the text of a mailmap. It is freed as nothing refers to it."""
 
     def __init__(self, mailmap: bytes) -> None:

@@ -46,6 +46,11 @@ class Kind(IntEnum):
     A line of one of the first four kinds gives no entry. One of the fifth
     gives the entry of its first contact, if that has a name. One of the
     last is read otherwise by git.
+
+    A later version of the library may have more kinds. They are shown by their numbers:
+
+    >>> Kind(100)
+    <Kind.NUMBER_100: 100>
     """
 
     NO_EMAIL = 1
@@ -57,6 +62,14 @@ class Kind(IntEnum):
     NO_EFFECT = 7
     ITSELF_MAPPED = 8
     GIT_READS = 9
+
+    @classmethod
+    def _missing_(cls, value: object) -> Optional[Kind]:
+        if not isinstance(value, int) or value <= max(cls):
+            return None
+        kind = int.__new__(cls, value)
+        kind._name_, kind._value_ = f"NUMBER_{value}", value
+        return kind
 
 
 class Finding(NamedTuple):

@@ -1,37 +1,49 @@
-"""Many contacts, answered in parts by a stream of the library."""
+"""Many contacts, answered in parts by a stream of the library.
+
+No line can hold some entries, and a mailmap that has one can't be given to a stream. Then the contacts are those that
+the stream of an empty mailmap answers, and each is looked up.
+"""
 
 from __future__ import annotations
 
 from itertools import chain, islice
 from operator import itemgetter
-from typing import AnyStr, Callable, Generic, Iterable, Iterator
+from typing import AnyStr, Callable, Generic, Iterable, Iterator, Optional
 
+from ._errors import NotALine
 from ._native import Stream
 from ._texts import as_bytes, as_str
 
 # How many lines are taken at a time.
 _PART = 1024
 
-# For how many lines the answers are kept.
+# For how many lines the answers are kept, and how long a line and its answer may be.
 _KEPT = 65_536
+_LENGTH = 250
 
 # After a part of which most lines are new, this many parts are answered without a look at what is kept.
 _PAUSE = 7
 
 
-def answers(mailmap: Callable[[], bytes], lines: Iterable[AnyStr]) -> Iterator[AnyStr]:
-    """The answer to each line, without a line feed. `mailmap` is asked before each part: the same bytes as long as
-    nothing changes."""
-    return chain.from_iterable(_answered_parts(mailmap, lines))
+# The mailmap as a text, if it can be one: the same pair as long as nothing changes.
+_Mailmap = Callable[[], tuple[object, Optional[bytes]]]
+
+# The proper name and email of a contact, and whether the mailmap gives them.
+_Lookup = Callable[[bytes, bytes], tuple[bytes, bytes, bool, bool]]
 
 
-def _answered_parts(mailmap: Callable[[], bytes], lines: Iterable[AnyStr]) -> Iterator[list[AnyStr]]:
+def answers(mailmap: _Mailmap, lookup: _Lookup, lines: Iterable[AnyStr]) -> Iterator[AnyStr]:
+    """The answer to each line, without a line feed. `mailmap` is asked before each part."""
+    return chain.from_iterable(_answered_parts(mailmap, lookup, lines))
+
+
+def _answered_parts(mailmap: _Mailmap, lookup: _Lookup, lines: Iterable[AnyStr]) -> Iterator[list[AnyStr]]:
     """The answers to part after part."""
-    text, answered = b"", None
+    written, answered = None, None
     for part in _parts(lines):
-        before, text = text, mailmap()
-        if answered is None or text is not before:
-            answered = _Answers[AnyStr](text)
+        before, written = written, mailmap()
+        if answered is None or written is not before:
+            answered = _Answers[AnyStr](written[1], lookup)
         yield answered.of(part)
 
 
@@ -49,11 +61,12 @@ def _parts(lines: Iterable[AnyStr]) -> Iterator[list[AnyStr]]:
 
 
 class _Answers(Generic[AnyStr]):
-    """Answers parts by one mailmap. Answers to lines that come again are kept: a table of Python's gives them in less
-    time than it takes to make a new text of an answer."""
+    """Answers parts by one mailmap, or by lookups if that is no text. Answers to lines that come again are kept: a
+    table of Python's gives them in less time than it takes to make a new text of an answer."""
 
-    def __init__(self, mailmap: bytes) -> None:
-        self._stream = Stream(mailmap)
+    def __init__(self, mailmap: Optional[bytes], lookup: _Lookup) -> None:
+        self._stream = Stream(mailmap or b"")
+        self._lookup = lookup if mailmap is None else None
         self._known: dict[AnyStr, AnyStr] = {}
         self._pause = 0
 
@@ -71,8 +84,13 @@ class _Answers(Generic[AnyStr]):
         new = list(set(lines).difference(self._known))
         if 2 * len(new) > len(lines):
             self._pause = _PAUSE
-        self._known.update(zip(new, self._asked(new)))
-        return list(map(self._known.__getitem__, lines))
+        asked = self._asked(new)
+        self._known.update(zip(new, asked))
+        answered = list(map(self._known.__getitem__, lines))
+        for line, answer in zip(new, asked):
+            if len(line) + len(answer) > _LENGTH:
+                del self._known[line]
+        return answered
 
     def _asked(self, lines: list[AnyStr]) -> list[AnyStr]:
         """What the stream answers to each line."""
@@ -83,12 +101,23 @@ class _Answers(Generic[AnyStr]):
             feed, carriage_return = b"\n", b"\r"
         contacts = as_bytes(_joined(lines, feed, carriage_return))
         if contacts.count(b"\n") != len(lines):
-            raise ValueError("a line has a line feed before its end")
+            raise NotALine("a line has a line feed before its end")
         answered: list[AnyStr] = []
         for some in self._stream.answers(contacts):
             answered += (as_str(some) if isinstance(first, str) else some).split(feed)
             answered.pop()
-        return answered
+        if self._lookup is None:
+            return answered
+        return [self._looked_up(self._lookup, contact) for contact in answered]
+
+    def _looked_up(self, lookup: _Lookup, line: AnyStr) -> AnyStr:
+        """The answer to a line. If it is a contact, its name and its email have been trimmed."""
+        name, bracket, rest = as_bytes(line).partition(b"<")
+        if not bracket or b">" not in rest:
+            return line
+        found_name, found_email, _, _ = lookup(name[:-1], rest[:-1])
+        answer = b"%b <%b>" % (found_name, found_email) if found_name else b"<%b>" % found_email
+        return as_str(answer) if isinstance(line, str) else answer
 
 
 def _joined(lines: list[AnyStr], feed: AnyStr, carriage_return: AnyStr) -> AnyStr:

@@ -11,16 +11,21 @@ from __future__ import annotations
 
 from typing import Union
 
+from ._errors import NotAText
+
 Buffer = Union[bytes, bytearray, memoryview]
 Text = Union[str, Buffer]
 
 
 def as_bytes(text: Text) -> bytes:
-    """The bytes of a text: a copy if they could change."""
+    """The bytes of a text: a copy if they could change. Raises NotAText."""
     if isinstance(text, bytes):
         return text
     if isinstance(text, str):
-        return text.encode("utf-8", "surrogateescape")
+        try:
+            return text.encode("utf-8", "surrogateescape")
+        except UnicodeEncodeError as error:
+            raise NotAText(*error.args) from None
     if isinstance(text, (bytearray, memoryview)):
         return bytes(text)
     raise TypeError(f"str or bytes wanted, not {type(text).__name__}")

@@ -1,9 +1,10 @@
 #!/usr/bin/env bash
-# Tests the libraries in the folder that the first argument names. Both have to show what the header declares, and nothing
-# else, and the header has to have the version of the file VERSION. The C tests are built against the static library and
-# run: as they are, and under the sanitizers where the compiler has them; that with threads also under helgrind, where it
-# is there. Then comes a program in C++ over the header, where there is a compiler for that. At last the answers are
-# compared with those of libgit2, where it is there.
+# Tests the libraries in the folder that the first argument names. Both have to show what the header declares, and
+# nothing else, and the header has to have the version of the file VERSION. gcc and clang, where they are there, have to
+# take the header in each standard, and the parts of programs that the pages show. The C tests are built against the
+# static library and run: as they are, under memcheck, where it is there, and under the sanitizers where the compiler has
+# them; that with threads also under helgrind. Then comes a program in C++ over the header, where there is a compiler for
+# that. At last the answers are compared with those of libgit2, where it is there.
 set -euo pipefail
 library="$(cd "$1" && pwd)"
 here="$(cd "$(dirname "$0")" && pwd)"
@@ -28,6 +29,28 @@ shows() {
 shows 'the shared library' "$(nm -D --defined-only "$library/libgix_mailmap.so" | awk '{ print $NF }' | sort)"
 shows 'the static library' "$(nm -g --defined-only "$library/libgix_mailmap.a" | awk 'NF == 3 { print $NF }' | sort)"
 
+"$here/fragments.py" > "$work/fragments.c"
+reads() {
+    "$1" "${strict[@]}" -fsyntax-only "${@:2}"
+}
+for compiler in gcc clang; do
+    if [ -n "$(command -v "$compiler")" ]; then
+        for standard in c99 c11; do
+            reads "$compiler" -x c "-std=$standard" "$header"
+        done
+        reads "$compiler" -std=c11 -Wno-unused "$work/fragments.c"
+    else
+        echo "the header: no $compiler here"
+    fi
+done
+for compiler in g++ clang++; do
+    if [ -n "$(command -v "$compiler")" ]; then
+        for standard in c++11 c++17; do
+            reads "$compiler" -x c++ "-std=$standard" "$header"
+        done
+    fi
+done
+
 # whether the compiler takes a statement
 takes() {
     cat > "$work/use.c" <<END
@@ -40,27 +63,32 @@ void use(gix_mailmap *map, const gix_mailmap *read, char *out, size_t *len)
     }
 }
 END
-    "$cc" -std=c11 "${strict[@]}" -c "$work/use.c" -o "$work/use.o" 2> "$work/said"
+    "$compiler" -std=c11 "${strict[@]}" -c "$work/use.c" -o "$work/use.o" 2> "$work/said"
 }
 # what the header has the compiler refuse
 refused() {
     if takes "$1"; then
-        echo "the compiler takes: $1"
+        echo "$compiler takes: $1"
         exit 1
     fi
 }
-if ! takes 'out[0] = (char)gix_mailmap_write(read, out, 1, len);'; then
-    cat "$work/said"
-    exit 1
-fi
-refused 'gix_mailmap_add(map, "", 0);'
-refused 'out[0] = (char)gix_mailmap_write(NULL, out, 1, len);'
-refused 'out[0] = (char)gix_mailmap_write(map, out, 1, NULL);'
-refused 'out[0] = (char)gix_mailmap_add(read, "", 0);'
-refused 'gix_mailmap copy = *map;'
-if "$cc" -Q --help=warnings 2> "$work/said" | grep -q Wrestrict; then
-    refused 'out[0] = (char)gix_mailmap_compact(out, 8, out, 8, len);'
-fi
+for compiler in "$cc" clang; do
+    if [ -z "$(command -v "$compiler")" ]; then
+        continue
+    fi
+    if ! takes 'out[0] = (char)gix_mailmap_write(read, out, 1, len);'; then
+        cat "$work/said"
+        exit 1
+    fi
+    refused 'gix_mailmap_add(map, "", 0);'
+    refused 'out[0] = (char)gix_mailmap_write(NULL, out, 1, len);'
+    refused 'out[0] = (char)gix_mailmap_write(map, out, 1, NULL);'
+    refused 'out[0] = (char)gix_mailmap_add(read, "", 0);'
+    refused 'gix_mailmap copy = *map;'
+    if "$compiler" -Q --help=warnings 2> "$work/said" | grep -q Wrestrict; then
+        refused 'out[0] = (char)gix_mailmap_compact(out, 8, out, 8, len);'
+    fi
+done
 
 # four threads; the words go to the compiler
 threads() {
@@ -83,6 +111,11 @@ has() {
 }
 
 tests
+if [ -n "$(command -v valgrind)" ]; then
+    valgrind --quiet --leak-check=full --error-exitcode=1 "$work/calls"
+else
+    echo 'calls from C: no memcheck here'
+fi
 
 # No contract says that a call succeeds if there is memory, so the tests have to see it if one never does.
 for call in open stream_open; do

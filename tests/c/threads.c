@@ -1,4 +1,5 @@
-/* Threads that read one mailmap at a time, and a mailmap that is opened, used and closed by different threads.
+/* Threads that read one mailmap at a time, threads with a stream each, and a mailmap and a stream that are opened, used
+ * and closed by different threads.
  *
  *     threads THREADS ROUNDS
  */
@@ -18,9 +19,10 @@ static void must(bool holds, const char *what)
     }
 }
 
-/* a mailmap, and what one thread does with it */
+/* a mailmap and a stream, and how often a thread uses them */
 typedef struct {
     gix_mailmap *map;
+    gix_mailmap_stream *stream;
     long rounds;
 } work;
 
@@ -79,6 +81,58 @@ static void *close_one(void *given)
     return NULL;
 }
 
+/* contacts whose answers a call of finish ends, and these */
+static const char CONTACTS[] = "jd <O1@X>\nplain\njd <O2@X>", ANSWERS[] = "jd <n1@x>\nplain\njd <n2@x>\n";
+
+static void *open_stream(void *given)
+{
+    static const char text[] = "<n1@x> <o1@x>\n<n2@x> <o2@x>\n";
+    work *w = given;
+    must(gix_mailmap_stream_open(&w->stream, text, sizeof text - 1) == GIX_MAILMAP_OK, "stream_open");
+    return NULL;
+}
+
+static void *push_contacts(void *given)
+{
+    const work *w = given;
+    size_t taken;
+    must(gix_mailmap_stream_push(w->stream, CONTACTS, sizeof CONTACTS - 1, &taken) == GIX_MAILMAP_OK
+         && taken == sizeof CONTACTS - 1, "stream_push");
+    return NULL;
+}
+
+static void *read_answers(void *given)
+{
+    const work *w = given;
+    char out[64];
+    must(gix_mailmap_stream_finish(w->stream) == GIX_MAILMAP_OK, "stream_finish");
+    size_t count = gix_mailmap_stream_read(w->stream, out, sizeof out);
+    must(count == sizeof ANSWERS - 1 && memcmp(out, ANSWERS, count) == 0, "other answers");
+    return NULL;
+}
+
+static void *close_stream(void *given)
+{
+    work *w = given;
+    gix_mailmap_stream_close(w->stream);
+    return NULL;
+}
+
+static void *stream_all(void *given)
+{
+    const work *w = given;
+    work own = {NULL, NULL, 0};
+    for (long round = 0; round < w->rounds; round++) {
+        open_stream(&own);
+        for (int number = 0; number < 100; number++) {
+            push_contacts(&own);
+            read_answers(&own);
+        }
+        close_stream(&own);
+    }
+    return NULL;
+}
+
 static void run(int threads, void *(*each)(void *), work *w)
 {
     pthread_t started[MOST];
@@ -93,13 +147,20 @@ int main(int count, char **words)
     must(count == 3, "the numbers of threads and of rounds are wanted");
     int threads = atoi(words[1]);
     must(threads > 0 && threads <= MOST, "1 to 64 threads");
-    work w = {NULL, atol(words[2])};
+    work w = {NULL, NULL, atol(words[2])};
     run(1, open_one, &w);
     run(1, add_all, &w);
     run(threads, read_all, &w);
     run(1, add_all, &w);
     run(threads, read_all, &w);
     run(1, close_one, &w);
+    run(1, open_stream, &w);
+    for (int i = 0; i < 10; i++) {
+        run(1, push_contacts, &w);
+        run(1, read_answers, &w);
+    }
+    run(1, close_stream, &w);
+    run(threads, stream_all, &w);
     printf("threads: %d passed\n", threads);
     return 0;
 }

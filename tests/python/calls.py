@@ -1,5 +1,7 @@
 """The calls of the package gix_mailmap, and what they raise."""
+import copy
 import gc
+import pickle
 import unittest
 
 import gix_mailmap
@@ -148,6 +150,9 @@ class Handles(unittest.TestCase):
             for fields in ((None, None, None, b"a"), (b"", b"", b"a", b"a"), (b"A", None, b"a", b"a")):
                 with self.assertRaises(NotAnEntry):
                     mailmap.add_entry(Entry(*fields))
+            for wrong in (tuple(JOE), list(JOE), None):
+                with self.assertRaisesRegex(TypeError, "an Entry is wanted"):
+                    mailmap.add_entry(wrong)
             self.assertEqual(len(mailmap), 3)
 
     def test_write(self):
@@ -155,9 +160,8 @@ class Handles(unittest.TestCase):
             self.assertEqual(mailmap.write(), b" Jane Doe <jane@x> <jd@y>\n Joe <joe@x>\n")
             mailmap.add_entry(Entry(b"<", None, None, b"a\n"))
             self.assertEqual(mailmap.lookup(b"a", b"a\n").name, b"<")
-            for call in (mailmap.write, lambda: list(mailmap.map_contacts([b"a <b>"]))):
-                with self.assertRaises(Unwritable):
-                    call()
+            with self.assertRaises(Unwritable):
+                mailmap.write()
         with Mailmap() as mailmap:
             self.assertEqual(mailmap.write(), b"")
 
@@ -188,7 +192,9 @@ class Handles(unittest.TestCase):
     def test_a_closed_one(self):
         with Mailmap(MAP) as mailmap:
             self.assertFalse(mailmap.closed)
+            list(mailmap.map_contacts([b"a"]))
         self.assertTrue(mailmap.closed)
+        self.assertIsNone(mailmap._written[1])
         mailmap.close()
         calls = [
             lambda: mailmap.lookup(b"jd", b"jd@y"),
@@ -206,6 +212,13 @@ class Handles(unittest.TestCase):
         for call in calls:
             with self.assertRaises(Closed):
                 call()
+
+    def test_no_copies(self):
+        with Mailmap(MAP) as mailmap:
+            for call in (copy.copy, copy.deepcopy, pickle.dumps):
+                for whole in (mailmap, mailmap._handle, gix_mailmap._native.Stream(MAP)):
+                    with self.assertRaisesRegex(TypeError, "can't be copied or pickled"):
+                        call(whole)
 
     def test_one_that_is_dropped(self):
         for _ in range(100):

@@ -1,10 +1,12 @@
 """`str` and bytes in, the same kind out; and the errors."""
 import unittest
+from unittest import mock
 
 import gix_mailmap
 from gix_mailmap import (
     Answer, Closed, Entry, Error, Finding, Kind, Mailmap, NoEntry, NotAnEntry, OutOfMemory, Position, Unwritable,
 )
+from gix_mailmap import NotALine, NotAText, _native
 
 TEXT = "Jörg Doe <j@x> <jd@y>\n"
 JOERG = b"J\xf6rg <j@x>\n"
@@ -57,8 +59,12 @@ class Kinds(unittest.TestCase):
             self.assertEqual(name.encode(errors="surrogateescape"), b"J\xf6rg")
             self.assertEqual(mailmap.lookup(b"jd", b"j@x").name, b"J\xf6rg")
             self.assertEqual(list(mailmap.map_contacts(["\udcff <j@x>"])), ["J\udcf6rg <j@x>"])
-        with self.assertRaises(UnicodeEncodeError):
-            gix_mailmap.compact("\ud800 <j@x>")
+        with Mailmap("") as mailmap:
+            for call in (gix_mailmap.compact, gix_mailmap.verify, mailmap.add, lambda text: mailmap.lookup(text, "")):
+                with self.assertRaises(NotAText):
+                    call("\ud800 <j@x>")
+            with self.assertRaises(NotAText):
+                list(mailmap.map_contacts(["a", "\ud800"]))
 
     def test_mixed_kinds(self):
         with Mailmap(TEXT) as of_str, Mailmap(TEXT.encode()) as of_bytes:
@@ -97,14 +103,21 @@ class Errors(unittest.TestCase):
     def test_their_classes(self):
         self.assertTrue(issubclass(Error, Exception))
         for error, usual in (
-            (Closed, ValueError), (NoEntry, IndexError), (NotAnEntry, ValueError), (OutOfMemory, MemoryError),
-            (Unwritable, ValueError),
+            (Closed, ValueError), (NoEntry, IndexError), (NotALine, ValueError), (NotAnEntry, ValueError),
+            (NotAText, UnicodeEncodeError), (OutOfMemory, MemoryError), (Unwritable, ValueError),
         ):
             self.assertTrue(issubclass(error, Error) and issubclass(error, usual))
 
-    def test_what_a_status_raises(self):
-        from gix_mailmap import _native
+    def test_kinds_of_a_later_library(self):
+        with mock.patch.object(_native, "verify", lambda _text: [(1, 7, 2), (3, 10, 0)]):
+            known, later = gix_mailmap.verify("")
+        self.assertEqual((known, later), (Finding(1, Kind.NO_EFFECT, 2), Finding(3, Kind(10), None)))
+        self.assertEqual((later.kind, later.kind.name, str(later.kind)), (10, "NUMBER_10", "10"))
+        for wrong in (0, -1, "10"):
+            with self.assertRaises(ValueError):
+                Kind(wrong)
 
+    def test_what_a_status_raises(self):
         self.assertEqual([_native._is_short(status) for status in (0, 1)], [False, True])
         for status, error in (
             (2, OutOfMemory), (3, NoEntry), (4, NotAnEntry), (5, Unwritable), (6, Error), (99, Error),

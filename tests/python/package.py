@@ -11,6 +11,7 @@ import hashlib
 import io
 import os
 import re
+import shutil
 import subprocess
 import sys
 import tempfile
@@ -19,6 +20,7 @@ import zipfile
 from pathlib import Path
 
 import gix_mailmap
+from gix_mailmap import _native
 
 TOP = Path(__file__).resolve().parents[2]
 SOURCE = TOP / "python" / "gix_mailmap"
@@ -62,9 +64,10 @@ class Backend(unittest.TestCase):
             return run, {path.name: path.read_bytes() for path in Path(folder).iterdir()}
 
     def test_no_library(self):
-        run, files = self.run_backend("build_wheel", GIX_MAILMAP_LIBRARY="/not/there.so")
-        self.assertEqual((run.returncode, files), (1, {}))
-        self.assertEqual(run.stderr, "there is no shared library at /not/there.so: run `make lib` first\n")
+        for call in ("build_wheel", "build_editable"):
+            run, files = self.run_backend(call, GIX_MAILMAP_LIBRARY="/not/there.so")
+            self.assertEqual((run.returncode, files), (1, {}))
+            self.assertRegex(run.stderr, "^there is no shared library at /not/there.so: .*`make lib`.*GIX_MAILMAP_LIBR")
 
     def test_no_source_distribution(self):
         run, files = self.run_backend("build_sdist")
@@ -72,7 +75,7 @@ class Backend(unittest.TestCase):
         self.assertIn("UnsupportedOperation", run.stderr)
 
     def test_a_wheel_that_leads_to_the_source_tree(self):
-        run, files = self.run_backend("build_editable")
+        run, files = self.run_backend("build_editable", GIX_MAILMAP_LIBRARY=__file__)
         self.assertEqual((run.returncode, list(files)), (0, [f"gix_mailmap-{VERSION}-py3-none-any.whl"]))
         with zipfile.ZipFile(io.BytesIO(*files.values())) as wheel:
             self.assertEqual(wheel.read("gix_mailmap.pth").decode(), f"{SOURCE.parent}\n")
@@ -82,6 +85,17 @@ class Version(unittest.TestCase):
     def test_it_is_that_of_the_c_library(self):
         page = (TOP / "include" / "gix_mailmap.pc.in").read_text(encoding="ascii")
         self.assertIn("\nVersion: @VERSION@\n", page)
+        self.assertEqual(gix_mailmap.__version__, VERSION)
+
+    def test_the_library_of_the_system_is_that_of_the_interface(self):
+        number = re.search(r"^ABI = (\d+)$", (TOP / "Makefile").read_text(encoding="utf-8"), re.MULTILINE)
+        self.assertEqual(_native._SONAME, f"libgix_mailmap.so.{number[1]}")
+
+    def test_the_installed_metadata_says_what_that_of_the_wheel_does(self):
+        with zipfile.ZipFile(WHEELS[0]) as wheel:
+            metadata = wheel.read(f"gix_mailmap-{VERSION}.dist-info/METADATA").decode()
+        for line in (TOP / "packaging" / "METADATA.in").read_text(encoding="ascii").splitlines():
+            self.assertIn(line.replace("@VERSION@", VERSION) + "\n", metadata)
 
 
 class Library(unittest.TestCase):
@@ -107,7 +121,7 @@ class Library(unittest.TestCase):
         said = self.refusal()
         self.assertIn("ImportError: gix_mailmap finds no libgix_mailmap.so that it can load. It tried:\n", said)
         self.assertIn("\n  FOLDER/gix_mailmap/libgix_mailmap.so: ", said)
-        self.assertIn("\n  libgix_mailmap.so: ", said)
+        self.assertIn("\n  libgix_mailmap.so.1: ", said)
 
     def test_a_named_library_that_is_not_there(self):
         said = self.refusal(GIX_MAILMAP_LIBRARY="/not/there.so")
@@ -116,6 +130,23 @@ class Library(unittest.TestCase):
 
     def test_a_named_file_that_is_no_library(self):
         self.assertIn(f"\n  {__file__}: ", self.refusal(GIX_MAILMAP_LIBRARY=__file__))
+
+    def test_another_library(self):
+        said = self.refusal(GIX_MAILMAP_LIBRARY="libc.so.6")
+        self.assertRegex(said, r"It tried:\n  libc.so.6: .*undefined symbol: gix_mailmap_version")
+
+    @unittest.skipUnless(shutil.which("cc"), "no compiler here")
+    def test_the_library_of_another_version(self):
+        major = int(VERSION.split(".")[0])
+        for version, wanted in (
+            (f"{major + 1}.1.0", f"its version is {major + 1}.1.0, and that of the package {VERSION}"),
+            (VERSION, "undefined symbol: gix_mailmap_status_text"),
+        ):
+            with tempfile.TemporaryDirectory() as folder:
+                code = f'const char *gix_mailmap_version(void) {{ return "{version}"; }}'
+                other = f"{folder}/other.so"
+                subprocess.run(["cc", "-shared", "-xc", "-", "-o", other], input=code, check=True, text=True)
+                self.assertIn(wanted, self.refusal(GIX_MAILMAP_LIBRARY=other))
 
 
 if __name__ == "__main__":

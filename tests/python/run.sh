@@ -17,7 +17,7 @@ tests() {
         env "$@" -W error -c "import doctest, sys, $name; sys.exit(doctest.testmod(sys.modules['$name']).failed)"
     done
     env "$@" -m doctest "$top/python/README.md"
-    for name in calls kinds sequence stream threads; do
+    for name in calls kinds sequence stream threads forks; do
         env "$@" -W error "$here/$name.py"
     done
     env "$@" -W error "$here/package.py" "$work"/wheels/*/*.whl

@@ -5,7 +5,7 @@ import unittest
 from unittest import mock
 
 import gix_mailmap
-from gix_mailmap import Closed, Mailmap, _stream
+from gix_mailmap import Closed, Entry, Mailmap, NotALine, _stream
 
 MAP = "Jane Doe <jane@x> <jd@y>\nJoe <joe@x> joe <j@x>\n # <joe@x>\n <new@x> <old@x>\nX <x1@x> y <x@x>\n"
 LINES = [
@@ -75,11 +75,40 @@ class Stream(unittest.TestCase):
             with self.assertRaises(TypeError):
                 list(mailmap.map_contacts([None]))
 
+    def test_one_text_in_place_of_lines(self):
+        with Mailmap(MAP) as mailmap:
+            for text in ("jd <jd@y>", b"", bytearray(b"a"), memoryview(b"a")):
+                with self.assertRaisesRegex(TypeError, "lines are wanted, not one"):
+                    mailmap.map_contacts(text)
+
+    def test_an_entry_that_no_line_can_hold(self):
+        """It is in no text for a stream, so each line is looked up."""
+        with Mailmap(MAP) as mailmap:
+            mailmap.add_entry(Entry("<\n", None, None, "odd@x\n"))
+            self.assertEqual(list(mailmap.map_contacts(LINES)), by_check(LINES))
+            lines = [line.encode(errors="surrogateescape") for line in LINES]
+            answers = [answer.decode(errors="surrogateescape") for answer in mailmap.map_contacts(lines)]
+            self.assertEqual(answers, by_check(LINES))
+            with mock.patch.multiple(_stream, _PART=1):
+                answers = mailmap.map_contacts(itertools.repeat("jd <odd@x>"))
+                self.assertEqual(next(answers), "jd <odd@x>")
+                mailmap.add_entry(Entry("<\n", None, None, "odd@x"))
+                self.assertEqual(next(answers), "<\n <odd@x>")
+
+    def test_long_lines_are_not_kept(self):
+        with Mailmap(f"{'n' * 400} <a@x>") as mailmap:
+            answered = _stream._Answers(mailmap.write().encode(), mailmap._handle.lookup)
+            for lines in (["a", "b" * 400, "a <a@x>", "c"], ["a", "b" * 400, "d", "c"]):
+                answers = [f"{'n' * 400} <a@x>" if line == "a <a@x>" else line for line in lines]
+                self.assertEqual(answered.of(lines), answers)
+                answered._pause = 0
+            self.assertEqual(set(answered._known), {"a", "c", "d"})
+
     def test_a_line_feed_inside(self):
         with Mailmap(MAP) as mailmap:
             for line in ("a\nb", "\n\n", "\na"):
                 for lines in ([line], [line.encode()], ["x"] * 9 + [line]):
-                    with self.assertRaises(ValueError):
+                    with self.assertRaises(NotALine):
                         list(mailmap.map_contacts(lines))
 
     def test_an_empty_mailmap(self):

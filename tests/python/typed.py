@@ -4,11 +4,18 @@ from typing import Iterator, Sequence, assert_type
 import gix_mailmap
 from gix_mailmap import Answer, Entry, Finding, Kind, Mailmap, Position
 
+
+class Own(Mailmap[str]):
+    pass
+
+
 buffer = bytearray()
 with Mailmap("") as of_str, Mailmap(b"", buffer, memoryview(buffer)) as of_bytes:
     assert_type(of_str, Mailmap[str])
     assert_type(of_bytes, Mailmap[bytes])
     assert_type(Mailmap(), Mailmap[bytes])
+    with Own("") as own:
+        assert_type(own, Own)
     entries: Sequence[Entry[str]] = of_str
 
     assert_type(of_str.lookup("", ""), Answer[str])
@@ -31,6 +38,7 @@ with Mailmap("") as of_str, Mailmap(b"", buffer, memoryview(buffer)) as of_bytes
     of_bytes.add(buffer)
     of_str.add("")
     of_bytes.add("")  # type: ignore[arg-type]
+    of_str.add(b"")  # type: ignore[arg-type]
     of_str.add_entry(Entry("N", None, None, "a@x"))
     of_str.add_entry(Entry(b"N", None, None, b"a@x"))  # type: ignore[arg-type]
     of_str.lookup("", b"")  # type: ignore[call-overload]
@@ -52,3 +60,4 @@ assert_type(gix_mailmap.unneeded([("", "")], ""), list[Position])
 assert_type(gix_mailmap.unneeded({b"": buffer}.items(), b"")[0].mailmap, int)
 assert_type(gix_mailmap.verify(""), list[Finding])
 assert_type(gix_mailmap.verify(b"")[0].kind, Kind)
+assert_type(gix_mailmap.__version__, str)

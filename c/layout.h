@@ -1,0 +1,53 @@
+/* The sizes of the structs and the offsets of their members, which programs that are linked and the proved calls rely
+ * on. */
+#ifndef LAYOUT_H
+#define LAYOUT_H
+
+#include "exports.h"
+
+#define SIZE(type, size) _Static_assert(sizeof(type) == (size), "the size of " #type)
+#define OFFSET(type, member, offset) _Static_assert(offsetof(type, member) == (offset), #member " of " #type)
+
+SIZE(gix_mailmap_status, 4);
+SIZE(gix_mailmap_kind, 4);
+
+SIZE(gix_mailmap_field, 16);
+OFFSET(gix_mailmap_field, len, 0);
+OFFSET(gix_mailmap_field, is_given, 8);
+
+SIZE(gix_mailmap_listed, 72);
+OFFSET(gix_mailmap_listed, start, 0);
+OFFSET(gix_mailmap_listed, new_name, 8);
+OFFSET(gix_mailmap_listed, new_email, 24);
+OFFSET(gix_mailmap_listed, old_name, 40);
+OFFSET(gix_mailmap_listed, old_email, 56);
+
+SIZE(gix_mailmap_finding, 24);
+OFFSET(gix_mailmap_finding, line, 0);
+OFFSET(gix_mailmap_finding, kind, 8);
+OFFSET(gix_mailmap_finding, beside, 16);
+
+SIZE(gix_mailmap_named, 32);
+OFFSET(gix_mailmap_named, name, 0);
+OFFSET(gix_mailmap_named, name_len, 8);
+OFFSET(gix_mailmap_named, text, 16);
+OFFSET(gix_mailmap_named, text_len, 24);
+
+SIZE(gix_mailmap_position, 16);
+OFFSET(gix_mailmap_position, buffer, 0);
+OFFSET(gix_mailmap_position, line, 8);
+
+/* those of the proved calls */
+SIZE(struct gix_mailmap, 16);
+OFFSET(struct gix_mailmap, at, 0);
+OFFSET(struct gix_mailmap, is_open, 8);
+
+SIZE(struct gix_mailmap_stream, 16);
+OFFSET(struct gix_mailmap_stream, at, 0);
+OFFSET(struct gix_mailmap_stream, is_open, 8);
+
+SIZE(lengths, 16);
+OFFSET(lengths, name, 0);
+OFFSET(lengths, text, 8);
+
+#endif
