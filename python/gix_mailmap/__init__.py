@@ -16,18 +16,11 @@ for an argument of a wrong type, a ValueError of `index` and of a slice, as of a
 is found.
 """
 
-<<<<<<< HEAD
 from ._calls import check, compact, explain, prune, report, unneeded, verify
-from ._errors import Closed, Error, NoEntry, NotAnEntry, OutOfMemory, Unwritable
-from ._mailmap import Mailmap
-from ._results import Answer, Entry, Finding, Kind, Position
-=======
-from ._calls import check, compact, explain, prune, report, verify
 from ._errors import Closed, Error, NoEntry, NotALine, NotAnEntry, NotAText, OutOfMemory, Unwritable
 from ._mailmap import Mailmap
-from ._results import Answer, Entry, Finding, Kind
+from ._results import Answer, Entry, Finding, Kind, Position
 from ._version import __version__ as __version__
->>>>>>> 6321e7f44a6c1bee018e9e168b8227e98a149206
 
 __all__ = [
     "Answer",
