@@ -100,6 +100,10 @@ needs_none kept Absent ps none = no_contact_takes kept ps
 needs_none kept Unclosed ps none = no_contact_takes kept ps
 needs_none kept (Closed name email rest) ps none = cc
 
+pub empty_by_length : (t : Text) → (length t == 0) ≡ is_empty t
+empty_by_length [] = refl
+empty_by_length (b ∷ t) = ne_eqb (length (b ∷ t)) 0 (λ e. omega (arith, e))
+
 -- what is said of a line that is blank or not
 abbrev pub said_of_none : Bool → ℕ → List Said
 said_of_none is_blank number = if is_blank then [] else no_contact number ∷ []
@@ -360,10 +364,6 @@ taken_nothing mailmaps needs_now answers notices last history reduced left no_an
 }
 
 -- ---- by two clauses of a call
-
-pub empty_by_length : (t : Text) → (length t == 0) ≡ is_empty t
-empty_by_length [] = refl
-empty_by_length (b ∷ t) = ne_eqb (length (b ∷ t)) 0 (λ e. omega (arith, e))
 
 pub on_ok_both : {T E P Q R : Type 0} (r : Result T E) → (P → Q → R) → OnOk r P → OnOk r Q → OnOk r R
 on_ok_both (Ok x) f p q = f p q
