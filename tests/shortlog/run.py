@@ -49,6 +49,17 @@ def stored(program):
     return len(cases)
 
 
+def hostile(size=10_000_000):
+    """Contacts of any length and of any bytes, of which the last has no line feed, and what is printed of them."""
+    long = b"x" * size
+    yield "a long name", long + b" <j@x>", b"     1\t" + long + b" <j@x>\n"
+    yield "a long email", b"J <" + long + b">", b"     1\tJ <" + long + b">\n"
+    yield "empty emails", b"<>" * (size // 2), b"     1\t <>\n"
+    yield "zero bytes in contacts", b"J\0 <j@x\0>\n" * 2 + b"J <j@x\0>", b"     2\tJ\0 <j@x\0>\n     1\tJ <j@x\0>\n"
+    for byte in b"x<> \n\0":
+        yield f"byte {byte}", bytes([byte]) * size, b""
+
+
 def options(program):
     """Options and paths, and what can't be done."""
     Path("m1").write_bytes(b"Jane Doe <jane@x>\n")
@@ -69,6 +80,8 @@ def options(program):
     long = b"x" * 200_000 + b" <l@x>\n"
     wants("a long line", run(program, [], contacts + b"\n" + long * 2), 0,
           b"     1\ta\n     2\tjd\n     2\t" + b"x" * 200_000 + b"\n")
+    for what, lines, printed in hostile():
+        wants(f"hostile contacts: {what}", run(program, ["-e"], lines), 0, printed)
     wants("seven digits", run(program, ["m1"], b"a <b@x>\n" * 1_000_001), 0, b"1000001\ta\n")
     version = b"mailmap_shortlog " + Path(__file__).parents[2].joinpath("VERSION").read_bytes().strip() + b"\n"
     wants("version", run(program, ["-n", "--version"]), 0, version)

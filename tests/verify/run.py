@@ -154,6 +154,26 @@ def many_beside(program, size=1 << 20):
     wants("many contacts that are alike", run(program, ["--contacts", "-"], contacts), 1, printed)
 
 
+def hostile_beside(program, size=10_000_000):
+    """Lines of contacts may be of any length and of any bytes, and the last one needs no line feed."""
+    long = b"x" * size
+    no_contact = b"<stdin>:1: error: no contact\n"
+    zeros = b"<stdin>:2: warning: j\\x00 <J@X\\x00> has the email of J\\x00 <j@x\\x00>, <stdin>:1\n"
+    for what, contacts, status, printed in [
+        ("a long name", long + b" <j@x>", 0, b""),
+        ("a long email", b"J <" + long + b">", 0, b""),
+        ("a long line", long, 1, no_contact),
+        ("brackets that open", b"<" * size, 1, no_contact),
+        ("brackets that close", b">" * size, 1, no_contact),
+        ("empty emails", b"<>" * (size // 2), 0, b""),
+        ("blanks", b" " * size, 0, b""),
+        ("line feeds", b"\n" * size, 0, b""),
+        ("zero bytes", b"\0" * size, 1, no_contact),
+        ("zero bytes in contacts", b"J\0 <j@x\0>\nj\0 <J@X\0>", 1, zeros),
+    ]:
+        wants(f"hostile contacts: {what}", run(program, ["--contacts", "-"], contacts), status, printed)
+
+
 def file_names(program):
     """Files are shown by the bytes of the arguments, as often as they are given."""
     names = ["a b:c", "./ä", "--help", "a b:c"]
@@ -221,6 +241,7 @@ def main():
         explanations(program)
         beside(program)
         many_beside(program)
+        hostile_beside(program)
         file_names(program)
         options(program)
         os.chdir("/")
