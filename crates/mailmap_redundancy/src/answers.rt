@@ -1,5 +1,5 @@
 //! Lookups by a name and an email in the tables of a history.
-ghost use Rattle.std.specs.Prelude.{◌≡◌, List, Some, unwrap_or};
+ghost use Rattle.std.specs.Prelude.{◌≡◌, IsSome, List, Some, unwrap_or};
 ghost use Rattle.std.specs.Option.{option_map, option_copied};
 ghost use Rattle.std.specs.Ordering.{eq_by_cmp};
 ghost use Rattle.std.specs.List.Sorted.{IsStrictlySortedBy};
@@ -26,29 +26,29 @@ pub(crate) fn scan<'a>(
     ensures { (h : List Mapping) → AreKnown keys.now h → IsTable keys.now h table.now
         → option_map fields_of result ≡ spec.scan h name.now email.now }
 {
-    let number = find(keys, &PrefixedKey::of_email(email))?;
+    let key = PrefixedKey::of_email(email);
+    let number = find(keys, &key)?;
     let spelling = table.spellings[number].spelling()?;
-    let fields = fields_for(keys, table, number, name, email);
+    let fields = fields_for(keys, table, number, &key.with_name(name));
     answered(email, fields, spelling)
 }
 
-// The fields for a name and an email, if the number of the email's key is known.
+// The fields for a key with a name, if the number of its email's key is known.
 fn fields_for<'a>(
     keys: &SearchedKeys<'_, '_>,
     table: &Table<'_, 'a>,
     number: usize,
-    name: &[u8],
-    email: &[u8],
+    key: &PrefixedKey<'_>,
 ) -> Fields<'a>
     requires ascending { IsStrictlySortedBy key_cmp keys.now }
-    requires number { IsNumber keys.now (email_key (folded email.now)) number }
+    requires named { IsSome key.now.1 }
+    requires number { IsNumber keys.now (email_key key.now.0) number }
     requires table { (h : List Mapping) × IsTable keys.now h table.now }
     ensures { (h : List Mapping) → AreKnown keys.now h → IsTable keys.now h table.now
-        → fields_of result ≡ unwrap_or (last_fields h (folded email.now, Some (folded name.now)))
-        (given_fields h (folded email.now)) }
+        → fields_of result ≡ unwrap_or (last_fields h key.now) (given_fields h key.now.0) }
 {
     let given = table.summaries[number].given();
-    match find_named(keys, number, &PrefixedKey::new(email, Some(name))) {
+    match find_named(keys, number, key) {
         Some(named) => table.summaries[named].last_or(given),
         None => given,
     }

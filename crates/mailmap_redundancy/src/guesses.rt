@@ -92,9 +92,26 @@ fn slot(slots: &[u32], hash: u64, index: usize) -> usize {
 /// The hash of a key, of which the prefix of the email is known. It is made of the first bytes of both texts and the
 /// last bytes of the email.
 pub(crate) fn key_hash(prefix: u128, email: &[u8], name: Option<&[u8]>) -> u64 {
-    let ending = key_prefix(&email[email.len().saturating_sub(16)..]);
-    let name = key_prefix(name.unwrap_or(&[]));
-    mixed(prefix, mixed(ending, mixed(name, 0)))
+    let hash = match name {
+        None => 0,
+        Some(name) => name_hash(name),
+    };
+    if email.len() <= 16 {
+        return mixed(prefix, hash);
+    }
+    mixed(prefix, mixed(key_prefix(&email[email.len() - 16..]), hash))
+}
+
+// The hash of the first bytes of a name. The prefix of a short text takes longer than to go over its bytes.
+fn name_hash(name: &[u8]) -> u64 {
+    if name.len() >= 16 {
+        return mixed(key_prefix(name), 1);
+    }
+    let mut hash: u64 = 1;
+    for byte in name {
+        hash = hash.wrapping_mul(0x100_0000_01b3) ^ byte.to_ascii_lowercase() as u64;
+    }
+    hash
 }
 
 // A number and the hash of those before it.

@@ -56,6 +56,16 @@ impl<'a> PrefixedKey<'a> {
         }
     }
 
+    /// The key of the same email with a name.
+    pub(crate) fn with_name(&self, name: &'a [u8]) -> PrefixedKey<'a>
+        ensures { result ≡ (self.now.0, Some (folded name.now)) }
+    {
+        PrefixedKey {
+            email: self.email,
+            name: Some(name),
+        }
+    }
+
     /// The prefix of the email.
     pub(crate) fn prefix(&self) -> u128
         ensures { IsKeyPrefix result self.now.0 }
@@ -210,7 +220,7 @@ impl<'p, 'a> AscendingKeys<'p, 'a> {
         ensures keeps { OnOk result ((k : Key) (i : ℕ) → IsNumber self.old.keys.items k i
             → IsNumber self.new.keys.items k i) }
     {
-        if is_last_email(&self.keys, prefixed) {
+        if is_last_email(&self.keys, &self.prefixes, prefixed) {
             return Ok(());
         }
         self.email = self.keys.len();
@@ -245,22 +255,22 @@ impl<'p, 'a> AscendingKeys<'p, 'a> {
     }
 }
 
-// Whether the last key is of the same email.
-fn is_last_email(keys: &[KeptKey], key: &PrefixedKey) -> bool
+// Whether the last key is of the same email. These are the keys' prefixes.
+fn is_last_email(keys: &[KeptKey], prefixes: &[u128], key: &PrefixedKey) -> bool
+    requires { ArePrefixes keys.now prefixes.now }
     ensures yes { result ≡ true → last_email keys.now ≡ Some key.now.0 }
     ensures no { result ≡ false → last_email keys.now ≢ Some key.now.0 }
 {
     match keys.last() {
-        Some(last) => have_same_email(last, key),
+        Some(last) => have_same_email(&last.with_prefix(prefixes[keys.len() - 1]), key),
         None => false,
     }
 }
 
-fn have_same_email(a: &KeptKey, b: &PrefixedKey) -> bool
+fn have_same_email(a: &PrefixedKey, b: &PrefixedKey) -> bool
     ensures { result ≡ eq_by_cmp text_cmp a.now.0 b.now.0 }
 {
-    let prefix = Prefixed::new(a.entry.old_email());
-    Steps::new().compare_prefixed(prefix, b.email).is_eq()
+    Steps::new().compare_prefixed(a.email, b.email).is_eq()
 }
 
 // Whether the last key, which is of the same email, has the same name.

@@ -76,6 +76,7 @@ impl<'p, 'a> SearchedKeys<'p, 'a> {
     }
 
     // How the key with this number compares to a key.
+    #[inline(always)]
     fn compare_at(&self, number: usize, key: &PrefixedKey<'_>) -> Ordering
         requires { number < length self.now }
         ensures { slice_get (map (λ k. key_cmp k key.now) self.now) number ≡ Some result }
@@ -101,6 +102,7 @@ impl Probe for KeyProbe<'_, '_, '_> {
 
     ghost asked = { λ p. p.steps };
 
+    #[inline(always)]
     fn ask(&mut self, index: usize) -> Ordering {
         self.steps += 1;
         self.keys.compare_at(index, self.key)

@@ -33,7 +33,15 @@ fn reported_of_contact<'a>(reduced: &Reduced<'_, 'a>, contact: Contact<'a>) -> O
     ensures { option_map reported_of result ≡ spec_reported_of_contact (contact_of contact.entry)
         (spec_mapped (entries reduced.now.history) (contact_of contact.entry)) }
 {
-    let to = mapped(reduced, contact);
+    let found = reduced.scan(name_or_empty(&contact), contact.email)?;
+    reported_of_both(contact, replaced(contact, found))
+}
+
+// The same, if it is known which contact it is mapped to.
+fn reported_of_both<'a>(contact: Contact<'a>, to: Contact<'a>) -> Option<Kind<'a>>
+    ensures { option_map reported_of result
+        ≡ spec_reported_of_contact (contact_of contact.entry) (contact_of to.entry) }
+{
     if contact == to {
         return None;
     }
@@ -47,16 +55,6 @@ fn proper_contact<'a>(entry: &Entry<'a>) -> Contact<'a>
     Contact {
         name: entry.new_name().or(entry.old_name()),
         email: entry.new_email().unwrap_or(entry.old_email()),
-    }
-}
-
-// What the whole history makes of a contact.
-fn mapped<'a>(reduced: &Reduced<'_, 'a>, contact: Contact<'a>) -> Contact<'a>
-    ensures { contact_of result ≡ spec_mapped (entries reduced.now.history) (contact_of contact.entry) }
-{
-    match reduced.scan(name_or_empty(&contact), contact.email) {
-        None => contact,
-        Some(found) => replaced(contact, found),
     }
 }
 

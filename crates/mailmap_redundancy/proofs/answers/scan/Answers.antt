@@ -11,6 +11,6 @@ returns-in_err-number c = λ h known t.
     let keys = c.args.keys.now in
     let email = folded c.args.email.now in
     let nothing : c.from_residual.result ≡ None = search rules in
-    let none : Contains keys (email_key email) → ⊥ = λ has. c.in_err-number.ensures.none (subst (Contains keys) (sym c.of_email.ensures) has) in
+    let none : Contains keys (email_key email) → ⊥ = λ has. c.in_err-number.ensures.none (subst (Contains keys) (sym c.of_email-key.ensures) has) in
     ap (option_map fields_of) nothing
     ∙ sym (ap (answered c.args.email.now (unwrap_or (last_fields h (email, Some (folded c.args.name.now))) (given_fields h email))) (no_spelling keys email none h known))
