@@ -1,4 +1,4 @@
-use Rattle.std.proofs.Common.{rules, Err, map}
+use Rattle.std.proofs.Common.{rules}
 use Rattle.mailmap_reports.proofs.answer.answer_to.Goals as goal
 
 pub returns-in_err-mailmap-clause-fails : goal.returns-in_err-mailmap-clause-fails
