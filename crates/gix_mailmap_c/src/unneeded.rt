@@ -34,8 +34,8 @@ impl Position {
 /// Lists the lines of some mailmaps that have an effect and that no contact needs, in their order, as
 /// [`unneeded`](needs::unneeded()) does.
 ///
-/// `texts` has the texts of all mailmaps, one after another. If it has fewer bytes than `lengths` says, the last of them
-/// are short or empty. The lengths of their names don't count.
+/// `texts` has the texts of all mailmaps, one after another. If it has fewer bytes than `lengths` says, the last of
+/// them are short or empty. The lengths of their names don't count.
 ///
 /// `OK`: the positions are at the front of `out`, and `needed` is their number. `TOO_SHORT`: `out` has too little room
 /// for them, and `needed` is their number. `OUT_OF_MEMORY`: `needed` is 0. The rest of `out` stays as it was.
