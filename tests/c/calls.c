@@ -697,7 +697,8 @@ static int stream_once(void)
 }
 
 /* Requests that were refused, and then made again for less: those of the vector of findings, which grows three times
- * for the nine of them. If it can't have all the room at once, it asks for less. */
+ * for the nine of them, and one for each of the three lists of positions that gix_mailmap_unneeded makes. If a vector
+ * can't have all the room at once, it asks for less. */
 static int made_again;
 
 /* One run with one refused request: false once there is no request of that number. */
@@ -724,7 +725,7 @@ int main(void)
     long number = 0;
     while (refuses(number))
         number++;
-    WANT(number > 0 && made_again == 3);
+    WANT(number > 0 && made_again == 6);
     printf("calls from C: %s, %ld requests for memory refused in turn\n", failures ? "failed" : "passed", number);
     return failures ? 1 : 0;
 }

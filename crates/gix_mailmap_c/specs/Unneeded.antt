@@ -5,14 +5,14 @@ use Rattle.mailmap_needs.specs.Needs.{AreUnneeded}
 use Rattle.mailmap_redundancy.specs.declared.located.Position as library
 use Rattle.gix_mailmap_c.specs.declared.unneeded.Position.{Position}
 
-abbrev pub one_listed : library.Position → Position
-one_listed p = record { buffer = p.buffer; line = p.line }
+abbrev pub one_position : library.Position → Position
+one_position p = record { buffer = p.buffer; line = p.line }
 
-abbrev pub all_listed : List library.Position → List Position
-all_listed ps = map one_listed ps
+abbrev pub all_positions : List library.Position → List Position
+all_positions ps = map one_position ps
 
 -- the lines of these mailmaps that have an effect and that no contact needs are listed, in their order
 pub record AreUnneededOf (mailmaps : List Text) (contacts : Text) (listed : List Position) : Type 0 where
   pub found : List library.Position
   pub whole : AreUnneeded mailmaps contacts found
-  pub each : listed ≡ all_listed found
+  pub each : listed ≡ all_positions found

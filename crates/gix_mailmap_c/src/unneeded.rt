@@ -3,7 +3,7 @@ ghost use Rattle.std.specs.Prelude.{◌≡◌, ◌≤◌, IfOk, length, map};
 ghost use Rattle.mailmap_needs.specs.Needs.{AreUnneeded};
 ghost use Rattle.gix_mailmap_c.specs.Handed.{IsHanded, IsPut, IsWritten};
 ghost use Rattle.gix_mailmap_c.specs.Reported.{cut_by};
-ghost use Rattle.gix_mailmap_c.specs.Unneeded.{all_listed, one_listed, AreUnneededOf};
+ghost use Rattle.gix_mailmap_c.specs.Unneeded.{all_positions, one_position, AreUnneededOf};
 
 use crate::buffers::out_of_memory;
 use crate::named::{Lengths, texts_of};
@@ -22,7 +22,7 @@ pub struct Position {
 impl Position {
     /// Of what the library lists.
     fn of(found: &verify::Position) -> Position
-        ensures { result ≡ one_listed found.now }
+        ensures { result ≡ one_position found.now }
     {
         Position {
             buffer: found.buffer,
@@ -34,8 +34,8 @@ impl Position {
 /// Lists the lines of some mailmaps that have an effect and that no contact needs, in their order, as
 /// [`unneeded`](needs::unneeded()) does.
 ///
-/// `texts` has the texts of all mailmaps, one after another. If it has fewer bytes than `lengths` says, the last of them
-/// are short or empty. The lengths of their names don't count.
+/// `texts` has the texts of all mailmaps, one after another. If it has fewer bytes than `lengths` says, the last of
+/// them are short or empty. The lengths of their names don't count.
 ///
 /// `OK`: the positions are at the front of `out`, and `needed` is their number. `TOO_SHORT`: `out` has too little room
 /// for them, and `needed` is their number. `OUT_OF_MEMORY`: `needed` is 0. The rest of `out` stays as it was.
@@ -73,7 +73,7 @@ fn unneeded(
 
 // Puts positions at the front of `out`, if they fit, and their number.
 fn put(found: &[verify::Position], out: &mut [Position], needed: &mut usize) -> u32
-    ensures { IsPut (all_listed found.now) out.old out.new needed.new result }
+    ensures { IsPut (all_positions found.now) out.old out.new needed.new result }
 {
     *needed = found.len();
     if found.len() > out.len() {
@@ -86,7 +86,7 @@ fn put(found: &[verify::Position], out: &mut [Position], needed: &mut usize) -> 
 // Puts each position at its index.
 fn list(found: &[verify::Position], out: &mut [Position])
     requires { length found.now ≤ length out.old }
-    ensures { IsWritten (all_listed found.now) out.old out.new }
+    ensures { IsWritten (all_positions found.now) out.old out.new }
 {
     let mut index = 0;
     for position in found {
