@@ -30,7 +30,7 @@ count() {
 }
 
 # The library: standard input says how many requests come before all calls.
-refused=300
+refused=280
 mkdir "$work/calls"
 for ((before = 0; before < refused; before++)); do
     echo "$before" > "$work/calls/$(printf '%03d' "$before")"
@@ -70,7 +70,6 @@ verify::Mailmaps::read
 verify::Verification::new
 explain::Explanations::new
 verify::prune
-needs::unneeded
 END
 
 # The calls that take no memory made no request: the runs that refuse the request ahead of them and the one behind them
@@ -87,11 +86,11 @@ none_between \
     "the request behind the calls that take none"
 
 # Where a request was refused and no call reported it, it was that of a collect, which asks again for less: in entries,
-# twice in verify, three times in unneeded, and in each merge that gives texts up, which calls entries. Of so few texts
-# half are soon out of use, so two more merges than the one that is made for it give some up: that of Snapshot::merge,
-# and that of the third source.
+# twice in verify, and in each merge that gives texts up, which calls entries. Of so few texts half are soon out of use,
+# so two more merges than the one that is made for it give some up: that of Snapshot::merge, and that of the third
+# source.
 untold="$(sed -n '/^refused/p' "$printed" | sed '1,/^refused: [^n]/d' | grep -cx 'refused: nothing' || true)"
-[ "$untold" = 9 ] || fail "$untold refusals that no call reported"
+[ "$untold" = 6 ] || fail "$untold refusals that no call reported"
 calls="$(grep '^refused' "$printed" | grep -cvx 'refused: nothing')"
 
 # The programs. Each file without a byte more among the arguments is two requests more, one for the argument and one to
@@ -108,11 +107,7 @@ printf 'bob <BUGS@example.com> is Joe R. Developer <joe@example.com> by mailmap:
 printf 'not a contact is no contact\n' >> "$work/explained"
 printf '     1\tJoe R. Developer <joe@example.com>\n' > "$work/counted"
 printf 'mailmap:1: warning: no contact needs it\n' > "$work/beside"
-{
-    printf '<stdin>:2: error: no contact\n'
-    printf '<stdin>:3: warning: BOB <B@example.com> has the email of bob <b@example.com>, <stdin>:1\n'
-    printf '<stdin>:4: note: bob <bob@example.com> has the name of bob <b@example.com>, <stdin>:1\n'
-} >> "$work/beside"
+printf '<stdin>:2: error: no contact\n' >> "$work/beside"
 
 # add_cases MODE FIRST..: the runs of a mode, whose arguments begin so
 add_cases() {
@@ -213,12 +208,11 @@ refuse mailmap_verify 34 35 60 61 86 87 112 113
 says mailmap_verify 'out of memory' 'empty: out of memory' 'mailmap: out of memory'
 verifies=$((verifies + refusals))
 
-# Nothing is written before all contacts are read. Of the contacts one has the email of the first, and one its name.
+# Nothing is written before all contacts are read.
 rm -r "$work/runs"
 mkdir "$work/runs"
 add_cases beside --contacts -
-printf 'bob <b@example.com>\nnot a contact\nBOB <B@example.com>\nbob <bob@example.com>\n' > "$work/alike"
-for contacts in "$work/runs"/beside*[0-9]; do cp "$work/alike" "$contacts"; done
+for contacts in "$work/runs"/beside*[0-9]; do printf 'bob <b@example.com>\nnot a contact\n' > "$contacts"; done
 refuse mailmap_verify 34 35 60 61 86 87 112 113
 says mailmap_verify 'out of memory' 'empty: out of memory' 'mailmap: out of memory'
 verifies=$((verifies + refusals))
