@@ -24,7 +24,7 @@ PROGRAM = crates/mailmap_check/out/mailmap_check
 VERIFIER = crates/mailmap_verify/out/mailmap_verify
 COUNTER = crates/mailmap_shortlog/out/mailmap_shortlog
 DUMP = crates/mailmap_dump/out/mailmap_dump
-# the libraries for C, and the part of the toolchain's that they stand on
+# the libraries for C, and the part of the toolchain's that they depend on
 LIB = crates/gix_mailmap_c/out
 PROVED = $(LIB)/libgix_mailmap_c.a
 HEAP = $(dir $(shell rt doc))c/liblibc_c.a
@@ -45,19 +45,19 @@ LIBRARIES = awk -f packaging/libraries.awk crates.txt | $(MAKE) --no-print-direc
 build: $(PROGRAM) $(VERIFIER) $(COUNTER)
 
 $(PROGRAM): $(call sources,mailmap_check)
-	@echo 'Proving and building mailmap_check, with all that it stands on. The first time this takes some minutes.'
+	@echo 'Proving and building mailmap_check, with all that it depends on. The first time this takes some minutes.'
 	$(LIBRARIES) mailmap_io mailmap_runs
 	cd crates/mailmap_check && rt run < stdin > /dev/null
 	touch $@
 
 $(VERIFIER): $(call sources,mailmap_verify)
-	@echo 'Proving and building mailmap_verify, with all that it stands on. The first time this takes some minutes.'
+	@echo 'Proving and building mailmap_verify, with all that it depends on. The first time this takes some minutes.'
 	$(LIBRARIES) mailmap_io mailmap_reports
 	cd crates/mailmap_verify && rt run -- --help > /dev/null
 	touch $@
 
 $(COUNTER): $(call sources,mailmap_shortlog)
-	@echo 'Proving and building mailmap_shortlog, with all that it stands on. The first time this takes some minutes.'
+	@echo 'Proving and building mailmap_shortlog, with all that it depends on. The first time this takes some minutes.'
 	$(LIBRARIES) mailmap_io mailmap_shortlogs
 	cd crates/mailmap_shortlog && rt run -- --help > /dev/null
 	touch $@
@@ -79,7 +79,7 @@ $(PROVED): $(call sources,gix_mailmap_c)
 	$(LIBRARIES) gix_mailmap_c
 	touch $@
 
-# The static library: the proved calls, what they need of the toolchain, and the functions before them, in one object
+# The static library: the proved calls, what they need of the toolchain, and the functions that wrap them, in one object
 # that shows only the calls of the header. CPPFLAGS, CFLAGS and LDFLAGS come after the flags that are set here.
 $(LIB)/c/libgix_mailmap.a: $(PROVED) $(wildcard c/*) include/gix_mailmap.h include/gix_mailmap.map
 	rm -rf $(LIB)/c && mkdir $(LIB)/c
@@ -176,7 +176,8 @@ uninstall:
 	rm -f $(addprefix $(DESTDIR)$(PYTHONDIR)/gix_mailmap/,$(notdir $(PACKAGE)) $(LINKED))
 	rm -rf $(DESTDIR)$(PYTHONDIR)/gix_mailmap/__pycache__
 	rm -f $(DESTDIR)$(PYTHONDIR)/$(INFO)/METADATA
-	for folder in $(PYTHONDIR)/gix_mailmap $(PYTHONDIR)/$(INFO) $(PREFIX)/share/gix_mailmap/python $(PREFIX)/share/gix_mailmap; do \
+	for folder in $(PYTHONDIR)/gix_mailmap $(PYTHONDIR)/$(INFO) $(PREFIX)/share/gix_mailmap/python \
+	    $(PREFIX)/share/gix_mailmap; do \
 	    [ ! -d $(DESTDIR)$$folder ] || rmdir --ignore-fail-on-non-empty $(DESTDIR)$$folder; done
 
 # Packages. The same files give the same package: its files have one time, and root owns them.

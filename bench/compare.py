@@ -6,7 +6,7 @@
 ORIGINAL and PORT are programs that know the bench- modes, and MAPS is a folder that make_maps.py filled. For each cell
 the two programs run in turn, at least twice each and for S seconds (4 where it is not given). A time is the shortest of
 all runs, since other work on the machine only ever adds to it. `port / original` is the port's time divided by the
-original's: 0.5 is twice as fast. The aim of a cell stands behind it, where it has one.
+original's: 0.5 is twice as fast. A cell's target follows it, if it has one.
 
 Peak memory is the largest resident set of one building run. `beyond the file` leaves out what the same program takes
 for a walk over an empty file, and the length of the map's file, which both hold in memory.

@@ -4,9 +4,10 @@
     compare_c.py LIBRARY MAILMAP_BENCH MAPS [--runs R] [--lines N]
 
 LIBRARY is the folder of `make lib`. It builds c_lookups.c with `cc -O2` against it and libgit2, and runs the three
-programs in turn, R times each (15 where it is not given), on the maps of N lines (100,000 where it is not given) with their
-contacts. All three read the first byte of each name and each email that stands in the end. A time is the least of all runs, since other work on the machine only ever adds to it. `to the library` is the
-handle's time divided by the library's own, `to libgit2` the handle's divided by libgit2's: 0.5 is half the time.
+programs in turn, R times each (15 by default), on the maps of N lines (100,000 by default) with their contacts. All
+three read the first byte of each resulting name and email. A time is the least of all runs, since other work on the
+machine only ever adds to it. `to the library` is the handle's time divided by the library's own, `to libgit2` the
+handle's divided by libgit2's: 0.5 is half the time.
 """
 import argparse
 import os

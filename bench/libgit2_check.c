@@ -34,7 +34,7 @@ static char *read_all(FILE *in, size_t *len)
 	exit(1);
 }
 
-// Ends the text between two places in front of the blanks at its end, and gives its start behind those at its front.
+// Ends the text between two places in front of the blanks at its end, and returns its start after those at its front.
 static char *trimmed(char *start, char *end)
 {
 	while (end > start && end[-1] == ' ')

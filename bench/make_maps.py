@@ -13,7 +13,8 @@ For each number of lines it writes into FOLDER three maps and four lists of cont
     KIND-LINES.1000.contacts, KIND-LINES.100000.contacts
                               so many contacts, hits and misses in turn, again and again where there are fewer
 
-At most 100,000 hits and misses are written. Beside these there is an empty map, empty-0.mailmap, with contacts. The generator has a seed, so the same call writes the same bytes everywhere.
+At most 100,000 hits and misses are written. Beside these there is an empty map, empty-0.mailmap, with contacts. The
+generator has a seed, so the same call writes the same bytes everywhere.
 """
 import itertools
 import random
@@ -94,7 +95,10 @@ def dressed(rng, line):
 
 def other_line(rng):
     """A line that maps nothing: blank, a comment, or a fault."""
-    return rng.choice(["", "", "# people who moved", "#", "plain words", "Jane <jane@example.com", "<x@example.com>", "A <> <b@example.com>"])
+    return rng.choice([
+        "", "", "# people who moved", "#", "plain words", "Jane <jane@example.com", "<x@example.com>",
+        "A <> <b@example.com>",
+    ])
 
 
 def people(rng):

@@ -28,9 +28,9 @@
  * doesn't write stays as it was.
  *
  * Threads: calls with a `const gix_mailmap *` read the mailmap, and any number of them may run at a time. Those with a
- * `gix_mailmap *` change it, and no other call may have the same mailmap meanwhile. All calls with a stream change it.
- * A mailmap or a stream may be opened, used and closed by different threads. Calls with neither may run at any time. No
- * call may be made from a signal handler, or from the forked child of a process with threads.
+ * `gix_mailmap *` change it, and no other call may use the same mailmap at the same time. All calls with a stream
+ * change it. A mailmap or a stream may be opened, used and closed by different threads. Calls with neither may run at
+ * any time. No call may be made from a signal handler, or from the forked child of a process with threads.
  *
  * Memory comes from the program's malloc, realloc and free.
  *
@@ -79,7 +79,7 @@ typedef struct gix_mailmap_stream gix_mailmap_stream;
 /* What a call returns. Unless it is GIX_MAILMAP_OK, nothing changes, and a call writes only what its comment says. */
 typedef enum gix_mailmap_status {
     GIX_MAILMAP_OK = 0,            /* the call did its work */
-    GIX_MAILMAP_TOO_SHORT = 1,     /* a buffer is too short; all buffers are as they were */
+    GIX_MAILMAP_TOO_SHORT = 1,     /* a buffer is too short; no text and no list was written */
     GIX_MAILMAP_OUT_OF_MEMORY = 2, /* the mailmap or the stream is as it was */
     GIX_MAILMAP_NO_ENTRY = 3,      /* the mailmap has no entry at this index */
     GIX_MAILMAP_NOT_AN_ENTRY = 4,  /* these texts make no entry */
@@ -140,10 +140,10 @@ typedef struct gix_mailmap_position {
     size_t line;
 } gix_mailmap_position;
 
-/* The version of the library, as `0.1.0`. */
+/* The version of the library, such as `0.1.0`. */
 const char *gix_mailmap_version(void);
 
-/* A status in English, as `out of memory`. */
+/* A status in English, such as `out of memory`. */
 const char *gix_mailmap_status_text(gix_mailmap_status status);
 
 /* Opens a mailmap with the entries of a text. Lines that can't be read are left out.

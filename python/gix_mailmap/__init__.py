@@ -1,6 +1,6 @@
 """Mailmaps for git tools, proved: the library gix_mailmap.
 
-A mailmap says which names and emails stand for which:
+A mailmap says which names and emails replace which:
 
 >>> from gix_mailmap import Mailmap
 >>> with Mailmap("Jane Doe <jane@x> <jd@y>\\n") as mailmap:

@@ -90,7 +90,7 @@ def report(mailmaps: Iterable[tuple[Text, Text]]) -> Union[str, bytes]:
     """What is wrong with mailmaps, as `mailmap_verify` prints it: a line for each finding. Each mailmap comes with its
     name, and later ones count after earlier ones. Raises OutOfMemory.
 
-    Without any mailmap the answer is empty bytes, also where the type of `mailmaps` promises a `str`.
+    Without any mailmap the answer is empty bytes, even if the type of `mailmaps` promises a `str`.
 
     >>> print(report([("team", "Jane <jd@y>\\n"), ("own", "plain\\nJane Doe <jd@y>\\n")]), end="")
     team:1: warning: no effect beside own:2

@@ -26,7 +26,7 @@ class NotALine(Error, ValueError):
 
 
 class NotAText(Error, UnicodeEncodeError):
-    """A `str` with a surrogate that stands for no byte, so that it has no bytes."""
+    """A `str` that can't be encoded: it has a surrogate that is no byte."""
 
 
 class Unwritable(Error, ValueError):

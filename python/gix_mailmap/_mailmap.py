@@ -44,8 +44,9 @@ class Mailmap(Sequence[Entry[AnyStr]], Generic[AnyStr]):
     def __init__(self: Mailmap[str], *texts: str) -> None: ...
 
     def __init__(self, *texts: Text) -> None:
-        """Opens the mailmaps `texts`, of which later ones come after earlier ones: where two entries are for the same
-        contact, the later one counts. Lines that can't be read are left out. Raises OutOfMemory."""
+        """Opens the mailmaps `texts`, one after the other. A later entry replaces what an earlier one gave for the same
+        contact; without an old name, only the fields that it gives. Lines that can't be read are left out. Raises
+        OutOfMemory."""
         self._is_str = are_str(*texts)
         self._handle = Handle()
         self._changed = object()

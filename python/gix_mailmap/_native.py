@@ -137,7 +137,7 @@ _ERRORS = {
 
 
 def _is_short(status: int) -> bool:
-    """Whether a buffer was too short. Raises what a status stands for that is neither this nor OK."""
+    """Whether a buffer was too short. Raises the error of any status but this and OK."""
     if status <= _TOO_SHORT:
         return status == _TOO_SHORT
     raise _ERRORS.get(status, Error)(_library.gix_mailmap_status_text(status).decode())
