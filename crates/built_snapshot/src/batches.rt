@@ -1,5 +1,5 @@
-//! Snapshots that are built by all calls that merge, in whatever batches, and what holds of them whichever of the merges
-//! run out of memory.
+//! Snapshots that are built by all calls that merge, in whatever batches, and what holds of them whichever of the
+//! merges run out of memory.
 ghost use Rattle.std.specs.Prelude.{◌≡◌, ◌++◌, List, map, length, IfOk, OnErr, OnOk};
 ghost use Rattle.gix_mailmap.specs.Building.{IsBuilt, IsHeadline};
 ghost use Rattle.gix_mailmap.specs.Entries.{Mapping};
@@ -37,8 +37,8 @@ pub struct Built {
     pub made: Vec<Vec<bool>>,
 }
 
-/// A snapshot of all batches. A source is left out if memory runs out while it is merged, and the next follows. `Err` if
-/// there is no memory for the marks.
+/// A snapshot of all batches. A source is left out if memory runs out while it is merged, and the next follows. `Err`
+/// if there is no memory for the marks.
 pub fn build(alloc: Global, batches: &[Batch<'_>]) -> Result<Built, AllocError>
     ensures headline { IfOk result (λ built. IsHeadline
         (history_of batches.now (map (λ marks. marks.items) built.made.items)) built.snapshot) }

@@ -5,7 +5,8 @@ use Rattle.std.specs.Prelude.{◌≡◌, ℕ, ◌≤◌, ◌⊎◌, List, [], �
 abbrev pub EndsLine : List ℕ → Type 0
 EndsLine bytes = (bytes ≡ []) ⊎ ((front : List ℕ) × (bytes ≡ front ++ 10 ∷ []))
 
--- the line `--`, with the line feed or the carriage return and line feed that end it; the last line of an input may have neither
+-- the line `--`, with the line feed or the carriage return and line feed that end it; the last line of an input may
+-- have neither
 abbrev pub IsDividerLine : List ℕ → Type 0
 IsDividerLine line = (line ≡ 45 ∷ 45 ∷ 10 ∷ []) ⊎ ((line ≡ 45 ∷ 45 ∷ 13 ∷ 10 ∷ []) ⊎ (line ≡ 45 ∷ 45 ∷ []))
 

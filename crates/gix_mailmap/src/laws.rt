@@ -43,9 +43,9 @@ pub fn law_lines()
     ensures { (s : Text) (ls : List Text) → (lines s ≡ ls) ↔ AreLines s ls }
 {}
 
-/// Contacts may be pushed to a stream in any parts, each of which is what a push took. What is answered to these, and at
-/// the end to what is kept, is together what [`check`](crate::check::check()) answers to all of them at once. Until then
-/// the answers are those to whole lines at the front of what was pushed, and a push adds its own after these.
+/// Contacts may be pushed to a stream in any parts, each of which is what a push took. What is answered to these, and
+/// at the end to what is kept, is together what [`check`](crate::check::check()) answers to all of them at once. Until
+/// then the answers are those to whole lines at the front of what was pushed, and a push adds its own after these.
 pub fn law_stream()
     ensures begins { (m : List Mapping) (bytes : Text) → AnswersFront m bytes [] bytes }
     ensures adds_up { (m : List Mapping) (before text kept taken made rest : Text) → AnswersFront m before text kept

@@ -10,11 +10,12 @@
 //! A [`Snapshot`] holds one entry for each key: an old email by itself, or an old email with an old name. The case of
 //! ASCII letters doesn't count. The first spelling of an old email or an old name is kept.
 //!
-//! - Entries without an old name join field by field: the name that was last given and the email that was last given
-//!   stand, each for itself. `P <a@x>` and then `<n@y> <a@x>` map to `P` and `n@y`.
-//! - Of entries with the same old name the last one stands, with both of its fields: `P <n@y> Jo <a@x>` and then
+//! - Entries without an old name join field by field: the last name and the last email given count, each on its own.
+//!   `P <a@x>` and then `<n@y> <a@x>` map to `P` and `n@y`.
+//! - Of entries with the same old name the last one counts, with both of its fields: `P <n@y> Jo <a@x>` and then
 //!   `<m@y> Jo <a@x>` map `Jo` to the email `m@y`, and leave the name.
-//! - A name that has an entry of its own takes nothing from those without an old name; each other name of the email does.
+//! - A name with an entry of its own takes nothing from those without an old name; every other name with that email
+//!   does.
 //!
 //! What each function promises is in its `ensures`; the definitions are those of `specs/`, and [`laws`] has what
 //! follows from them.

@@ -1,7 +1,7 @@
 //! What C and other languages call: the answers of the crate `gix_mailmap`, written into the caller's buffers.
 //!
-//! `c/gix_mailmap.c` has the functions that C programs call, a few lines each before these. Each call returns a status:
-//! those of [`status`].
+//! `c/gix_mailmap.c` has the functions that C programs call, a few lines each, which call these. Each call returns a
+//! status: those of [`status`].
 #![tactic(auto)]
 
 pub mod adding;

@@ -2,7 +2,7 @@
 
 /// The call did what it says.
 pub const OK: u32 = 0;
-/// A buffer is too short for its text; all buffers are as they were.
+/// A buffer is too short, and no text and no list was written.
 pub const TOO_SHORT: u32 = 1;
 /// Out of memory; buffers and handle are as they were.
 pub const OUT_OF_MEMORY: u32 = 2;

@@ -141,6 +141,7 @@ fn in_order(a: Option<&LocatedEntry<'_>>, b: Option<&LocatedEntry<'_>>) -> Neede
     two_in_order(x.position, y.position)
 }
 
+// The position of an entry, if there is one.
 fn one(a: Option<&LocatedEntry<'_>>) -> Needed
     ensures positions { positions_of result ≡ spec.in_order (referred a.entry) None }
     ensures second { result.second ≡ None }
@@ -154,6 +155,7 @@ fn one(a: Option<&LocatedEntry<'_>>) -> Needed
     }
 }
 
+// Two positions in the order of their lines; equal ones count once.
 fn two_in_order(a: Position, b: Position) -> Needed
     ensures positions { positions_of result ≡ spec.two_in_order a b }
     ensures first { IsSome result.first }

@@ -96,7 +96,7 @@ fn is_comment(text: &[u8]) -> bool
     !text.is_empty() && text[0] == b'#'
 }
 
-// The entry of a first contact, whose email may not be empty, but blank.
+// The entry of a first contact, whose email may be blank but not empty.
 #[inline]
 fn entry_of_first<'a>(new: &GitContact<'a>) -> Option<Entry<'a>>
     ensures { option_map mapping_of result ≡ spec_entry_of_first (git_contact_of new.now) }

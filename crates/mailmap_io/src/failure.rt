@@ -39,7 +39,8 @@ impl<T: Drop> From<AllocFailed<T>> for Failure {
     }
 }
 
-// What the derived equality comes to: the same failure, and of the same file. The derive itself has no place for a clause.
+// What the derived equality comes to: the same failure, and of the same file. The derive itself has no place for a
+// clause.
 pub(crate) fn is_same(a: &Failure, b: &Failure) -> bool
     ensures { IsTrue result ↔ (a.now ≡ b.now) }
 {

@@ -47,8 +47,8 @@ impl Printer {
     /// Prints a piece: it is held, or if there is no room for it, what is held is written first. A piece that is longer
     /// than [`CAPACITY`] is written at once.
     ///
-    /// At an error, which is always `Failure::Output`, what was written is the beginning of what was held and the piece,
-    /// and nothing is held any more.
+    /// At an error, which is always `Failure::Output`, what was written is the beginning of what was held and the
+    /// piece, and nothing is held any more.
     pub fn print<W: Write>(&mut self, output: &mut W, piece: &[u8]) -> Result<(), Failure>
         ensures ok { OnOk result (IsUnderway (self.old ++ piece.now) (W.contents output.old) (W.contents output.new)
             self.new) }

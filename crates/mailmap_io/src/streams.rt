@@ -36,8 +36,8 @@ pub fn read_to_end<R: Read>(alloc: Global, reader: &mut R) -> Result<Vec<u8>, Er
     }
 }
 
-/// Reads the next bytes into the front of a buffer, as many as one read gives, and returns how many. None are the end of
-/// the reader, unless the buffer is empty.
+/// Reads the next bytes into the front of a buffer, as many as one read gives, and returns how many. None are the end
+/// of the reader, unless the buffer is empty.
 ///
 /// An interrupted read is repeated. At an error nothing was read.
 pub fn read_part<R: Read>(reader: &mut R, buffer: &mut [u8]) -> Result<usize, ErrorKind>

@@ -62,7 +62,8 @@ is_reported found missing l = is_redundant found l || list_any (same_position l.
 
 -- ---- contacts that are taken one after another
 
--- the history of the lines, its entries that have an effect, and the positions of those that no contact has needed so far
+-- the history of the lines, its entries that have an effect, and the positions of those that no contact has needed so
+-- far
 pub record Needs : Type 0 where
   pub history : List LocatedMapping
   pub kept : List LocatedMapping

@@ -65,8 +65,8 @@ later_of e s =
       same_old_email = same_optional (Some e.old_email) s.spelling;
     }
 
--- the text that was given last is the same without the entry: a later entry gives one, the entry gives none, or the same
--- one was given before
+-- the text that was given last is the same without the entry: a later entry gives one, the entry gives none, or the
+-- same one was given before
 abbrev pub is_last_unchanged : Option Text → Option Text → Bool → Bool
 is_last_unchanged before field given_later = given_later || (is_none field || same_optional field before)
 
@@ -74,9 +74,9 @@ abbrev pub same_fields : Fields → Option Fields → Bool
 same_fields fields None = false
 same_fields fields (Some last) = same_optional fields.name last.name && same_optional fields.email last.email
 
--- The value of the key is the same without the entry, apart from the spelling of its email. With an old name: an earlier
--- entry gives the old name, or the next one spells it alike; and a later entry gives the fields, or the last earlier one
--- gave the same.
+-- The value of the key is the same without the entry, apart from the spelling of its email. With an old name: an
+-- earlier entry gives the old name, or the next one spells it alike; and a later entry gives the fields, or the last
+-- earlier one gave the same.
 abbrev pub is_value_unchanged : KeySummary → Mapping → Later → Bool
 is_value_unchanged before e later =
     if is_some e.old_name then (is_some before.old_name || later.same_old_name) && (later.has_key || same_fields (new_fields e) before.last)

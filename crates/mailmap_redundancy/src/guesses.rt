@@ -41,7 +41,7 @@ impl Guesses {
         self.slots.is_empty()
     }
 
-    /// The number that a key with this hash may have: there are some, of which the one with this index is given.
+    /// The number in one of the slots for this hash; `index` says which.
     pub(crate) fn number(&self, hash: u64, index: usize) -> Option<usize> {
         let number = *self.slots.get(slot(&self.slots, hash, index))?;
         if number == EMPTY {
@@ -102,7 +102,7 @@ pub(crate) fn key_hash(prefix: u128, email: &[u8], name: Option<&[u8]>) -> u64 {
     mixed(prefix, mixed(key_prefix(&email[email.len() - 16..]), hash))
 }
 
-// The hash of the first bytes of a name. The prefix of a short text takes longer than to go over its bytes.
+// The hash of the first bytes of a name. For a short text, making the prefix takes longer than going over its bytes.
 fn name_hash(name: &[u8]) -> u64 {
     if name.len() >= 16 {
         return mixed(key_prefix(name), 1);

@@ -92,8 +92,8 @@ fn pass<'p, 'a>(
     Ok(kept)
 }
 
-// For each entry whose email has repeats, what decides of the later ones; that of the last entry comes first.
-// The table begins empty, and ends with all of these entries.
+// For each entry whose email has repeats, what the entries after it say that decides whether it is redundant. In
+// reverse: the last entry's comes first. The table begins empty, and ends with all of these entries.
 fn each_later<'p, 'a>(
     alloc: Global,
     keys: &[KeptKey<'_, '_>],

@@ -66,16 +66,18 @@ pub(crate) struct Summary<'p, 'a> {
     pub(crate) of_email: EmailSummary<'p, 'a>,
 }
 
-/// What is asked of the entries after an entry, to know whether that entry is redundant: whether one has its key
-/// (`has_key`), whether one of that key gives a new name or a new email (`gives_name`, `gives_email`), whether the first
-/// of that key spells its old name as this entry does (`same_old_name`), and whether the first of its email spells the
-/// email as this entry does (`same_old_email`).
+/// What is asked of the entries after an entry, to know whether that entry is redundant.
 #[derive(Clone, Copy)]
 pub(crate) struct Later {
+    /// Whether a later entry has its key.
     pub(crate) has_key: bool,
+    /// Whether one of that key gives a new name.
     pub(crate) gives_name: bool,
+    /// Whether one of that key gives a new email.
     pub(crate) gives_email: bool,
+    /// Whether the first of that key spells the old name as this entry does.
     pub(crate) same_old_name: bool,
+    /// Whether the first of its email spells the email as this entry does.
     pub(crate) same_old_email: bool,
 }
 

@@ -99,7 +99,8 @@ abbrev pub outcome_of_both : List Remark → List Said → Outcome
 outcome_of_both [] said = if list_any counts said then Found else Clean
 outcome_of_both (r ∷ remarks) said = Found
 
--- The text is the report of mailmaps, which these contacts need, and after that of what is said of contacts of this file.
+-- The text is the report of mailmaps, which these contacts need, and after that of what is said of contacts of this
+-- file.
 abbrev pub IsReportOf : List Text → Text → List Text → Text → List Said → Outcome → Text → Type 0
 IsReportOf paths file mailmaps contacts said outcome text = (remarks : List Remark) × AreRemarks mailmaps contacts remarks
     × (text ≡ both_texts paths file remarks said) × (outcome ≡ outcome_of_both remarks said)

@@ -20,8 +20,8 @@ use mailmap_io::streams::read_to_end;
 use std::alloc::{AllocError, Global};
 use std::io::{Read, Write};
 
-/// What a task prints, if it is for help, for the version or to prune: the usage, the version, or the one mailmap without
-/// its lines of no effect. Only a mailmap of which git reads each line as the library does is pruned.
+/// What a task prints, if it is for help, for the version or to prune: the usage, the version, or the one mailmap
+/// without its lines of no effect. Only a mailmap of which git reads each line as the library does is pruned.
 ///
 /// Standard input is read only if no path is given.
 pub fn answer_to<F: FileSystem, R: Read>(

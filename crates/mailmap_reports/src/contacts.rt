@@ -78,7 +78,7 @@ pub fn verify_contacts<F: FileSystem, R: Read, W: Write>(
     print_both(alloc, contacts, paths, &mailmaps, &history, output)
 }
 
-// The mailmaps at the paths. Only if the input has no contacts, no path is the input.
+// Reads the mailmaps at the paths. If there is no path, the input is the mailmap, unless it has the contacts.
 fn read_beside<F: FileSystem, R: Read>(
     system: &F,
     alloc: Global,
@@ -288,7 +288,7 @@ fn line_of_remark(
     }
 }
 
-// The line that no contact needs a line of a mailmap.
+// The line that reports a line of a mailmap that no contact needs.
 fn unneeded_line(
     alloc: Global,
     paths: &[Vec<u8>],
@@ -360,7 +360,7 @@ fn lines_of_notice(
     }
 }
 
-// The line that a line is no contact.
+// The line that reports a line that is no contact.
 fn no_contact_line(alloc: Global, file: &[u8], line: usize) -> Result<Vec<u8>, AllocError>
     ensures { IfOk result (λ text. text.items ≡ said_line file.now (no_contact line)) }
 {

@@ -40,8 +40,8 @@ pub fn explain<F: FileSystem, R: Read, W: Write>(
         (W.contents output.old) (W.contents output.new)) }
     ensures reads_all { OnOk result (IsAtEnd (R.remaining input.new)) }
 
-    // Output that breaks off is the beginning of that. At the other failures only what is said of whole lines is written:
-    // if the input fails, of all that were read before, and if memory runs out, of the first of them.
+    // Output that breaks off is the beginning of that. At the other failures only what is said of whole lines is
+    // written: if the input fails, of all that were read before, and if memory runs out, of the first of them.
     ensures breaks_off { IsErrOf result Failure.Output → PrintsFront
         (OfFiles (F.may_open system.now) (F.bytes system.now) (map (λ path. path.items) paths.now)
         (λ mailmaps. ExplainsAll (map (λ path. path.items) paths.now) mailmaps (R.remaining input.old)))

@@ -88,7 +88,7 @@ impl<'m, 'a> History<'m, 'a> {
         Ok(())
     }
 
-    // Takes a line, but for its number, and says whether it is a contact.
+    // Takes a new line, and says whether it is a contact; the caller then raises `count`.
     fn take_new(&mut self, line: &[u8], number: usize) -> Result<bool, Failure>
         ensures taken { (mailmaps contacts : List Text) → HasTaken mailmaps contacts self.old
             → number ≡ length contacts + 1
@@ -110,7 +110,7 @@ impl<'m, 'a> History<'m, 'a> {
         }
     }
 
-    // Takes a contact, but for its number: what it needs, and its answer.
+    // Takes a contact: what it needs, and its answer; the caller then raises `count`.
     fn take_contact(&mut self, name: &[u8], email: &[u8], number: usize) -> Result<(), Failure>
         ensures taken { (mailmaps contacts : List Text) (line rest : Text) → HasTaken mailmaps contacts self.old
             → number ≡ length contacts + 1 → contact_in line ≡ Closed name.now email.now rest

@@ -1,4 +1,4 @@
-//! What the program `mailmap_verify` does: what its arguments ask for, and the doing of it, over any reader, writer and
+//! What the program `mailmap_verify` does: reads what its arguments ask for, and does it, over any reader, writer and
 //! file system. What it shares with the other programs is in `mailmap_io`.
 #![tactic(auto)]
 

@@ -1,4 +1,4 @@
-//! What the arguments of `mailmap_verify` ask for, and the doing of it.
+//! Reads what the arguments of `mailmap_verify` ask for, and does it.
 ghost use Rattle.std.specs.Prelude.{◌≡◌, ◌≢◌, ◌<◌, ◌⊎◌, [], IfErr, IfOk, IsErr, IsErrOf, Ok, drop, false, length, map};
 ghost use Rattle.mailmap_io.specs.Printing.{Prints, PrintsFront};
 ghost use Rattle.mailmap_io.specs.declared.outcome.Outcome.{Outcome as TheOutcome};
@@ -90,9 +90,9 @@ pub(crate) enum Word {
 
 /// What the arguments ask for, of which the first is the program's own name.
 ///
-/// Options are read from left to right, up to the first path or `--`. The first of `-h`, `--help`, `--version`, a second
-/// mode and an option that isn't known ends the reading: `--prune --help` asks for help, `--foo --help` is a misuse. The
-/// argument after `--contacts` is its file, whatever it looks like.
+/// Options are read from left to right, up to the first path or `--`. The first of `-h`, `--help`, `--version`, a
+/// second mode and an option that isn't known ends the reading: `--prune --help` asks for help, `--foo --help` is a
+/// misuse. The argument after `--contacts` is its file, whatever it looks like.
 pub fn task_of(arguments: &[Vec<u8>]) -> Result<Task<'_>, Misuse<'_>>
     ensures { asked_of result ≡ asked (drop 1 (map (λ a. a.items) arguments.now)) }
 {
@@ -219,9 +219,9 @@ fn reads_contacts(mode: Mode, contacts: &[u8]) -> bool
 
 /// Does what is asked for, and says whether something was found.
 ///
-/// All input is read before anything is written, but contacts are answered as they come. The first failure ends the run.
-/// What is found is written as it is made into text, so memory may run out after the beginning of it was written. A
-/// mailmap of which git reads a line otherwise is not pruned: that is a failure, too.
+/// All input is read before anything is written, except that `Mode::Explain` answers contacts as they come. The first
+/// failure ends the run. What is found is written as it is made into text, so memory may run out after the beginning of
+/// it was written. A mailmap of which git reads a line otherwise is not pruned: that is a failure, too.
 pub fn perform<F: FileSystem, R: Read, W: Write>(
     system: &F,
     alloc: Global,
@@ -266,8 +266,8 @@ pub fn perform<F: FileSystem, R: Read, W: Write>(
         → ¬ IsErrOf result Failure.Memory → output.new ≡ output.old }
     ensures silent_at_files { IfErr result (λ e. IsOfFile e → output.new ≡ output.old) }
 
-    // Then what is said of whole lines is written: if the input fails, of all that were read, and if memory runs out, of
-    // the first of them.
+    // Then what is said of whole lines is written: if the input fails, of all that were read, and if memory runs out,
+    // of the first of them.
     ensures input_fails { task.entry.mode ≡ Mode.Explain → IfErr result (λ e. IsOfInput e → Prints
         (OfFiles (F.may_open system.now) (F.bytes system.now) (map (λ path. path.items) task.entry.paths.now)
         (λ mailmaps. ExplainsWholeLines (map (λ path. path.items) task.entry.paths.now) mailmaps

@@ -24,8 +24,8 @@ const PART: usize = 16384;
 /// Answers contact lines by mailmaps.
 ///
 /// `files` holds the bytes of the mailmaps, and then all of `input` is contact lines. They are answered as they come:
-/// before more is read, the answers to all lines that have ended are written. With `None` a line `--` splits `input` into
-/// one mailmap and the contact lines, and all of it is read first. The first failure ends the run.
+/// before more is read, the answers to all lines that have ended are written. With `None` a line `--` splits `input`
+/// into one mailmap and the contact lines, and all of it is read first. The first failure ends the run.
 pub fn run<R: Read, W: Write>(
     alloc: Global,
     files: Option<&[&[u8]]>,

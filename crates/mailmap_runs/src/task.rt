@@ -1,4 +1,4 @@
-//! What the arguments of `mailmap_check` ask for, and the doing of it.
+//! Reads what the arguments of `mailmap_check` ask for, and does it.
 ghost use Rattle.std.specs.Prelude.{◌≡◌, ◌↔◌, ◌⊎◌, ◌<◌, ◌≤◌, ℕ, [], IsErr, IsErrOf, OnOk, drop, length, map};
 ghost use Rattle.mailmap_io.specs.Files.{MayOpenBefore};
 ghost use Rattle.mailmap_io.specs.Printing.{Prints, PrintsFront};

@@ -1,8 +1,8 @@
 //! Counts contacts by mailmaps, as `git shortlog -s` counts commits by their authors.
 //!
-//! `mailmap_shortlog MAILMAP..` counts the contacts of standard input by the names that the mailmaps give them. With `-e`
-//! it counts by names and emails, and with `-n` the greatest count comes first. `mailmap_shortlogs::task` says how the
-//! arguments are read.
+//! `mailmap_shortlog MAILMAP..` counts the contacts of standard input by the names that the mailmaps give them. With
+//! `-e` it counts by names and emails, and with `-n` the greatest count comes first. `mailmap_shortlogs::task` says how
+//! the arguments are read.
 //!
 //! A failure is said on standard error, and ends the program with status 2.
 #![tactic(auto)]

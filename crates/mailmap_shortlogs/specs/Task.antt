@@ -86,8 +86,8 @@ EndsReading Memory = ⊤
 EndsReading (File number cause) = ⊥
 EndsReading Output = ⊥
 
--- The text is the shortlog of all contacts of the input, by the mailmaps that the files at these paths hold. Of an input
--- that isn't known it says no more than that it is a shortlog of some contacts.
+-- The text is the shortlog of all contacts of the input, by the mailmaps that the files at these paths hold. Of an
+-- input that isn't known it says no more than that it is a shortlog of some contacts.
 abbrev pub IsAnswer : (Text → Type 0) → (Text → Option Text) → Option Text → Mode → List Text → Text → Type 0
 IsAnswer may_open known input Help paths text = text ≡ USAGE.now
 IsAnswer may_open known input Version paths text = text ≡ codes "mailmap_shortlog " ++ VERSION.now ++ 10 ∷ []

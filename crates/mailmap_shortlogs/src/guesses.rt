@@ -40,8 +40,7 @@ impl Guesses {
         })
     }
 
-    /// The index that a text with this hash may have: there are some, of which one is given for each attempt. After the
-    /// last one there is `None`.
+    /// The index in one of the slots for this hash; `attempt` says which. After the last one there is `None`.
     pub(crate) fn index(&self, hash: u64, attempt: usize) -> Option<usize> {
         let index = *self.slots.get(self.slot(hash, attempt))?;
         if index == EMPTY {

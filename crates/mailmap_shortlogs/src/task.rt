@@ -1,4 +1,4 @@
-//! What the arguments of `mailmap_shortlog` ask for, and the doing of it.
+//! Reads what the arguments of `mailmap_shortlog` ask for, and does it.
 ghost use Rattle.std.specs.Prelude.{◌==◌, ◌≡◌, ◌++◌, ◌∷◌, [], IfErr, IfOk, IsErr, IsErrOf, IsFalse, IsTrue, Ok, OnOk, codes, drop, map};
 ghost use Rattle.std.specs.Io.KnownBytes.{IsAtEnd};
 ghost use Rattle.std.specs.List.{list_all, list_any};

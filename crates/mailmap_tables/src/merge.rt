@@ -49,8 +49,8 @@ impl Tables {
     }
 }
 
-// The room in the pool that the batch takes if it is put in place, `None` if it isn't to be. After a portion it never
-// is.
+// How many bytes of the pool the batch needs if it is put in place; `None` if it is to be joined aside, as it always is
+// after a portion.
 fn room_in_place(collected: &Collected<'_>, tables: &Tables) -> Option<usize>
     requires { AreGroups tables.now.groups }
     ensures none { ForSome result (λ bytes. collected.now.made ≡ None) }

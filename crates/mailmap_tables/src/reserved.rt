@@ -145,7 +145,7 @@ impl ReservedTables {
         self.pool.name_row(old_name, named, replaced).unwrap()
     }
 
-    /// The row of an email with the fields that are given for it, and else its own.
+    /// The row of an email: each field that is given, and its present field where none is given.
     pub(crate) fn own_row(&mut self, texts: Texts, given: Given<'_>) -> Texts
         requires lies { TextsLie (length self.old.held.pool) texts }
         requires reserved { own_reserved (group_of self.old.held.pool texts []) (fields_given given) ≤ self.old.bytes }
@@ -234,7 +234,7 @@ impl ReservedTables {
     }
 }
 
-// Moves the names of emails one index on.
+// Raises the name range of each row by one.
 fn stand_later(rows: &mut [EmailRow])
     requires { AllByRecursion (λ (r : EmailRow). (r.names_start < usize.MAX) × (r.names_end < usize.MAX)) rows.old }
     ensures { rows.new ≡ map one_later rows.old }

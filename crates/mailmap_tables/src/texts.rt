@@ -1,4 +1,4 @@
-//! The texts of a row: an old one, and the new name and the new email that stand for it, one after another in the pool.
+//! The texts of a row: an old one, and the new name and the new email that replace it, one after another in the pool.
 ghost use Rattle.std.specs.Prelude.{◌≡◌, ◌≤◌, ◌<◌, ◌+◌, ◌++◌, None, Some, ◌-◌, min, IfOk, IsOk, IsSome, IsTrue, OnOk};
 ghost use Rattle.std.specs.Prelude.{OnErr, length, vec_len, vec_capacity};
 ghost use Rattle.std.specs.Option.{ForSome};

@@ -4,10 +4,11 @@
 //! `mailmap_verify FILE..` reads each FILE as a mailmap, one after the other, and prints a line for each finding; with
 //! `--prune` it prints the one mailmap without the lines that have no effect, unless git reads a line of it otherwise.
 //! Without a FILE standard input is the one mailmap, and so it is if the only FILE is `-`. With `--explain` standard
-//! input has contacts, and a line is printed for each. `mailmap_reports::task` says how the arguments are read.
+//! input has contacts, and a line is printed for each. With `--contacts CONTACTS` it also prints which lines no contact
+//! needs and which contacts are alike. `mailmap_reports::task` says how the arguments are read.
 //!
-//! The status is 0 if nothing is wrong, and 1 if something was found. A failure is said on standard error, and ends the
-//! program with status 2.
+//! The status is 0 if nothing was found but notes, and 1 if something else was. A failure is said on standard error,
+//! and ends the program with status 2.
 #![tactic(auto)]
 
 use mailmap_io::arguments::arguments;

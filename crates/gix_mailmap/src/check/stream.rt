@@ -62,8 +62,8 @@ impl ContactStream {
         })
     }
 
-    /// Takes bytes from the front of `part`, appends the answers to all lines that end in them to `text`, and returns how
-    /// many bytes it took.
+    /// Takes bytes from the front of `part`, appends the answers to all lines that end in them to `text`, and returns
+    /// how many bytes it took.
     ///
     /// It takes all of them, unless `text` gets 64 KiB long before that, or memory runs out after some lines: call it
     /// again for the rest. At an `Err` nothing was taken, and `text` and the stream are as before.

@@ -23,7 +23,7 @@ use std::marker::Model;
 #[derive(Drop)]
 pub(crate) struct MarkedLines<'v, 'a> {
     lines: BufferLines<'v, 'a>,
-    // the kept entries, and how many of them are of lines that were given
+    // the kept entries, and how many of them belong to lines that `next` has returned
     kept: &'v [&'v LocatedEntry<'a>],
     passed: usize,
 }

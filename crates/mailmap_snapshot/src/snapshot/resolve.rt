@@ -16,8 +16,8 @@ use std::borrow::CowSlice;
 /// Resolving signatures: a name or an email that the mailmap gives replaces the recorded one, and the other stays. A
 /// time that can't be read becomes the default one.
 ///
-/// Each answer is stated twice by the contracts: from the entries of the snapshot, and from any history that the
-/// snapshot stands for, as the entries that were merged one after another.
+/// Each answer is stated twice by the contracts: from the entries of the snapshot, and from any history whose normal
+/// list these are, as the entries that were merged one after another.
 impl Snapshot {
     /// The signature as the mailmap maps it, or `None` if it maps neither its name nor its email.
     ///
@@ -44,7 +44,7 @@ impl Snapshot {
             (λ answer. IfSome answer (λ s. IsResolved self.now signature.entry (owned_fields s))) }
         // it runs out of memory only if something is mapped
         ensures out_of_memory { OnErr result (IsSome (mapped self.now signature.entry)) }
-        // the same, by a history that the snapshot stands for
+        // the same, by a history whose normal list is the listing
         ensures history_none { (h : List Mapping) → IsNormal h self.now → (result ≡ Ok None)
             ↔ (mapped h signature.entry ≡ None) }
         ensures history_some { (h : List Mapping) → IsNormal h self.now →
@@ -74,7 +74,7 @@ impl Snapshot {
         signature: SignatureRef<'_>,
     ) -> Result<actor::Signature, AllocError>
         ensures view { IfOk result (λ s. IsResolved self.now signature.entry (owned_fields s)) }
-        // the same, by a history that the snapshot stands for
+        // the same, by a history whose normal list is the listing
         ensures history { (h : List Mapping) → IsNormal h self.now
             → IfOk result (λ s. IsResolved h signature.entry (owned_fields s)) }
     {
@@ -105,7 +105,7 @@ impl Snapshot {
         ensures owned { IfOk result (OwnsMapped self.now signature.entry) }
         // it runs out of memory only if something is mapped
         ensures out_of_memory { OnErr result (IsSome (mapped self.now signature.entry)) }
-        // the same, by a history that the snapshot stands for
+        // the same, by a history whose normal list is the listing
         ensures history { (h : List Mapping) → IsNormal h self.now
             → IfOk result (λ s. IsResolved h signature.entry (cow_fields s)) }
         ensures history_owned { (h : List Mapping) → IsNormal h self.now → IfOk result (OwnsMapped h signature.entry) }
