@@ -150,7 +150,8 @@ pub record ArePrefixes (keys : List Key) (prefixes : List ℕ) : Type 0 where
 
 -- the row of each number shows what f says of it
 abbrev pub IsTableOf : {X Y Z : Type 0} → List Key → (X → Key) → (X → Y) → (Z → Y) → List Z → Type 0
-IsTableOf {X} {Y} {Z} keys key_of f view rows = (x : X) (i : ℕ) → IsNumber keys (key_of x) i → (i < length rows) × ((d : Z) → view (slice_index_or rows i d) ≡ f x)
+IsTableOf {X} {Y} {Z} keys key_of f view rows = (x : X) (i : ℕ) → IsNumber keys (key_of x) i
+    → (i < length rows) × ((d : Z) → view (slice_index_or rows i d) ≡ f x)
 
 -- the tables say what the history h says of each key and of each email
 pub record IsTable (keys : List Key) (h : List Mapping) (t : Table) : Type 0 where
@@ -164,7 +165,8 @@ pub record AreGivers (keys : List Key) (xs : List LocatedMapping) (t : Table) : 
 
 -- the rows that are not needed any more are empty
 abbrev pub AreBlank : {X Y Z : Type 0} → List Key → (X → Key) → (X → Type 0) → Y → (Z → Y) → List Z → Type 0
-AreBlank {X} {Y} {Z} keys key_of left blank view rows = (x : X) (i : ℕ) → IsNumber keys (key_of x) i → (i < length rows) × (left x → (d : Z) → view (slice_index_or rows i d) ≡ blank)
+AreBlank {X} {Y} {Z} keys key_of left blank view rows = (x : X) (i : ℕ) → IsNumber keys (key_of x) i
+    → (i < length rows) × (left x → (d : Z) → view (slice_index_or rows i d) ≡ blank)
 
 -- the tables say nothing of keys and emails that have no entry in h
 pub record IsForgetting (keys : List Key) (h : List Mapping) (t : Table) : Type 0 where

@@ -114,7 +114,8 @@ asked (argument ∷ rest) = elim (word_of argument) [
 
 -- The mailmaps are what the files at these paths hold. If no path is given, all of the input is the one mailmap.
 abbrev pub AreMailmaps : (Text → Type 0) → (Text → Option Text) → List Text → Option Text → List Text → Type 0
-AreMailmaps may_open known [] input mailmaps = (mailmap : Text) × (mailmaps ≡ mailmap ∷ []) × IfSome input (λ bytes. mailmap ≡ bytes)
+AreMailmaps may_open known [] input mailmaps = (mailmap : Text)
+    × (mailmaps ≡ mailmap ∷ []) × IfSome input (λ bytes. mailmap ≡ bytes)
 AreMailmaps may_open known (path ∷ paths) input mailmaps = AreRead may_open known (path ∷ paths) mailmaps
 
 -- The mailmaps beside a file of contacts: if the input has the contacts, no path is no mailmap.
@@ -135,21 +136,26 @@ contacts_name contacts = if is_dash contacts then codes "<stdin>" else contacts
 
 -- The text has the line of each finding in the mailmaps and nothing else, and the outcome says whether there is one.
 abbrev pub IsReport : List Text → List Text → Outcome → Text → Type 0
-IsReport paths mailmaps outcome text = (findings : List Finding) × AreFindings mailmaps findings × (text ≡ report paths findings) × (outcome ≡ outcome_of findings)
+IsReport paths mailmaps outcome text = (findings : List Finding)
+    × AreFindings mailmaps findings × (text ≡ report paths findings) × (outcome ≡ outcome_of findings)
 
 -- The text is made of what the files at these paths hold.
 abbrev pub OfFiles : (Text → Type 0) → (Text → Option Text) → List Text → (List Text → Text → Type 0) → Text → Type 0
-OfFiles may_open known paths IsText text = (mailmaps : List Text) × AreRead may_open known paths mailmaps × IsText mailmaps text
+OfFiles may_open known paths IsText text = (mailmaps : List Text)
+    × AreRead may_open known paths mailmaps × IsText mailmaps text
 
 -- what is printed in each mode, and how the run ends; a mailmap is pruned only if git reads none of its lines otherwise
 abbrev pub IsAnswer : (Text → Type 0) → (Text → Option Text) → Option Text → Mode → Text → List Text → Outcome → Text → Type 0
 IsAnswer may_open known input Help contacts paths outcome text = (text ≡ USAGE.now) × (outcome ≡ Clean)
-IsAnswer may_open known input Version contacts paths outcome text = (text ≡ codes "mailmap_verify " ++ VERSION.now ++ 10 ∷ []) × (outcome ≡ Clean)
-IsAnswer may_open known input Verify contacts paths outcome text = (mailmaps : List Text) × AreMailmaps may_open known paths input mailmaps × IsReport paths mailmaps outcome text
+IsAnswer may_open known input Version contacts paths outcome text =
+    (text ≡ codes "mailmap_verify " ++ VERSION.now ++ 10 ∷ []) × (outcome ≡ Clean)
+IsAnswer may_open known input Verify contacts paths outcome text = (mailmaps : List Text)
+    × AreMailmaps may_open known paths input mailmaps × IsReport paths mailmaps outcome text
 IsAnswer may_open known input Prune contacts paths outcome text = (mailmap : Text)
     × AreMailmaps may_open known paths input (mailmap ∷ [])
     × IsPruned mailmap text × (first_read_otherwise (mailmap ∷ []) ≡ None) × (outcome ≡ Clean)
-IsAnswer may_open known input Explain contacts paths outcome text = OfFiles may_open known paths (λ mailmaps. ExplainsAll paths mailmaps input) text × (outcome ≡ Clean)
+IsAnswer may_open known input Explain contacts paths outcome text =
+    OfFiles may_open known paths (λ mailmaps. ExplainsAll paths mailmaps input) text × (outcome ≡ Clean)
 IsAnswer may_open known input Contacts contacts paths outcome text = (mailmaps : List Text) × (lines : Text)
     × AreMailmapsBeside may_open known contacts paths input mailmaps × AreContacts may_open known contacts input lines
     × IsReportBeside paths (contacts_name contacts) mailmaps lines outcome text

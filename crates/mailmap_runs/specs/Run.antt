@@ -18,17 +18,20 @@ bytes_of files = option_map (λ given. map (λ file. file.now) given.now) files
 abbrev pub AnswersContacts : Option (List (List ℕ)) → Option (List ℕ) → List ℕ → Type 0
 AnswersContacts files None text = ⊤
 AnswersContacts (Some buffers) (Some input) text = text ≡ answers_by buffers input
-AnswersContacts None (Some input) text = (mailmap contacts : List ℕ) × IsSplit input mailmap contacts × (text ≡ answers_by (mailmap ∷ []) contacts)
+AnswersContacts None (Some input) text = (mailmap contacts : List ℕ)
+    × IsSplit input mailmap contacts × (text ≡ answers_by (mailmap ∷ []) contacts)
 
 -- The text answers whole lines at the front of what was read, which is what an input has lost. Without files it is
 -- empty, since no line is answered before all is read.
 abbrev pub AnswersLines : Option (List (List ℕ)) → Option (List ℕ) → Option (List ℕ) → List ℕ → Type 0
-AnswersLines (Some buffers) old new text = (read rest : List ℕ) × Consumes old new read × AnswersFront (flat_map good buffers) read text rest
+AnswersLines (Some buffers) old new text = (read rest : List ℕ)
+    × Consumes old new read × AnswersFront (flat_map good buffers) read text rest
 AnswersLines None old new text = text ≡ []
 
 -- the same, and it answers all whole lines that were read
 abbrev pub AnswersWholeLines : Option (List (List ℕ)) → Option (List ℕ) → Option (List ℕ) → List ℕ → Type 0
-AnswersWholeLines (Some buffers) old new text = (read rest : List ℕ) × Consumes old new read × AnswersFront (flat_map good buffers) read text rest × HoldsNo 10 rest
+AnswersWholeLines (Some buffers) old new text = (read rest : List ℕ)
+    × Consumes old new read × AnswersFront (flat_map good buffers) read text rest × HoldsNo 10 rest
 AnswersWholeLines None old new text = text ≡ []
 
 -- The text is the mailmap written anew: of the files, or without files of all of the input, if that is known.
