@@ -179,19 +179,30 @@ static const char REPORT[] =
     "own:2: error: no email in brackets\n"
     "own:3: warning: ignored text: \\x1b\n";
 
-static void report(void)
+static gix_mailmap_status report_both(char *out, size_t room, size_t *needed)
 {
-    enum { LEN = sizeof REPORT - 1 };
-    char out[LEN + 8], clean[LEN + 8];
+    return gix_mailmap_report(BOTH, 2, out, room, needed);
+}
+
+/* whatever the room is, the call writes the whole text or nothing */
+static void want_whole(gix_mailmap_status (*call)(char *, size_t, size_t *), const char *text, size_t len)
+{
+    char out[1024], clean[1024];
     memset(clean, '#', sizeof clean);
-    for (size_t room = 0; room <= sizeof out; room++) {
+    WANT(len + 8 <= sizeof out);
+    for (size_t room = 0; room <= len + 8; room++) {
         size_t needed = 99;
         memcpy(out, clean, sizeof out);
-        gix_mailmap_status status = gix_mailmap_report(BOTH, 2, out, room, &needed);
-        WANT(status == (room < LEN ? GIX_MAILMAP_TOO_SHORT : GIX_MAILMAP_OK) && needed == LEN);
-        WANT(memcmp(out, room < LEN ? clean : REPORT, LEN) == 0);
-        WANT(memcmp(out + LEN, clean, sizeof out - LEN) == 0);
+        gix_mailmap_status status = call(out, room, &needed);
+        WANT(status == (room < len ? GIX_MAILMAP_TOO_SHORT : GIX_MAILMAP_OK) && needed == len);
+        WANT(memcmp(out, room < len ? clean : text, len) == 0);
+        WANT(memcmp(out + len, clean, sizeof out - len) == 0);
     }
+}
+
+static void report(void)
+{
+    want_whole(report_both, TEXT(REPORT));
     size_t needed = 99;
     gix_mailmap_named none = {NULL, 0, NULL, 0}, nameless = {NULL, 0, TEXT("plain")};
     buffer text = filled();
@@ -217,19 +228,14 @@ static const char EXPLANATION[] =
     "plain is no contact\n"
     "i <i@x> is I\\x1b <i@x> by own:2\n";
 
+static gix_mailmap_status explain_giving(char *out, size_t room, size_t *needed)
+{
+    return gix_mailmap_explain(GIVING, 2, TEXT(EXPLAINED), out, room, needed);
+}
+
 static void explain(void)
 {
-    enum { LEN = sizeof EXPLANATION - 1 };
-    char out[LEN + 8], clean[LEN + 8];
-    memset(clean, '#', sizeof clean);
-    for (size_t room = 0; room <= sizeof out; room++) {
-        size_t needed = 99;
-        memcpy(out, clean, sizeof out);
-        gix_mailmap_status status = gix_mailmap_explain(GIVING, 2, TEXT(EXPLAINED), out, room, &needed);
-        WANT(status == (room < LEN ? GIX_MAILMAP_TOO_SHORT : GIX_MAILMAP_OK) && needed == LEN);
-        WANT(memcmp(out, room < LEN ? clean : EXPLANATION, LEN) == 0);
-        WANT(memcmp(out + LEN, clean, sizeof out - LEN) == 0);
-    }
+    want_whole(explain_giving, TEXT(EXPLANATION));
     size_t needed = 99;
     buffer text = filled();
     gix_mailmap_named nameless = {NULL, 0, TEXT("N <a@x>")}, huge = {"", SIZE_MAX, "", 2};

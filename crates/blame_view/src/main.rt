@@ -40,8 +40,8 @@ fn authors(alloc: Global, lines: &[u8]) -> Result<Vec<SignatureRef<'_>>> {
 
 // The author of a line, as it was recorded.
 fn author(line: &[u8]) -> Option<SignatureRef<'_>> {
-    let (name, behind) = line.split_once_str(b" <")?;
-    let (email, time) = behind.split_once_str(b"> ")?;
+    let (name, rest) = line.split_once_str(b" <")?;
+    let (email, time) = rest.split_once_str(b"> ")?;
     Some(SignatureRef {
         name,
         email,

@@ -37,7 +37,7 @@ pub fn check(alloc: Global, buffers: &[&[u8]], contacts: &[u8]) -> Result<Vec<u8
 }
 
 /// A snapshot of what the buffers say, one after another.
-pub(crate) fn merged(alloc: Global, buffers: &[&[u8]]) -> Result<Snapshot, AllocError>
+pub fn merged(alloc: Global, buffers: &[&[u8]]) -> Result<Snapshot, AllocError>
     ensures { IfOk result (IsNormal (flat_map good (map (λ b. b.now) buffers.now))) }
 {
     // One merge of all: each merge of more than a few entries copies what is there.
@@ -86,8 +86,8 @@ fn push_answer(text: &mut Vec<u8>, snapshot: &Snapshot, line: &[u8]) -> Result<(
     push_contact(text, name, email)
 }
 
-// The name and the email that replace those of a contact.
-fn resolved<'a>(snapshot: &'a Snapshot, name: &'a [u8], email: &'a [u8]) -> (&'a [u8], &'a [u8])
+/// The name and the email that replace those of a contact: its own, if the snapshot gives no other.
+pub fn resolved<'a>(snapshot: &'a Snapshot, name: &'a [u8], email: &'a [u8]) -> (&'a [u8], &'a [u8])
     ensures name { result.0.now ≡ unwrap_or (fields_for snapshot.now name.now email.now).name name.now }
     ensures email { result.1.now ≡ unwrap_or (fields_for snapshot.now name.now email.now).email email.now }
 {

@@ -85,7 +85,7 @@ fn split_parts_at_the_first_line_of_two_dashes(rt: HostRuntime) {
         (b"--\r\nx", b"", b"x"),
         (b"--\r", b"", b"--\r"),
     ];
-    for (input, before, behind) in &ROWS {
-        assert_parted(&rt, split(input), (before, behind));
+    for (input, before, after) in &ROWS {
+        assert_parted(&rt, split(input), (before, after));
     }
 }

@@ -8,11 +8,11 @@ use std::alloc::{AllocError, Global};
 fn contact(line: &[u8]) -> Option<SignatureRef<'_>> {
     let line = line.trim();
     let open = line.find_byte(b'<')?;
-    let behind = &line[open + 1..];
-    let close = behind.find_byte(b'>')?;
+    let after = &line[open + 1..];
+    let close = after.find_byte(b'>')?;
     Some(SignatureRef {
         name: (&line[..open]).trim(),
-        email: (&behind[..close]).trim(),
+        email: (&after[..close]).trim(),
         time: "1711398853 +0800",
     })
 }

@@ -124,8 +124,8 @@ fn push_old_fields(out: &mut Vec<u8>, entry: &Entry<'_>) -> Result<(), AllocErro
     Ok(())
 }
 
-// Puts a name and a blank after what is written, if there is a name.
-fn push_name(out: &mut Vec<u8>, name: Option<&[u8]>) -> Result<(), AllocError>
+/// Puts a name and a blank after what is written, if there is a name.
+pub fn push_name(out: &mut Vec<u8>, name: Option<&[u8]>) -> Result<(), AllocError>
     ensures { OnOk result (out.new.items ≡ out.old.items ++ name_part (option_copied name.entry)) }
 {
     if let Some(name) = name {
@@ -135,8 +135,8 @@ fn push_name(out: &mut Vec<u8>, name: Option<&[u8]>) -> Result<(), AllocError>
     Ok(())
 }
 
-// Puts an email in brackets after what is written.
-fn push_email(out: &mut Vec<u8>, email: &[u8]) -> Result<(), AllocError>
+/// Puts an email in brackets after what is written.
+pub fn push_email(out: &mut Vec<u8>, email: &[u8]) -> Result<(), AllocError>
     ensures { OnOk result (out.new.items ≡ out.old.items ++ bracketed_email email.now) }
 {
     out.push(b'<')?;

@@ -1,7 +1,5 @@
 //! What git reads of a line as text.
 ghost use Rattle.std.specs.Prelude.{◌≡◌, ◌++◌, codes, decimal, OnOk};
-ghost use Rattle.std.specs.Option.{option_copied};
-ghost use Rattle.gix_mailmap.specs.CanonicalText.{bracketed_email, name_part};
 ghost use Rattle.gix_mailmap.specs.Entries.{mapping_of};
 ghost use Rattle.gix_mailmap.specs.Git.{git_reading_of};
 ghost use Rattle.mailmap_reports.specs.Report.{entry_text, git_text};
@@ -9,6 +7,7 @@ ghost use Rattle.mailmap_reports.specs.Report.{entry_text, git_text};
 use gix_mailmap::Entry;
 use gix_mailmap::verify::GitReading;
 use itoa::Buffer;
+use mailmap_grammar::writing::{push_email, push_name};
 use std::alloc::AllocError;
 
 /// Appends what git reads in place of what is read here, as `it as Joe < a@x >`.
@@ -46,25 +45,4 @@ fn push_entry(text: &mut Vec<u8>, entry: &Entry<'_>) -> Result<(), AllocError>
     }
     push_name(text, entry.old_name())?;
     push_email(text, entry.old_email())
-}
-
-// Appends a name and a blank, if there is a name.
-fn push_name(text: &mut Vec<u8>, name: Option<&[u8]>) -> Result<(), AllocError>
-    ensures { OnOk result (text.new.items ≡ text.old.items ++ name_part (option_copied name.entry)) }
-{
-    if let Some(name) = name {
-        text.extend_from_slice(name)?;
-        text.push(b' ')?;
-    }
-    Ok(())
-}
-
-// Appends an email in brackets.
-fn push_email(text: &mut Vec<u8>, email: &[u8]) -> Result<(), AllocError>
-    ensures { OnOk result (text.new.items ≡ text.old.items ++ bracketed_email email.now) }
-{
-    text.push(b'<')?;
-    text.extend_from_slice(email)?;
-    text.push(b'>')?;
-    Ok(())
 }

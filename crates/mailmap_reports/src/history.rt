@@ -83,7 +83,7 @@ impl<'m, 'a> History<'m, 'a> {
             return Ok(());
         }
         let is_contact = self.take_new(line, number)?;
-        keep_if(is_contact, &mut self.last, hash, line);
+        keep_contact(is_contact, &mut self.last, hash, line);
         self.count = number;
         Ok(())
     }
@@ -171,10 +171,10 @@ fn note_alike(
 }
 
 // Keeps a line, if it is a contact.
-fn keep_if(is_kept: bool, last: &mut LastAnswers, hash: u64, line: &[u8])
-    ensures { (k : Kept) → Contains last.new k → Contains last.old k ⊎ (IsTrue is_kept × (k.line ≡ line.now)) }
+fn keep_contact(is_contact: bool, last: &mut LastAnswers, hash: u64, line: &[u8])
+    ensures { (k : Kept) → Contains last.new k → Contains last.old k ⊎ (IsTrue is_contact × (k.line ≡ line.now)) }
 {
-    if is_kept {
+    if is_contact {
         last.put(hash, line, b"");
     }
 }

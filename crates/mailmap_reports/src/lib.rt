@@ -12,5 +12,3 @@ mod history;
 pub mod likeness;
 pub mod report;
 pub mod task;
-
-pub use mailmap_io::shown;

@@ -1,13 +1,13 @@
 //! Which answers to contacts may be one person, as text: a line for each likeness.
-ghost use Rattle.std.specs.Prelude.{◌≡◌, ◌++◌, IfOk, OnOk, map};
+ghost use Rattle.std.specs.Prelude.{◌≡◌, ◌++◌, ◌∷◌, [], IfOk, OnOk, map};
 ghost use Rattle.std.specs.Option.{option_copied, option_map};
 ghost use Rattle.mailmap_likeness.specs.Likeness.{answered};
-ghost use Rattle.mailmap_reports.specs.Alike.{alike_text, answer_at, email_line, line_beside};
-ghost use Rattle.mailmap_reports.specs.Alike.{lines_of_answer, name_line, place_text};
+ghost use Rattle.mailmap_reports.specs.Alike.{alike_text, answer_at, line_beside, lines_of_answer, place_text};
+ghost use Rattle.mailmap_reports.specs.Report.{shown};
 
-use crate::shown::push_shown;
 use gix_mailmap::check::push_contact;
 use itoa::Buffer;
+use mailmap_io::shown::push_shown;
 use mailmap_likeness::answers::{Answer, Likeness};
 use std::alloc::{AllocError, Global};
 
@@ -37,8 +37,22 @@ pub fn likeness_lines(
     let of_email = get(answers, likeness.email);
     let of_name = get(answers, likeness.name);
     let mut text = Vec::new(alloc);
-    push_email_line(&mut text, file, answer, of_email)?;
-    push_name_line(&mut text, file, answer, of_name)?;
+    push_line(
+        &mut text,
+        file,
+        answer,
+        of_email,
+        b": warning: ",
+        b" has the email of ",
+    )?;
+    push_line(
+        &mut text,
+        file,
+        answer,
+        of_name,
+        b": note: ",
+        b" has the name of ",
+    )?;
     Ok(text)
 }
 
@@ -52,57 +66,25 @@ fn get(answers: &[Answer], index: Option<usize>) -> Option<&Answer>
     }
 }
 
-// Appends the line that an answer has the email of another one, if there is one.
-fn push_email_line(
+// Appends the line which says that an answer is like another one, if there is one.
+fn push_line(
     text: &mut Vec<u8>,
     file: &[u8],
     answer: &Answer,
     other: Option<&Answer>,
+    level: &[u8],
+    likeness: &[u8],
 ) -> Result<(), AllocError>
-    ensures { OnOk result (text.new.items ≡ text.old.items
-        ++ line_beside (email_line file.now (answered answer.now)) (option_map answered (option_copied other.entry))) }
+    ensures { OnOk result (text.new.items ≡ text.old.items ++ line_beside
+        (λ a. shown (alike_text level.now likeness.now file.now (answered answer.now) a) ++ 10 ∷ [])
+        (option_map answered (option_copied other.entry))) }
 {
     let Some(other) = other else {
         return Ok(());
     };
     let alloc = *text.allocator();
     let mut line = Vec::new(alloc);
-    push_alike(
-        &mut line,
-        file,
-        answer,
-        other,
-        b": warning: ",
-        b" has the email of ",
-    )?;
-    push_shown(text, line.as_slice())?;
-    text.push(b'\n')?;
-    Ok(())
-}
-
-// Appends the line that an answer has the name of another one, if there is one.
-fn push_name_line(
-    text: &mut Vec<u8>,
-    file: &[u8],
-    answer: &Answer,
-    other: Option<&Answer>,
-) -> Result<(), AllocError>
-    ensures { OnOk result (text.new.items ≡ text.old.items
-        ++ line_beside (name_line file.now (answered answer.now)) (option_map answered (option_copied other.entry))) }
-{
-    let Some(other) = other else {
-        return Ok(());
-    };
-    let alloc = *text.allocator();
-    let mut line = Vec::new(alloc);
-    push_alike(
-        &mut line,
-        file,
-        answer,
-        other,
-        b": note: ",
-        b" has the name of ",
-    )?;
+    push_alike(&mut line, file, answer, other, level, likeness)?;
     push_shown(text, line.as_slice())?;
     text.push(b'\n')?;
     Ok(())

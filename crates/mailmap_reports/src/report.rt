@@ -6,15 +6,16 @@ ghost use Rattle.gix_mailmap.specs.Lines.{fault_of};
 ghost use Rattle.mailmap_io.specs.Printing.{IsUnderway};
 ghost use Rattle.mailmap_reports.specs.Report.{contact_text, finding_text, reported_text, fault_text, file_name, finding_line, outcome_of, position_text, report, shown};
 
+use crate::explain::print;
 use crate::failure::Failure;
 use crate::git::push_reading;
-use crate::shown::{has_control, push_shown};
 use gix_mailmap::check::push_contact;
 use gix_mailmap::lines::Error;
 use gix_mailmap::verify::{Contact, Finding, Findings, Kind, Position};
 use itoa::Buffer;
 use mailmap_io::outcome::Outcome;
 use mailmap_io::printer::Printer;
+use mailmap_io::shown::{has_control, push_shown};
 use std::alloc::{AllocError, Global};
 use std::io::Write;
 
@@ -75,9 +76,7 @@ fn print_finding<W: Write>(
     ensures only { IfErr result (λ e. (e ≡ Failure.Memory) ⊎ (e ≡ Failure.Output)) }
 {
     let line = line_of(alloc, paths, finding)?;
-    printer
-        .print(output, line.as_slice())
-        .map_err(|_| Failure::Output)
+    print(printer, line.as_slice(), output)
 }
 
 // The line of a finding, with its line feed.

@@ -3,13 +3,14 @@ ghost use Rattle.std.specs.Prelude.{◌≡◌, ◌++◌, IfOk, List, OnOk, map, 
 ghost use Rattle.std.specs.List.{flat_map};
 ghost use Rattle.gix_mailmap.specs.Entries.{Mapping};
 ghost use Rattle.gix_mailmap.specs.Folding.{Text};
-ghost use Rattle.gix_mailmap.specs.Histories.{IsNormal, fields_for};
+ghost use Rattle.gix_mailmap.specs.Histories.{fields_for};
 ghost use Rattle.gix_mailmap.specs.Lines.{good};
 ghost use Rattle.mailmap_shortlogs.specs.Counts.{counted, standing};
 ghost use Rattle.mailmap_shortlogs.specs.Shortlog.{line_counted, answer_text, replaced_text};
 
 use crate::counts::{Counts, Tally};
-use gix_mailmap::{Snapshot, parse_ignore_errors};
+use gix_mailmap::Snapshot;
+use gix_mailmap::check::{merged, resolved};
 use mailmap_grammar::contacts::{ParsedContact, parse_name_and_email, trim};
 use std::alloc::{AllocError, Global};
 
@@ -45,15 +46,6 @@ fn answers_by(
         push_answer(&mut answers, snapshot, line, with_email)?;
     }
     Ok(answers)
-}
-
-// A snapshot of what the buffers say, one after another.
-fn merged(alloc: Global, buffers: &[&[u8]]) -> Result<Snapshot, AllocError>
-    ensures { IfOk result (IsNormal (flat_map good (map (λ b. b.now) buffers.now))) }
-{
-    // One merge of all: each merge of more than a few entries copies what is there.
-    let entries = buffers.iter().flat_map(|buf| parse_ignore_errors(buf));
-    Snapshot::new(alloc, entries)
 }
 
 // Appends the answer to a line, if it has a contact, with the count of the line.
@@ -106,15 +98,8 @@ fn replaced(
     ensures { IfOk result (λ text. text.items
         ≡ replaced_text with_email (fields_for snapshot.now name.now email.now) name.now email.now) }
 {
-    match snapshot.try_resolve_contact(name, email) {
-        Some(found) => answer_text(
-            alloc,
-            found.name.unwrap_or(name),
-            found.email.unwrap_or(email),
-            with_email,
-        ),
-        None => answer_text(alloc, name, email, with_email),
-    }
+    let (name, email) = resolved(snapshot, name, email);
+    answer_text(alloc, name, email, with_email)
 }
 
 // A name alone, or with its email. As git has it, there is a blank before the email even if the name is empty.
