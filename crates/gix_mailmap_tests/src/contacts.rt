@@ -8,8 +8,8 @@ use mailmap_reports::task::{Misuse, Mode, Task, perform, task_of};
 use std::alloc::{AllocError, Global};
 use std::io::{ErrorKind, Read, Write};
 
-/// The argument after `--contacts` is its file, whatever it looks like. A single `-` is standard input after that, unless
-/// the contacts are standard input.
+/// The argument after `--contacts` is its file, whatever it looks like. A single `-` is standard input after that,
+/// unless the contacts are standard input.
 #[test]
 fn the_file_of_contacts_comes_after_the_option(rt: HostRuntime) -> Result<(), AllocError> {
     static ROWS: [(&[&str], &str, &[&str]); 8] = [

@@ -8,8 +8,8 @@ use std::alloc::AllocError;
 use std::io::ErrorKind;
 use std::process::Abort;
 
-/// Contacts are explained by the files; without any no contact is mapped. A file that is not there keeps the contacts from
-/// being read.
+/// Contacts are explained by the files; without any no contact is mapped. A file that is not there keeps the contacts
+/// from being read.
 #[test]
 fn contacts_are_explained_by_the_files(rt: HostRuntime) {
     static ROWS: [(&[&str], Result<Outcome, Failure>, &[u8]); 4] = [

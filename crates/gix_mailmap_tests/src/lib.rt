@@ -1,6 +1,6 @@
-//! Tests of snapshots, what they list, find, write and answer to signatures and contacts, of sources that are merged, and
-//! of the runs of `mailmap_check`, `mailmap_verify` and `mailmap_shortlog`. Those of lines, entries and signatures are in
-//! `mailmap_reading_tests`.
+//! Tests of snapshots, what they list, find, write and answer to signatures and contacts, of sources that are merged,
+//! and of the runs of `mailmap_check`, `mailmap_verify` and `mailmap_shortlog`. Those of lines, entries and signatures
+//! are in `mailmap_reading_tests`.
 #![tactic(auto)]
 
 #[cfg(test)]

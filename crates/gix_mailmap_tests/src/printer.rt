@@ -17,8 +17,8 @@ fn printed<W: Write>(
     printer.flush(output)
 }
 
-/// Short pieces are written together when the printer is flushed, also to a writer that takes one byte at a time. What a
-/// writer that fails took is the beginning of them.
+/// Short pieces are written together when the printer is flushed, also to a writer that takes one byte at a time. What
+/// a writer that fails took is the beginning of them.
 #[test]
 fn pieces_are_written_in_their_order(rt: HostRuntime) -> Result<(), AllocError> {
     static ROWS: [(&[Turn], Turn, Result<(), Failure>, &[u8]); 5] = [

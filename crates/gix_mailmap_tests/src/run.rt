@@ -54,8 +54,8 @@ impl Read for Source<'_> {
     }
 }
 
-// Takes bytes turn by turn, and all of them when the turns are over. A flush does what `flush` says, and counts how many
-// bytes it found.
+// Takes bytes turn by turn, and all of them when the turns are over. A flush does what `flush` says, and counts how
+// many bytes it found.
 #[derive(Drop)]
 pub(crate) struct Sink<'a> {
     pub(crate) taken: Vec<u8>,

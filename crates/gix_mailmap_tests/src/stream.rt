@@ -85,8 +85,8 @@ fn a_call_stops_after_64_kib_of_answers(rt: HostRuntime) -> Result<(), AllocErro
     Ok(())
 }
 
-/// Lines that come again are answered again: also lines that differ only by their ends, lines whose hashes have one slot
-/// of the table, and lines of which the text has several.
+/// Lines that come again are answered again: also lines that differ only by their ends, lines whose hashes have one
+/// slot of the table, and lines of which the text has several.
 #[test]
 fn lines_that_come_again_are_answered_again(rt: HostRuntime) -> Result<(), AllocError> {
     static ROWS: [(&[u8], &[u8]); 6] = [

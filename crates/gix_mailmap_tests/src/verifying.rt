@@ -130,8 +130,8 @@ fn a_mailmap_that_git_reads_otherwise_is_not_pruned(rt: HostRuntime) {
     }
 }
 
-/// Without a file standard input has the mailmap. A file that is not there keeps the others from being looked at, and more
-/// than one can't be pruned.
+/// Without a file standard input has the mailmap. A file that is not there keeps the others from being looked at, and
+/// more than one can't be pruned.
 #[test]
 fn a_task_is_done_with_its_files_or_with_the_input(rt: HostRuntime) {
     static ROWS: [(Mode, &[&str], Result<Outcome, Failure>, &[u8]); 10] = [
