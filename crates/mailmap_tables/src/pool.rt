@@ -140,8 +140,8 @@ impl Pool {
         self.together(old_name, new_name, Some(new_email))
     }
 
-    /// The row of an email: each field that is given, and its present field where none is given. If its old email is
-    /// the last text, they follow right after it.
+    /// The row of an email: each field is the given one, or the present one if none is given. If its old email is the
+    /// last text, they follow right after it.
     pub(crate) fn own_row(&mut self, texts: Texts, given: Given<'_>) -> Result<Texts, AllocError>
         requires { TextsLie (length self.old.bytes.items) texts }
         ensures grown { Extends self.old.bytes.items self.new.bytes.items }

@@ -145,7 +145,7 @@ impl ReservedTables {
         self.pool.name_row(old_name, named, replaced).unwrap()
     }
 
-    /// The row of an email: each field that is given, and its present field where none is given.
+    /// The row of an email: each field is the given one, or the present one if none is given.
     pub(crate) fn own_row(&mut self, texts: Texts, given: Given<'_>) -> Texts
         requires lies { TextsLie (length self.old.held.pool) texts }
         requires reserved { own_reserved (group_of self.old.held.pool texts []) (fields_given given) ≤ self.old.bytes }

@@ -112,7 +112,7 @@ impl Tables {
         self.pool.name_row(old_name, named, replaced)
     }
 
-    /// The row of an email: each field that is given, and its present field where none is given.
+    /// The row of an email: each field is the given one, or the present one if none is given.
     pub(crate) fn own_row(&mut self, texts: Texts, given: Given<'_>) -> Result<Texts, AllocError>
         requires { TextsLie (length self.old.pool) texts }
         ensures grown { (more : List ℕ) × (self.new ≡ record self.old { pool = self.old.pool ++ more }) }
