@@ -90,10 +90,10 @@ def closed(asked: Asked) -> None:
 
 
 def answered_again(check: str) -> None:
-    """Lines that come again, alike but for a carriage return, and more of them than are kept."""
+    """Lines that come again, alike but for a carriage return, and more of them than are kept, each twice in a row."""
     for contacts, answers in [
         (b"a\na\r\na\r\r\njane <jane@x>\r\n\n" * 50_000, b"a\na\na\r\nJane Doe <jane@x>\n\n" * 50_000),
-        (b"".join(b"line %d\n" % (number % 7_000) for number in range(70_000)),) * 2,
+        (b"".join(b"line %d\n" % (number // 2 % 7_000) for number in range(70_000)),) * 2,
     ]:
         ended = subprocess.run([check, "mailmap"], input=contacts, capture_output=True)
         wants(f"{len(contacts)} bytes", (ended.returncode, ended.stdout, ended.stderr), (0, answers, b""))
@@ -112,8 +112,9 @@ def as_git(check: str) -> bool:
 
 
 def peak(command: list[str], count: int) -> int:
+    """The peak for so many contacts, of which each comes twice in a row, so that it is kept."""
     contacts = Path("contacts")
-    some = (number % DIFFERENT for number in range(count))
+    some = (number // 2 % DIFFERENT for number in range(count))
     contacts.write_bytes(b"".join(b"Jane %d <j%d@x>\n" % (number, number) for number in some))
     ended = run(built("measure", os.getcwd(), "-static"), command, stdin=str(contacts))
     if ended.status or ended.complaints:

@@ -34,6 +34,8 @@ mod needs;
 #[cfg(test)]
 mod printer;
 #[cfg(test)]
+mod repeats;
+#[cfg(test)]
 mod report;
 #[cfg(test)]
 mod resolve;

@@ -86,10 +86,10 @@ fn a_call_stops_after_64_kib_of_answers(rt: HostRuntime) -> Result<(), AllocErro
 }
 
 /// Lines that come again are answered again: also lines that differ only by their ends, lines whose hashes have one
-/// slot of the table, and lines of which the text has several.
+/// slot of the table, each kept or not, and lines of which the text has several.
 #[test]
 fn lines_that_come_again_are_answered_again(rt: HostRuntime) -> Result<(), AllocError> {
-    static ROWS: [(&[u8], &[u8]); 6] = [
+    static ROWS: [(&[u8], &[u8]); 7] = [
         (b"jane <JANE@x>\n", b"Jane Doe <jane@x>\n"),
         (
             b"jane <JANE@x>\njoe <q@z>\njane <JANE@x>\njoe <Q@z>\n",
@@ -103,6 +103,10 @@ fn lines_that_come_again_are_answered_again(rt: HostRuntime) -> Result<(), Alloc
         (
             b"n3 <q@x>\nn1415 <q@x>\nn3 <q@x>\nn1415 <q@x>\n",
             b"n3 <q@x>\nn1415 <q@x>\nn3 <q@x>\nn1415 <q@x>\n",
+        ),
+        (
+            b"n3 <q@x>\nn3 <q@x>\nn3 <q@x>\nn1415 <q@x>\nn1415 <q@x>\nn1415 <q@x>\n",
+            b"n3 <q@x>\nn3 <q@x>\nn3 <q@x>\nn1415 <q@x>\nn1415 <q@x>\nn1415 <q@x>\n",
         ),
         (
             b"n136 <q@x>\nn1405 <q@x>\nn1709 <q@x>\nn136 <q@x>\n",
@@ -129,12 +133,13 @@ fn long_lines_that_come_again_are_answered_again(rt: HostRuntime) -> Result<(), 
     assert_answered_thrice(&rt, rt.alloc(), lines.as_slice(), lines.as_slice())
 }
 
-/// So many lines differ that the table has room for none of them until it comes again. They are no contacts.
+/// So many lines differ that the table has room for none of them until they all come again. They are no contacts. Each
+/// comes twice in a row, so it is kept.
 #[test]
 fn many_lines_that_come_again_are_answered_again(rt: HostRuntime) -> Result<(), AllocError> {
     let mut lines = Vec::new(rt.alloc());
     for number in 0..5000_u32 {
-        let line = format!(in rt.alloc(); "line {number}\n")?;
+        let line = format!(in rt.alloc(); "line {number}\nline {number}\n")?;
         lines.extend_from_slice(line.as_bytes())?;
     }
     assert_answered_thrice(&rt, rt.alloc(), lines.as_slice(), lines.as_slice())

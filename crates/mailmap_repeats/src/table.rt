@@ -12,14 +12,24 @@ pub const ROW_LEN: usize = 250;
 /// How many lines are kept.
 pub const ROWS: usize = 4096;
 
-// How many slots there are for their hashes, so that few of the lines have the slot of another one: a power of two.
+// How many slots there are for hashes at first: a power of two.
+const FIRST_SLOTS: usize = 2048;
+
+// How many slots there are at most, so that few lines have the slot of another one: a power of two, too.
 const SLOTS: usize = 32768;
 
-// Where the line of a hash may be.
+// How many slots there are for each row, if `SLOTS` are enough for that.
+const SLOTS_PER_ROW: usize = 32;
+
+// The index of no row.
+const NO_ROW: u16 = u16::MAX;
+
+// The last line that was put in or missed, of those whose hashes have this slot.
 #[derive(Clone, Copy)]
 struct Slot {
+    // Its row, if it was put in.
     index: u16,
-    // Some more bits of the hash, so that few rows are read for a line that isn't there.
+    // Some more bits of its hash, so that few rows are read for a line that isn't there.
     tag: u16,
 }
 
@@ -28,16 +38,24 @@ struct Slot {
 /// ```text
 /// let mut table = LastAnswers::new(alloc)?;
 /// let hash = hash_of(b"jane <JANE@x>\n");
+/// table.missed_before(hash)            // `false`
+/// table.missed_before(hash)            // `true`
 /// table.put(hash, b"jane <JANE@x>\n", b"Jane Doe <jane@x>\n");
 /// table.get(hash, b"jane <JANE@x>\n") // `Jane Doe <jane@x>` and its line feed
 /// ```
 ///
-/// All of its memory, some 1.1 MiB, is asked for at once. A hash says where a line may be. With a wrong
-/// hash, or one that several lines have, a line may not be found. That costs time and changes no answer.
+/// All of its memory, some 1.1 MiB, is asked for at once, but most of it isn't touched before it is needed. Putting a
+/// line in takes longer than looking for it. So a caller asks [`missed_before`](LastAnswers::missed_before()) when a line
+/// isn't found, and puts it in when it comes for the second time: few lines are kept that never come again.
+///
+/// A hash says where a line may be. With a wrong hash, or one that several lines have, a line may not be found. That
+/// costs time and changes no answer.
 #[derive(Drop)]
 pub struct LastAnswers {
     rows: Vec<Row>,
     slots: Vec<Slot>,
+    // the bits of a hash that are the index of its slot
+    mask: usize,
     next: u16,
 }
 
@@ -54,9 +72,19 @@ impl LastAnswers {
     pub fn new(alloc: Global) -> Result<LastAnswers, AllocError>
         ensures { IfOk result (λ t. t ≡ []) }
     {
+        let rows = Vec::with_capacity(alloc, ROWS)?;
+        let mut slots = Vec::with_capacity(alloc, SLOTS)?;
+        slots.resize(
+            FIRST_SLOTS,
+            Slot {
+                index: NO_ROW,
+                tag: 0,
+            },
+        )?;
         Ok(LastAnswers {
-            rows: Vec::with_capacity(alloc, ROWS)?,
-            slots: vec![in alloc; Slot { index: 0, tag: 0 }; SLOTS]?,
+            rows,
+            slots,
+            mask: FIRST_SLOTS - 1,
             next: 0,
         })
     }
@@ -65,7 +93,7 @@ impl LastAnswers {
     pub fn get(&self, hash: u64, line: &[u8]) -> Option<&[u8]>
         ensures { IfSome result (λ answer. Contains self.now (record { line = line.now; answer = answer.now })) }
     {
-        let slot = self.slots.get(slot_of(hash))?;
+        let slot = self.slots.get(self.place_of(hash))?;
         if slot.tag != tag_of(hash) {
             return None;
         }
@@ -74,6 +102,24 @@ impl LastAnswers {
             return None;
         }
         Some(row.answer())
+    }
+
+    /// Whether a line with this hash was missed before, which means that `get` didn't find it. If not, that is noted.
+    ///
+    /// This is a guess: another line may have the same hash, or may have been noted in its place. It changes no answer.
+    pub fn missed_before(&mut self, hash: u64) -> bool
+        ensures { self.new ≡ self.old }
+    {
+        let place = self.place_of(hash);
+        let tag = tag_of(hash);
+        let Some(slot) = self.slots.get_mut(place) else {
+            return false;
+        };
+        if slot.tag == tag {
+            return true;
+        }
+        *slot = Slot { index: NO_ROW, tag };
+        false
     }
 
     /// Puts in a line with its hash and its answer, in place of the one that came first if there are 4,096.
@@ -90,7 +136,9 @@ impl LastAnswers {
         };
         let index = self.next;
         self.put_row(row);
-        if let Some(slot) = self.slots.get_mut(slot_of(hash)) {
+        self.add_slots();
+        let place = self.place_of(hash);
+        if let Some(slot) = self.slots.get_mut(place) {
             *slot = Slot {
                 index,
                 tag: tag_of(hash),
@@ -111,10 +159,24 @@ impl LastAnswers {
         }
         self.next = (self.next + 1) % ROWS as u16;
     }
-}
 
-fn slot_of(hash: u64) -> usize {
-    hash as usize % SLOTS
+    // Doubles the slots if there are few for the rows. A hash finds in its new slot what was in its old one.
+    fn add_slots(&mut self)
+        ensures { self.new ≡ self.old }
+    {
+        let count = self.slots.len();
+        if count < SLOTS
+            && count / SLOTS_PER_ROW < self.rows.len()
+            && self.slots.extend_from_within(..).is_ok()
+        {
+            self.mask |= count;
+        }
+    }
+
+    // Which slot a hash has.
+    fn place_of(&self, hash: u64) -> usize {
+        hash as usize & self.mask
+    }
 }
 
 fn tag_of(hash: u64) -> u16 {
