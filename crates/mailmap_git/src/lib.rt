@@ -4,6 +4,7 @@
 
 mod contacts;
 mod entries;
+pub mod laws;
 mod reading;
 
 pub use entries::{GitEntries, git_entries};

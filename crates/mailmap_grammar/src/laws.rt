@@ -1,9 +1,13 @@
 //! Laws of the definitions. Each function runs nothing: its contract is the law.
-ghost use Rattle.std.specs.Prelude.{◌≡◌, ◌↔◌, ℕ, List, Option};
+ghost use Rattle.std.specs.Prelude.{◌≡◌, ◌↔◌, ℕ, List, Option, true};
 ghost use Rattle.mailmap_entries.specs.Folding.{Text};
 ghost use Rattle.mailmap_grammar.specs.Lines.{cut, Closed, Unclosed, Absent, IsCut, IsUnclosed, HoldsNo, Reading};
 ghost use Rattle.mailmap_grammar.specs.Lines.{reading, strict_reading, IsRead, IsReadStrictly, pieces, ArePieces};
+ghost use Rattle.mailmap_grammar.specs.Lines.{fault_of};
 ghost use Rattle.mailmap_grammar.specs.Trimming.{IsTrimmed, trim};
+ghost use Rattle.mailmap_grammar.specs.declared.lines.Error as the_error;
+
+use crate::lines::Error;
 
 /// Trimming removes the longest stretch of white space at the start and then the longest one at the end, and there is
 /// exactly one such text.
@@ -32,4 +36,11 @@ pub fn law_strict_reading()
 /// The lines of a buffer hold no line feed, and put together again they are the buffer.
 pub fn law_pieces()
     ensures { (s : Text) (ls : List Text) → (pieces s ≡ ls) ↔ ArePieces s ls }
+{}
+
+/// Faults are equal exactly if they are of one kind, have one line number and show the same bytes, wherever these are
+/// in memory.
+pub fn law_equal_faults()
+    ensures { (a b : the_error.Error)
+        → (⟦<Error<'static> as PartialEq>⟧.eq a b ≡ true) ↔ (fault_of a ≡ fault_of b) }
 {}

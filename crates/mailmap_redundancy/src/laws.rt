@@ -10,6 +10,8 @@ ghost use Rattle.mailmap_redundancy.specs.Redundancy.{IsPass, IsRedundant, IsRed
 ghost use Rattle.mailmap_redundancy.specs.declared.located.Position.{Position};
 ghost use Rattle.mailmap_redundancy.specs.Summaries.{is_redundant, summary};
 
+use crate::located;
+
 /// The normal list is the same without the redundant entries.
 pub fn law_same_listing()
     ensures { (xs kept : List LocatedMapping) (n : List Mapping) → IsReduced xs kept
@@ -78,4 +80,9 @@ pub fn law_needed()
 pub fn law_redundant()
     ensures { (a c : List Mapping) (e : Mapping) → is_accepted e ≡ true
         → (is_redundant (summary a (key e)) e (summary c (key e)) ≡ true) ↔ IsRedundant a e c }
+{}
+
+/// Positions are equal exactly if both the buffer and the number of the line are.
+pub fn law_equal_positions()
+    ensures { (a b : Position) → (⟦<located::Position as PartialEq>⟧.eq a b ≡ true) ↔ (a ≡ b) }
 {}
