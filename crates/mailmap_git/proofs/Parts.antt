@@ -3,11 +3,13 @@ use Rattle.std.proofs.Common.{⊎_elim, take_all, min, ap₂, ◌≡◌, ◌-◌
 use Rattle.std.proofs.lemmas.Bool.{cases_lt}
 use Rattle.std.proofs.lemmas.List.{drop_all, nil_from_length}
 use Rattle.std.specs.List.{filter_map, cons_option}
+use Rattle.std.specs.Option.{option_to_list}
 use Rattle.std.specs.Simd.{first_chunks}
 use Rattle.std.specs.Slice.Iter.{chunk_count}
 use Rattle.mailmap_entries.specs.Folding.{Text}
 use Rattle.mailmap_entries.specs.Entries.{Mapping}
-use Rattle.mailmap_git.specs.Git.{git_entries, part_entry}
+use Rattle.mailmap_grammar.specs.Lines.{split_once}
+use Rattle.mailmap_git.specs.Git.{entry_of_text, git_entries, part_entry}
 
 -- after the first part there is one part less
 fewer_parts : (n m : ℕ) → 0 < n → m ≡ n - 1023 → chunk_count n 1023 ≡ suc (chunk_count m 1023)
@@ -58,3 +60,24 @@ module _ (said : List Mapping) (s part rest : Text) (n : ℕ) (front : part ≡ 
 
 pub entries-empty : (s : Text) → length s ≡ 0 → git_entries s ≡ []
 entries-empty s e = ap git_entries (nil_from_length s e) ∙ entries-nil
+
+part-nil : part_entry [] ≡ None
+unfolding entry_of_text split_once
+part-nil = refl
+
+cons-nil : (o : Option Mapping) → cons_option o [] ≡ option_to_list o
+cons-nil None = refl
+cons-nil (Some e) = refl
+
+-- a line that is one part
+pub one_part : (s : Text) → length s ≤ 1023 → git_entries s ≡ option_to_list (part_entry s)
+one_part s within = ⊎_elim
+    (λ some.
+    entries-step s some
+    ∙ ap₂ (λ x y. cons_option (part_entry x) (git_entries y)) (take_all 1023 s within) (drop_all 1023 s within)
+    ∙ ap (cons_option (part_entry s)) entries-nil
+    ∙ cons-nil (part_entry s))
+    (λ none.
+    let same : s ≡ [] = nil_from_length s (omega arith) in
+    ap git_entries same ∙ entries-nil ∙ ap option_to_list (sym part-nil ∙ ap part_entry (sym same)))
+    (cases_lt 0 (length s))

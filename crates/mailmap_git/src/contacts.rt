@@ -1,5 +1,6 @@
 //! How git cuts a text into a contact.
 ghost use Rattle.std.specs.Prelude.{◌≡◌, option_map};
+ghost use Rattle.bstr.specs.Trim.{trim_end_by, trim_start_by};
 ghost use Rattle.mailmap_git.specs.Git.{git_contact as spec_git_contact, git_contact_of, is_git_white as spec_is_git_white, trim_name as spec_trim_name};
 ghost use Rattle.mailmap_grammar.specs.Lines.{cut};
 
@@ -32,18 +33,40 @@ pub(crate) fn git_contact(text: &[u8]) -> Option<GitContact<'_>>
     })
 }
 
-// The name without git's white space at its ends.
+// The name without git's white space at its ends. Its bytes are of ASCII, so no character has to be decoded.
 #[inline]
 fn trim_name(name: &[u8]) -> &[u8]
     ensures { result.now ≡ spec_trim_name name.now }
 {
-    name.trim_with(is_git_white)
+    without_last_white(without_first_white(name))
 }
 
-// A character that git trims.
 #[inline]
-fn is_git_white(character: char) -> bool
-    ensures { result ≡ spec_is_git_white character }
+fn without_first_white(name: &[u8]) -> &[u8]
+    ensures { result.now ≡ trim_start_by spec_is_git_white name.now }
 {
-    matches!(character, ' ' | '\t' | '\r' | '\n')
+    let mut start = 0;
+    while start < name.len() && is_git_white(name[start]) {
+        start += 1;
+    }
+    &name[start..]
+}
+
+#[inline]
+fn without_last_white(name: &[u8]) -> &[u8]
+    ensures { result.now ≡ trim_end_by spec_is_git_white name.now }
+{
+    let mut end = name.len();
+    while end > 0 && is_git_white(name[end - 1]) {
+        end -= 1;
+    }
+    &name[..end]
+}
+
+// A byte that git trims.
+#[inline]
+fn is_git_white(byte: u8) -> bool
+    ensures { result ≡ spec_is_git_white byte }
+{
+    matches!(byte, b' ' | b'\t' | b'\r' | b'\n')
 }

@@ -12,7 +12,7 @@ use mailmap_entries::Entry;
 use std::marker::Model;
 
 // What git reads at once: its buffer has 1,024 bytes, the last one a zero.
-const PART_LEN: usize = 1023;
+pub(crate) const PART_LEN: usize = 1023;
 
 /// The entries that git has of `line`, with its line feed or without: mostly none or one, as of this library.
 ///
@@ -66,9 +66,9 @@ impl<'a> Iterator for GitEntries<'a> {
     }
 }
 
-// The entry of a part of a line.
+/// The entry of a part of a line.
 #[inline]
-fn part_entry(part: &[u8]) -> Option<Entry<'_>>
+pub(crate) fn part_entry(part: &[u8]) -> Option<Entry<'_>>
     ensures { option_map mapping_of result ≡ spec_part_entry part.now }
 {
     entry_of_text(up_to_zero(part))

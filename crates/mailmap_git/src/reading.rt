@@ -1,10 +1,10 @@
 //! What git reads of a line in place of what this library reads.
-ghost use Rattle.std.specs.Prelude.{◌≡◌, List, option_map, option_to_list};
+ghost use Rattle.std.specs.Prelude.{◌≡◌, ◌≤◌, List, length, option_map, option_to_list};
 ghost use Rattle.mailmap_entries.specs.Entries.{Mapping, mapping_of};
 ghost use Rattle.mailmap_histories.specs.Listings.{same_entries};
 ghost use Rattle.mailmap_git.specs.Git.{git_entries as spec_git_entries, git_reading as spec_git_reading, git_reading_of, own_entry as spec_own_entry, read_in_place};
 
-use crate::entries::git_entries;
+use crate::entries::{PART_LEN, git_entries, part_entry};
 use mailmap_entries::Entry;
 use mailmap_grammar::lines::{Strictness, read_line};
 
@@ -55,6 +55,10 @@ fn own_entry(line: &[u8]) -> Option<Entry<'_>>
 fn git_reading(line: &[u8]) -> GitReading<'_>
     ensures { git_reading_of result ≡ spec_git_reading (spec_git_entries line.now) }
 {
+    // Nearly all lines have one part.
+    if line.len() <= PART_LEN {
+        return reading_of_part(line);
+    }
     let mut entries = git_entries(line);
     let Some(entry) = entries.next() else {
         return GitReading::Nothing;
@@ -62,6 +66,18 @@ fn git_reading(line: &[u8]) -> GitReading<'_>
     match entries.count() {
         0 => GitReading::Entry(entry),
         more => GitReading::Lines(more + 1),
+    }
+}
+
+// What git reads of a line that is one part.
+#[inline]
+fn reading_of_part(line: &[u8]) -> GitReading<'_>
+    requires { length line.now ≤ 1023 }
+    ensures { git_reading_of result ≡ spec_git_reading (spec_git_entries line.now) }
+{
+    match part_entry(line) {
+        None => GitReading::Nothing,
+        Some(entry) => GitReading::Entry(entry),
     }
 }
 

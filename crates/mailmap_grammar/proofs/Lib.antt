@@ -6,6 +6,7 @@ pub mod Plain
 pub mod Readings
 pub mod Rising
 pub mod SplitOnce
+pub mod Trims
 pub mod Trimmed
 mod Whole
 pub mod LineFeeds

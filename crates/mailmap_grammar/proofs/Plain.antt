@@ -9,7 +9,8 @@ use Rattle.std.proofs.Math.Seq.{drop-cons}
 use Rattle.bstr.specs.Trim.{trim_end_by}
 use Rattle.std.specs.Char.{is_whitespace, encode_utf8}
 use Rattle.mailmap_grammar.specs.Trimming.{trim, IsVisibleLead, BeginsWhite, EndsWhite}
-use Rattle.mailmap_grammar.proofs.Trimmed.{trim-white_start, trim-white_end, start-other, end-other, some_bytes}
+use Rattle.mailmap_grammar.proofs.Trimmed.{trim-white_start, trim-white_end, start-other, end-other}
+use Rattle.mailmap_grammar.proofs.Trims.{some_bytes}
 
 blank : encode_utf8 32 ≡ 32 ∷ []
 blank = encode_ascii 32 (omega arith)
@@ -18,12 +19,12 @@ wide : encode_utf8 12288 ≡ 227 ∷ 128 ∷ 128 ∷ []
 unfolding encode_utf8
 wide = refl
 
-first_at : (s : List ℕ) (i j x : ℕ) → i < length s → j ≡ i + 1 → get_or s i 0 ≡ x → drop i s ≡ x ∷ drop j s
+pub first_at : (s : List ℕ) (i j x : ℕ) → i < length s → j ≡ i + 1 → get_or s i 0 ≡ x → drop i s ≡ x ∷ drop j s
 first_at s i j x lt next is =
     let after : suc i ≡ j = omega (arith, next) in
     drop-cons s i 0 lt ∙ ap₂ (λ y k. y ∷ drop k s) is after
 
-last_at : (s : List ℕ) (i j x : ℕ) → i < length s → j ≡ i + 1 → get_or s i 0 ≡ x → take j s ≡ take i s ++ x ∷ []
+pub last_at : (s : List ℕ) (i j x : ℕ) → i < length s → j ≡ i + 1 → get_or s i 0 ≡ x → take j s ≡ take i s ++ x ∷ []
 last_at s i j x lt next is = ap (λ k. take k s) next ∙ take_more s i 0 lt ∙ ap (λ y. take i s ++ y ∷ []) is
 
 -- white space at the front goes
