@@ -1,19 +1,22 @@
 -- What a search after an index says of the whole list.
-use Rattle.std.proofs.Common.{◌≡◌, ℕ, zero, suc, ◌+◌, ◌-◌, ◌<◌, ◌≤◌, List, [], ◌∷◌, length, map, drop, get_or, Some, Ordering, Less, Equal, Greater, Result, Ok, Err, IfOk, IfErr, sym, ap, ◌∙◌, arith, option_map, refl}
+use Rattle.std.proofs.Common.{◌≡◌, ℕ, zero, suc, ◌+◌, ◌-◌, ◌<◌, ◌≤◌, List, [], ◌∷◌, length, map, drop, get_or, Some, Ordering, Less, Equal, Greater, Result, Ok, Err, IfOk, IfErr, sym, ap, subst, ◌∙◌, arith, option_map, refl}
 use Rattle.std.specs.List.{slice_get}
 use Rattle.std.specs.List.Sorted.{IsStrictlySortedBy, IsPartitionPoint, IsSearchInRange}
-use Rattle.std.proofs.lemmas.List.{get_or-map, get_or-drop, length-map, length-drop}
+use Rattle.std.specs.Cmp.Lexicographic.{nat_list_cmp_total}
+use Rattle.std.proofs.lemmas.List.{drop-map, get_or-map, get_or-drop, length-map, length-drop}
 use Rattle.std.proofs.lemmas.Map.Keys.{Less-from_sorted}
 use Rattle.std.proofs.lemmas.Map.Lookups.{exact_bytes}
 use Rattle.std.proofs.lemmas.Option.{slice_get-get_or, slice_get-map}
 use Rattle.mailmap_entries.specs.Folding.{Text, folded, text_cmp}
+use Rattle.mailmap_entries.specs.Search.{IsPartitioned}
 use Rattle.mailmap_batches.specs.Given.{NameGroup}
 use Rattle.mailmap_tables.specs.Groups.{name_key}
 use Rattle.mailmap_tables.specs.KeySearch.{IsFound, IsMissing}
 use Rattle.mailmap_tables.specs.Pool.{spelled, name_group}
 use Rattle.mailmap_tables.specs.Texts.{old_span}
 use Rattle.mailmap_tables.specs.declared.texts.Texts.{Texts}
-use Rattle.mailmap_entries.proofs.Lookups.{found-at, missing-below, missing-above}
+use Rattle.mailmap_entries.proofs.Lookups.{IsPartitioned-from_ascending, found-at, missing-below, missing-above}
+use Rattle.mailmap_entries.proofs.Search.{less_before}
 
 -- ---- a list without its head
 
@@ -76,6 +79,16 @@ module _ {X : Type 0} (f : X → Text) (k : Text) (xs : List X) (start i j : ℕ
         below = λ m e low high. at m e low ∙ missing-below text_cmp f k (drop start xs) i (omega arith) missing (m - start) e (omega arith) (omega arith);
         above = λ m e low high. at m e (omega arith) ∙ missing-above text_cmp f k (drop start xs) i missing (m - start) e (omega arith) (omega arith);
       }
+
+-- the last key is below k, so no key is k
+pub missing_after : {X : Type 0} (f : X → Text) (k : Text) (xs : List X) (start i j : ℕ) → j ≡ start + i → length xs ≡ j + 1 → IsStrictlySortedBy text_cmp (map f xs) → slice_get (map (λ x. text_cmp (f x) k) (drop start xs)) i ≡ Some Less → IsMissing f k start xs (length xs)
+missing_after f k xs start i j is last up below =
+    let answers : List Ordering = map (λ x. text_cmp (f x) k) (drop start xs) in
+    let parted : IsPartitioned answers = IsPartitioned-from_ascending nat_list_cmp_total f k (drop start xs)
+    (subst (IsStrictlySortedBy text_cmp) (drop-map f start xs) (sorted_drop text_cmp start (map f xs) up)) in
+    let all : length answers ≡ i + 1 = omega (arith, length-map (drop start xs) (λ x. text_cmp (f x) k), length-drop start xs) in
+    missing_from f k xs start (i + 1) (length xs) (omega arith) (omega arith) (omega arith)
+    (λ m d low high. less_before answers i m d parted below (omega arith), λ m d low high. absurd (omega arith))
 
 -- ---- what holds of a result
 

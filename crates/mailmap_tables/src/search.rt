@@ -70,6 +70,25 @@ pub(crate) fn find_email(tables: &View<'_>, start: usize, email: &[u8]) -> Resul
     search_email(tables, start, email, &mut Steps::new())
 }
 
+/// As [`find_email`] among all emails, but looks at the last one first: in a sorted map each email comes after all that
+/// are there, or is the last of them.
+pub(crate) fn find_email_last_first(tables: &View<'_>, email: &[u8]) -> Result<usize, usize>
+    requires { IsStrictlySortedBy text_cmp (map email_key tables.now.groups) }
+    ensures found { IfOk result (IsFound email_key (folded email.now) 0 tables.now.groups) }
+    ensures missing { IfErr result (IsMissing email_key (folded email.now) 0 tables.now.groups) }
+{
+    let len = tables.len();
+    if 0 < len {
+        let sought = Prefixed::new(email);
+        match Steps::new().compare_prefixed(tables.email_text(len - 1), sought) {
+            Ordering::Less => return Err(len),
+            Ordering::Equal => return Ok(len - 1),
+            Ordering::Greater => {}
+        }
+    }
+    find_email(tables, 0, email)
+}
+
 /// The index of a name among the names of an email, or the index where it would be.
 pub(crate) fn find_name(tables: &View<'_>, names: &[NameRow], name: &[u8]) -> Result<usize, usize>
     requires lie { AllByRecursion (NameLies (length tables.now.pool)) names.now }
