@@ -11,7 +11,7 @@ ghost use Rattle.mailmap_tables.specs.Pool.{NameLies, name_group};
 ghost use Rattle.mailmap_tables.specs.Reserved.{HasReserved, OwnWithin, own_bytes};
 
 use crate::lengths::texts_len;
-use crate::search::{find_email, find_name};
+use crate::search::{find_email_last_first, find_name};
 use crate::tables::{NameRow, Tables};
 use crate::texts::Texts;
 use crate::view::View;
@@ -74,7 +74,7 @@ fn existing_for(tables: &View<'_>, entry: &Entry<'_>) -> Existing
     ensures { AllByRecursion (λ (g : EmailGroup). email_key g ≡ email_text (mapping_of entry.now)
         → own_bytes g ≤ result.own_len) tables.now.groups }
 {
-    match find_email(tables, 0, entry.old_email()) {
+    match find_email_last_first(tables, entry.old_email()) {
         Ok(index) => {
             let (texts, names) = tables.email(index);
             Existing {

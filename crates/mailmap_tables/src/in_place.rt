@@ -15,7 +15,7 @@ ghost use Rattle.mailmap_tables.specs.Reserved.{EmailChanged, EmailReady, Fits, 
 ghost use Rattle.mailmap_tables.specs.Reserved.{TookReserved, name_reserved, own_reserved};
 
 use crate::reserved::ReservedTables;
-use crate::search::{find_email, find_name};
+use crate::search::{find_email_last_first, find_name};
 use crate::tables::{NameRow, Tables};
 use mailmap_batches::groups::{Given, Named};
 use mailmap_entries::Entry;
@@ -120,7 +120,7 @@ fn email_index(tables: &mut ReservedTables, entry: &Entry<'_>) -> usize
     ensures reserved { TookReserved (length (mapping_of entry.now).old_email) 1 0 tables.old tables.new }
 {
     let old_email = entry.old_email();
-    match find_email(&tables.view(), 0, old_email) {
+    match find_email_last_first(&tables.view(), old_email) {
         Ok(index) => index,
         Err(index) => {
             let text = tables.push_text(old_email, 0);

@@ -60,26 +60,33 @@ impl Probe for NameProbe<'_> {
     }
 }
 
-/// The index of an email among those of the tables from `start` on, or the index where it would be. The last email is
-/// looked at first.
+/// The index of an email among those of the tables from `start` on, or the index where it would be.
 pub(crate) fn find_email(tables: &View<'_>, start: usize, email: &[u8]) -> Result<usize, usize>
     requires start { start ≤ length tables.now.groups }
     requires ascending { IsStrictlySortedBy text_cmp (map email_key tables.now.groups) }
     ensures found { IfOk result (IsFound email_key (folded email.now) start tables.now.groups) }
     ensures missing { IfErr result (IsMissing email_key (folded email.now) start tables.now.groups) }
 {
-    let email = Prefixed::new(email);
-    let mut steps = Steps::new();
+    search_email(tables, start, email, &mut Steps::new())
+}
+
+/// As [`find_email`] among all emails, but looks at the last one first: in a sorted map each email comes after all that
+/// are there, or is the last of them.
+pub(crate) fn find_email_last_first(tables: &View<'_>, email: &[u8]) -> Result<usize, usize>
+    requires { IsStrictlySortedBy text_cmp (map email_key tables.now.groups) }
+    ensures found { IfOk result (IsFound email_key (folded email.now) 0 tables.now.groups) }
+    ensures missing { IfErr result (IsMissing email_key (folded email.now) 0 tables.now.groups) }
+{
     let len = tables.len();
-    // In a sorted map each email comes after all that are there, or is the last of them.
-    if start < len {
-        match steps.compare_prefixed(tables.email_text(len - 1), email) {
+    if 0 < len {
+        let sought = Prefixed::new(email);
+        match Steps::new().compare_prefixed(tables.email_text(len - 1), sought) {
             Ordering::Less => return Err(len),
             Ordering::Equal => return Ok(len - 1),
             Ordering::Greater => {}
         }
     }
-    search_prefixed(tables, start, email, &mut steps)
+    find_email(tables, 0, email)
 }
 
 /// The index of a name among the names of an email, or the index where it would be.
@@ -112,31 +119,11 @@ pub fn search_email(
     ensures few { steps.new ≤ steps.old + 64 }
     ensures at_least { steps.old + min 1 (length tables.now.groups - start) ≤ steps.new }
 {
-    search_prefixed(tables, start, Prefixed::new(email), steps)
-}
-
-// The same, of an email with its prefix.
-#[inline(always)]
-fn search_prefixed(
-    tables: &View<'_>,
-    start: usize,
-    email: Prefixed<'_>,
-    steps: &mut Steps,
-) -> Result<usize, usize>
-    requires start { start ≤ length tables.now.groups }
-    requires ascending { IsStrictlySortedBy text_cmp (map email_key tables.now.groups) }
-    requires countable { steps.old ≤ usize.MAX - 64 }
-    ensures found { IfOk result (IsFound email_key (folded email.entry.text.now) start tables.now.groups) }
-    ensures missing { IfErr result (IsMissing email_key (folded email.entry.text.now) start tables.now.groups) }
-    ensures at_most { steps.new ≤ steps.old + digits (length tables.now.groups - start) }
-    ensures few { steps.new ≤ steps.old + 64 }
-    ensures at_least { steps.old + min 1 (length tables.now.groups - start) ≤ steps.new }
-{
     let len = tables.len();
     let mut probe = EmailProbe {
         tables,
         start,
-        email,
+        email: Prefixed::new(email),
         steps: mem::replace(steps, Steps::new()),
     };
     let found = search(len - start, &mut probe);
