@@ -3,11 +3,11 @@
 # judges, and those of mailmap_check, mailmap_verify and mailmap_shortlog.
 #
 # Each program is built once, and run for many cases. It is always the request of one number that is refused, so the
-# cases differ in how many requests come ahead of those that are looked at. JOBS programs are built side by side, or as
-# many as there are processors; each takes up to 1.5 GB of memory.
+# cases differ in how many requests come ahead of those that are looked at. As many programs are built and run at a time
+# as there are processors, or as JOBS says. Each takes up to 1.5 GB of memory.
 set -euo pipefail
 cd "$(dirname "$0")/../crates"
-jobs="${JOBS:-$(nproc)}"
+at_a_time="${JOBS:-$(nproc)}"
 work="$(mktemp -d)"
 trap 'rm -rf "$work"' EXIT
 
@@ -34,7 +34,7 @@ try() {
 
 # start CRATE REFUSED FLAGS..: does so in the background, as soon as there is room for one more.
 start() {
-    while [ "$(jobs -rp | wc -l)" -ge "$jobs" ]; do wait -n || true; done
+    while [ "$(jobs -rp | wc -l)" -ge "$at_a_time" ]; do wait -n || true; done
     try "$@" &
 }
 
@@ -46,11 +46,11 @@ look_at() {
 }
 
 # The programs. Each file without a byte more among the arguments is two requests more, one for the argument and one to
-# read the file, and a path of more than 256 bytes is one more than a short one. So there are two cases for each number
-# of files from the fewest of a mode to `most`, between which no list of files or arguments grows: in the first case the
-# refused request comes after all others, and case by case it is one of these, from the last one back to those for the
-# last files. In the cases of `more` it is one for an argument or for one of the first files, so each file is only one
-# request more before it.
+# read the file, and a path of more than 256 bytes is one more than a short one. So with two cases for each number of
+# files, from the fewest of a mode to `most`, the requests are refused one by one: in the first cases none is left to
+# refuse, then comes the last one, and so on, back to those that read the last files. Between these numbers no list of
+# files or arguments grows. With the numbers of `more` a request for an argument or for one of the first files is
+# refused, so there each file is only one request more ahead of it.
 refused=256
 most=121
 more=({221..247})
