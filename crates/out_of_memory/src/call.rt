@@ -37,6 +37,7 @@ pub enum Call {
     Verification,
     Explanations,
     Prune,
+    Unneeded,
     /// The calls that accept or write nothing, and so take no memory, and the others that take none.
     Nothing,
     Unrefusable,
@@ -79,6 +80,7 @@ impl fmt::Display for Call {
             Call::Verification => "verify::Verification::new",
             Call::Explanations => "explain::Explanations::new",
             Call::Prune => "verify::prune",
+            Call::Unneeded => "needs::unneeded",
             Call::Nothing => "a call that accepts or writes nothing",
             Call::Unrefusable => "a call that takes no memory",
             Call::Before => "a request before all calls",

@@ -4,9 +4,10 @@ use crate::call::Call;
 use crate::run::{Run, Wrong, lists, wants};
 use crate::samples::{
     ANSWER, ANSWERS, CONTACTS, FAULTY, JANE, LINE, NOBODY, PARTS, PRUNED, TEAM, WRITTEN, all,
-    are_of_faulty, five, is_jane, is_nobody, later, owns_jane, team, three, two,
+    are_of_faulty, are_unneeded, five, is_jane, is_nobody, later, owns_jane, team, three, two,
 };
 use gix_mailmap::check::ContactStream;
+use gix_mailmap::needs::unneeded;
 use gix_mailmap::snapshot::{Source, WriteError};
 use gix_mailmap::verify::{prune, verify};
 use gix_mailmap::{Entry, Snapshot, actor, check};
@@ -199,12 +200,16 @@ fn streams(alloc: Global) -> Result<bool, AllocError> {
     Ok(text.as_slice() == ANSWERS)
 }
 
-// What is wrong with two mailmaps, and one of them without the lines that have no effect.
+// What is wrong with two mailmaps, one of them without the lines that have no effect, and the lines that no contact
+// needs.
 fn verify_and_prune(run: &mut Run, alloc: Global) -> Result<(), Wrong> {
     run.judge_at_once(Call::Verify, || {
         Ok(are_of_faulty(verify(alloc, &[TEAM, FAULTY])?.as_slice()))
     })?;
     run.judge_at_once(Call::Prune, || {
         Ok(prune(alloc, FAULTY)?.as_slice() == PRUNED)
+    })?;
+    run.judge_at_once(Call::Unneeded, || {
+        Ok(are_unneeded(unneeded(alloc, &[TEAM, FAULTY], CONTACTS)?.as_slice()))
     })
 }

@@ -99,6 +99,11 @@ pub fn walk_over_faulty(findings: Findings<'_, '_>) -> bool {
     findings.next().is_none()
 }
 
+/// Whether these are the lines of that mailmap that have an effect: the contacts need only those of the first.
+pub fn are_unneeded(lines: &[Position]) -> bool {
+    lines == [at(3), at(4), at(5)].as_slice()
+}
+
 fn at(line: usize) -> Position {
     Position { buffer: 1, line }
 }
