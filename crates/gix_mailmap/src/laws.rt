@@ -17,19 +17,23 @@ pub use mailmap_findings::laws::{
     law_none_left, law_one_answer, law_pruned, law_pruned_findings, law_pruned_for_git,
     law_whole_lines,
 };
-pub use mailmap_grammar::laws::{law_cut, law_pieces, law_reading, law_strict_reading, law_trim};
+pub use mailmap_git::laws::law_equal_git_readings;
+pub use mailmap_grammar::laws::{
+    law_cut, law_equal_faults, law_pieces, law_reading, law_strict_reading, law_trim,
+};
 pub use mailmap_histories::laws::{
     law_condense, law_equal, law_exists, law_headline, law_neighbours, law_of_email, law_one_email,
     law_own_entries, law_reorder, law_repeated, law_scan, law_self, law_shortest, law_unique,
 };
 pub use mailmap_needs::laws::{law_contacts_stay, law_one_unneeded};
 pub use mailmap_redundancy::laws::{
-    law_each_key_stays, law_givers, law_needed, law_none_can_go, law_passes, law_same_listing,
-    law_settled, law_some_stay,
+    law_each_key_stays, law_equal_positions, law_givers, law_needed, law_none_can_go, law_passes,
+    law_same_listing, law_settled, law_some_stay,
 };
 pub use mailmap_signatures::laws::{
     law_equal_commit_signatures, law_equal_signatures, law_equal_times, law_time,
 };
+pub use mailmap_snapshot::laws::law_equal_write_errors;
 pub use text::{law_strict, law_text};
 
 /// An input is split in one way.
