@@ -21,7 +21,8 @@ use std::marker::Model;
 
 /// Explains contacts by mailmaps, line by line.
 ///
-/// It keeps the last 4,096 lines with what is said of them, in 1.1 MiB: most lines of a history come again.
+/// It keeps the last 4,096 lines that came twice with what is said of them, in 1.1 MiB: most lines of a history come
+/// again and again.
 ///
 /// To a contract it is what the explanations are made of.
 #[derive(Drop)]
@@ -86,7 +87,9 @@ impl<'p, 'm, 'a> Explainer<'p, 'm, 'a> {
             return text.extend_from_slice(explained);
         }
         let explained = self.explained_line(line)?;
-        self.last.put(hash, line, explained.as_slice());
+        if self.last.missed_before(hash) {
+            self.last.put(hash, line, explained.as_slice());
+        }
         text.extend_from_slice(explained.as_slice())
     }
 

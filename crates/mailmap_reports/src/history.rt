@@ -41,7 +41,7 @@ pub(crate) struct History<'m, 'a> {
     pub(crate) found: bool,
     // how many lines there are
     count: usize,
-    // contacts that came: one that comes again changes nothing
+    // contacts that came twice: one that comes again changes nothing
     last: LastAnswers,
 }
 
@@ -170,11 +170,11 @@ fn note_alike(
     Ok(())
 }
 
-// Keeps a line, if it is a contact.
+// Keeps a line, if it is a contact that comes again.
 fn keep_contact(is_contact: bool, last: &mut LastAnswers, hash: u64, line: &[u8])
     ensures { (k : Kept) → Contains last.new k → Contains last.old k ⊎ (IsTrue is_contact × (k.line ≡ line.now)) }
 {
-    if is_contact {
+    if is_contact && last.missed_before(hash) {
         last.put(hash, line, b"");
     }
 }
