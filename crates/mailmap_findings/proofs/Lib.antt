@@ -5,6 +5,7 @@ pub mod Accepted
 pub mod Mapped
 pub mod Walking
 pub mod Meeting
+pub mod Known
 pub mod Kept
 pub mod Wholes
 pub mod Read

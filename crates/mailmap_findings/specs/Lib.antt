@@ -8,4 +8,5 @@ pub mod Findings
 pub mod GitAnswers
 pub mod Explanations
 pub mod Pruning
+pub mod Silent
 pub mod Marked

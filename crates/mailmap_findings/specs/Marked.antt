@@ -1,9 +1,11 @@
 -- Lines, each with whether its entry is kept.
-use Rattle.std.specs.Prelude.{◌≢◌, Bool, List, [], ◌∷◌}
+use Rattle.std.specs.Prelude.{◌≡◌, ◌≢◌, Bool, List, [], ◌∷◌}
 use Rattle.std.specs.List.{AllByRecursion}
 use Rattle.mailmap_redundancy.specs.Redundancy.{LocatedMapping, IsSublist}
 use Rattle.mailmap_findings.specs.Positions.{Line, has_entry_at, line_of, located}
+use Rattle.mailmap_findings.specs.Silent.{silences}
 use Rattle.mailmap_findings.specs.declared.verify.lines.Line.{Line as the_line}
+use Rattle.mailmap_findings.specs.declared.verify.lines.KnownLine.{KnownLine as the_known_line}
 
 -- a line, and whether one of the kept entries is at its position
 abbrev pub MarkedLine : Type 0
@@ -16,6 +18,9 @@ marked kept l = (l, has_entry_at kept l.position)
 abbrev pub marked_of : the_line × Bool → MarkedLine
 marked_of m = (line_of m.0, m.1)
 
+abbrev pub marked_line_of : the_known_line → MarkedLine
+marked_line_of k = (line_of k.line, k.is_kept)
+
 -- no two lines are at one position
 abbrev pub AreApart : List Line → Type 0
 AreApart [] = Unit {0}
@@ -24,4 +29,10 @@ AreApart (l ∷ ls) = AllByRecursion (λ x. x.position ≢ l.position) ls × Are
 -- the lines of a walk, and some of their entries
 pub record IsWalk (kept : List LocatedMapping) (ls : List Line) : Type 0 where
   pub sublist : IsSublist kept (located ls)
+  pub apart : AreApart ls
+
+-- the lines of a walk, and what was read of them
+pub record IsReadWalk (found : List LocatedMapping) (silent : List Bool) (ls : List Line) : Type 0 where
+  pub entries : found ≡ located ls
+  pub silent_too : silent ≡ silences ls
   pub apart : AreApart ls

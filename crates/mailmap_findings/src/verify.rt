@@ -26,12 +26,14 @@ ghost use Rattle.mailmap_findings.specs.Positions.{lines, located};
 
 mod contacts;
 mod git;
+mod known;
 mod lines;
 mod reading;
 mod walk;
 
 pub use git::first_read_otherwise;
-use lines::{has_lines, located_entries};
+use known::{KnownLines, ReadEntries, read_entries};
+use lines::has_lines;
 pub use mailmap_git::GitReading;
 use mailmap_grammar::lines::Error;
 pub use mailmap_redundancy::Position;
@@ -114,8 +116,8 @@ pub fn prune(alloc: Global, buffer: &[u8]) -> Result<Vec<u8>, AllocError>
     if !has_lines(&buffers) {
         return Ok(Vec::new(alloc));
     }
-    let located = located_entries(alloc, &buffers)?;
-    let reduced = without_redundant(alloc, &located)?;
+    let read = read_entries(alloc, &buffers)?;
+    let reduced = without_redundant(alloc, &read.entries)?;
     let lines = MarkedLines::new(&buffers, reduced.kept());
     pruned_text(alloc, buffer.len(), lines)
 }
@@ -126,7 +128,7 @@ pub fn prune(alloc: Global, buffer: &[u8]) -> Result<Vec<u8>, AllocError>
 #[derive(Drop)]
 pub struct Mailmaps<'b, 'a> {
     buffers: &'b [&'a [u8]],
-    entries: Vec<LocatedEntry<'a>>,
+    read: ReadEntries<'a>,
 }
 
 impl<'b, 'a> Model for Mailmaps<'b, 'a> {
@@ -134,12 +136,14 @@ impl<'b, 'a> Model for Mailmaps<'b, 'a> {
     ghost use Rattle.mailmap_entries.specs.Folding.{Text};
     ghost use Rattle.mailmap_redundancy.specs.Redundancy.{located_of};
     ghost use Rattle.mailmap_findings.specs.Positions.{lines, located};
+    ghost use Rattle.mailmap_findings.specs.Silent.{silences};
 
     ghost Value = { List Text };
 
     ghost view = { λ s. map (λ b. b.now) s.buffers.now };
 
-    ghost invariant = { λ s. map located_of s.entries.items ≡ located (lines (map (λ b. b.now) s.buffers.now)) };
+    ghost invariant = { λ s. let ls = lines (map (λ b. b.now) s.buffers.now) in
+        (map located_of s.read.entries.items ≡ located ls) × (s.read.silent.items ≡ silences ls) };
 }
 
 impl<'b, 'a> Mailmaps<'b, 'a> {
@@ -149,7 +153,7 @@ impl<'b, 'a> Mailmaps<'b, 'a> {
     {
         Ok(Mailmaps {
             buffers,
-            entries: located_entries(alloc, buffers)?,
+            read: read_entries(alloc, buffers)?,
         })
     }
 
@@ -157,7 +161,7 @@ impl<'b, 'a> Mailmaps<'b, 'a> {
     pub(crate) fn entries(&self) -> &[LocatedEntry<'a>]
         ensures { map located_of result.now ≡ located (lines self.now) }
     {
-        &self.entries
+        &self.read.entries
     }
 }
 
@@ -167,22 +171,26 @@ impl<'b, 'a> Mailmaps<'b, 'a> {
 #[derive(Drop)]
 pub struct Verification<'m, 'a> {
     buffers: &'m [&'a [u8]],
+    read: &'m ReadEntries<'a>,
     reduced: Reduced<'m, 'a>,
 }
 
 impl<'m, 'a> Model for Verification<'m, 'a> {
-    ghost use Rattle.std.specs.Prelude.{List, map};
+    ghost use Rattle.std.specs.Prelude.{◌≡◌, List, map};
     ghost use Rattle.std.specs.List.{flat_map};
-    ghost use Rattle.mailmap_redundancy.specs.Redundancy.{IsSublist, entries};
+    ghost use Rattle.mailmap_redundancy.specs.Redundancy.{IsSublist, entries, located_of};
     ghost use Rattle.mailmap_findings.specs.Findings.{Finding, findings};
     ghost use Rattle.mailmap_findings.specs.Positions.{lines, located};
+    ghost use Rattle.mailmap_findings.specs.Silent.{silences};
 
     ghost Value = { List Finding };
 
     ghost view = { λ s. flat_map (findings (entries s.reduced.history) s.reduced.kept)
         (lines (map (λ b. b.now) s.buffers.now)) };
 
-    ghost invariant = { λ s. IsSublist s.reduced.kept (located (lines (map (λ b. b.now) s.buffers.now))) };
+    ghost invariant = { λ s. let ls = lines (map (λ b. b.now) s.buffers.now) in
+        IsSublist s.reduced.kept (located ls) × (map located_of s.read.now.entries.items ≡ located ls)
+        × (s.read.now.silent.items ≡ silences ls) };
 }
 
 impl<'m, 'a> Verification<'m, 'a> {
@@ -195,16 +203,17 @@ impl<'m, 'a> Verification<'m, 'a> {
     {
         Ok(Verification {
             buffers: mailmaps.buffers,
-            reduced: without_redundant(alloc, &mailmaps.entries)?,
+            read: &mailmaps.read,
+            reduced: without_redundant(alloc, &mailmaps.read.entries)?,
         })
     }
 
-    /// All findings, in the order of the lines. Each line is read when its turn comes, and nothing is allocated.
+    /// All findings, in the order of the lines. They are made one by one, and nothing is allocated.
     pub fn findings(&self) -> Findings<'_, 'a>
         ensures { result ≡ self.now }
     {
         Findings {
-            lines: MarkedLines::new(self.buffers, self.reduced.kept()),
+            lines: KnownLines::new(self.buffers, self.reduced.kept(), self.read),
             reduced: &self.reduced,
             of_line: LineFindings::none(),
         }
@@ -216,7 +225,7 @@ impl<'m, 'a> Verification<'m, 'a> {
 /// To a contract it is the list of the findings that are left.
 #[derive(Drop)]
 pub struct Findings<'v, 'a> {
-    lines: MarkedLines<'v, 'a>,
+    lines: KnownLines<'v, 'a>,
     reduced: &'v Reduced<'v, 'a>,
     // what is left of the findings of the last line
     of_line: LineFindings<'a>,
@@ -246,8 +255,8 @@ impl<'v, 'a> Iterator for Findings<'v, 'a> {
             if let Some(finding) = self.of_line.next() {
                 return Some(finding);
             }
-            let (line, is_kept) = self.lines.next()?;
-            self.of_line = line_findings(self.reduced, &line, is_kept);
+            let next = self.lines.next()?;
+            self.of_line = line_findings(self.reduced, &next.line, next.is_kept, next.known);
         }
     }
 }

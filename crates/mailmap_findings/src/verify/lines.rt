@@ -1,16 +1,14 @@
-//! The lines of buffers with their positions, and their entries.
-ghost use Rattle.std.specs.Prelude.{◌≡◌, ◌≢◌, ◌<◌, ◌^◌, ◌++◌, [], false, length, map, option_to_list, true, IfOk, OnOk};
+//! The lines of buffers with their positions.
+ghost use Rattle.std.specs.Prelude.{◌≡◌, ◌≢◌, ◌<◌, ◌^◌, [], false, length, map, true, IfSome};
 ghost use Rattle.std.specs.Iterator.{YieldsFirstBy, item_count};
-ghost use Rattle.std.specs.Option.{option_map};
+ghost use Rattle.std.proofs.Props.{props};
 ghost use Rattle.mailmap_entries.specs.Entries.{mapping_of};
-ghost use Rattle.mailmap_redundancy.specs.Redundancy.{located_of};
-ghost use Rattle.mailmap_findings.specs.Positions.{line_of, lines, located, whole_lines};
+ghost use Rattle.mailmap_findings.specs.Positions.{line_of, lines, whole_lines};
+ghost use Rattle.mailmap_findings.specs.Silent.{SaysOnly};
 
-use crate::verify::reading::entry_of;
 use bstr::{ByteSlice, LinesWithTerminator};
 use mailmap_entries::Entry;
-use mailmap_redundancy::{LocatedEntry, Position};
-use std::alloc::{AllocError, Global};
+use mailmap_redundancy::Position;
 use std::marker::Model;
 
 /// A line of a buffer, with its line feed.
@@ -18,6 +16,15 @@ use std::marker::Model;
 pub(crate) struct Line<'a> {
     pub(crate) position: Position,
     pub(crate) text: &'a [u8],
+}
+
+/// A line, whether its entry is kept, and its entry if that is known and nothing is reported of what the line says.
+#[derive(Clone, Copy)]
+pub(crate) struct KnownLine<'a> {
+    pub(crate) line: Line<'a>,
+    pub(crate) is_kept: bool,
+    pub(crate) known: Option<Entry<'a>>,
+    ghost is_known: { IfSome known (λ e. SaysOnly (line_of line) (mapping_of e)) } by { Prim.hlevel props },
 }
 
 /// The lines of buffers, one buffer after another.
@@ -101,36 +108,4 @@ pub(crate) fn has_lines(buffers: &[&[u8]]) -> bool
     ensures none { result ≡ false → lines (map (λ b. b.now) buffers.now) ≡ [] }
 {
     BufferLines::of(buffers).next().is_some()
-}
-
-/// The entries of the lines that give one.
-pub(crate) fn located_entries<'a>(
-    alloc: Global,
-    buffers: &[&'a [u8]],
-) -> Result<Vec<LocatedEntry<'a>>, AllocError>
-    ensures { IfOk result (λ found. map located_of found.items ≡ located (lines (map (λ b. b.now) buffers.now))) }
-{
-    let mut found = Vec::new(alloc);
-    for line in BufferLines::of(buffers) {
-        push_entry(&mut found, line.position, entry_of(&line))?;
-    }
-    Ok(found)
-}
-
-// Appends the entry of the line at this position, if it gives one.
-#[inline]
-fn push_entry<'a>(
-    found: &mut Vec<LocatedEntry<'a>>,
-    position: Position,
-    given: Option<Entry<'a>>,
-) -> Result<(), AllocError>
-    ensures { OnOk result (map located_of found.new.items
-        ≡ map located_of found.old.items
-        ++ option_to_list (option_map (λ e. record { position = position; entry = e })
-        (option_map mapping_of given.entry))) }
-{
-    if let Some(entry) = given {
-        found.push(LocatedEntry { position, entry })?;
-    }
-    Ok(())
 }

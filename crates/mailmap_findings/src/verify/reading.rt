@@ -1,11 +1,12 @@
 //! What a line says: its entry, and what is reported of it because of what it says.
-ghost use Rattle.std.specs.Prelude.{◌≡◌};
+ghost use Rattle.std.specs.Prelude.{◌≡◌, IfSome};
 ghost use Rattle.std.specs.Option.{option_map, option_copied};
 ghost use Rattle.mailmap_grammar.specs.Lines.{strict_reading, non_empty};
 ghost use Rattle.mailmap_grammar.specs.Trimming.{trim as spec_trim};
 ghost use Rattle.mailmap_entries.specs.Entries.{mapping_of};
 ghost use Rattle.mailmap_findings.specs.Positions.{IsPieceOf, entry as spec_entry, line_of};
 ghost use Rattle.mailmap_findings.specs.Findings.{reported_of, reported_of_reading as spec_reported};
+ghost use Rattle.mailmap_findings.specs.Silent.{SaysOnly};
 
 use crate::verify::Kind;
 use crate::verify::lines::Line;
@@ -30,6 +31,34 @@ pub(crate) fn read_strictly<'a>(line: &Line<'a>) -> (Option<Kind<'a>>, Option<En
     ensures entry { option_map mapping_of result.1 ≡ spec_entry (line_of line.now) }
 {
     read_piece(&without_feed(line))
+}
+
+/// What [`read_strictly`] gives of a line whose entry may be known.
+#[inline]
+pub(crate) fn read_unless_known<'a>(
+    line: &Line<'a>,
+    known: Option<Entry<'a>>,
+) -> (Option<Kind<'a>>, Option<Entry<'a>>)
+    requires { IfSome known (λ e. SaysOnly (line_of line.now) (mapping_of e)) }
+    ensures reported { option_map reported_of result.0
+        ≡ spec_reported line.now.text.now (strict_reading line.now.position.line line.now.text.now) }
+    ensures entry { option_map mapping_of result.1 ≡ spec_entry (line_of line.now) }
+{
+    match known {
+        Some(entry) => only_entry(line, entry),
+        None => read_strictly(line),
+    }
+}
+
+// The same, if the line is known to say nothing but this entry.
+#[inline]
+fn only_entry<'a>(_line: &Line<'a>, entry: Entry<'a>) -> (Option<Kind<'a>>, Option<Entry<'a>>)
+    requires { SaysOnly (line_of _line.now) (mapping_of entry) }
+    ensures reported { option_map reported_of result.0
+        ≡ spec_reported _line.now.text.now (strict_reading _line.now.position.line _line.now.text.now) }
+    ensures entry { option_map mapping_of result.1 ≡ spec_entry (line_of _line.now) }
+{
+    (None, Some(entry))
 }
 
 // The line without the line feed at its end. The line feed says nothing, and lines are trimmed faster without it.

@@ -1,18 +1,21 @@
 //! A walk over lines that says of each whether its entry is kept, and what is done with each line.
-ghost use Rattle.std.specs.Prelude.{◌≡◌, ◌||◌, [], map, filter, is_none, IfOk};
+ghost use Rattle.std.specs.Prelude.{◌≡◌, ◌||◌, [], map, filter, is_none, IfOk, IfSome};
 ghost use Rattle.std.specs.Iterator.{YieldsFirstBy, item_count};
 ghost use Rattle.std.specs.List.{flat_map};
 ghost use Rattle.std.specs.Option.{option_map};
+ghost use Rattle.mailmap_entries.specs.Entries.{mapping_of};
 ghost use Rattle.mailmap_redundancy.specs.Redundancy.{IsSublist, entries, located_of_reference};
 ghost use Rattle.mailmap_findings.specs.Findings.{finding_of, line_findings as spec_line_findings, reported_of};
 ghost use Rattle.mailmap_findings.specs.Marked.{marked, marked_of};
 ghost use Rattle.mailmap_findings.specs.Positions.{entry, line_of, lines, located, same_position};
+ghost use Rattle.mailmap_findings.specs.Silent.{SaysOnly};
 
 use crate::verify::contacts::reported_of_entry;
 use crate::verify::git::reported_of_git;
 use crate::verify::lines::{BufferLines, Line};
-use crate::verify::reading::{entry_of, read_strictly};
+use crate::verify::reading::{entry_of, read_unless_known};
 use crate::verify::{Finding, Kind};
+use mailmap_entries::Entry;
 use mailmap_redundancy::{LocatedEntry, Position, Reduced};
 use std::alloc::{AllocError, Global};
 use std::marker::Model;
@@ -76,8 +79,8 @@ impl<'v, 'a> Iterator for MarkedLines<'v, 'a> {
     }
 }
 
-// Whether an entry is at this position.
-fn is_at(entry: &LocatedEntry<'_>, position: Position) -> bool
+/// Whether an entry is at this position.
+pub(crate) fn is_at(entry: &LocatedEntry<'_>, position: Position) -> bool
     ensures { result ≡ same_position entry.now.position position }
 {
     entry.position == position
@@ -134,15 +137,17 @@ impl<'a> Iterator for LineFindings<'a> {
     }
 }
 
-/// What is found of a line.
+/// What is found of a line whose entry may be known.
 pub(crate) fn line_findings<'a>(
     reduced: &Reduced<'_, 'a>,
     line: &Line<'a>,
     is_kept: bool,
+    known: Option<Entry<'a>>,
 ) -> LineFindings<'a>
+    requires { IfSome known (λ e. SaysOnly (line_of line.now) (mapping_of e)) }
     ensures { result ≡ spec_line_findings (entries reduced.now.history) reduced.now.kept is_kept (line_of line.now) }
 {
-    let (of_text, entry) = read_strictly(line);
+    let (of_text, entry) = read_unless_known(line, known);
     let of_git = reported_of_git(line, entry);
     let of_entry = reported_of_entry(reduced, entry, is_kept);
     LineFindings {

@@ -10,14 +10,14 @@ use Rattle.mailmap_findings.proofs.verify.prune.Goals as goal
 
 pub without_redundant-requires : goal.without_redundant-requires
 without_redundant-requires c =
-    items_accepted (lines (c.args.buffer.now ∷ [])) c.deref.result.now (ap (map located_of) c.deref.ensures.value ∙ c.in_ok-located.ensures)
+    items_accepted (lines (c.args.buffer.now ∷ [])) c.deref.result.now (ap (map located_of) c.deref.ensures.value ∙ c.in_ok-read.ensures.entries)
 
 pub new-lines-requires : goal.new-lines-requires
 new-lines-requires c =
     let ls = lines (c.args.buffer.now ∷ []) in
     subst (λ kept. IsSublist kept (located ls)) (sym c.kept.ensures)
     (are_kept (c.args.buffer.now ∷ []) (map located_of c.deref.result.now) c.in_ok-reduced.reduced.kept
-    (ap (map located_of) c.deref.ensures.value ∙ c.in_ok-located.ensures)
+    (ap (map located_of) c.deref.ensures.value ∙ c.in_ok-read.ensures.entries)
     c.in_ok-reduced.ensures.reduced)
 
 pub returns-then-not-has_lines-clause-pruned : goal.returns-then-not-has_lines-clause-pruned
@@ -30,6 +30,6 @@ returns-clause-pruned c =
     if_given c.pruned_text.result (λ v. v.items) (IsPruned c.args.buffer.now) _ c.pruned_text.ensures
     (λ text e.
     is_pruned c.args.buffer.now text (map located_of c.deref.result.now) kept
-    (ap (map located_of) c.deref.ensures.value ∙ c.in_ok-located.ensures)
+    (ap (map located_of) c.deref.ensures.value ∙ c.in_ok-read.ensures.entries)
     c.in_ok-reduced.ensures.reduced
     (e ∙ ap kept_text (c.new-lines.ensures ∙ ap (λ k. map (marked k) ls) c.kept.ensures) ∙ kept_text-marked kept ls))

@@ -7,10 +7,13 @@ use Rattle.mailmap_findings.proofs.verify.Verification.new.Goals as goal
 
 pub without_redundant-requires : goal.without_redundant-requires
 without_redundant-requires c =
-    items_accepted (lines (map (λ b. b.now) c.mailmaps.inside.buffers.now)) c.deref.result.now (ap (map located_of) c.deref.ensures.value ∙ c.mailmaps.invariant)
+    items_accepted (lines (map (λ b. b.now) c.mailmaps.inside.buffers.now)) c.deref.result.now (ap (map located_of) c.deref.ensures.value ∙ c.mailmaps.invariant.0)
 
 pub invariant_of-result : goal.invariant_of-result
-invariant_of-result c =
-    are_kept (map (λ b. b.now) c.mailmaps.inside.buffers.now) (map located_of c.deref.result.now) c.in_ok-without_redundant.field-0.kept
-    (ap (map located_of) c.deref.ensures.value ∙ c.mailmaps.invariant)
-    c.in_ok-without_redundant.ensures.reduced
+invariant_of-result c = (
+  are_kept (map (λ b. b.now) c.mailmaps.inside.buffers.now) (map located_of c.deref.result.now) c.in_ok-without_redundant.field-0.kept
+      (ap (map located_of) c.deref.ensures.value ∙ c.mailmaps.invariant.0)
+      c.in_ok-without_redundant.ensures.reduced,
+  c.mailmaps.invariant.0,
+  c.mailmaps.invariant.1,
+)

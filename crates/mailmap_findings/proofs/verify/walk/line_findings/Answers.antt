@@ -11,8 +11,8 @@ returns c =
     let h = entries c.args.reduced.now.history in
     let kept = c.args.reduced.now.kept in
     (λ i. option_to_list (c.finding_at.ensures i) ++ option_to_list (c.finding_at-2.ensures i) ++ option_to_list (c.finding_at-3.ensures i))
-    ∙ found_all h kept c.args.is_kept (line_of c.args.line.now) (option_map reported_of c.read_strictly.result.0) (option_map reported_of c.reported_of_git-of_git.result)
+    ∙ found_all h kept c.args.is_kept (line_of c.args.line.now) (option_map reported_of c.read_unless_known.result.0) (option_map reported_of c.reported_of_git-of_git.result)
     (option_map reported_of c.reported_of_entry-of_entry.result)
-    c.read_strictly.ensures.reported
+    c.read_unless_known.ensures.reported
     c.reported_of_git-of_git.ensures
-    (c.reported_of_entry-of_entry.ensures ∙ ap (option_and_then (reported_of_entry h kept c.args.is_kept)) c.read_strictly.ensures.entry)
+    (c.reported_of_entry-of_entry.ensures ∙ ap (option_and_then (reported_of_entry h kept c.args.is_kept)) c.read_unless_known.ensures.entry)

@@ -1,7 +1,0 @@
-use Rattle.std.proofs.Common.{◌≡◌, ◌++◌, map}
-use Rattle.mailmap_redundancy.specs.Redundancy.{located_of}
-use Rattle.mailmap_findings.specs.Positions.{lines, located}
-use Rattle.mailmap_findings.proofs.verify.lines.located_entries.Given as goal
-
-abbrev pub invariant-loop-line : goal.invariant-loop-line
-invariant-loop-line l = map located_of l.found.items ++ located l.line-iterator ≡ located (lines (map (λ b. b.now) l.buffers))

@@ -1,0 +1,23 @@
+-- What is known of lines once they were read.
+use Rattle.std.specs.Prelude.{◌≡◌, Bool, true, Option, Some, List, is_none}
+use Rattle.std.specs.List.{filter_map}
+use Rattle.std.specs.Option.{option_map}
+use Rattle.mailmap_entries.specs.Entries.{Mapping}
+use Rattle.mailmap_grammar.specs.Lines.{strict_reading}
+use Rattle.mailmap_findings.specs.Findings.{Reported, reported_of_reading}
+use Rattle.mailmap_findings.specs.Positions.{Line, entry}
+
+-- what is reported of a line by what it says
+abbrev pub reported_of_text : Line → Option Reported
+reported_of_text l = reported_of_reading l.text (strict_reading l.position.line l.text)
+
+abbrev pub is_silent : Line → Bool
+is_silent l = is_none (reported_of_text l)
+
+-- of each line that gives an entry, whether it is silent
+abbrev pub silences : List Line → List Bool
+silences ls = filter_map (λ l. option_map (λ e. is_silent l) (entry l)) ls
+
+-- the line gives this entry, and nothing else is reported of what it says
+abbrev pub SaysOnly : Line → Mapping → Type 0
+SaysOnly l e = (entry l ≡ Some e) × (is_silent l ≡ true)

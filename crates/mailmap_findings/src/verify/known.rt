@@ -1,0 +1,171 @@
+//! What is known of lines since they were read for the first time.
+ghost use Rattle.std.specs.Prelude.{◌≡◌, ◌<◌, ◌++◌, false, get_or, length, map, option_to_list, true, IfOk, OnOk};
+ghost use Rattle.std.specs.Iterator.{YieldsFirstBy, item_count};
+ghost use Rattle.std.specs.Option.{option_map};
+ghost use Rattle.mailmap_entries.specs.Entries.{mapping_of};
+ghost use Rattle.mailmap_redundancy.specs.Redundancy.{IsSublist, located_of, located_of_reference};
+ghost use Rattle.mailmap_findings.specs.Marked.{marked, marked_line_of};
+ghost use Rattle.mailmap_findings.specs.Positions.{line_of, lines, located};
+ghost use Rattle.mailmap_findings.specs.Silent.{SaysOnly, silences};
+
+use crate::verify::lines::{BufferLines, KnownLine, Line};
+use crate::verify::reading::read_strictly;
+use crate::verify::walk::{MarkedLines, is_at};
+use mailmap_entries::Entry;
+use mailmap_redundancy::{LocatedEntry, Position};
+use std::alloc::{AllocError, Global};
+use std::marker::Model;
+
+/// The entries of the lines that give one, and of each whether its line is silent: whether nothing is reported of what
+/// the line says.
+#[derive(Drop)]
+pub(crate) struct ReadEntries<'a> {
+    pub(crate) entries: Vec<LocatedEntry<'a>>,
+    pub(crate) silent: Vec<bool>,
+}
+
+/// Reads the lines of buffers. Only those that give an entry take memory.
+pub(crate) fn read_entries<'a>(
+    alloc: Global,
+    buffers: &[&'a [u8]],
+) -> Result<ReadEntries<'a>, AllocError>
+    ensures entries { IfOk result
+        (λ read. map located_of read.entries.items ≡ located (lines (map (λ b. b.now) buffers.now))) }
+    ensures silent { IfOk result (λ read. read.silent.items ≡ silences (lines (map (λ b. b.now) buffers.now))) }
+{
+    let mut read = ReadEntries {
+        entries: Vec::new(alloc),
+        silent: Vec::new(alloc),
+    };
+    for line in BufferLines::of(buffers) {
+        let (reported, given) = read_strictly(&line);
+        push_read(&mut read, line.position, given, reported.is_none())?;
+    }
+    Ok(read)
+}
+
+// Appends the entry of the line at this position, if it gives one, and whether the line is silent.
+#[inline]
+fn push_read<'a>(
+    read: &mut ReadEntries<'a>,
+    position: Position,
+    given: Option<Entry<'a>>,
+    is_silent: bool,
+) -> Result<(), AllocError>
+    ensures entries { OnOk result (map located_of read.new.entries.items
+        ≡ map located_of read.old.entries.items
+        ++ option_to_list (option_map (λ e. record { position = position; entry = e })
+        (option_map mapping_of given.entry))) }
+    ensures silent { OnOk result (read.new.silent.items
+        ≡ read.old.silent.items ++ option_to_list (option_map (λ e. is_silent) (option_map mapping_of given.entry))) }
+{
+    if let Some(entry) = given {
+        read.entries.push(LocatedEntry { position, entry })?;
+        read.silent.push(is_silent)?;
+    }
+    Ok(())
+}
+
+/// The lines of buffers as [`MarkedLines`] gives them, and what is known of each.
+///
+/// To a contract it is the list of what is left.
+#[derive(Drop)]
+pub(crate) struct KnownLines<'v, 'a> {
+    lines: MarkedLines<'v, 'a>,
+    // what was read of the lines, and how many of these entries are of lines that were given
+    entries: &'v [LocatedEntry<'a>],
+    silent: &'v [bool],
+    passed: usize,
+}
+
+impl<'v, 'a> Model for KnownLines<'v, 'a> {
+    ghost use Rattle.std.specs.Prelude.{List, drop, map};
+    ghost use Rattle.mailmap_redundancy.specs.Redundancy.{located_of};
+    ghost use Rattle.mailmap_findings.specs.Marked.{IsReadWalk, MarkedLine};
+
+    ghost Value = { List MarkedLine };
+
+    ghost view = { λ s. s.lines };
+
+    ghost invariant = { λ s. IsReadWalk (map located_of (drop s.passed s.entries.now)) (drop s.passed s.silent.now)
+        (map (λ m. m.0) s.lines) };
+}
+
+impl<'v, 'a> KnownLines<'v, 'a> {
+    pub(crate) fn new(
+        buffers: &'v [&'a [u8]],
+        kept: &'v [&'v LocatedEntry<'a>],
+        read: &'v ReadEntries<'a>,
+    ) -> KnownLines<'v, 'a>
+        requires kept { IsSublist (map located_of_reference kept.now) (located (lines (map (λ b. b.now) buffers.now))) }
+        requires entries { map located_of read.now.entries.items ≡ located (lines (map (λ b. b.now) buffers.now)) }
+        requires silent { read.now.silent.items ≡ silences (lines (map (λ b. b.now) buffers.now)) }
+        ensures { result ≡ map (marked (map located_of_reference kept.now)) (lines (map (λ b. b.now) buffers.now)) }
+    {
+        KnownLines {
+            lines: MarkedLines::new(buffers, kept),
+            entries: &read.entries,
+            silent: &read.silent,
+            passed: 0,
+        }
+    }
+}
+
+impl<'v, 'a> Iterator for KnownLines<'v, 'a> {
+    type Item = KnownLine<'a>;
+
+    ghost next_gives = { YieldsFirstBy marked_line_of (λ s. s) };
+
+    ghost remaining = { item_count (λ s. s) };
+
+    fn next(&mut self) -> Option<KnownLine<'a>> {
+        let (line, is_kept) = self.lines.next()?;
+        let Some(read) = self.entries.get(self.passed) else {
+            return Some(unknown(line, is_kept));
+        };
+        if !is_at(read, line.position) {
+            return Some(unknown(line, is_kept));
+        }
+        let entry = read.entry;
+        let is_silent = silence_at(self.silent, self.passed);
+        self.passed += 1;
+        Some(known_line(line, is_kept, is_silent, entry))
+    }
+}
+
+// Whether the line of the entry at this index is silent.
+#[inline]
+fn silence_at(silent: &[bool], index: usize) -> bool
+    requires { index < length silent.now }
+    ensures { result ≡ get_or silent.now index false }
+{
+    silent[index]
+}
+
+// A line and its entry, which is known if the line is silent.
+#[inline]
+fn known_line<'a>(line: Line<'a>, is_kept: bool, is_silent: bool, entry: Entry<'a>) -> KnownLine<'a>
+    requires { is_silent ≡ true → SaysOnly (line_of line) (mapping_of entry) }
+    ensures { marked_line_of result ≡ (line_of line.entry, is_kept) }
+{
+    if is_silent {
+        return KnownLine {
+            line,
+            is_kept,
+            known: Some(entry),
+        };
+    }
+    unknown(line, is_kept)
+}
+
+// A line of which nothing is known.
+#[inline]
+fn unknown<'a>(line: Line<'a>, is_kept: bool) -> KnownLine<'a>
+    ensures { marked_line_of result ≡ (line_of line.entry, is_kept) }
+{
+    KnownLine {
+        line,
+        is_kept,
+        known: None,
+    }
+}
