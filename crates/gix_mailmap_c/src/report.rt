@@ -43,10 +43,17 @@ fn report(
 {
     let names = names_of(alloc, lengths, names)?;
     let buffers = texts_of(alloc, lengths, texts)?;
-    let mailmaps = Mailmaps::read(alloc, buffers.as_slice())?;
+    report_on(alloc, names.as_slice(), buffers.as_slice())
+}
+
+// The report on mailmaps that are apart.
+fn report_on(alloc: Global, names: &[Vec<u8>], buffers: &[&[u8]]) -> Result<Vec<u8>, AllocError>
+    ensures { IfOk result (λ text. IsReportOf (map (λ n. n.items) names.now) (map (λ b. b.now) buffers.now) text.items) }
+{
+    let mailmaps = Mailmaps::read(alloc, buffers)?;
     let verification = Verification::new(alloc, &mailmaps)?;
     let mut text = Vec::new(alloc);
-    match print_findings(alloc, names.as_slice(), verification.findings(), &mut text) {
+    match print_findings(alloc, names, verification.findings(), &mut text) {
         Ok(_) => Ok(text),
         Err(_) => Err(AllocError),
     }
