@@ -42,11 +42,11 @@ fn most_lines_are_found_when_the_table_is_full(rt: HostRuntime) -> Result<(), Al
         let line = format!(in rt.alloc(); "line {number}\n")?;
         table.put(hash_of(line.as_bytes()), line.as_bytes(), b"");
     }
-    let mut found = 0;
+    let mut found: usize = 0;
     for number in 0..ROWS {
         let line = format!(in rt.alloc(); "line {number}\n")?;
         if let Some(_) = table.get(hash_of(line.as_bytes()), line.as_bytes()) {
-            found += 1;
+            found = found.saturating_add(1);
         }
     }
     assert!(rt; found > ROWS - ROWS / 10);
