@@ -37,34 +37,26 @@ LINKED = libgix_mailmap.so
 sources = crates.txt $(shell find $$(awk -v of=$(1) -f packaging/below.awk crates.txt) \
     -name out -prune -o -type f \( -name '*.rt' -o -name '*.antt' \) -print)
 
-# Proves and builds libraries, with all below them, as many at a time as there are processors: rt does it in turn.
-JOBS ?= $(shell nproc)
-LIBRARIES = awk -f packaging/libraries.awk crates.txt | $(MAKE) --no-print-directory -j $(JOBS) -f -
-
 .PHONY: build run test edits install install_lib uninstall lib wheel dist deb
 build: $(PROGRAM) $(VERIFIER) $(COUNTER)
 
 $(PROGRAM): $(call sources,mailmap_check)
 	@echo 'Proving and building mailmap_check, with all that it depends on. The first time this takes some minutes.'
-	$(LIBRARIES) mailmap_io mailmap_runs
 	cd crates/mailmap_check && rt run < stdin > /dev/null
 	touch $@
 
 $(VERIFIER): $(call sources,mailmap_verify)
 	@echo 'Proving and building mailmap_verify, with all that it depends on. The first time this takes some minutes.'
-	$(LIBRARIES) mailmap_io mailmap_reports
 	cd crates/mailmap_verify && rt run -- --help > /dev/null
 	touch $@
 
 $(COUNTER): $(call sources,mailmap_shortlog)
 	@echo 'Proving and building mailmap_shortlog, with all that it depends on. The first time this takes some minutes.'
-	$(LIBRARIES) mailmap_io mailmap_shortlogs
 	cd crates/mailmap_shortlog && rt run -- --help > /dev/null
 	touch $@
 
 $(DUMP): $(call sources,mailmap_dump)
 	@echo 'Proving and building mailmap_dump.'
-	$(LIBRARIES) gix_mailmap
 	cd crates/mailmap_dump && rt run > /dev/null
 	touch $@
 
@@ -76,7 +68,7 @@ lib: $(LIB)/c/libgix_mailmap.a $(LIB)/c/$(SHARED)
 # the proved calls
 $(PROVED): $(call sources,gix_mailmap_c)
 	@echo 'Proving and building the libraries for C.'
-	$(LIBRARIES) gix_mailmap_c
+	cd crates/gix_mailmap_c && rt lib > /dev/null
 	touch $@
 
 # The static library: the proved calls, what they need of the toolchain, and the functions that wrap them, in one object
