@@ -34,7 +34,7 @@ OFFSET(gix_mailmap_named, text, 16);
 OFFSET(gix_mailmap_named, text_len, 24);
 
 SIZE(gix_mailmap_position, 16);
-OFFSET(gix_mailmap_position, buffer, 0);
+OFFSET(gix_mailmap_position, mailmap, 0);
 OFFSET(gix_mailmap_position, line, 8);
 
 /* those of the proved calls */

@@ -136,7 +136,7 @@ typedef struct gix_mailmap_named {
 
 /* Where a line of some mailmaps is: the index of its mailmap, counted from 0, and its number there, counted from 1. */
 typedef struct gix_mailmap_position {
-    size_t buffer;
+    size_t mailmap;
     size_t line;
 } gix_mailmap_position;
 

@@ -94,7 +94,7 @@ fails 'standard input: Is a directory' mailmap_verify '--explain mailmap < folde
 fails 'missing: No such file or directory' mailmap_verify '--prune missing'
 fails 'folder: Is a directory' mailmap_verify '--prune folder'
 fails 'standard input: Is a directory' mailmap_verify '--prune < folder'
-usage='usage: mailmap_verify [--] [FILE..] | --prune [--] [FILE] | --explain [--] FILE..
+usage='usage: mailmap_verify [--] [FILE..] | --prune [--] [FILE] | --explain [--] [FILE..]
      | --contacts CONTACTS [--] [FILE..] | --help | --version'
 fails "unknown option: --foo"$'\n'"$usage" mailmap_verify '--foo mailmap'
 fails "unknown option: -x"$'\n'"$usage" mailmap_verify '--prune -x'

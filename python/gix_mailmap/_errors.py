@@ -22,7 +22,7 @@ class NotAnEntry(Error, ValueError):
 
 
 class NotALine(Error, ValueError):
-    """Of a line for `map_contacts`: it has a line feed before its end."""
+    """A line for `map_contacts` has a line feed before its end."""
 
 
 class NotAText(Error, UnicodeEncodeError):

@@ -256,9 +256,9 @@ static const gix_mailmap_named NEEDED[2] = {
     {TEXT("own"), TEXT("Jane Doe <jd@y>\nBob <b@x>\n# Bob\nRobert <b@x>\nplain\nAl <al@x>")}};
 static const char NEEDING[] = "jd <JD@y>\r\n\nplain\nbob <c@x>\n";
 
-static bool is_position(gix_mailmap_position p, size_t buffer, size_t line)
+static bool is_position(gix_mailmap_position p, size_t mailmap, size_t line)
 {
-    return p.buffer == buffer && p.line == line;
+    return p.mailmap == mailmap && p.line == line;
 }
 
 static void unneeded(void)

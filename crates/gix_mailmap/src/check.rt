@@ -1,4 +1,4 @@
-//! Answers for contacts: what mailmaps make of lines like `Jane <jane@x>`.
+//! Answers for contacts: what mailmaps make of lines like `Jane <jane@x>`, as `git check-mailmap` answers them.
 ghost use Rattle.std.specs.Prelude.{◌≡◌, ◌++◌, map, unwrap_or, IfOk, OnErr, OnOk};
 ghost use Rattle.std.specs.Io.{StartsWith};
 ghost use Rattle.std.specs.List.{flat_map};
@@ -22,11 +22,11 @@ pub use stream::ContactStream;
 /// Answers each line of `contacts` by what the buffers map, later buffers after earlier ones: a line for each line.
 ///
 /// A contact is a name and an email in brackets, `Jane <jane@x>`; name and email are trimmed, either may be empty, and
-/// what is after the `>` is ignored. Its answer is the name, a blank and the email in brackets that the mailmap
-/// puts in their place, without the blank if the name is empty. Every other line is answered by itself as it is,
-/// without its line end; `#` means nothing here. Each answer ends with a line feed, even if the last line has none.
+/// what is after the `>` is ignored. Its answer is the name, a space and the email in brackets that the mailmap
+/// puts in their place, without the space if the name is empty. Every other line is answered by itself as it is,
+/// without its line end; `#` begins no comment here. Each answer ends with a line feed, even if the last line has none.
 ///
-/// By the buffer `Jane Doe <jane@x>` the contacts `jane <JANE@x>\r\nplain` are answered `Jane Doe <jane@x>\nplain\n`.
+/// With the mailmap `Jane Doe <jane@x>` the answers to `jane <JANE@x>\r\nplain` are `Jane Doe <jane@x>\nplain\n`.
 pub fn check(alloc: Global, buffers: &[&[u8]], contacts: &[u8]) -> Result<Vec<u8>, AllocError>
     ensures { IfOk result (λ text. text.items ≡ answers_by (map (λ b. b.now) buffers.now) contacts.now) }
 {
@@ -97,7 +97,7 @@ pub fn resolved<'a>(snapshot: &'a Snapshot, name: &'a [u8], email: &'a [u8]) -> 
     }
 }
 
-/// Appends a contact as a line shows it: the name and a blank, unless it is empty, and the email in brackets.
+/// Appends a contact as a line shows it: the name and a space, unless it is empty, and the email in brackets.
 ///
 /// The name `Jane` and the email `j@x` are `Jane <j@x>`. If memory runs out, the beginning of it may have been
 /// appended.

@@ -10,7 +10,7 @@ use Rattle.mailmap_redundancy.specs.declared.located.LocatedEntry.{LocatedEntry}
 use Rattle.mailmap_findings.specs.Findings.{Reported}
 use Rattle.mailmap_findings.specs.Positions.{Line, entry, located, same_position}
 use Rattle.mailmap_findings.specs.Marked.{AreApart, IsReadWalk, MarkedLine, marked}
-use Rattle.mailmap_findings.specs.Silent.{SaysOnly, is_silent, silences}
+use Rattle.mailmap_findings.specs.Clean.{SaysOnly, is_clean, are_clean}
 use Rattle.mailmap_findings.proofs.Meeting.{with_position}
 use Rattle.mailmap_findings.proofs.Walking.{Elsewhere, is_first_at, located_elsewhere, same_is, same_itself}
 
@@ -33,50 +33,50 @@ lines-marked kept (l ∷ ls) = ap (λ xs. l ∷ xs) (lines-marked kept ls)
 -- ---- the next entry that was read, and the first line
 
 -- it is of a later line
-other_by : (l : Line) (rest : List Line) (found : List LocatedMapping) (silent : List Bool) (o : Option Mapping) → AreApart (l ∷ rest)
-    → found ≡ cons_option (option_map (with_position l) o) (located rest) → silent ≡ cons_option (option_map (λ e. is_silent l) o) (silences rest)
-    → is_first_at found l.position ≡ false → IsReadWalk found silent rest
-other_by l rest found silent None apart e s differs = record { entries = e; silent_too = s; apart = apart.1 }
-other_by l rest found silent (Some m) apart e s differs =
+other_by : (l : Line) (rest : List Line) (found : List LocatedMapping) (clean : List Bool) (o : Option Mapping) → AreApart (l ∷ rest)
+    → found ≡ cons_option (option_map (with_position l) o) (located rest) → clean ≡ cons_option (option_map (λ e. is_clean l) o) (are_clean rest)
+    → is_first_at found l.position ≡ false → IsReadWalk found clean rest
+other_by l rest found clean None apart e s differs = record { entries = e; clean_too = s; apart = apart.1 }
+other_by l rest found clean (Some m) apart e s differs =
     absurd (true≢false (sym (ap (λ xs. is_first_at xs l.position) e ∙ same_itself l.position) ∙ differs))
 
-other : (l : Line) (rest : List Line) (found : List LocatedMapping) (silent : List Bool) → IsReadWalk found silent (l ∷ rest)
-    → is_first_at found l.position ≡ false → IsReadWalk found silent rest
-other l rest found silent walk differs = other_by l rest found silent (entry l) walk.apart walk.entries walk.silent_too differs
+other : (l : Line) (rest : List Line) (found : List LocatedMapping) (clean : List Bool) → IsReadWalk found clean (l ∷ rest)
+    → is_first_at found l.position ≡ false → IsReadWalk found clean rest
+other l rest found clean walk differs = other_by l rest found clean (entry l) walk.apart walk.entries walk.clean_too differs
 
 -- it is of this line
-pub record IsMet (x : LocatedMapping) (xs : List LocatedMapping) (silent : List Bool) (l : Line) (rest : List Line) : Type 0 where
+pub record IsMet (x : LocatedMapping) (xs : List LocatedMapping) (clean : List Bool) (l : Line) (rest : List Line) : Type 0 where
   pub same : entry l ≡ Some x.entry
-  pub silent_is : silent ≡ is_silent l ∷ silences rest
+  pub clean_is : clean ≡ is_clean l ∷ are_clean rest
   pub left : xs ≡ located rest
 
-met_by : (x : LocatedMapping) (xs : List LocatedMapping) (l : Line) (rest : List Line) (silent : List Bool) (o : Option Mapping) → entry l ≡ o → AreApart (l ∷ rest)
-    → x ∷ xs ≡ cons_option (option_map (with_position l) o) (located rest) → silent ≡ cons_option (option_map (λ e. is_silent l) o) (silences rest)
-    → x.position ≡ l.position → IsMet x xs silent l rest
-met_by x xs l rest silent None is apart e s here =
+met_by : (x : LocatedMapping) (xs : List LocatedMapping) (l : Line) (rest : List Line) (clean : List Bool) (o : Option Mapping) → entry l ≡ o → AreApart (l ∷ rest)
+    → x ∷ xs ≡ cons_option (option_map (with_position l) o) (located rest) → clean ≡ cons_option (option_map (λ e. is_clean l) o) (are_clean rest)
+    → x.position ≡ l.position → IsMet x xs clean l rest
+met_by x xs l rest clean None is apart e s here =
     absurd ((subst (Elsewhere l.position) (sym e) (located_elsewhere l.position rest apart.0)).0 here)
-met_by x xs l rest silent (Some m) is apart e s here =
+met_by x xs l rest clean (Some m) is apart e s here =
     let first : x ≡ with_position l m = cc in
     let left : xs ≡ located rest = cc in
-    record { same = is ∙ ap (λ (y : LocatedMapping). Some (y.entry)) (sym first); silent_is = s; left = left }
+    record { same = is ∙ ap (λ (y : LocatedMapping). Some (y.entry)) (sym first); clean_is = s; left = left }
 
-met : (x : LocatedMapping) (xs : List LocatedMapping) (l : Line) (rest : List Line) (silent : List Bool) → IsReadWalk (x ∷ xs) silent (l ∷ rest)
-    → same_position x.position l.position ≡ true → IsMet x xs silent l rest
-met x xs l rest silent walk agrees = met_by x xs l rest silent (entry l) refl walk.apart walk.entries walk.silent_too (same_is x.position l.position agrees)
+met : (x : LocatedMapping) (xs : List LocatedMapping) (l : Line) (rest : List Line) (clean : List Bool) → IsReadWalk (x ∷ xs) clean (l ∷ rest)
+    → same_position x.position l.position ≡ true → IsMet x xs clean l rest
+met x xs l rest clean walk agrees = met_by x xs l rest clean (entry l) refl walk.apart walk.entries walk.clean_too (same_is x.position l.position agrees)
 
 -- ---- the code's walk, which has passed the first i of the entries that were read
 
 abbrev pub found_from : ℕ → List LocatedEntry → List LocatedMapping
 found_from i read = map located_of (drop i read)
 
-module _ (read : List LocatedEntry) (silent : List Bool) (i : ℕ) (marks left : List MarkedLine) (l : Line) (is_kept : Bool) (first : marks ≡ (l, is_kept) ∷ left) (walk : IsReadWalk (found_from i read) (drop i silent) (map (λ (m : MarkedLine). m.0) marks)) where
-  here : IsReadWalk (found_from i read) (drop i silent) (l ∷ map (λ (m : MarkedLine). m.0) left)
-  here = subst (λ ms. IsReadWalk (found_from i read) (drop i silent) (map (λ (m : MarkedLine). m.0) ms)) first walk
+module _ (read : List LocatedEntry) (clean : List Bool) (i : ℕ) (marks left : List MarkedLine) (l : Line) (is_kept : Bool) (first : marks ≡ (l, is_kept) ∷ left) (walk : IsReadWalk (found_from i read) (drop i clean) (map (λ (m : MarkedLine). m.0) marks)) where
+  here : IsReadWalk (found_from i read) (drop i clean) (l ∷ map (λ (m : MarkedLine). m.0) left)
+  here = subst (λ ms. IsReadWalk (found_from i read) (drop i clean) (map (λ (m : MarkedLine). m.0) ms)) first walk
 
   -- no entry is left
-  pub none_read : length read ≤ i → IsReadWalk (found_from i read) (drop i silent) (map (λ (m : MarkedLine). m.0) left)
+  pub none_read : length read ≤ i → IsReadWalk (found_from i read) (drop i clean) (map (λ (m : MarkedLine). m.0) left)
   none_read past =
-      other l (map (λ (m : MarkedLine). m.0) left) (found_from i read) (drop i silent) here
+      other l (map (λ (m : MarkedLine). m.0) left) (found_from i read) (drop i clean) here
       (ap (λ xs. is_first_at xs l.position) (ap (map located_of) (drop_all i read past)))
 
   module _ (x : LocatedEntry) (within : i < length read) (is : x ≡ get_or read i x) where
@@ -86,33 +86,33 @@ module _ (read : List LocatedEntry) (silent : List Bool) (i : ℕ) (marks left :
         ap (map located_of) (drop-cons read i x within) ∙ (λ j. located_of (sym is j) ∷ found_from (e j) read)
 
     -- the next one is of another line
-    pub other_read : same_position x.position l.position ≡ false → IsReadWalk (found_from i read) (drop i silent) (map (λ (m : MarkedLine). m.0) left)
+    pub other_read : same_position x.position l.position ≡ false → IsReadWalk (found_from i read) (drop i clean) (map (λ (m : MarkedLine). m.0) left)
     other_read differs =
-        other l (map (λ (m : MarkedLine). m.0) left) (found_from i read) (drop i silent) here
+        other l (map (λ (m : MarkedLine). m.0) left) (found_from i read) (drop i clean) here
         (ap (λ xs. is_first_at xs l.position) parts ∙ differs)
 
     module _ (agrees : same_position x.position l.position ≡ true) where
-      meets : IsMet (located_of x) (found_from (i + 1) read) (drop i silent) l (map (λ (m : MarkedLine). m.0) left)
+      meets : IsMet (located_of x) (found_from (i + 1) read) (drop i clean) l (map (λ (m : MarkedLine). m.0) left)
       meets =
-          met (located_of x) (found_from (i + 1) read) l (map (λ (m : MarkedLine). m.0) left) (drop i silent)
-          (subst (λ xs. IsReadWalk xs (drop i silent) (l ∷ map (λ (m : MarkedLine). m.0) left)) parts here)
+          met (located_of x) (found_from (i + 1) read) l (map (λ (m : MarkedLine). m.0) left) (drop i clean)
+          (subst (λ xs. IsReadWalk xs (drop i clean) (l ∷ map (λ (m : MarkedLine). m.0) left)) parts here)
           agrees
 
-      pub silent_within : i < length silent
-      silent_within = omega (arith, length-drop i silent, ap length meets.silent_is)
+      pub clean_within : i < length clean
+      clean_within = omega (arith, length-drop i clean, ap length meets.clean_is)
 
-      silent_parts : get_or silent i false ∷ drop (i + 1) silent ≡ is_silent l ∷ silences (map (λ (m : MarkedLine). m.0) left)
-      silent_parts =
+      clean_parts : get_or clean i false ∷ drop (i + 1) clean ≡ is_clean l ∷ are_clean (map (λ (m : MarkedLine). m.0) left)
+      clean_parts =
           let e : suc i ≡ i + 1 = omega arith in
-          ap (λ k. get_or silent i false ∷ drop k silent) (sym e) ∙ sym (drop-cons silent i false silent_within) ∙ meets.silent_is
+          ap (λ k. get_or clean i false ∷ drop k clean) (sym e) ∙ sym (drop-cons clean i false clean_within) ∙ meets.clean_is
 
-      pub next_read : IsReadWalk (found_from (i + 1) read) (drop (i + 1) silent) (map (λ (m : MarkedLine). m.0) left)
+      pub next_read : IsReadWalk (found_from (i + 1) read) (drop (i + 1) clean) (map (λ (m : MarkedLine). m.0) left)
       next_read =
-          let parts_too = silent_parts in
-          record { entries = meets.left; silent_too = cc; apart = here.apart.1 }
+          let parts_too = clean_parts in
+          record { entries = meets.left; clean_too = cc; apart = here.apart.1 }
 
-      pub known_here : get_or silent i false ≡ true → SaysOnly l (mapping_of x.entry)
+      pub known_here : get_or clean i false ≡ true → SaysOnly l (mapping_of x.entry)
       known_here is_so =
-          let parts_too = silent_parts in
-          let same : is_silent l ≡ true = cc in
+          let parts_too = clean_parts in
+          let same : is_clean l ≡ true = cc in
           (meets.same, same)

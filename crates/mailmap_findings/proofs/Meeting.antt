@@ -8,7 +8,7 @@ use Rattle.mailmap_grammar.specs.Lines.{strict_reading}
 use Rattle.mailmap_redundancy.specs.Redundancy.{LocatedMapping}
 use Rattle.mailmap_findings.specs.Findings.{Finding, Reported, git_reads, line_findings, read_otherwise, reported_of_entry, reported_of_reading}
 use Rattle.mailmap_findings.specs.Positions.{Line, entry, located, located_entry}
-use Rattle.mailmap_findings.specs.Silent.{is_silent, silences}
+use Rattle.mailmap_findings.specs.Clean.{is_clean, are_clean}
 
 abbrev pub reported_at : Line → Reported → Finding
 reported_at l t = record { position = l.position; reported = t }
@@ -40,8 +40,8 @@ one_more (Some x) xs = refl
 pub located_more : (found : List LocatedMapping) (l : Line) (ls : List Line) → (found ++ option_to_list (located_entry l)) ++ located ls ≡ found ++ located (l ∷ ls)
 located_more found l ls = append_assoc found (option_to_list (located_entry l)) (located ls) ∙ ap (λ xs. found ++ xs) (one_more (located_entry l) (located ls))
 
--- whether one more line is silent, if it gives an entry
-pub silences_more : (found : List Bool) (l : Line) (ls : List Line) → (found ++ option_to_list (option_map (λ e. is_silent l) (entry l))) ++ silences ls ≡ found ++ silences (l ∷ ls)
-silences_more found l ls =
-    append_assoc found (option_to_list (option_map (λ e. is_silent l) (entry l))) (silences ls)
-    ∙ ap (λ xs. found ++ xs) (one_more (option_map (λ e. is_silent l) (entry l)) (silences ls))
+-- whether one more line is clean, if it gives an entry
+pub more_are_clean : (found : List Bool) (l : Line) (ls : List Line) → (found ++ option_to_list (option_map (λ e. is_clean l) (entry l))) ++ are_clean ls ≡ found ++ are_clean (l ∷ ls)
+more_are_clean found l ls =
+    append_assoc found (option_to_list (option_map (λ e. is_clean l) (entry l))) (are_clean ls)
+    ∙ ap (λ xs. found ++ xs) (one_more (option_map (λ e. is_clean l) (entry l)) (are_clean ls))

@@ -8,5 +8,5 @@ pub mod Findings
 pub mod GitAnswers
 pub mod Explanations
 pub mod Pruning
-pub mod Silent
+pub mod Clean
 pub mod Marked

@@ -3,7 +3,7 @@ use Rattle.std.specs.Prelude.{◌≡◌, ◌≢◌, Bool, List, [], ◌∷◌}
 use Rattle.std.specs.List.{AllByRecursion}
 use Rattle.mailmap_redundancy.specs.Redundancy.{LocatedMapping, IsSublist}
 use Rattle.mailmap_findings.specs.Positions.{Line, has_entry_at, line_of, located}
-use Rattle.mailmap_findings.specs.Silent.{silences}
+use Rattle.mailmap_findings.specs.Clean.{are_clean}
 use Rattle.mailmap_findings.specs.declared.verify.lines.Line.{Line as the_line}
 use Rattle.mailmap_findings.specs.declared.verify.lines.KnownLine.{KnownLine as the_known_line}
 
@@ -32,7 +32,7 @@ pub record IsWalk (kept : List LocatedMapping) (ls : List Line) : Type 0 where
   pub apart : AreApart ls
 
 -- the lines of a walk, and what was read of them
-pub record IsReadWalk (found : List LocatedMapping) (silent : List Bool) (ls : List Line) : Type 0 where
+pub record IsReadWalk (found : List LocatedMapping) (clean : List Bool) (ls : List Line) : Type 0 where
   pub entries : found ≡ located ls
-  pub silent_too : silent ≡ silences ls
+  pub clean_too : clean ≡ are_clean ls
   pub apart : AreApart ls

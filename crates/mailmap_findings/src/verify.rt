@@ -24,7 +24,7 @@ ghost use Rattle.mailmap_redundancy.specs.Redundancy.{located_of};
 ghost use Rattle.mailmap_findings.specs.Findings.{AreFindings, IsPruned, finding_of};
 ghost use Rattle.mailmap_findings.specs.Positions.{lines, located};
 
-mod contacts;
+mod effects;
 mod git;
 mod known;
 mod lines;
@@ -136,14 +136,14 @@ impl<'b, 'a> Model for Mailmaps<'b, 'a> {
     ghost use Rattle.mailmap_entries.specs.Folding.{Text};
     ghost use Rattle.mailmap_redundancy.specs.Redundancy.{located_of};
     ghost use Rattle.mailmap_findings.specs.Positions.{lines, located};
-    ghost use Rattle.mailmap_findings.specs.Silent.{silences};
+    ghost use Rattle.mailmap_findings.specs.Clean.{are_clean};
 
     ghost Value = { List Text };
 
     ghost view = { λ s. map (λ b. b.now) s.buffers.now };
 
     ghost invariant = { λ s. let ls = lines (map (λ b. b.now) s.buffers.now) in
-        (map located_of s.read.entries.items ≡ located ls) × (s.read.silent.items ≡ silences ls) };
+        (map located_of s.read.entries.items ≡ located ls) × (s.read.clean.items ≡ are_clean ls) };
 }
 
 impl<'b, 'a> Mailmaps<'b, 'a> {
@@ -181,7 +181,7 @@ impl<'m, 'a> Model for Verification<'m, 'a> {
     ghost use Rattle.mailmap_redundancy.specs.Redundancy.{IsSublist, entries, located_of};
     ghost use Rattle.mailmap_findings.specs.Findings.{Finding, findings};
     ghost use Rattle.mailmap_findings.specs.Positions.{lines, located};
-    ghost use Rattle.mailmap_findings.specs.Silent.{silences};
+    ghost use Rattle.mailmap_findings.specs.Clean.{are_clean};
 
     ghost Value = { List Finding };
 
@@ -190,7 +190,7 @@ impl<'m, 'a> Model for Verification<'m, 'a> {
 
     ghost invariant = { λ s. let ls = lines (map (λ b. b.now) s.buffers.now) in
         IsSublist s.reduced.kept (located ls) × (map located_of s.read.now.entries.items ≡ located ls)
-        × (s.read.now.silent.items ≡ silences ls) };
+        × (s.read.now.clean.items ≡ are_clean ls) };
 }
 
 impl<'m, 'a> Verification<'m, 'a> {
@@ -227,7 +227,7 @@ impl<'m, 'a> Verification<'m, 'a> {
 pub struct Findings<'v, 'a> {
     lines: KnownLines<'v, 'a>,
     reduced: &'v Reduced<'v, 'a>,
-    // what is left of the findings of the last line
+    // what `next` has still to return of the findings of the line that it read last
     of_line: LineFindings<'a>,
 }
 

@@ -151,7 +151,7 @@ fn take_all<R: Read>(
         }
         take_part(history, &part[..count], &mut held)?;
     }
-    // No history is so long.
+    // No input is so long.
     Err(Failure::Input {
         cause: ErrorKind::Other,
     })

@@ -20,7 +20,7 @@ use mailmap_repeats::hashes::hash_of;
 use mailmap_repeats::table::LastAnswers;
 use std::alloc::{AllocError, Global};
 
-/// What is reported of a line of contacts.
+/// What is reported of a line of contacts: an error, a warning or a note.
 #[derive(Clone, Copy, Debug, PartialEq, Eq)]
 pub(crate) enum Notice {
     /// The line with this number is no contact.
@@ -37,7 +37,7 @@ pub(crate) struct History<'m, 'a> {
     pub(crate) needs: Needs<'m, 'a>,
     pub(crate) answers: Answers,
     pub(crate) notices: Vec<Notice>,
-    // whether one of them counts for the exit status
+    // whether one of the notices counts for the exit status
     pub(crate) found: bool,
     // how many lines there are
     count: usize,
@@ -46,7 +46,7 @@ pub(crate) struct History<'m, 'a> {
 }
 
 impl<'m, 'a> History<'m, 'a> {
-    /// No line yet.
+    /// Before the first line.
     pub(crate) fn new(
         alloc: Global,
         mailmaps: &'m Mailmaps<'_, 'a>,
@@ -73,7 +73,7 @@ impl<'m, 'a> History<'m, 'a> {
             → OnOk result (HasTaken mailmaps (contacts ++ line.now ∷ []) self.new) }
         ensures only { IsOkUnless result Failure.Memory }
     {
-        // No history is so long.
+        // No input has so many lines.
         let Some(number) = self.count.checked_add(1) else {
             return Err(Failure::Memory);
         };
@@ -88,7 +88,7 @@ impl<'m, 'a> History<'m, 'a> {
         Ok(())
     }
 
-    // Takes a new line, and says whether it is a contact; the caller then raises `count`.
+    // Takes a new line, and says whether it is a contact. `take` raises `count` after that.
     fn take_new(&mut self, line: &[u8], number: usize) -> Result<bool, Failure>
         ensures taken { (mailmaps contacts : List Text) → HasTaken mailmaps contacts self.old
             → number ≡ length contacts + 1
@@ -110,7 +110,7 @@ impl<'m, 'a> History<'m, 'a> {
         }
     }
 
-    // Takes a contact: what it needs, and its answer; the caller then raises `count`.
+    // Takes a contact: what it needs, and its answer. `take` raises `count` after that.
     fn take_contact(&mut self, name: &[u8], email: &[u8], number: usize) -> Result<(), Failure>
         ensures taken { (mailmaps contacts : List Text) (line rest : Text) → HasTaken mailmaps contacts self.old
             → number ≡ length contacts + 1 → contact_in line ≡ Closed name.now email.now rest
@@ -129,7 +129,7 @@ impl<'m, 'a> History<'m, 'a> {
     }
 }
 
-// Notes a line that is no contact, if it isn't blank. `false` says that it is none.
+// Notes a line that is no contact, if it isn't blank. The result is always `false`: that it is none.
 fn note_none(
     notices: &mut Vec<Notice>,
     found: &mut bool,

@@ -20,14 +20,15 @@ use std::io::{Read, Write};
 pub const USAGE: &str = "\
 usage: mailmap_verify [--] [FILE..]          prints what is wrong with the mailmaps
        mailmap_verify --prune [--] [FILE]    prints the mailmap without the lines that have no effect
-       mailmap_verify --explain [--] FILE..  prints which lines map each contact of standard input
+       mailmap_verify --explain [--] [FILE..]
+                                             prints which lines map each contact of standard input
        mailmap_verify --contacts CONTACTS [--] [FILE..]
                                              also prints which lines no contact needs, and which contacts are alike
        mailmap_verify -h | --help            prints this
        mailmap_verify --version              prints the version
 Without a FILE, and for a single -, the mailmap is read from standard input, unless that has contacts: always for
 --explain, and if CONTACTS is -.
-Status 0: nothing is wrong. 1: something was found. 2: a failure.
+Status 0: nothing or only notes were found. 1: an error or a warning was found. 2: a failure.
 ";
 
 /// What is done.

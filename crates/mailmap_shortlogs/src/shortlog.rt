@@ -44,7 +44,7 @@ pub fn shortlog(
     text_of(alloc, listed.as_slice())
 }
 
-// Puts tallies in an order.
+// Sorts tallies: by falling counts and then by texts, or by texts only.
 fn sort(tallies: &mut Vec<Tally>, by_count: bool) -> Result<(), AllocError>
     ensures moved { IsPermutation tallies.old.items tallies.new.items }
     ensures ascending { OnOk result (IsAscending (order by_count) (map counted tallies.new.items)) }
@@ -82,7 +82,7 @@ fn compare_texts(a: &Tally, b: &Tally) -> Ordering
     a.text.as_slice().cmp(b.text.as_slice())
 }
 
-// The same with one tally for each text, of tallies in the order of their texts.
+// Adds up the counts of each text. The tallies are in the order of their texts.
 fn joined(alloc: Global, tallies: &[Tally]) -> Result<Vec<Tally>, AllocError>
     ensures { IfOk result (λ joined. IsAscending (order false) (map counted tallies.now)
         → AreJoined (map counted tallies.now) (map counted joined.items)) }
@@ -172,5 +172,5 @@ fn push_line(text: &mut Vec<u8>, tally: &Tally) -> Result<(), AllocError>
     Ok(())
 }
 
-// The columns of a count.
+// What a count is padded with: it has six columns.
 const BLANKS: &[u8] = b"      ";

@@ -24,7 +24,7 @@ use std::process::ExitCode;
 
 // What follows a line that says what is wrong with the arguments.
 const USAGE_LINE: &str = "\
-usage: mailmap_verify [--] [FILE..] | --prune [--] [FILE] | --explain [--] FILE..
+usage: mailmap_verify [--] [FILE..] | --prune [--] [FILE] | --explain [--] [FILE..]
      | --contacts CONTACTS [--] [FILE..] | --help | --version
 ";
 

@@ -6,7 +6,7 @@ ghost use Rattle.mailmap_entries.specs.Entries.{mapping_of};
 ghost use Rattle.mailmap_redundancy.specs.Redundancy.{IsSublist, located_of, located_of_reference};
 ghost use Rattle.mailmap_findings.specs.Marked.{marked, marked_line_of};
 ghost use Rattle.mailmap_findings.specs.Positions.{line_of, lines, located};
-ghost use Rattle.mailmap_findings.specs.Silent.{SaysOnly, silences};
+ghost use Rattle.mailmap_findings.specs.Clean.{SaysOnly, are_clean};
 
 use crate::verify::lines::{BufferLines, KnownLine, Line};
 use crate::verify::reading::read_strictly;
@@ -16,12 +16,12 @@ use mailmap_redundancy::{LocatedEntry, Position};
 use std::alloc::{AllocError, Global};
 use std::marker::Model;
 
-/// The entries of the lines that give one, and of each whether its line is silent: whether nothing is reported of what
+/// The entries of the lines that give one, and of each whether its line is clean: whether nothing is reported of what
 /// the line says.
 #[derive(Drop)]
 pub(crate) struct ReadEntries<'a> {
     pub(crate) entries: Vec<LocatedEntry<'a>>,
-    pub(crate) silent: Vec<bool>,
+    pub(crate) clean: Vec<bool>,
 }
 
 /// Reads the lines of buffers. Only those that give an entry take memory.
@@ -31,11 +31,11 @@ pub(crate) fn read_entries<'a>(
 ) -> Result<ReadEntries<'a>, AllocError>
     ensures entries { IfOk result
         (λ read. map located_of read.entries.items ≡ located (lines (map (λ b. b.now) buffers.now))) }
-    ensures silent { IfOk result (λ read. read.silent.items ≡ silences (lines (map (λ b. b.now) buffers.now))) }
+    ensures clean { IfOk result (λ read. read.clean.items ≡ are_clean (lines (map (λ b. b.now) buffers.now))) }
 {
     let mut read = ReadEntries {
         entries: Vec::new(alloc),
-        silent: Vec::new(alloc),
+        clean: Vec::new(alloc),
     };
     for line in BufferLines::of(buffers) {
         let (reported, given) = read_strictly(&line);
@@ -44,24 +44,24 @@ pub(crate) fn read_entries<'a>(
     Ok(read)
 }
 
-// Appends the entry of the line at this position, if it gives one, and whether the line is silent.
+// Appends the entry of the line at this position, if it gives one, and whether the line is clean.
 #[inline]
 fn push_read<'a>(
     read: &mut ReadEntries<'a>,
     position: Position,
     given: Option<Entry<'a>>,
-    is_silent: bool,
+    is_clean: bool,
 ) -> Result<(), AllocError>
     ensures entries { OnOk result (map located_of read.new.entries.items
         ≡ map located_of read.old.entries.items
         ++ option_to_list (option_map (λ e. record { position = position; entry = e })
         (option_map mapping_of given.entry))) }
-    ensures silent { OnOk result (read.new.silent.items
-        ≡ read.old.silent.items ++ option_to_list (option_map (λ e. is_silent) (option_map mapping_of given.entry))) }
+    ensures clean { OnOk result (read.new.clean.items
+        ≡ read.old.clean.items ++ option_to_list (option_map (λ e. is_clean) (option_map mapping_of given.entry))) }
 {
     if let Some(entry) = given {
         read.entries.push(LocatedEntry { position, entry })?;
-        read.silent.push(is_silent)?;
+        read.clean.push(is_clean)?;
     }
     Ok(())
 }
@@ -72,9 +72,9 @@ fn push_read<'a>(
 #[derive(Drop)]
 pub(crate) struct KnownLines<'v, 'a> {
     lines: MarkedLines<'v, 'a>,
-    // what was read of the lines, and how many of these entries are of lines that were given
+    // what was read of the lines, and how many of these entries belong to lines that `next` has returned
     entries: &'v [LocatedEntry<'a>],
-    silent: &'v [bool],
+    clean: &'v [bool],
     passed: usize,
 }
 
@@ -87,7 +87,7 @@ impl<'v, 'a> Model for KnownLines<'v, 'a> {
 
     ghost view = { λ s. s.lines };
 
-    ghost invariant = { λ s. IsReadWalk (map located_of (drop s.passed s.entries.now)) (drop s.passed s.silent.now)
+    ghost invariant = { λ s. IsReadWalk (map located_of (drop s.passed s.entries.now)) (drop s.passed s.clean.now)
         (map (λ m. m.0) s.lines) };
 }
 
@@ -99,13 +99,13 @@ impl<'v, 'a> KnownLines<'v, 'a> {
     ) -> KnownLines<'v, 'a>
         requires kept { IsSublist (map located_of_reference kept.now) (located (lines (map (λ b. b.now) buffers.now))) }
         requires entries { map located_of read.now.entries.items ≡ located (lines (map (λ b. b.now) buffers.now)) }
-        requires silent { read.now.silent.items ≡ silences (lines (map (λ b. b.now) buffers.now)) }
+        requires clean { read.now.clean.items ≡ are_clean (lines (map (λ b. b.now) buffers.now)) }
         ensures { result ≡ map (marked (map located_of_reference kept.now)) (lines (map (λ b. b.now) buffers.now)) }
     {
         KnownLines {
             lines: MarkedLines::new(buffers, kept),
             entries: &read.entries,
-            silent: &read.silent,
+            clean: &read.clean,
             passed: 0,
         }
     }
@@ -121,46 +121,46 @@ impl<'v, 'a> Iterator for KnownLines<'v, 'a> {
     fn next(&mut self) -> Option<KnownLine<'a>> {
         let (line, is_kept) = self.lines.next()?;
         let Some(read) = self.entries.get(self.passed) else {
-            return Some(unknown(line, is_kept));
+            return Some(unread(line, is_kept));
         };
         if !is_at(read, line.position) {
-            return Some(unknown(line, is_kept));
+            return Some(unread(line, is_kept));
         }
         let entry = read.entry;
-        let is_silent = silence_at(self.silent, self.passed);
+        let is_clean = is_clean_at(self.clean, self.passed);
         self.passed += 1;
-        Some(known_line(line, is_kept, is_silent, entry))
+        Some(known_line(line, is_kept, is_clean, entry))
     }
 }
 
-// Whether the line of the entry at this index is silent.
+// Whether the line of the entry at this index is clean.
 #[inline]
-fn silence_at(silent: &[bool], index: usize) -> bool
-    requires { index < length silent.now }
-    ensures { result ≡ get_or silent.now index false }
+fn is_clean_at(clean: &[bool], index: usize) -> bool
+    requires { index < length clean.now }
+    ensures { result ≡ get_or clean.now index false }
 {
-    silent[index]
+    clean[index]
 }
 
-// A line and its entry, which is known if the line is silent.
+// A line and its entry, which is known if the line is clean.
 #[inline]
-fn known_line<'a>(line: Line<'a>, is_kept: bool, is_silent: bool, entry: Entry<'a>) -> KnownLine<'a>
-    requires { is_silent ≡ true → SaysOnly (line_of line) (mapping_of entry) }
+fn known_line<'a>(line: Line<'a>, is_kept: bool, is_clean: bool, entry: Entry<'a>) -> KnownLine<'a>
+    requires { is_clean ≡ true → SaysOnly (line_of line) (mapping_of entry) }
     ensures { marked_line_of result ≡ (line_of line.entry, is_kept) }
 {
-    if is_silent {
+    if is_clean {
         return KnownLine {
             line,
             is_kept,
             known: Some(entry),
         };
     }
-    unknown(line, is_kept)
+    unread(line, is_kept)
 }
 
-// A line of which nothing is known.
+// A line that has to be read again.
 #[inline]
-fn unknown<'a>(line: Line<'a>, is_kept: bool) -> KnownLine<'a>
+fn unread<'a>(line: Line<'a>, is_kept: bool) -> KnownLine<'a>
     ensures { marked_line_of result ≡ (line_of line.entry, is_kept) }
 {
     KnownLine {

@@ -4,7 +4,7 @@ ghost use Rattle.std.specs.Iterator.{YieldsFirstBy, item_count};
 ghost use Rattle.std.proofs.Props.{props};
 ghost use Rattle.mailmap_entries.specs.Entries.{mapping_of};
 ghost use Rattle.mailmap_findings.specs.Positions.{line_of, lines, whole_lines};
-ghost use Rattle.mailmap_findings.specs.Silent.{SaysOnly};
+ghost use Rattle.mailmap_findings.specs.Clean.{SaysOnly};
 
 use bstr::{ByteSlice, LinesWithTerminator};
 use mailmap_entries::Entry;

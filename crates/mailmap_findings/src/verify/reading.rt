@@ -6,7 +6,7 @@ ghost use Rattle.mailmap_grammar.specs.Trimming.{trim as spec_trim};
 ghost use Rattle.mailmap_entries.specs.Entries.{mapping_of};
 ghost use Rattle.mailmap_findings.specs.Positions.{IsPieceOf, entry as spec_entry, line_of};
 ghost use Rattle.mailmap_findings.specs.Findings.{reported_of, reported_of_reading as spec_reported};
-ghost use Rattle.mailmap_findings.specs.Silent.{SaysOnly};
+ghost use Rattle.mailmap_findings.specs.Clean.{SaysOnly};
 
 use crate::verify::Kind;
 use crate::verify::lines::Line;

@@ -8,9 +8,9 @@ ghost use Rattle.mailmap_redundancy.specs.Redundancy.{IsSublist, entries, locate
 ghost use Rattle.mailmap_findings.specs.Findings.{finding_of, line_findings as spec_line_findings, reported_of};
 ghost use Rattle.mailmap_findings.specs.Marked.{marked, marked_of};
 ghost use Rattle.mailmap_findings.specs.Positions.{entry, line_of, lines, located, same_position};
-ghost use Rattle.mailmap_findings.specs.Silent.{SaysOnly};
+ghost use Rattle.mailmap_findings.specs.Clean.{SaysOnly};
 
-use crate::verify::contacts::reported_of_entry;
+use crate::verify::effects::reported_of_entry;
 use crate::verify::git::reported_of_git;
 use crate::verify::lines::{BufferLines, Line};
 use crate::verify::reading::{entry_of, read_unless_known};

@@ -1,6 +1,6 @@
 use Rattle.std.proofs.Common.{sym}
 use Rattle.mailmap_findings.specs.Positions.{line_of}
-use Rattle.mailmap_findings.specs.Silent.{reported_of_text}
+use Rattle.mailmap_findings.specs.Clean.{reported_of_text}
 use Rattle.mailmap_findings.proofs.Known.{none_of}
 use Rattle.mailmap_findings.proofs.verify.reading.only_entry.Goals as goal
 

@@ -2,7 +2,7 @@ use Rattle.std.proofs.Common.{◌≡◌, ◌∙◌, ap, map, subst, sym}
 use Rattle.mailmap_redundancy.specs.Redundancy.{located_of, located_of_reference}
 use Rattle.mailmap_findings.specs.Marked.{AreApart, MarkedLine}
 use Rattle.mailmap_findings.specs.Positions.{lines, located}
-use Rattle.mailmap_findings.specs.Silent.{silences}
+use Rattle.mailmap_findings.specs.Clean.{are_clean}
 use Rattle.mailmap_findings.proofs.Known.{lines-marked}
 use Rattle.mailmap_findings.proofs.Placing.{apart_lines}
 use Rattle.mailmap_findings.proofs.verify.known.KnownLines.new.Goals as goal
@@ -13,6 +13,6 @@ invariant_of-result c =
     let same : ls ≡ map (λ (m : MarkedLine). m.0) c.new.result = sym (ap (map (λ (m : MarkedLine). m.0)) c.new.ensures ∙ lines-marked (map located_of_reference c.args.kept.now) ls) in
     record {
       entries = ap (map located_of) c.deref.ensures.value ∙ c.requires.entries ∙ ap located same;
-      silent_too = c.deref-2.ensures.value ∙ c.requires.silent ∙ ap silences same;
+      clean_too = c.deref-2.ensures.value ∙ c.requires.clean ∙ ap are_clean same;
       apart = subst AreApart same (apart_lines 0 (map (λ b. b.now) c.args.buffers.now));
     }

@@ -11,13 +11,13 @@ use Rattle.mailmap_findings.specs.Positions.{Line, entry}
 abbrev pub reported_of_text : Line → Option Reported
 reported_of_text l = reported_of_reading l.text (strict_reading l.position.line l.text)
 
-abbrev pub is_silent : Line → Bool
-is_silent l = is_none (reported_of_text l)
+abbrev pub is_clean : Line → Bool
+is_clean l = is_none (reported_of_text l)
 
--- of each line that gives an entry, whether it is silent
-abbrev pub silences : List Line → List Bool
-silences ls = filter_map (λ l. option_map (λ e. is_silent l) (entry l)) ls
+-- of each line that gives an entry, whether it is clean
+abbrev pub are_clean : List Line → List Bool
+are_clean ls = filter_map (λ l. option_map (λ e. is_clean l) (entry l)) ls
 
 -- the line gives this entry, and nothing else is reported of what it says
 abbrev pub SaysOnly : Line → Mapping → Type 0
-SaysOnly l e = (entry l ≡ Some e) × (is_silent l ≡ true)
+SaysOnly l e = (entry l ≡ Some e) × (is_clean l ≡ true)

@@ -3,7 +3,7 @@ use Rattle.mailmap_redundancy.specs.Numbers.{fields_of}
 use Rattle.mailmap_redundancy.specs.Redundancy.{entries}
 use Rattle.mailmap_findings.specs.Findings.{contact_of, reported_of, reported_of_contact}
 use Rattle.mailmap_findings.proofs.Mapped.{mapped-some, unreported}
-use Rattle.mailmap_findings.proofs.verify.contacts.reported_of_contact.Goals as goal
+use Rattle.mailmap_findings.proofs.verify.effects.reported_of_contact.Goals as goal
 
 pub returns-in_err-found : goal.returns-in_err-found
 returns-in_err-found c =

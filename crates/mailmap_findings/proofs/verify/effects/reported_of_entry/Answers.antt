@@ -3,7 +3,7 @@ use Rattle.std.specs.Option.{option_and_then, option_map}
 use Rattle.mailmap_entries.specs.Entries.{mapping_of}
 use Rattle.mailmap_redundancy.specs.Redundancy.{entries}
 use Rattle.mailmap_findings.specs.Findings.{mapped, reported_of_contact, reported_of_entry}
-use Rattle.mailmap_findings.proofs.verify.contacts.reported_of_entry.Goals as goal
+use Rattle.mailmap_findings.proofs.verify.effects.reported_of_entry.Goals as goal
 
 pub returns-then-is_kept : goal.returns-then-is_kept
 returns-then-is_kept c =
