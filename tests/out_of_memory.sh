@@ -65,7 +65,7 @@ printf 'bob <b@example.com>\nnot a contact\nBOB <B@example.com>\nbob <bob@exampl
 printf 'Joe R. Developer <joe@example.com>\n' > "$work/answered"
 printf 'not a contact\n' >> "$work/answered"
 printf ' Joe R. Developer <joe@example.com> <bugs@example.com>\n' > "$work/compacted"
-printf 'mailmap:1: warning: no effect beside mailmap:1\n' > "$work/told"
+printf 'mailmap:1: warning: no effect beside mailmap:1\n' > "$work/reported"
 printf 'bob <BUGS@example.com> is Joe R. Developer <joe@example.com> by mailmap:1\n' > "$work/explained"
 printf 'not a contact is no contact\n' >> "$work/explained"
 printf '     1\tJoe R. Developer <joe@example.com>\n' > "$work/counted"
@@ -108,7 +108,7 @@ start_program() {
 }
 
 # With the first mode of mailmap_verify the mailmap is given twice, and has no effect the first time.
-add_cases mailmap_verify told 100 contacts mailmap
+add_cases mailmap_verify reported 100 contacts mailmap
 add_cases mailmap_verify explained 100 contacts --explain
 add_cases mailmap_verify beside 66 alike --contacts -
 start_program mailmap_verify
@@ -183,8 +183,8 @@ none_between \
 # twice in verify, three times in unneeded, and in each merge that gives texts up, which calls entries. Of so few texts
 # half are soon out of use, so two more merges than the one that is made for it give some up: that of Snapshot::merge,
 # and that of the third source.
-untold="$(sed -n '/^refused/p' "$printed" | sed '1,/^refused: [^n]/d' | grep -cx 'refused: nothing' || true)"
-[ "$untold" = 9 ] || fail "$untold refusals that no call reported"
+unreported="$(sed -n '/^refused/p' "$printed" | sed '1,/^refused: [^n]/d' | grep -cx 'refused: nothing' || true)"
+[ "$unreported" = 9 ] || fail "$unreported refusals that no call reported"
 calls="$(grep '^refused' "$printed" | grep -cvx 'refused: nothing')"
 
 # What each program says of a failure. mailmap_check has numbers for the files, and the others have their names.
@@ -259,7 +259,7 @@ done
 
 judge mailmap_verify
 verifies="$refusals"
-for mode in told explained beside; do
+for mode in reported explained beside; do
     says mailmap_verify "$mode" 'out of memory' 'empty: out of memory' 'mailmap: out of memory'
 done
 

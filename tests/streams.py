@@ -46,13 +46,14 @@ def wants(what: str, found: object, want: object) -> None:
 
 @dataclass(frozen=True)
 class Asked:
-    """A program with its arguments, and what it answers: to the lines, to the contact `jane <jane@X>`, and to a text that
-    is no contact. It says of an input that can't be read what is last."""
+    """A program with its arguments, and what it answers: to the lines, to the contact `jane <jane@X>`, to a text that is
+    no contact, and to LONG zero bytes. It says of an input that can't be read what is last."""
 
     command: list[str]
     lines: list[tuple[bytes, bytes]]
     jane: bytes
     no_contact: bytes
+    zeros: bytes
     unreadable: bytes
 
 
@@ -76,6 +77,7 @@ def answered_at_once(asked: Asked) -> None:
         (b"", b""),
         (b"jane <jane@X>", asked.jane),
         (long, answer),
+        (b"\0" * LONG, asked.zeros),
         (b"a\n" + long + b"\njane <jane@X>\n", a + answer + asked.jane),
         (b"jane <jane@X>\n" * 100_000, asked.jane * 100_000),
     ]:
@@ -130,6 +132,7 @@ def main() -> None:
             [(line, answer) for line, answer, _ in LINES],
             JANE,
             b"\n",
+            b"\0" * LONG + b"\n",
             b"mailmap_check: cannot read standard input\n",
         ),
         Asked(
@@ -137,6 +140,7 @@ def main() -> None:
             [(line, explained) for line, _, explained in LINES],
             EXPLAINED_JANE,
             b" is no contact\n",
+            rb"\x00" * LONG + b" is no contact\n",
             b"mailmap_verify: standard input: cannot be read\n",
         ),
     ]

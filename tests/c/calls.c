@@ -322,9 +322,9 @@ static bool is_listed(gix_mailmap_listed e, size_t start, long new_name, long ne
 }
 
 /* an entry that no call has written */
-static const gix_mailmap_listed UNTOLD = {99, {98, true}, {97, false}, {96, true}, {95, false}};
+static const gix_mailmap_listed UNWRITTEN = {99, {98, true}, {97, false}, {96, true}, {95, false}};
 
-static bool is_untold(gix_mailmap_listed e)
+static bool is_unwritten(gix_mailmap_listed e)
 {
     return e.start == 99 && is_field(e.new_name, 98, true) && is_field(e.new_email, 97, false)
            && is_field(e.old_name, 96, true) && is_field(e.old_email, 95, false);
@@ -336,42 +336,42 @@ static void listed(const gix_mailmap *map)
     gix_mailmap_len(map, &entries_len, &texts_len);
     WANT(entries_len == 2 && texts_len == 26);
 
-    gix_mailmap_listed entries[3] = {UNTOLD, UNTOLD, UNTOLD};
+    gix_mailmap_listed entries[3] = {UNWRITTEN, UNWRITTEN, UNWRITTEN};
     buffer texts = filled();
     WANT(gix_mailmap_list(map, entries, 2, texts.bytes, 26) == GIX_MAILMAP_OK);
-    WANT(is_listed(entries[0], 0, 8, 6, -1, 4) && is_listed(entries[1], 18, 3, -1, -1, 5) && is_untold(entries[2]));
+    WANT(is_listed(entries[0], 0, 8, 6, -1, 4) && is_listed(entries[1], 18, 3, -1, -1, 5) && is_unwritten(entries[2]));
     WANT(holds(&texts, "Jane Doejane@xjd@yJoejoe@x"));
 
     /* too little room for either keeps both */
-    entries[0] = entries[1] = UNTOLD;
+    entries[0] = entries[1] = UNWRITTEN;
     texts = filled();
     WANT(gix_mailmap_list(map, entries, 1, texts.bytes, 64) == GIX_MAILMAP_TOO_SHORT);
     WANT(gix_mailmap_list(map, entries, 3, texts.bytes, 25) == GIX_MAILMAP_TOO_SHORT);
-    WANT(is_untold(entries[0]) && is_untold(entries[1]) && holds(&texts, ""));
+    WANT(is_unwritten(entries[0]) && is_unwritten(entries[1]) && holds(&texts, ""));
 
     WANT(gix_mailmap_entry(map, 1, &entries[2], texts.bytes, 8) == GIX_MAILMAP_OK);
     WANT(is_listed(entries[2], 0, 3, -1, -1, 5) && holds(&texts, "Joejoe@x"));
     texts = filled();
-    entries[2] = UNTOLD;
+    entries[2] = UNWRITTEN;
     WANT(gix_mailmap_entry(map, 0, &entries[2], texts.bytes, 17) == GIX_MAILMAP_TOO_SHORT);
     WANT(is_listed(entries[2], 0, 8, 6, -1, 4) && holds(&texts, ""));
-    entries[2] = UNTOLD;
+    entries[2] = UNWRITTEN;
     WANT(gix_mailmap_entry(map, 2, &entries[2], texts.bytes, 64) == GIX_MAILMAP_NO_ENTRY);
     WANT(gix_mailmap_entry(map, SIZE_MAX, &entries[2], texts.bytes, 64) == GIX_MAILMAP_NO_ENTRY);
-    WANT(is_untold(entries[2]) && holds(&texts, ""));
+    WANT(is_unwritten(entries[2]) && holds(&texts, ""));
 }
 
 static void listing_of_an_empty_one(const gix_mailmap *map)
 {
     size_t entries_len = 77, texts_len = 78;
-    gix_mailmap_listed entry = UNTOLD;
+    gix_mailmap_listed entry = UNWRITTEN;
     buffer texts = filled();
     gix_mailmap_len(map, &entries_len, &texts_len);
     WANT(entries_len == 0 && texts_len == 0);
     WANT(gix_mailmap_list(map, &entry, 0, texts.bytes, 0) == GIX_MAILMAP_OK);
     WANT(gix_mailmap_list(map, NULL, 0, NULL, 0) == GIX_MAILMAP_OK);
     WANT(gix_mailmap_entry(map, 0, &entry, texts.bytes, 64) == GIX_MAILMAP_NO_ENTRY);
-    WANT(is_untold(entry) && holds(&texts, ""));
+    WANT(is_unwritten(entry) && holds(&texts, ""));
 }
 
 static void written(const gix_mailmap *map)
@@ -573,7 +573,7 @@ static void nulls(void)
     gix_mailmap *map;
     size_t needed = 99;
     gix_mailmap_field new_name = {77, true}, new_email = {77, true};
-    gix_mailmap_listed entry = UNTOLD;
+    gix_mailmap_listed entry = UNWRITTEN;
     WANT(gix_mailmap_open(&map, NULL, 0) == GIX_MAILMAP_OK && gix_mailmap_add(map, NULL, 0) == GIX_MAILMAP_OK);
     WANT(gix_mailmap_lookup(map, NULL, 0, NULL, 0, NULL, 0, &new_name, NULL, 0, &new_email) == GIX_MAILMAP_OK);
     WANT(is_field(new_name, 0, false) && is_field(new_email, 0, false));

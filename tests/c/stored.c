@@ -100,15 +100,15 @@ static void free_list(list l)
     free(l.texts.bytes);
 }
 
-/* the same entry by its place alone */
-static void same_alone(const gix_mailmap *map, size_t place, const gix_mailmap_listed *e, const char *texts)
+/* the same entry by its index */
+static void same_by_index(const gix_mailmap *map, size_t index, const gix_mailmap_listed *e, const char *texts)
 {
     size_t len = e->new_name.len + e->new_email.len + e->old_name.len + e->old_email.len;
     text alone = buffer(len);
-    gix_mailmap_listed told;
-    must(gix_mailmap_entry(map, place, &told, alone.bytes, len) == GIX_MAILMAP_OK, "entry");
-    must(told.start == 0 && memcmp(alone.bytes, texts + e->start, len) == 0, "an entry and its place in the list differ");
-    must(told.new_name.is_given == e->new_name.is_given && told.old_name.len == e->old_name.len, "told apart");
+    gix_mailmap_listed entry;
+    must(gix_mailmap_entry(map, index, &entry, alone.bytes, len) == GIX_MAILMAP_OK, "entry");
+    must(entry.start == 0 && memcmp(alone.bytes, texts + e->start, len) == 0, "an entry and its index in the list differ");
+    must(entry.new_name.is_given == e->new_name.is_given && entry.old_name.len == e->old_name.len, "entries differ");
     free(alone.bytes);
 }
 
@@ -118,7 +118,7 @@ static void put_entries(const gix_mailmap *map)
     for (size_t i = 0; i < l.len; i++) {
         const gix_mailmap_listed *e = &l.entries[i];
         const char *at = l.texts.bytes + e->start;
-        same_alone(map, i, e, l.texts.bytes);
+        same_by_index(map, i, e, l.texts.bytes);
         printf("E ");
         put_hex(at, e->new_name, ' ');
         put_hex(at + e->new_name.len, e->new_email, ' ');

@@ -13,6 +13,7 @@ use Rattle.built_snapshot.specs.declared.answers.Signatures.{Signatures}
 -- n has, and how many names for this one, and it counts a comparison for each of the two that is not 0.
 pub record AreLookups (h n : List Mapping) (signature : SignatureRef) (l : Lookups) : Type 0 where
   pub found : option_map shown l.found ≡ mapped h signature
+  pub of_contact : option_map shown l.of_contact ≡ mapped h signature
   pub counted : option_map shown l.counted ≡ mapped h signature
   pub at_most : l.comparisons ≤ digits (email_count n) + digits (name_count n signature.email.now)
   pub at_least : min 1 (email_count n) + min 1 (name_count n signature.email.now) ≤ l.comparisons

@@ -14,6 +14,8 @@ use std::alloc::{AllocError, Global};
 #[derive(Drop)]
 pub struct Lookups<'s> {
     pub found: Option<ResolvedSignature<'s>>,
+    /// The same, by the lookup that takes a name and an email.
+    pub of_contact: Option<ResolvedSignature<'s>>,
     pub counted: Option<ResolvedSignature<'s>>,
     /// How many comparisons the counted lookup made.
     pub comparisons: usize,
@@ -36,6 +38,7 @@ pub fn look_up<'s>(snapshot: &'s Snapshot, signature: SignatureRef<'_>) -> Looku
     let counted = snapshot.try_resolve_ref_counted(signature, &mut steps);
     Lookups {
         found: snapshot.try_resolve_ref(signature),
+        of_contact: snapshot.try_resolve_contact(signature.name, signature.email),
         counted,
         comparisons: steps.count(),
     }

@@ -29,7 +29,8 @@ pub record AreLines (s : Text) (ls : List Text) : Type 0 where
   pub bare : List Text
   pub each : AllZip IsBare ended bare
   pub no_feed : AllByRecursion (HoldsNo 10) ended
-  pub whole : ((s ≡ fed ended) × (ls ≡ bare)) ⊎ ((last : Text) × (last ≢ []) × HoldsNo 10 last × (s ≡ fed ended ++ last) × (ls ≡ bare ++ last ∷ []))
+  pub whole : ((s ≡ fed ended) × (ls ≡ bare))
+      ⊎ ((last : Text) × (last ≢ []) × HoldsNo 10 last × (s ≡ fed ended ++ last) × (ls ≡ bare ++ last ∷ []))
 
 -- a name and an email as a contact line; without a blank if the name is empty
 abbrev pub contact : Text → Text → Text

@@ -24,7 +24,8 @@ pub record AnswersFront (mappings : List Mapping) (bytes text rest : Text) : Typ
 abbrev pub AnswersParts : List Mapping → Text → List Text → Text → Text → Type 0
 AnswersParts mappings kept [] text rest = (text ≡ []) × (rest ≡ kept)
 AnswersParts mappings kept (part ∷ parts) text rest =
-    (made next later : Text) × (text ≡ made ++ later) × AnswersFront mappings (kept ++ part) made next × AnswersParts mappings next parts later rest
+    (made next later : Text) × (text ≡ made ++ later) × AnswersFront mappings (kept ++ part) made next
+    × AnswersParts mappings next parts later rest
 
 -- each of these is a line and its answer
 abbrev pub AnswersAll : List Mapping → List Kept → Type 0

@@ -48,7 +48,8 @@ fn report(
 
 // The report on mailmaps that are apart.
 fn report_on(alloc: Global, names: &[Vec<u8>], buffers: &[&[u8]]) -> Result<Vec<u8>, AllocError>
-    ensures { IfOk result (λ text. IsReportOf (map (λ n. n.items) names.now) (map (λ b. b.now) buffers.now) text.items) }
+    ensures { IfOk result
+        (λ text. IsReportOf (map (λ n. n.items) names.now) (map (λ b. b.now) buffers.now) text.items) }
 {
     let mailmaps = Mailmaps::read(alloc, buffers)?;
     let verification = Verification::new(alloc, &mailmaps)?;

@@ -323,11 +323,11 @@ fn entries_over_and_over(
 fn assert_merged_at_once(
     rt: &impl Abort,
     alloc: Global,
-    stood: &[Row],
+    before: &[Row],
     entries: &[Entry<'_>],
     want: &[Row],
 ) -> Result<(), AllocError> {
-    let mut snapshot = snapshot_of_rows(alloc, stood)?;
+    let mut snapshot = snapshot_of_rows(alloc, before)?;
     snapshot.merge(entries.iter().copied())?;
     assert_copy_lists(rt, alloc, snapshot, want)
 }
@@ -343,24 +343,24 @@ fn many_rounds_in_one_merge_leave_the_entries_of_the_last(
         EmailOfName(b"n2@y", b"Jane", b"a@x"),
         Name(b"Last", b"a@x"),
     ];
-    static STOOD: [Row; 3] = [
+    static BEFORE: [Row; 3] = [
         Name(b"Ann", b"a@X"),
         EmailOfName(b"n3@y", b"jane", b"a@x"),
         Email(b"n4@y", b"b@x"),
     ];
-    static ALONE: [Row; 2] = [Name(b"Last", b"A@x"), EmailOfName(b"n2@y", b"JANE", b"A@x")];
-    static BEHIND: [Row; 3] = [
+    static ENTRIES_ONLY: [Row; 2] = [Name(b"Last", b"A@x"), EmailOfName(b"n2@y", b"JANE", b"A@x")];
+    static BOTH: [Row; 3] = [
         Name(b"Last", b"a@X"),
         EmailOfName(b"n2@y", b"jane", b"a@X"),
         Email(b"n4@y", b"b@x"),
     ];
     let alloc = rt.alloc();
     let whole = entries_over_and_over(alloc, &ROUND, 16_384)?;
-    assert_merged_at_once(&rt, alloc, &[], &whole, &ALONE)?;
-    assert_merged_at_once(&rt, alloc, &STOOD, &whole, &BEHIND)?;
+    assert_merged_at_once(&rt, alloc, &[], &whole, &ENTRIES_ONLY)?;
+    assert_merged_at_once(&rt, alloc, &BEFORE, &whole, &BOTH)?;
     let broken = entries_over_and_over(alloc, &ROUND, 10_000)?;
-    assert_merged_at_once(&rt, alloc, &[], &broken, &ALONE)?;
-    assert_merged_at_once(&rt, alloc, &STOOD, &broken, &BEHIND)
+    assert_merged_at_once(&rt, alloc, &[], &broken, &ENTRIES_ONLY)?;
+    assert_merged_at_once(&rt, alloc, &BEFORE, &broken, &BOTH)
 }
 
 fn debug_text(alloc: Global, value: &impl Debug) -> Result<String, AllocError> {

@@ -109,7 +109,8 @@ reported_of_line h kept is_kept l =
     option_to_list (option_and_then (reported_of_entry h kept is_kept) (entry l))
 
 abbrev pub line_findings : List Mapping → List LocatedMapping → Bool → Line → List Finding
-line_findings h kept is_kept l = map (λ t. record { position = l.position; reported = t }) (reported_of_line h kept is_kept l)
+line_findings h kept is_kept l =
+    map (λ t. record { position = l.position; reported = t }) (reported_of_line h kept is_kept l)
 
 -- the same; its entry is kept if it is one of `kept`
 abbrev pub findings : List Mapping → List LocatedMapping → Line → List Finding

@@ -31,7 +31,8 @@ whole_lines (b ∷ s) = if b == 10 then (b ∷ []) ∷ whole_lines s else with_f
 -- the lines ts of this buffer, the first of them with this number
 unfoldable pub located_from : ℕ → ℕ → List Text → List Line
 located_from buffer line [] = []
-located_from buffer line (t ∷ ts) = record { position = record { buffer = buffer; line = line }; text = t } ∷ located_from buffer (line + 1) ts
+located_from buffer line (t ∷ ts) =
+    record { position = record { buffer = buffer; line = line }; text = t } ∷ located_from buffer (line + 1) ts
 
 -- the lines of a buffer, numbered from 1
 abbrev pub buffer_lines : ℕ → Text → List Line

@@ -8,7 +8,8 @@ hex_digit value = if nat_lt value 10 then 48 + value else 87 + value
 
 -- a control byte, below 32 or 127, as `\x` and its two hexadecimal digits, and any other byte as it is
 abbrev pub shown_byte : ℕ → List ℕ
-shown_byte byte = if nat_lt byte 32 || byte == 127 then 92 ∷ 120 ∷ hex_digit (byte / 16) ∷ hex_digit (byte % 16) ∷ [] else byte ∷ []
+shown_byte byte =
+    if nat_lt byte 32 || byte == 127 then 92 ∷ 120 ∷ hex_digit (byte / 16) ∷ hex_digit (byte % 16) ∷ [] else byte ∷ []
 
 -- a text as it is shown at a terminal
 abbrev pub shown : List ℕ → List ℕ

@@ -61,7 +61,8 @@ said_beside (Some a) of_email of_name =
 abbrev pub said_of_answer : List Answered → Answered → List Said
 said_of_answer earlier a =
     if list_any (is_answer a.name a.email) earlier then []
-    else said_beside (Some a) (answer_at earlier (first_with_email a.email earlier)) (answer_at earlier (first_with_name a.name a.email earlier))
+    else said_beside (Some a) (answer_at earlier (first_with_email a.email earlier))
+    (answer_at earlier (first_with_name a.name a.email earlier))
 
 -- what is said of a line of contacts after others
 abbrev pub said_of_line : List Mapping → List Text → Text → List Said
@@ -88,7 +89,8 @@ said_text file said = flat_map (said_line file) said
 -- a line of the report of mailmaps
 abbrev pub remark_line : List Text → Remark → Text
 remark_line paths (remark_found f) = finding_line paths f
-remark_line paths (remark_unneeded p) = shown (position_text paths p.buffer p.line ++ codes ": warning: no contact needs it") ++ 10 ∷ []
+remark_line paths (remark_unneeded p) =
+    shown (position_text paths p.buffer p.line ++ codes ": warning: no contact needs it") ++ 10 ∷ []
 
 -- what is remarked of the mailmaps, and after that what is said of the contacts
 abbrev pub both_texts : List Text → Text → List Remark → List Said → Text
@@ -102,17 +104,20 @@ outcome_of_both (r ∷ remarks) said = Found
 -- The text is the report of mailmaps, which these contacts need, and after that of what is said of contacts of this
 -- file.
 abbrev pub IsReportOf : List Text → Text → List Text → Text → List Said → Outcome → Text → Type 0
-IsReportOf paths file mailmaps contacts said outcome text = (remarks : List Remark) × AreRemarks mailmaps contacts remarks
+IsReportOf paths file mailmaps contacts said outcome text = (remarks : List Remark)
+    × AreRemarks mailmaps contacts remarks
     × (text ≡ both_texts paths file remarks said) × (outcome ≡ outcome_of_both remarks said)
 
 -- The text is the report of these mailmaps and contacts.
 abbrev pub IsReportBeside : List Text → Text → List Text → Text → Outcome → Text → Type 0
 IsReportBeside paths file mailmaps contacts outcome text =
-    IsReportOf paths file mailmaps contacts (said_after (entries (located (lines mailmaps))) [] (whole_lines contacts)) outcome text
+    IsReportOf paths file mailmaps contacts
+    (said_after (entries (located (lines mailmaps))) [] (whole_lines contacts)) outcome text
 
 -- ---- notices
 
 -- what a notice says of these answers
 abbrev pub noted : List Answered → Notice → List Said
 noted answers (NoContact line) = no_contact line ∷ []
-noted answers (Alike index likeness) = said_beside (slice_get answers index) (answer_at answers likeness.email) (answer_at answers likeness.name)
+noted answers (Alike index likeness) =
+    said_beside (slice_get answers index) (answer_at answers likeness.email) (answer_at answers likeness.name)

@@ -41,7 +41,8 @@ abbrev pub contact_explained : Grounds → Text → ParsedContact → Text
 contact_explained g line Absent = line ++ codes " is no contact"
 contact_explained g line Unclosed = line ++ codes " is no contact"
 contact_explained g line (Closed name email rest) =
-    contact name email ++ mapped_text g.paths (givers g.kept name email) (scan (entries g.history) name email) name email
+    contact name email
+    ++ mapped_text g.paths (givers g.kept name email) (scan (entries g.history) name email) name email
 
 -- a line of the output, with its control bytes shown; a blank line has none
 abbrev pub shown_unless_blank : Text → Text → Text
@@ -50,7 +51,8 @@ shown_unless_blank (b ∷ line) text = shown text ++ 10 ∷ []
 
 -- the line of the output for a line of contacts
 abbrev pub explained_line : Grounds → Text → Text
-explained_line g line = shown_unless_blank (trim line) (contact_explained g (trim line) (trimmed_contact (cut (trim line))))
+explained_line g line =
+    shown_unless_blank (trim line) (contact_explained g (trim line) (trimmed_contact (cut (trim line))))
 
 -- each of these is a line and what is said of it
 abbrev pub ExplainsEach : Grounds → List Kept → Type 0
@@ -98,4 +100,5 @@ abbrev pub ExplainsLines : List Text → List Text → Option Text → Option Te
 ExplainsLines paths mailmaps old new text = Explains paths mailmaps (λ answer. AnswersLines answer old new) text
 
 abbrev pub ExplainsWholeLines : List Text → List Text → Option Text → Option Text → Text → Type 0
-ExplainsWholeLines paths mailmaps old new text = Explains paths mailmaps (λ answer. AnswersWholeLines answer old new) text
+ExplainsWholeLines paths mailmaps old new text =
+    Explains paths mailmaps (λ answer. AnswersWholeLines answer old new) text

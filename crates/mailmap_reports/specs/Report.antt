@@ -48,12 +48,15 @@ abbrev pub reported_text : List Text → Reported → Text
 reported_text paths (fault f) = codes "error: " ++ fault_text f.kind
 reported_text paths (ignored_text text) = codes "warning: ignored text: " ++ text
 reported_text paths (git_reads reading) = codes "warning: git reads " ++ git_text reading
-reported_text paths (no_effect beside) = codes "warning: no effect beside " ++ position_text paths beside.buffer beside.line
-reported_text paths (itself_mapped c to) = codes "warning: " ++ contact_text c ++ codes " is itself mapped, to " ++ contact_text to
+reported_text paths (no_effect beside) =
+    codes "warning: no effect beside " ++ position_text paths beside.buffer beside.line
+reported_text paths (itself_mapped c to) =
+    codes "warning: " ++ contact_text c ++ codes " is itself mapped, to " ++ contact_text to
 
 -- what a finding says, as it is in the mailmaps
 abbrev pub finding_text : List Text → Finding → Text
-finding_text paths f = position_text paths f.position.buffer f.position.line ++ codes ": " ++ reported_text paths f.reported
+finding_text paths f =
+    position_text paths f.position.buffer f.position.line ++ codes ": " ++ reported_text paths f.reported
 
 -- the line of a finding, with its control bytes shown and its line feed
 abbrev pub finding_line : List Text → Finding → Text

@@ -6,4 +6,5 @@ use Rattle.mailmap_reports.specs.declared.history.History.{History}
 
 -- Whatever lines a history had taken, now it has taken these lines after them.
 abbrev pub Takes : List Text → History → History → Type 0
-Takes taken old new = (mailmaps before : List Text) → HasTaken mailmaps before old → HasTaken mailmaps (before ++ taken) new
+Takes taken old new =
+    (mailmaps before : List Text) → HasTaken mailmaps before old → HasTaken mailmaps (before ++ taken) new

@@ -76,7 +76,8 @@ is_standard_input mode contacts path = if reads_contacts mode contacts then fals
 -- the task with these paths; standard input is as no path
 abbrev pub task_with : Mode → Text → List Text → Asked
 task_with mode contacts [] = task mode contacts []
-task_with mode contacts (path ∷ []) = task mode contacts (if is_standard_input mode contacts path then [] else path ∷ [])
+task_with mode contacts (path ∷ []) =
+    task mode contacts (if is_standard_input mode contacts path then [] else path ∷ [])
 task_with mode contacts (path ∷ next ∷ paths) = task mode contacts (path ∷ next ∷ paths)
 
 -- what the arguments ask for if the mode is known: no other one may come
@@ -119,7 +120,8 @@ AreMailmaps may_open known [] input mailmaps = (mailmap : Text)
 AreMailmaps may_open known (path ∷ paths) input mailmaps = AreRead may_open known (path ∷ paths) mailmaps
 
 -- The mailmaps beside a file of contacts: if the input has the contacts, no path is no mailmap.
-abbrev pub AreMailmapsBeside : (Text → Type 0) → (Text → Option Text) → Text → List Text → Option Text → List Text → Type 0
+abbrev pub AreMailmapsBeside : (Text → Type 0) → (Text → Option Text) → Text → List Text → Option Text → List Text
+    → Type 0
 AreMailmapsBeside may_open known contacts paths input mailmaps =
     (is_dash contacts ≡ true → AreRead may_open known paths mailmaps)
     × (is_dash contacts ≡ false → AreMailmaps may_open known paths input mailmaps)
@@ -145,7 +147,8 @@ OfFiles may_open known paths IsText text = (mailmaps : List Text)
     × AreRead may_open known paths mailmaps × IsText mailmaps text
 
 -- what is printed in each mode, and how the run ends; a mailmap is pruned only if git reads none of its lines otherwise
-abbrev pub IsAnswer : (Text → Type 0) → (Text → Option Text) → Option Text → Mode → Text → List Text → Outcome → Text → Type 0
+abbrev pub IsAnswer : (Text → Type 0) → (Text → Option Text) → Option Text → Mode → Text → List Text → Outcome → Text
+    → Type 0
 IsAnswer may_open known input Help contacts paths outcome text = (text ≡ USAGE.now) × (outcome ≡ Clean)
 IsAnswer may_open known input Version contacts paths outcome text =
     (text ≡ codes "mailmap_verify " ++ VERSION.now ++ 10 ∷ []) × (outcome ≡ Clean)

@@ -12,6 +12,7 @@ unless_empty [] = None
 unless_empty (first ∷ rest) = Some (first ∷ rest)
 
 -- The text is made of what the files at these paths hold, or of no files if no path is given.
-abbrev pub OfFiles : (List ℕ → Type 0) → (List ℕ → Option (List ℕ)) → List (List ℕ) → (Option (List (List ℕ)) → List ℕ → Type 0) → List ℕ → Type 0
+abbrev pub OfFiles : (List ℕ → Type 0) → (List ℕ → Option (List ℕ)) → List (List ℕ)
+    → (Option (List (List ℕ)) → List ℕ → Type 0) → List ℕ → Type 0
 OfFiles may_open known paths IsText text = (contents : List (List ℕ))
     × AreRead may_open known paths contents × IsText (unless_empty contents) text

@@ -29,4 +29,5 @@ standing f c = option_to_list (option_map (λ text. record { text = text; count 
 -- one count more: it comes after the others, or if the last one has its text, it is added to that
 abbrev pub Joins : List Counted → Counted → List Counted → Type 0
 Joins old c new = ((new ≡ old ++ c ∷ []) × ((k : ℕ) → k + 1 ≡ length old → (slice_index_or old k c).text ≢ c.text))
-    ⊎ ((k : ℕ) × (k + 1 ≡ length old) × ((slice_index_or old k c).text ≡ c.text) × (new ≡ slice_set old k (record { text = c.text; count = (slice_index_or old k c).count + c.count })))
+    ⊎ ((k : ℕ) × (k + 1 ≡ length old) × ((slice_index_or old k c).text ≡ c.text)
+    × (new ≡ slice_set old k (record { text = c.text; count = (slice_index_or old k c).count + c.count })))

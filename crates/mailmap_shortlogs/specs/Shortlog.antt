@@ -25,7 +25,8 @@ replaced_text with_email f name email = answer_text with_email (unwrap_or f.name
 abbrev pub contact_counted : Bool → List Mapping → ParsedContact → Option Text
 contact_counted with_email h Absent = None
 contact_counted with_email h Unclosed = None
-contact_counted with_email h (Closed name email rest) = Some (replaced_text with_email (fields_for h name email) name email)
+contact_counted with_email h (Closed name email rest) =
+    Some (replaced_text with_email (fields_for h name email) name email)
 
 -- what is counted for a line
 abbrev pub line_counted : Bool → List Mapping → Text → Option Text
@@ -33,7 +34,8 @@ line_counted with_email h line = contact_counted with_email h (trimmed_contact (
 
 -- the answers to all contacts among the lines, by what the buffers say, one buffer after another
 abbrev pub answers_counted : Bool → List Text → Text → List Text
-answers_counted with_email buffers contacts = filter_map (line_counted with_email (flat_map good buffers)) (lines contacts)
+answers_counted with_email buffers contacts =
+    filter_map (line_counted with_email (flat_map good buffers)) (lines contacts)
 
 -- how often a text comes among others
 abbrev pub times : Text → List Text → ℕ
@@ -66,4 +68,5 @@ counted_text c = six_columns c.count ++ 9 ∷ c.text ++ 10 ∷ []
 
 -- the text has such a line for each of the answers
 abbrev pub IsShortlog : Bool → List Text → Text → Type 0
-IsShortlog by_count answers text = (listed : List Counted) × IsListing by_count answers listed × (text ≡ flat_map counted_text listed)
+IsShortlog by_count answers text =
+    (listed : List Counted) × IsListing by_count answers listed × (text ≡ flat_map counted_text listed)

@@ -91,7 +91,8 @@ EndsReading Output = ⊥
 abbrev pub IsAnswer : (Text → Type 0) → (Text → Option Text) → Option Text → Mode → List Text → Text → Type 0
 IsAnswer may_open known input Help paths text = text ≡ USAGE.now
 IsAnswer may_open known input Version paths text = text ≡ codes "mailmap_shortlog " ++ VERSION.now ++ 10 ∷ []
-IsAnswer may_open known input (Shortlog options) paths text = (mailmaps : List Text) × AreRead may_open known paths mailmaps
+IsAnswer may_open known input (Shortlog options) paths text = (mailmaps : List Text)
+    × AreRead may_open known paths mailmaps
     × ((contacts : Text) × IfSome input (λ bytes. contacts ≡ bytes)
     × IsShortlog options.by_count (answers_counted options.with_email mailmaps contacts) text)
 

@@ -1,8 +1,8 @@
 //! Makes each call of gix_mailmap once, in a run in which at most one request for memory is refused, and judges what it
 //! answers: out of memory, and then the right answer when it is called again, or the right answer at once.
 //!
-//! Standard input has a number. So many requests are made before the calls: where it is always the same request of a run
-//! that is refused, as `rt try --fail-alloc` does it, each number has another request of the calls refused.
+//! Standard input has a number. So many requests are made before the calls: if it is always the same request of a run
+//! that is refused, as by `rt try --fail-alloc`, each number has another request of the calls refused.
 //!
 //! It prints which call was refused, and ends with status 0. If a call did wrong, it prints what, with status 1.
 #![tactic(auto)]

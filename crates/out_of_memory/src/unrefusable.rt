@@ -1,4 +1,4 @@
-//! The calls that take no memory. They stand between requests that the program makes itself: in the run in which the one
+//! The calls that take no memory. They are between requests that the program makes itself: in the run in which the one
 //! after them is refused, each of them is made with the next request set to fail. No other run has its refusal between
 //! the two, so the calls made no request.
 

@@ -19,9 +19,9 @@ const ENOUGH: usize = 65536;
 
 /// Answers contacts that come in parts, as [`check`](crate::check::check()) answers all of them at once.
 ///
-/// It keeps what the buffers map, the beginning of a line that hasn't ended yet, and the last 4,096 lines that came twice,
-/// with their answers: a line that comes once more is mostly answered from these. They take at most 1.1 MiB, however
-/// long the lines are.
+/// It keeps what the buffers map, the beginning of a line that hasn't ended yet, and the last 4,096 lines that came
+/// twice, with their answers: a line that comes once more is mostly answered from these. They take at most 1.1 MiB,
+/// however long the lines are.
 ///
 /// Whatever the parts are, the answers to them and to the last line are together those of `check`:
 /// [`law_stream`](crate::laws::law_stream()).
