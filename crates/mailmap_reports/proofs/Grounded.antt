@@ -11,7 +11,7 @@ use Rattle.mailmap_reports.specs.Report.{shown}
 use Rattle.mailmap_reports.specs.Task.{FailsFor, IsOfInput, OfFiles}
 use Rattle.mailmap_reports.specs.declared.failure.Failure.{Failure}
 use Rattle.mailmap_reports.specs.declared.failure.Failure.TheVariants.{File, Input, Contacts as NoContacts, Memory, Output, ReadOtherwise, TooManyFiles}
-use Rattle.mailmap_reports.specs.declared.task.Mode.TheVariants.{Explain}
+use Rattle.mailmap_reports.specs.declared.asked.Mode.TheVariants.{Explain}
 
 -- a line that is not blank has a line of the output
 pub not_blank : (line text : Text) → (length line == 0) ≡ false → shown_unless_blank line text ≡ shown text ++ 10 ∷ []

@@ -20,7 +20,7 @@ use Rattle.mailmap_reports.specs.Taken.{HasTaken}
 use Rattle.mailmap_reports.specs.Task.{AreContacts, AreMailmapsBeside, IsAnswer, contacts_name, is_dash}
 use Rattle.mailmap_reports.specs.declared.history.History.{History}
 use Rattle.mailmap_reports.specs.declared.history.Notice.{Notice}
-use Rattle.mailmap_reports.specs.declared.task.Mode.TheVariants.{Contacts as TheContacts}
+use Rattle.mailmap_reports.specs.declared.asked.Mode.TheVariants.{Contacts as TheContacts}
 use Rattle.mailmap_reports.proofs.TakingLines.{of_unread}
 
 -- ---- notices

@@ -12,14 +12,14 @@ use Rattle.mailmap_reports.specs.Explained.{ExplainsAll}
 use Rattle.mailmap_reports.specs.Report.{outcome_of, report}
 use Rattle.mailmap_reports.specs.declared.failure.Failure.{Failure}
 use Rattle.mailmap_reports.specs.declared.failure.Failure.TheVariants.{File, Input, Contacts as NoContacts, Memory, Output, TooManyFiles, ReadOtherwise}
-use Rattle.mailmap_reports.specs.declared.task.Misuse.{Misuse}
-use Rattle.mailmap_reports.specs.declared.task.Misuse.TheVariants as misuse
-use Rattle.mailmap_reports.specs.declared.task.Mode.{Mode}
-use Rattle.mailmap_reports.specs.declared.task.Mode.TheVariants.{Help, Version, Verify, Prune, Explain, Contacts}
-use Rattle.mailmap_reports.specs.declared.task.Task.{Task}
+use Rattle.mailmap_reports.specs.declared.asked.Misuse.{Misuse}
+use Rattle.mailmap_reports.specs.declared.asked.Misuse.TheVariants as misuse
+use Rattle.mailmap_reports.specs.declared.asked.Mode.{Mode}
+use Rattle.mailmap_reports.specs.declared.asked.Mode.TheVariants.{Help, Version, Verify, Prune, Explain, Contacts}
+use Rattle.mailmap_reports.specs.declared.asked.Task.{Task}
 use Rattle.mailmap_reports.specs.declared.task.Word.{Word}
 use Rattle.mailmap_reports.specs.declared.task.Word.TheVariants as word
-use Rattle.mailmap_reports.specs.declared.task.TheConstants.{USAGE}
+use Rattle.mailmap_reports.specs.declared.asked.TheConstants.{USAGE}
 
 -- ---- what the arguments ask for
 

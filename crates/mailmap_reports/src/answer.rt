@@ -5,12 +5,12 @@ ghost use Rattle.gix_mailmap.specs.Folding.{Text};
 ghost use Rattle.mailmap_io.specs.Printing.{Prints, PrintsFront};
 ghost use Rattle.mailmap_io.specs.declared.outcome.Outcome.{Outcome as TheOutcome};
 ghost use Rattle.mailmap_io.specs.Files.{AreRead};
-ghost use Rattle.mailmap_reports.specs.declared.task.Mode.{Mode as TheMode};
+ghost use Rattle.mailmap_reports.specs.declared.asked.Mode.{Mode as TheMode};
 ghost use Rattle.mailmap_reports.specs.Task.{AreMailmaps, FailsFor, IsAnswer, IsOfInput, IsReport};
 
+use crate::asked::{Mode, Task, USAGE};
 use crate::failure::Failure;
 use crate::report::print_findings;
-use crate::task::{Mode, Task, USAGE};
 use gix_mailmap::verify::{Mailmaps, Verification, first_read_otherwise, prune};
 use mailmap_io::VERSION;
 use mailmap_io::files::{FileSystem, list_of, read_each, read_file};

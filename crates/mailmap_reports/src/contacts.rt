@@ -18,12 +18,12 @@ ghost use Rattle.mailmap_reports.specs.Task.{AreContacts, AreMailmapsBeside, Fai
 ghost use Rattle.mailmap_reports.specs.Task.{contacts_name, is_dash};
 
 use crate::answer::{read_files, read_mailmaps};
-use crate::explain::{flush, print};
+use crate::asked::Mode;
 use crate::failure::Failure;
 use crate::history::{History, Notice};
 use crate::likeness::{likeness_lines, push_place};
+use crate::printing::{flush, print};
 use crate::report::{line_of, push_position, shown_text};
-use crate::task::Mode;
 use bstr::ByteSlice;
 use gix_mailmap::remarks::{Remark, Remarks};
 use gix_mailmap::verify::{Mailmaps, Position, Verification};

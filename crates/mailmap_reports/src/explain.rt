@@ -1,16 +1,17 @@
 //! Contacts that are explained as they come.
-ghost use Rattle.std.specs.Prelude.{◌≡◌, ◌++◌, ◌⊎◌, [], ℕ, IfErr, IsErrOf, IsOkUnless, OnErr, OnOk, map, take};
+ghost use Rattle.std.specs.Prelude.{◌≡◌, ◌++◌, ◌⊎◌, [], ℕ, IfErr, IsErrOf, OnOk, map, take};
 ghost use Rattle.std.specs.Io.KnownBytes.{Appends, IsAtEnd};
 ghost use Rattle.gix_mailmap.specs.Folding.{Text};
 ghost use Rattle.gix_mailmap.specs.Lines.{HoldsNo};
-ghost use Rattle.mailmap_io.specs.Printing.{IsUnderway, Prints, PrintsFront};
+ghost use Rattle.mailmap_io.specs.Printing.{Prints, PrintsFront};
 ghost use Rattle.mailmap_reports.specs.Explained.{AnswersAll, AnswersFront, AnswersLines, AnswersWholeLines, ExplainsAll, ExplainsLines, ExplainsWholeLines, each_line, explained_line};
 ghost use Rattle.mailmap_reports.specs.Task.{FailsFor, IsOfFile, IsOfInput, OfFiles};
 
 use crate::answer::read_files;
+use crate::asked::Mode;
 use crate::explanation::Explainer;
 use crate::failure::Failure;
-use crate::task::Mode;
+use crate::printing::{flush, print};
 use bstr::ByteSlice;
 use gix_mailmap::verify::Mailmaps;
 use mailmap_io::files::{FileSystem, list_of};
@@ -199,30 +200,4 @@ fn print_lines<W: Write>(
         print(printer, explained.as_slice(), output)?;
     }
     flush(printer, output)
-}
-
-// Prints a piece.
-pub(crate) fn print<W: Write>(
-    printer: &mut Printer,
-    piece: &[u8],
-    output: &mut W,
-) -> Result<(), Failure>
-    ensures ok { OnOk result (IsUnderway (printer.old ++ piece.now) (W.contents output.old) (W.contents output.new)
-        printer.new) }
-    ensures err { OnErr result ((count : ℕ) × Appends (W.contents output.old) (W.contents output.new)
-        (take count (printer.old ++ piece.now))) }
-    ensures only { IsOkUnless result Failure.Output }
-{
-    printer.print(output, piece).map_err(|_| Failure::Output)
-}
-
-// Writes what is held, and flushes.
-pub(crate) fn flush<W: Write>(printer: &mut Printer, output: &mut W) -> Result<(), Failure>
-    ensures ok { OnOk result (Appends (W.contents output.old) (W.contents output.new) printer.old) }
-    ensures err { OnErr result ((count : ℕ) × Appends (W.contents output.old) (W.contents output.new)
-        (take count printer.old)) }
-    ensures empty { printer.new ≡ [] }
-    ensures only { IsOkUnless result Failure.Output }
-{
-    printer.flush(output).map_err(|_| Failure::Output)
 }

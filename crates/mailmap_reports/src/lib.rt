@@ -3,6 +3,7 @@
 #![tactic(auto)]
 
 pub mod answer;
+mod asked;
 pub mod contacts;
 pub mod explain;
 pub mod explanation;
@@ -10,5 +11,6 @@ pub mod failure;
 mod git;
 mod history;
 pub mod likeness;
+mod printing;
 pub mod report;
 pub mod task;

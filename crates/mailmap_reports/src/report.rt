@@ -6,9 +6,9 @@ ghost use Rattle.gix_mailmap.specs.Lines.{fault_of};
 ghost use Rattle.mailmap_io.specs.Printing.{IsUnderway};
 ghost use Rattle.mailmap_reports.specs.Report.{contact_text, finding_text, reported_text, fault_text, file_name, finding_line, outcome_of, position_text, report, shown};
 
-use crate::explain::print;
 use crate::failure::Failure;
 use crate::git::push_reading;
+use crate::printing::print;
 use gix_mailmap::check::push_contact;
 use gix_mailmap::lines::Error;
 use gix_mailmap::verify::{Contact, Finding, Findings, Kind, Position};

@@ -1,4 +1,4 @@
-use Rattle.mailmap_reports.specs.declared.task.Mode.TheVariants.{Contacts}
+use Rattle.mailmap_reports.specs.declared.asked.Mode.TheVariants.{Contacts}
 use Rattle.mailmap_reports.proofs.contacts.read_beside.Goals as goal
 
 pub returns-then-eq-clause-fails : goal.returns-then-eq-clause-fails

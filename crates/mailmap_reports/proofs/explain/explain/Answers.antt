@@ -2,7 +2,7 @@ use Rattle.std.proofs.Common.{rules, ◌≡◌, ◌⊎◌, Err, List, ℕ, Vec, 
 use Rattle.std.proofs.lemmas.Result.{on_ok_weaker}
 use Rattle.mailmap_io.specs.Files.{AreRead}
 use Rattle.mailmap_reports.specs.Explained.{ExplainsAll, ExplainsLines}
-use Rattle.mailmap_reports.specs.declared.task.Mode.TheVariants.{Explain}
+use Rattle.mailmap_reports.specs.declared.asked.Mode.TheVariants.{Explain}
 use Rattle.mailmap_reports.proofs.Grounded.{of_files}
 use Rattle.mailmap_reports.proofs.explain.explain.Goals as goal
 

@@ -2,8 +2,8 @@ use Rattle.std.proofs.Common.{rules, ◌≡◌, ◌≢◌, ◌⊎◌, Err, List,
 use Rattle.std.proofs.lemmas.Result.{IfOk-weaker}
 use Rattle.mailmap_io.specs.declared.outcome.Outcome.{Outcome}
 use Rattle.mailmap_reports.specs.Task.{AreMailmaps, FailsFor, IsAnswer, IsReport}
-use Rattle.mailmap_reports.specs.declared.task.Mode.{Mode}
-use Rattle.mailmap_reports.specs.declared.task.Mode.TheVariants.{Contacts, Explain, Help, Verify, Version}
+use Rattle.mailmap_reports.specs.declared.asked.Mode.{Mode}
+use Rattle.mailmap_reports.specs.declared.asked.Mode.TheVariants.{Contacts, Explain, Help, Verify, Version}
 use Rattle.mailmap_reports.proofs.task.perform.Goals as goal
 
 -- an answer in the mode that the task has
