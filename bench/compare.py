@@ -167,7 +167,7 @@ def growth_table(figures):
         port = {c["lines"]: c["port"] for c in figures["merges"] if c["map"] == kind}
         if len(port) > 1:
             rows.append(grown("a merge of one entry", kind, port, {}, "n"))
-    columns = [" original grows by", " port grows by", " aim"]
+    columns = [" original grows by", " port grows by", " log n or n grows by"]
     return table(["what", "map", *[f" {lines:,} lines" for lines in SIZES], *columns], rows)
 
 
