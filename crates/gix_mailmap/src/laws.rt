@@ -13,9 +13,9 @@ mod text;
 pub use ignored::law_ignored;
 pub use mailmap_entries::laws::{law_entries, law_order, law_order_without_case};
 pub use mailmap_findings::laws::{
-    law_deleted, law_equal_contacts, law_equal_findings, law_equal_kinds, law_in_order,
-    law_none_left, law_one_answer, law_pruned, law_pruned_findings, law_pruned_for_git,
-    law_whole_lines,
+    law_deleted, law_equal_contacts, law_equal_explanations, law_equal_findings, law_equal_kinds,
+    law_in_order, law_none_left, law_one_answer, law_pruned, law_pruned_findings,
+    law_pruned_for_git, law_whole_lines,
 };
 pub use mailmap_git::laws::law_equal_git_readings;
 pub use mailmap_grammar::laws::{
@@ -25,7 +25,7 @@ pub use mailmap_histories::laws::{
     law_condense, law_equal, law_exists, law_headline, law_neighbours, law_of_email, law_one_email,
     law_own_entries, law_reorder, law_repeated, law_scan, law_self, law_shortest, law_unique,
 };
-pub use mailmap_needs::laws::{law_contacts_stay, law_one_unneeded};
+pub use mailmap_needs::laws::{law_contacts_stay, law_equal_remarks, law_one_unneeded};
 pub use mailmap_redundancy::laws::{
     law_each_key_stays, law_equal_positions, law_givers, law_needed, law_none_can_go, law_passes,
     law_same_listing, law_settled, law_some_stay,

@@ -12,6 +12,7 @@ pub mod Read
 pub mod Renumbered
 pub mod Pruned
 pub mod Verified
+pub mod EqualExplanations
 pub mod Ordered
 pub mod Deleted
 pub mod GitAnswers

@@ -14,7 +14,7 @@ ghost use Rattle.mailmap_findings.specs.Positions.{lines, located, same_position
 mod equal;
 mod pruning;
 
-pub use equal::{law_equal_findings, law_equal_kinds};
+pub use equal::{law_equal_explanations, law_equal_findings, law_equal_kinds};
 pub use pruning::{law_none_left, law_pruned_findings};
 
 /// The lines of a buffer, with their line feeds, are the buffer when they are put together again. They say what the

@@ -1,10 +1,14 @@
-//! Laws of the equality of findings.
+//! Laws of the equality of findings and explanations.
 ghost use Rattle.std.specs.Prelude.{◌≡◌, ◌↔◌, true};
+ghost use Rattle.mailmap_findings.specs.Explanations.{explained, explained_by};
 ghost use Rattle.mailmap_findings.specs.Findings.{contact_of, finding_of, reported_of};
+ghost use Rattle.mailmap_findings.specs.declared.explain.Explanation as the_explanation;
+ghost use Rattle.mailmap_findings.specs.declared.explain.Needed as the_needed;
 ghost use Rattle.mailmap_findings.specs.declared.verify.Contact as the_contact;
 ghost use Rattle.mailmap_findings.specs.declared.verify.Finding as the_finding;
 ghost use Rattle.mailmap_findings.specs.declared.verify.Kind as the_kind;
 
+use crate::explain::{Explanation, Needed};
 use crate::verify::{Contact, Finding, Kind};
 
 /// Findings are equal exactly if they are of the same line and report the same.
@@ -22,4 +26,14 @@ pub fn law_equal_kinds()
         → (⟦<Kind<'static> as PartialEq>⟧.eq a b ≡ true) ↔ (reported_of a ≡ reported_of b) }
     ensures contacts { (a b : the_contact.Contact)
         → (⟦<Contact<'static> as PartialEq>⟧.eq a b ≡ true) ↔ (contact_of a ≡ contact_of b) }
+{}
+
+/// Explanations are equal exactly if they say the same new fields and are by the same lines. The lines that an answer
+/// needs are equal exactly if the first and the second are.
+pub fn law_equal_explanations()
+    ensures explanations { (a b : the_explanation.Explanation)
+        → (⟦<Explanation<'static> as PartialEq>⟧.eq a b ≡ true)
+        ↔ ((explained a ≡ explained b) × (explained_by a ≡ explained_by b)) }
+    ensures needed { (a b : the_needed.Needed)
+        → (⟦<Needed as PartialEq>⟧.eq a b ≡ true) ↔ ((a.first ≡ b.first) × (a.second ≡ b.second)) }
 {}
