@@ -2,8 +2,10 @@
 ghost use Rattle.std.specs.Prelude.{◌≡◌, ◌+◌, ◌≤◌, ◌↔◌, IfSome, IsSome, drop, length, take};
 ghost use Rattle.mailmap_repeats.specs.Kept.{Kept};
 
-use crate::table::ROW_LEN;
 use std::marker::Model;
+
+/// How long a line and its answer may be, together, to be kept.
+pub const ROW_LEN: usize = 250;
 
 #[derive(Drop)]
 pub(crate) struct Row {
@@ -15,7 +17,10 @@ pub(crate) struct Row {
 impl Model for Row {
     ghost Value = { Kept };
 
-    ghost view = { λ r. record { line = take r.line_len r.bytes; answer = take r.answer_len (drop r.line_len r.bytes) } };
+    ghost view = { λ r. record {
+      line = take r.line_len r.bytes;
+      answer = take r.answer_len (drop r.line_len r.bytes);
+    } };
 
     ghost invariant = { λ r. r.line_len + r.answer_len ≤ 250 };
 }

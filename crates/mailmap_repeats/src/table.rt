@@ -2,12 +2,10 @@
 ghost use Rattle.std.specs.Prelude.{◌≡◌, ◌+◌, ◌<◌, ◌≤◌, [], List, Contains, IfOk, IfSome, length, vec_capacity};
 ghost use Rattle.mailmap_repeats.specs.Kept.{Kept, PutsIn};
 
+pub use crate::row::ROW_LEN;
 use crate::row::Row;
 use std::alloc::{AllocError, Global};
 use std::marker::Model;
-
-/// How long a line and its answer may be, together, to be kept.
-pub const ROW_LEN: usize = 250;
 
 /// How many lines are kept.
 pub const ROWS: usize = 4096;
@@ -45,8 +43,8 @@ struct Slot {
 /// ```
 ///
 /// All of its memory, some 1.1 MiB, is asked for at once, but most of it isn't touched before it is needed. Putting a
-/// line in takes longer than looking for it. So a caller asks [`missed_before`](LastAnswers::missed_before()) when a line
-/// isn't found, and puts it in when it comes for the second time: few lines are kept that never come again.
+/// line in takes longer than looking for it. So a caller asks [`missed_before`](LastAnswers::missed_before()) when a
+/// line isn't found, and puts it in when it comes for the second time: few lines are kept that never come again.
 ///
 /// A hash says where a line may be. With a wrong hash, or one that several lines have, a line may not be found. That
 /// costs time and changes no answer.
