@@ -8,7 +8,7 @@ ghost use Rattle.mailmap_entries.specs.Folding.{folded, text_cmp};
 ghost use Rattle.mailmap_histories.specs.Histories.{Key, key, key_cmp};
 ghost use Rattle.mailmap_redundancy.specs.Numbers.{AreAscending, ArePrefixes, IsNumber, IsReached, email_key, last_email, last_key};
 
-use crate::guesses::key_hash;
+use crate::hashes::key_hash;
 use mailmap_entries::Entry;
 use mailmap_entries::fold::prefix::{Prefixed, key_prefix};
 use mailmap_entries::fold::{Steps, cmp_ignore_ascii_case};

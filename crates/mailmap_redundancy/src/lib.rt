@@ -6,6 +6,7 @@ mod answers;
 mod fields;
 mod givers;
 mod guesses;
+mod hashes;
 mod key_summary;
 mod keys;
 pub mod laws;
