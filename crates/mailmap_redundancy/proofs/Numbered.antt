@@ -31,9 +31,9 @@ said history = map (λ x. mapping_of x.entry) history
 -- ---- an order of entries
 
 module _ (ms : List Mapping) (ps : List Indexed) (moved : IsPermutation (enumerate_from 0 ms) ps) where
-  -- each stands where it says
-  pub stands : (p : Indexed) → Contains ps p → slice_get ms p.0 ≡ Some p.1
-  stands p has =
+  -- each is where it says
+  pub at_its_index : (p : Indexed) → Contains ps p → slice_get ms p.0 ≡ Some p.1
+  at_its_index p has =
       let here = Contains-permutation ps (enumerate_from 0 ms) p (IsPermutation-sym (enumerate_from 0 ms) ps moved) has in
       let within : here.0 < length ms = omega (arith, here.1, length-enumerate_from 0 ms) in
       let is : (0 + here.0, get_or ms here.0 p.1) ≡ p = sym (get_or-enumerate_from 0 ms here.0 p within) ∙ here.2 in
@@ -64,14 +64,14 @@ found_at history order i at sorted inside is =
     let p : Indexed = indexed_mapping at in
     let within : i < length ps = omega (arith, length-map order indexed_mapping) in
     let read : get_or ps i p ≡ p = get_or-map indexed_mapping order i at p inside ∙ ap indexed_mapping (sym is) in
-    let stood : slice_get (said history) p.0 ≡ Some p.1 = stands (said history) ps sorted.moved p (i, within, read) in
-    let counted : p.0 < length (said history) = slice_get_within (said history) p.0 p.1 stood in
+    let at_index : slice_get (said history) p.0 ≡ Some p.1 = at_its_index (said history) ps sorted.moved p (i, within, read) in
+    let counted : p.0 < length (said history) = slice_get_within (said history) p.0 p.1 at_index in
     let there : p.0 < length history = omega (arith, length-map history (λ (x : LocatedEntry). mapping_of x.entry)) in
     record {
       within = within;
       at = sym read;
       inside = there;
-      says = λ x. sym (get_or-map (λ (y : LocatedEntry). mapping_of y.entry) history p.0 x p.1 there) ∙ get_or_from_slice_get (said history) p.0 p.1 p.1 stood;
+      says = λ x. sym (get_or-map (λ (y : LocatedEntry). mapping_of y.entry) history p.0 x p.1 there) ∙ get_or_from_slice_get (said history) p.0 p.1 p.1 at_index;
     }
 
 -- ---- the walk
@@ -125,8 +125,8 @@ module _ (history : List LocatedEntry) (ps : List Indexed) (i : ℕ) (keys : Lis
     where
       same_mapping : (j : ℕ) (q : Indexed) → j < i + 1 → get_or ps j q ≡ q → q.0 ≡ p.0 → q.1 ≡ p.1
       same_mapping j q lt at here =
-          let first : slice_get (said history) q.0 ≡ Some q.1 = stands (said history) ps sorted.moved q (j, omega arith, at) in
-          let second : slice_get (said history) p.0 ≡ Some p.1 = stands (said history) ps sorted.moved p (i, within, sym is) in
+          let first : slice_get (said history) q.0 ≡ Some q.1 = at_its_index (said history) ps sorted.moved q (j, omega arith, at) in
+          let second : slice_get (said history) p.0 ≡ Some p.1 = at_its_index (said history) ps sorted.moved p (i, within, sym is) in
           some_out q.1 p.1 (sym first ∙ ap (slice_get (said history)) here ∙ second)
 
       by : (j : ℕ) (q : Indexed) → j < i + 1 → get_or ps j q ≡ q → q.0 ≢ p.0 → j < i

@@ -130,7 +130,7 @@ module _ (keys : List Key) (repeated : List Bool) (all : List NumberedEntry) (i 
 
 -- ---- the same, where those that stay come first among the entries
 
--- Before the entry i of the first len: the first kept stayed, and the entries from i on stand where they were.
+-- Before the entry i of the first len: the first kept stayed, and the entries from i on are where they were.
 pub record IsPassingThere (keys : List Key) (repeated : List Bool) (old : List NumberedEntry) (len i : ℕ) (later_ones : List Later) (before : Table) (now : List NumberedEntry) (kept : ℕ) : Type 0 where
   pub whole : length now ≡ length old
   pub first : kept ≤ i
@@ -142,8 +142,8 @@ module _ (keys : List Key) (repeated : List Bool) (old : List NumberedEntry) (le
   pub inside : i < length (take len old)
   inside = omega (arith, length-take len old)
 
-  pub stood : (x : NumberedEntry) → x ≡ get_or now i x → x ≡ get_or (take len old) i x
-  stood x is =
+  pub unmoved : (x : NumberedEntry) → x ≡ get_or now i x → x ≡ get_or (take len old) i x
+  unmoved x is =
       let here : get_or now (i + 0) x ≡ get_or old (i + 0) x = sym (get_or-drop i now 0 x) ∙ ap (λ l. get_or l 0 x) there.rest ∙ get_or-drop i old 0 x in
       let at : i + 0 ≡ i = omega arith in
       is ∙ subst (λ n. get_or now n x ≡ get_or old n x) at here ∙ sym (get_or-take len old i x under)

@@ -92,7 +92,7 @@ none_named : (o : Option Text) → IsSome o → o ≡ None → ⊥
 none_named None named e = true≢false (sym named)
 none_named (Some t) named e = cc
 
--- after the key of an email, where a key of it with a name is there, a key of this email stands next
+-- after the key of an email, where a key of it with a name is there, a key of this email is next
 module _ (ks : List Key) (up : IsStrictlySortedBy key_cmp ks) (number : ℕ) (q : Key) (named : IsSome q.1) (is : IsNumber ks (email_key q.0) number) (has : Contains ks q) where
   abbrev position : ℕ
   position = has.0
@@ -113,15 +113,15 @@ module _ (ks : List Key) (up : IsStrictlySortedBy key_cmp ks) (number : ℕ) (q 
   within : number + 1 < length ks
   within = let last : position < length ks = has.1 in omega (arith, after)
 
-  stands_next : slice_get ks (number + 1) ≡ Some next
-  stands_next = slice_get-get_or ks (number + 1) q within
+  has_next : slice_get ks (number + 1) ≡ Some next
+  has_next = slice_get-get_or ks (number + 1) q within
 
   reached : is_lt (key_cmp q next) ≡ false
   reached =
       ⊎_elim
-      (λ same. subst (λ k. is_lt (key_cmp q k) ≡ false) (some_out q next (sym there ∙ ap (slice_get ks) same ∙ stands_next)) (itself_reached q))
+      (λ same. subst (λ k. is_lt (key_cmp q k) ≡ false) (some_out q next (sym there ∙ ap (slice_get ks) same ∙ has_next)) (itself_reached q))
       (⊎_elim (λ less. absurd (omega (arith, after, less)))
-      (λ more. ap is_lt (keys_total.antisymm q next ∙ ap ordering_reverse (below ks (number + 1) position next q up stands_next there more))))
+      (λ more. ap is_lt (keys_total.antisymm q next ∙ ap ordering_reverse (below ks (number + 1) position next q up has_next there more))))
       (cases_order position (number + 1))
 
   pub next_within : number + 1 < length ks

@@ -23,7 +23,8 @@ last_or_all None others = others
 
 abbrev pub those_that_count : List LocatedMapping → Text → Text → List LocatedMapping
 those_that_count kept name email =
-    last_or_all (last (entries_of_key kept (folded email, Some (folded name)))) (entries_of_key kept (folded email, None))
+    last_or_all (last (entries_of_key kept (folded email, Some (folded name))))
+    (entries_of_key kept (folded email, None))
 
 -- the entries that give the new name and the new email; if there is no new email, the first entry of the email, which
 -- spells it
@@ -38,14 +39,16 @@ with_spelling name email first = record { name = name; email = email; spelling =
 abbrev pub givers : List LocatedMapping → Text → Text → Givers
 givers kept name email =
     let those = those_that_count kept name email in
-    with_spelling (last_with (λ e. e.new_name) those) (last_with (λ e. e.new_email) those) (first (entries_of_email kept (folded email)))
+    with_spelling (last_with (λ e. e.new_name) those) (last_with (λ e. e.new_email) those)
+    (first (entries_of_email kept (folded email)))
 
 -- what they give: the spelling counts if it is not the very email
 abbrev pub given : Givers → Text → Option Fields
 given g email =
     unless_empty (record {
       name = option_and_then (λ x. x.entry.new_name) g.name;
-      email = option_or (option_and_then (λ x. x.entry.new_email) g.email) (option_and_then (λ x. respelled x.entry.old_email email) g.spelling);
+      email = option_or (option_and_then (λ x. x.entry.new_email) g.email)
+          (option_and_then (λ x. respelled x.entry.old_email email) g.spelling);
     })
 
 -- all of them: without any other entry the answer is the same

@@ -64,11 +64,13 @@ pub record KeyGivers : Type 0 where
   pub last : Option LocatedMapping
 
 abbrev pub last_givers : List LocatedMapping → KeyGivers
-last_givers xs = record { name = last_with (λ e. e.new_name) xs; email = last_with (λ e. e.new_email) xs; last = last xs }
+last_givers xs =
+    record { name = last_with (λ e. e.new_name) xs; email = last_with (λ e. e.new_email) xs; last = last xs }
 
 -- of some entries and of those after them
 abbrev pub joined_givers : KeyGivers → KeyGivers → KeyGivers
-joined_givers a b = record { name = option_or b.name a.name; email = option_or b.email a.email; last = option_or b.last a.last }
+joined_givers a b =
+    record { name = option_or b.name a.name; email = option_or b.email a.email; last = option_or b.last a.last }
 
 -- those that a row refers to
 abbrev pub key_givers_of : KeyEntries → KeyGivers

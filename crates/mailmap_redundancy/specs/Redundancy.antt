@@ -16,7 +16,7 @@ pub record LocatedMapping : Type 0 where
 abbrev pub located_of : LocatedEntry → LocatedMapping
 located_of x = record { position = x.position; entry = mapping_of x.entry }
 
--- the same behind a reference
+-- the same, of an entry that is referred to
 abbrev pub located_of_reference : Bor LocatedEntry → LocatedMapping
 located_of_reference x = located_of x.now
 

@@ -79,8 +79,12 @@ same_fields fields (Some last) = same_optional fields.name last.name && same_opt
 -- earlier one gave the same.
 abbrev pub is_value_unchanged : KeySummary → Mapping → Later → Bool
 is_value_unchanged before e later =
-    if is_some e.old_name then (is_some before.old_name || later.same_old_name) && (later.has_key || same_fields (new_fields e) before.last)
-    else (is_last_unchanged before.name e.new_name later.gives_name && is_last_unchanged before.email e.new_email later.gives_email)
+    if is_some e.old_name then
+    (is_some before.old_name || later.same_old_name)
+    && (later.has_key || same_fields (new_fields e) before.last)
+    else
+    (is_last_unchanged before.name e.new_name later.gives_name
+    && is_last_unchanged before.email e.new_email later.gives_email)
 
 -- the key is there without the entry, its email is spelled the same, and its value is the same
 abbrev pub is_redundant_before : Summary → Mapping → Later → Bool

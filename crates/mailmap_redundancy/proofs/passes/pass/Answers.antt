@@ -7,7 +7,7 @@ use Rattle.mailmap_redundancy.specs.Redundancy.{IsPass, done, entries}
 use Rattle.mailmap_redundancy.specs.Summaries.{summary, is_redundant_before}
 use Rattle.mailmap_redundancy.specs.Numbers.{IsNumbered, email_key, entry_of, summary_of, mappings}
 use Rattle.mailmap_redundancy.proofs.RepeatedKeys.{repeated_is, within_rows}
-use Rattle.mailmap_redundancy.proofs.Passing.{IsPassing, inside, kept_there, passed_unrepeated, passed_going, passed_staying, passed_there, some_asked, stood}
+use Rattle.mailmap_redundancy.proofs.Passing.{IsPassing, inside, kept_there, passed_unrepeated, passed_going, passed_staying, passed_there, some_asked, unmoved}
 use Rattle.mailmap_redundancy.proofs.passes.pass.Goals as goal
 use Rattle.mailmap_redundancy.proofs.passes.pass.Goals.{then-repeated-x+in-Some+else-is_redundant, else-repeated-x}
 
@@ -41,7 +41,7 @@ bounds-repeated-x c =
     let there = c.loop-index.invariant in
     let so = there.so in
     let within = inside keys repeated old len i c.loop-index-test.true c.requires.within c.loop-index.later_ones.items c.loop-index.table now c.loop-index.kept there in
-    let is = stood keys repeated old len i c.loop-index-test.true c.requires.within c.loop-index.later_ones.items c.loop-index.table now c.loop-index.kept there x c.index-entries-index.is in
+    let is = unmoved keys repeated old len i c.loop-index-test.true c.requires.within c.loop-index.later_ones.items c.loop-index.table now c.loop-index.kept there x c.index-entries-index.is in
     let n = subst (IsNumbered keys) (sym is) (c.requires.numbered i x within) in
     within_rows keys (email_key (key (entry_of x)).0) x.email repeated c.requires.rows n.of_email
 
@@ -59,7 +59,7 @@ unreachable-requires c =
     let there = c.loop-index.invariant in
     let so = there.so in
     let within = inside keys repeated old len i c.loop-index-test.true c.requires.within c.loop-index.later_ones.items c.loop-index.table now c.loop-index.kept there in
-    let is = stood keys repeated old len i c.loop-index-test.true c.requires.within c.loop-index.later_ones.items c.loop-index.table now c.loop-index.kept there x c.index-entries-index.is in
+    let is = unmoved keys repeated old len i c.loop-index-test.true c.requires.within c.loop-index.later_ones.items c.loop-index.table now c.loop-index.kept there x c.index-entries-index.is in
     let n = subst (IsNumbered keys) (sym is) (c.requires.numbered i x within) in
     let none : c.loop-index.later_ones.items ≡ [] = search rules in
     some_asked keys repeated all i x within is n c.loop-index.later_ones.items c.loop-index.table kept so (repeated_is keys repeated x c.requires.ascending n ∙ c.if-repeated-x.true) none
@@ -78,7 +78,7 @@ summary-requires-clause-key c =
     let there = c.loop-index.invariant in
     let so = there.so in
     let within = inside keys repeated old len i c.loop-index-test.true c.requires.within c.loop-index.later_ones.items c.loop-index.table now c.loop-index.kept there in
-    let is = stood keys repeated old len i c.loop-index-test.true c.requires.within c.loop-index.later_ones.items c.loop-index.table now c.loop-index.kept there x c.index-entries-index.is in
+    let is = unmoved keys repeated old len i c.loop-index-test.true c.requires.within c.loop-index.later_ones.items c.loop-index.table now c.loop-index.kept there x c.index-entries-index.is in
     let n = subst (IsNumbered keys) (sym is) (c.requires.numbered i x within) in
     omega (arith, (so.table.summaries (key (entry_of x)) x.key n.own).0, c.loop-index.table.summaries.ok.0)
 
@@ -96,7 +96,7 @@ summary-requires-clause-email c =
     let there = c.loop-index.invariant in
     let so = there.so in
     let within = inside keys repeated old len i c.loop-index-test.true c.requires.within c.loop-index.later_ones.items c.loop-index.table now c.loop-index.kept there in
-    let is = stood keys repeated old len i c.loop-index-test.true c.requires.within c.loop-index.later_ones.items c.loop-index.table now c.loop-index.kept there x c.index-entries-index.is in
+    let is = unmoved keys repeated old len i c.loop-index-test.true c.requires.within c.loop-index.later_ones.items c.loop-index.table now c.loop-index.kept there x c.index-entries-index.is in
     let n = subst (IsNumbered keys) (sym is) (c.requires.numbered i x within) in
     omega (arith, (so.table.spellings (folded (entry_of x).old_email) x.email n.of_email).0, c.loop-index.table.spellings.ok.0)
 
@@ -114,7 +114,7 @@ append-requires-clause-key c =
     let there = c.loop-index.invariant in
     let so = there.so in
     let within = inside keys repeated old len i c.loop-index-test.true c.requires.within c.loop-index.later_ones.items c.loop-index.table now c.loop-index.kept there in
-    let is = stood keys repeated old len i c.loop-index-test.true c.requires.within c.loop-index.later_ones.items c.loop-index.table now c.loop-index.kept there x c.index-entries-index.is in
+    let is = unmoved keys repeated old len i c.loop-index-test.true c.requires.within c.loop-index.later_ones.items c.loop-index.table now c.loop-index.kept there x c.index-entries-index.is in
     let n = subst (IsNumbered keys) (sym is) (c.requires.numbered i x within) in
     omega (arith, (so.table.summaries (key (entry_of x)) x.key n.own).0, c.loop-index.table.summaries.ok.0)
 
@@ -132,7 +132,7 @@ append-requires-clause-email c =
     let there = c.loop-index.invariant in
     let so = there.so in
     let within = inside keys repeated old len i c.loop-index-test.true c.requires.within c.loop-index.later_ones.items c.loop-index.table now c.loop-index.kept there in
-    let is = stood keys repeated old len i c.loop-index-test.true c.requires.within c.loop-index.later_ones.items c.loop-index.table now c.loop-index.kept there x c.index-entries-index.is in
+    let is = unmoved keys repeated old len i c.loop-index-test.true c.requires.within c.loop-index.later_ones.items c.loop-index.table now c.loop-index.kept there x c.index-entries-index.is in
     let n = subst (IsNumbered keys) (sym is) (c.requires.numbered i x within) in
     omega (arith, (so.table.spellings (folded (entry_of x).old_email) x.email n.of_email).0, c.loop-index.table.spellings.ok.0)
 
@@ -150,7 +150,7 @@ loop-index-preserved-then-is_redundant c =
     let there = c.loop-index.invariant in
     let so = there.so in
     let within = inside keys repeated old len i c.loop-index-test.true c.requires.within c.loop-index.later_ones.items c.loop-index.table now c.loop-index.kept there in
-    let is = stood keys repeated old len i c.loop-index-test.true c.requires.within c.loop-index.later_ones.items c.loop-index.table now c.loop-index.kept there x c.index-entries-index.is in
+    let is = unmoved keys repeated old len i c.loop-index-test.true c.requires.within c.loop-index.later_ones.items c.loop-index.table now c.loop-index.kept there x c.index-entries-index.is in
     let n = subst (IsNumbered keys) (sym is) (c.requires.numbered i x within) in
     let some = of_repeated keys repeated (mappings kept) in
     let left = c.pop.new.self.items in
@@ -175,7 +175,7 @@ loop-index-preserved c =
     let there = c.loop-index.invariant in
     let so = there.so in
     let within = inside keys repeated old len i c.loop-index-test.true c.requires.within c.loop-index.later_ones.items c.loop-index.table now c.loop-index.kept there in
-    let is = stood keys repeated old len i c.loop-index-test.true c.requires.within c.loop-index.later_ones.items c.loop-index.table now c.loop-index.kept there x c.index-entries-index.is in
+    let is = unmoved keys repeated old len i c.loop-index-test.true c.requires.within c.loop-index.later_ones.items c.loop-index.table now c.loop-index.kept there x c.index-entries-index.is in
     let n = subst (IsNumbered keys) (sym is) (c.requires.numbered i x within) in
     let more = kept ++ x ∷ [] in
     kept_there keys repeated old len i c.loop-index-test.true c.requires.within c.loop-index.later_ones.items c.loop-index.table now c.loop-index.kept there x c.if-repeated-x.later_ones.items c.if-repeated-x.table
