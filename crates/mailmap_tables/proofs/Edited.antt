@@ -10,7 +10,7 @@ use Rattle.mailmap_tables.specs.Reserved.{one_later}
 use Rattle.mailmap_tables.specs.Texts.{IsBare}
 use Rattle.mailmap_tables.specs.declared.texts.Span.{Span}
 use Rattle.mailmap_tables.specs.declared.texts.Texts.{Texts}
-use Rattle.mailmap_tables.specs.declared.tables.EmailRow.{EmailRow}
+use Rattle.mailmap_tables.specs.declared.rows.EmailRow.{EmailRow}
 use Rattle.mailmap_tables.proofs.Pooled.{end_above, end_within}
 
 -- ---- a list with one more

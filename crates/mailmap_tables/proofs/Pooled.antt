@@ -9,7 +9,7 @@ use Rattle.mailmap_tables.specs.Pool.{RowsLie, TextsLie, fields_of, names_of, sp
 use Rattle.mailmap_tables.specs.Texts.{email_span, name_span, old_span}
 use Rattle.mailmap_tables.specs.declared.texts.Span.{Span}
 use Rattle.mailmap_tables.specs.declared.texts.Texts.{Texts}
-use Rattle.mailmap_tables.specs.declared.tables.EmailRow.{EmailRow}
+use Rattle.mailmap_tables.specs.declared.rows.EmailRow.{EmailRow}
 use Rattle.mailmap_histories.proofs.Parts.{all_append}
 
 -- ---- a pool that grows

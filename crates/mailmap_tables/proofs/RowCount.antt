@@ -8,7 +8,7 @@ use Rattle.mailmap_entries.specs.Entries.{Mapping}
 use Rattle.mailmap_histories.specs.Histories.{mapping_with}
 use Rattle.mailmap_tables.specs.Pool.{names_of, name_group, email_group, end_of, Follow}
 use Rattle.mailmap_tables.specs.declared.texts.Texts.{Texts}
-use Rattle.mailmap_tables.specs.declared.tables.EmailRow.{EmailRow}
+use Rattle.mailmap_tables.specs.declared.rows.EmailRow.{EmailRow}
 
 -- one, if there is any
 one : (b : Bool) (m : Mapping) → length (if b then m ∷ [] else []) ≤ 1

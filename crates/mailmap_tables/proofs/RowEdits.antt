@@ -17,7 +17,7 @@ use Rattle.mailmap_tables.specs.Reserved.{one_later, with_email_at}
 use Rattle.mailmap_tables.specs.Texts.{IsBare, old_span}
 use Rattle.mailmap_tables.specs.declared.texts.Span.{Span}
 use Rattle.mailmap_tables.specs.declared.texts.Texts.{Texts}
-use Rattle.mailmap_tables.specs.declared.tables.EmailRow.{EmailRow}
+use Rattle.mailmap_tables.specs.declared.rows.EmailRow.{EmailRow}
 use Rattle.mailmap_tables.proofs.Edited.{all_insert, all_set, bare_group, end_of-insert, end_of-lengthen, end_of-set, follow_insert, follow_lengthen, follow_set, prefixes_lengthen, groups_insert, groups_set, lengthen, lengthen_lie, lengthened, pending_insert, map-insert, range_ends, range_up}
 use Rattle.mailmap_tables.proofs.Pooled.{all_at, end_within}
 

@@ -7,7 +7,7 @@ use Rattle.mailmap_entries.specs.Folding.{Text}
 use Rattle.mailmap_tables.specs.Groups.{EmailGroup}
 use Rattle.mailmap_tables.specs.Pool.{names_of, name_group, email_group, Follow, end_of}
 use Rattle.mailmap_tables.specs.declared.texts.Texts.{Texts}
-use Rattle.mailmap_tables.specs.declared.tables.EmailRow.{EmailRow}
+use Rattle.mailmap_tables.specs.declared.rows.EmailRow.{EmailRow}
 use Rattle.mailmap_tables.proofs.Pooled.{end_above, end_within}
 
 -- from the first name of the first email up to the last name of the last

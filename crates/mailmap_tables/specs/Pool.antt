@@ -10,7 +10,7 @@ use Rattle.mailmap_tables.specs.Groups.{EmailGroup, Contents}
 use Rattle.mailmap_tables.specs.Texts.{old_span, name_span, email_span}
 use Rattle.mailmap_tables.specs.declared.texts.Span.{Span}
 use Rattle.mailmap_tables.specs.declared.texts.Texts.{Texts}
-use Rattle.mailmap_tables.specs.declared.tables.EmailRow.{EmailRow}
+use Rattle.mailmap_tables.specs.declared.rows.EmailRow.{EmailRow}
 
 -- the bytes that a span names
 abbrev pub spelled : Text → Span → Text

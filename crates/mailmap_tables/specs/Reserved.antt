@@ -8,7 +8,7 @@ use Rattle.mailmap_tables.specs.Groups.{EmailGroup, Contents, email_key}
 use Rattle.mailmap_batches.specs.Given.{NameGroup}
 use Rattle.mailmap_tables.specs.Merging.{EmailLookup, NameLookup}
 use Rattle.mailmap_batches.specs.Batches.{email_text}
-use Rattle.mailmap_tables.specs.declared.tables.EmailRow.{EmailRow}
+use Rattle.mailmap_tables.specs.declared.rows.EmailRow.{EmailRow}
 
 -- what tables hold, and how many bytes, emails and names more there is room for
 pub record Reserved : Type 0 where

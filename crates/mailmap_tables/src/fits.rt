@@ -11,8 +11,9 @@ ghost use Rattle.mailmap_tables.specs.Pool.{NameLies, name_group};
 ghost use Rattle.mailmap_tables.specs.Reserved.{HasReserved, OwnWithin, own_bytes};
 
 use crate::lengths::texts_len;
+use crate::rows::NameRow;
 use crate::search::{find_email_last_first, find_name};
-use crate::tables::{NameRow, Tables};
+use crate::tables::Tables;
 use crate::texts::Texts;
 use crate::view::View;
 use mailmap_entries::Entry;

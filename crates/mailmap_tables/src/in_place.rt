@@ -15,8 +15,9 @@ ghost use Rattle.mailmap_tables.specs.Reserved.{EmailChanged, EmailReady, Fits, 
 ghost use Rattle.mailmap_tables.specs.Reserved.{TookReserved, name_reserved, own_reserved};
 
 use crate::reserved::ReservedTables;
+use crate::rows::NameRow;
 use crate::search::{find_email_last_first, find_name};
-use crate::tables::{NameRow, Tables};
+use crate::tables::Tables;
 use mailmap_batches::groups::{Given, Named};
 use mailmap_entries::Entry;
 use std::alloc::{AllocError, Global};

@@ -15,8 +15,9 @@ ghost use Rattle.mailmap_tables.specs.Pool.{spelled, LiesIn, NameLies, RowsLie, 
 
 use crate::lengths::texts_len;
 use crate::listing::Iter;
+use crate::rows::NameRow;
 use crate::search::{find_email, find_name};
-use crate::tables::{NameRow, Tables};
+use crate::tables::Tables;
 use crate::texts::{Span, Texts};
 use crate::view::View;
 use mailmap_batches::batch::sorted;

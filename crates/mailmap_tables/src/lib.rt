@@ -11,6 +11,7 @@ mod merge;
 mod pool;
 mod portions;
 mod reserved;
+pub mod rows;
 pub mod search;
 pub mod tables;
 pub mod texts;

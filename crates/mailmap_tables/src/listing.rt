@@ -8,7 +8,7 @@ ghost use Rattle.mailmap_tables.specs.Groups.{listing, name_row, own_rows};
 ghost use Rattle.mailmap_tables.specs.Remaining.{left_to_list};
 ghost use Rattle.mailmap_tables.specs.Pool.{NameLies, TextsLie, group_of, name_group};
 
-use crate::tables::NameRow;
+use crate::rows::NameRow;
 use crate::texts::Texts;
 use crate::view::View;
 use mailmap_entries::Entry;

@@ -5,7 +5,8 @@ ghost use Rattle.std.specs.List.{AllByRecursion, HoldsAt, insert};
 ghost use Rattle.mailmap_tables.specs.Reserved.{one_later};
 
 use crate::pool::Pool;
-use crate::tables::{EmailRow, NameRow, Tables};
+use crate::rows::{EmailRow, NameRow};
+use crate::tables::Tables;
 use crate::texts::{Span, Texts};
 use crate::view::{View, last_end};
 use mailmap_batches::groups::{Given, Named};

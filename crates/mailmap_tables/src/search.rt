@@ -9,7 +9,7 @@ ghost use Rattle.mailmap_tables.specs.KeySearch.{IsFound, IsMissing};
 ghost use Rattle.mailmap_tables.specs.Pool.{LiesIn, NameLies, name_group};
 ghost use Rattle.mailmap_tables.specs.Texts.{old_span};
 
-use crate::tables::NameRow;
+use crate::rows::NameRow;
 use crate::view::View;
 use mailmap_entries::fold::prefix::Prefixed;
 use mailmap_entries::fold::{Probe, Steps, search};

@@ -7,24 +7,13 @@ ghost use Rattle.mailmap_entries.specs.Folding.{folded};
 ghost use Rattle.mailmap_entries.specs.Prefixes.{IsKeyPrefix};
 
 use crate::pool::Pool;
+use crate::rows::{EmailRow, NameRow};
 use crate::texts::{Span, Texts};
 use crate::view::{View, last_end};
 use mailmap_batches::groups::{Given, Named};
 use mailmap_entries::fold::prefix::key_prefix;
 use std::alloc::{AllocError, Global};
 use std::marker::Model;
-
-/// The texts of an old name of an email. The new email is always there.
-pub type NameRow = Texts;
-
-/// The texts of an email, those that were given for it without an old name, and the range of its names in the table of
-/// names.
-#[derive(Clone, Copy)]
-pub struct EmailRow {
-    pub texts: Texts,
-    pub names_start: usize,
-    pub names_end: usize,
-}
 
 /// The pool and the two tables. While tables are built, names come before the email that takes them.
 ///

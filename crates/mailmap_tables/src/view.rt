@@ -4,7 +4,7 @@ ghost use Rattle.std.specs.Option.{option_map, option_copied, ForSome};
 ghost use Rattle.std.specs.List.{AllByRecursion, flat_map};
 ghost use Rattle.mailmap_tables.specs.Pool.{end_of};
 
-use crate::tables::{EmailRow, NameRow};
+use crate::rows::{EmailRow, NameRow};
 use crate::texts::{Span, Texts, fields};
 use mailmap_entries::fold::prefix::Prefixed;
 use std::marker::Model;

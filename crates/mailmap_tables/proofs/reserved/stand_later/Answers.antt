@@ -1,7 +1,7 @@
 use Rattle.std.proofs.Common.{◌≡◌, ◌<◌, ◌++◌, List, [], ◌∷◌, ℕ, zero, suc, get_or, map, take, drop, length, refl, ap, ◌∙◌, arith}
 use Rattle.std.proofs.lemmas.List.Edits.{map_over_more}
 use Rattle.mailmap_tables.specs.Reserved.{one_later}
-use Rattle.mailmap_tables.specs.declared.tables.EmailRow.{EmailRow}
+use Rattle.mailmap_tables.specs.declared.rows.EmailRow.{EmailRow}
 use Rattle.mailmap_tables.proofs.Pooled.{all_at}
 use Rattle.mailmap_tables.proofs.RowEdits.{get_or_any}
 use Rattle.mailmap_tables.proofs.reserved.stand_later.Goals as goal

@@ -7,7 +7,7 @@ use Rattle.mailmap_tables.specs.Groups.{Contents}
 use Rattle.mailmap_tables.specs.Merging.{bare}
 use Rattle.mailmap_tables.specs.Pool.{AreTables, LiesIn, contents, email_group, end_of, spelled}
 use Rattle.mailmap_tables.specs.Reserved.{Reserved}
-use Rattle.mailmap_tables.specs.declared.tables.EmailRow.{EmailRow}
+use Rattle.mailmap_tables.specs.declared.rows.EmailRow.{EmailRow}
 use Rattle.mailmap_tables.proofs.RowEdits.{contents-insert_email, tables-insert_email}
 use Rattle.mailmap_tables.proofs.reserved.ReservedTables.insert_email.Goals as goal
 

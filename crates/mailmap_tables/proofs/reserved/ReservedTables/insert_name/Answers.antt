@@ -4,7 +4,7 @@ use Rattle.std.proofs.lemmas.List.{length-map}
 use Rattle.mailmap_tables.specs.Groups.{Contents, EmailGroup}
 use Rattle.mailmap_tables.specs.Pool.{AreTables, NameLies, contents, email_group, name_group}
 use Rattle.mailmap_tables.specs.Reserved.{Reserved, with_email_at}
-use Rattle.mailmap_tables.specs.declared.tables.EmailRow.{EmailRow}
+use Rattle.mailmap_tables.specs.declared.rows.EmailRow.{EmailRow}
 use Rattle.mailmap_tables.proofs.Edited.{lengthen, ranges_after}
 use Rattle.mailmap_tables.proofs.RowEdits.{at_group, contents-insert_name, emails_written, from_group, get_or_any, names_count, names_within, stands_up, tables-insert_name}
 use Rattle.mailmap_tables.proofs.reserved.ReservedTables.insert_name.Goals as goal

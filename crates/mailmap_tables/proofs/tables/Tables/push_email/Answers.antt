@@ -5,7 +5,7 @@ use Rattle.mailmap_tables.specs.Texts.{old_span}
 use Rattle.mailmap_entries.specs.Folding.{folded}
 use Rattle.mailmap_entries.specs.Prefixes.{key_prefix}
 use Rattle.mailmap_tables.specs.Groups.{Contents}
-use Rattle.mailmap_tables.specs.declared.tables.EmailRow.{EmailRow}
+use Rattle.mailmap_tables.specs.declared.rows.EmailRow.{EmailRow}
 use Rattle.mailmap_tables.proofs.Pooled.{contents-email, tables-email, takes_all, end_within}
 use Rattle.mailmap_tables.proofs.tables.Tables.push_email.Goals as goal
 

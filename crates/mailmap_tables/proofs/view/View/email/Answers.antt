@@ -4,7 +4,7 @@ use Rattle.std.specs.List.{slice_get}
 use Rattle.mailmap_tables.specs.Groups.{Contents}
 use Rattle.mailmap_tables.specs.Pool.{RowsLie, names_of, group_of, email_group}
 use Rattle.mailmap_tables.specs.declared.texts.Texts.{Texts}
-use Rattle.mailmap_tables.specs.declared.tables.EmailRow.{EmailRow}
+use Rattle.mailmap_tables.specs.declared.rows.EmailRow.{EmailRow}
 use Rattle.mailmap_tables.proofs.Pooled.{range_at, rows_lie_at, slice_get-map_at}
 use Rattle.mailmap_tables.proofs.view.View.email.Goals as goal
 
