@@ -78,7 +78,7 @@ fn put(tables: &mut ReservedTables, entry: &Entry<'_>)
         (listing tables.new.held.groups) }
     ensures reserved { (ms : List Mapping) → Fits tables.old (mapping_of entry.now ∷ ms) → Fits tables.new ms }
 {
-    let email = email_index(tables, entry);
+    let email = find_or_insert_email(tables, entry);
     match entry.old_name() {
         None => put_fields(tables, email, given(entry)),
         Some(old_name) => put_name(tables, email, named(entry, old_name)),
@@ -112,7 +112,7 @@ fn named<'a>(entry: &Entry<'a>, old_name: &'a [u8]) -> Named<'a>
 }
 
 // The index of the email of an entry. If it is missing, it is inserted as the entry spells it.
-fn email_index(tables: &mut ReservedTables, entry: &Entry<'_>) -> usize
+fn find_or_insert_email(tables: &mut ReservedTables, entry: &Entry<'_>) -> usize
     requires complete { IsComplete tables.old.held }
     requires bytes { length (mapping_of entry.now).old_email ≤ tables.old.bytes }
     requires emails { 0 < tables.old.emails }
@@ -160,7 +160,7 @@ fn put_name(tables: &mut ReservedTables, email: usize, named: Named<'_>)
         tables.old.held.groups email }
     ensures reserved { TookReserved (name_reserved (named_group named.entry)) 0 1 tables.old tables.new }
 {
-    match name_index(tables, email, named.old_name) {
+    match find_name_row(tables, email, named.old_name) {
         Ok((index, existing)) => {
             let row = tables.name_row(existing.old(), named, existing.fields_len());
             tables.replace_name(email, index, row);
@@ -174,7 +174,11 @@ fn put_name(tables: &mut ReservedTables, email: usize, named: Named<'_>)
 }
 
 // The index of a name among those of an email, and its row. `Err` has the index where it would be.
-fn name_index(tables: &ReservedTables, email: usize, name: &[u8]) -> Result<(usize, NameRow), usize>
+fn find_name_row(
+    tables: &ReservedTables,
+    email: usize,
+    name: &[u8],
+) -> Result<(usize, NameRow), usize>
     requires within { email < length tables.now.held.groups }
     requires ascending { HoldsAt (λ (g : EmailGroup). IsStrictlySortedBy text_cmp (map name_key g.names))
         tables.now.held.groups email }

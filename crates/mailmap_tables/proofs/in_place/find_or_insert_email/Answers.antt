@@ -9,7 +9,7 @@ use Rattle.mailmap_tables.specs.KeySearch.{IsFound, IsMissing}
 use Rattle.mailmap_tables.proofs.InPlace.{earliest_itself, insert_parts, length_prefix}
 use Rattle.mailmap_tables.proofs.Parting.{found_key, missing_above, missing_head, split_head}
 use Rattle.mailmap_tables.proofs.RowEdits.{get_or_any}
-use Rattle.mailmap_tables.proofs.in_place.email_index.Goals as goal
+use Rattle.mailmap_tables.proofs.in_place.find_or_insert_email.Goals as goal
 
 pub returns-in-Ok-clause-ready : goal.returns-in-Ok-clause-ready
 returns-in-Ok-clause-ready c =

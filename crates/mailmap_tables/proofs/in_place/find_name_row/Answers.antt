@@ -13,7 +13,7 @@ use Rattle.mailmap_tables.proofs.Parting.{found_key}
 use Rattle.mailmap_tables.proofs.Pooled.{all_at, slice_get-map_at}
 use Rattle.mailmap_tables.proofs.RowEdits.{at_read, from_read}
 use Rattle.mailmap_tables.proofs.RowTexts.{spelled_len}
-use Rattle.mailmap_tables.proofs.in_place.name_index.Goals as goal
+use Rattle.mailmap_tables.proofs.in_place.find_name_row.Goals as goal
 
 abbrev none : Texts
 none = record { start = 0; old_len = 0; new_name_len = 0; new_email_len = 0 }
