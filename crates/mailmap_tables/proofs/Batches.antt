@@ -105,7 +105,7 @@ module _ (a xs us : List Mapping) (keyed : (k : Key) → of_key xs k ≡ of_key 
       by None p s e = e ∙ sym (some_again p []) ∙ ap (λ z. cond (is_some p) (Some (unwrap_or z [])) None) (sym e)
       by (Some z) p s e = e
 
-  -- a batch may stand in another order of its keys, each email as the whole spells it
+  -- a batch may be in another order of its keys, each email as the whole spells it
   pub alike_respelled : Alike (a ++ xs) (a ++ map (respelled (a ++ xs)) us)
   alike_respelled = alike_by_keys h (a ++ map respell us) keyed_alike spelled_alike
 

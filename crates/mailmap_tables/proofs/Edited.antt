@@ -55,7 +55,7 @@ take-insert_before xs (suc n) zero x before le = absurd (omega (arith, before))
 take-insert_before [] (suc n) (suc d) x before le = absurd (omega (arith, le))
 take-insert_before (y ∷ xs) (suc n) (suc d) x before le = ap (λ l. y ∷ l) (take-insert_before xs n d x (omega (arith, before)) (omega (arith, le)))
 
--- ---- rows after which a name more stands
+-- ---- rows of which one has a name more
 
 -- the range of an email is one longer, and those after it begin one later
 abbrev pub lengthen : ℕ → List EmailRow → List EmailRow

@@ -188,7 +188,7 @@ module _ (gs : List EmailGroup) (are : AreGroups gs) (head : List EmailGroup) (g
   of_key_at : (o : Option Text) → of_key (listing gs) (email_key g, o) ≡ filter (λ x. eq_by_cmp key_cmp (email_key g, o) (key x)) (rows g)
   of_key_at o = picked_at (λ x. eq_by_cmp key_cmp (email_key g, o) (key x)) (λ x no. not_first (text_cmp (email_key g) (folded x.old_email)) (option_cmp text_cmp o (key x).1) no)
 
-  -- the fields that stand without an old name
+  -- the fields without an old name
   given_at : given_fields (listing gs) (email_key g) ≡ g.own
   given_at =
       let p : Mapping → Bool = λ x. eq_by_cmp key_cmp (email_key g, None) (key x) in
@@ -261,7 +261,7 @@ normal_of_groups h gs are alike = same_normal (listing gs) h (listing gs) (alike
 
 -- ---- what a signature finds
 
--- an email and a name that stand
+-- an email and a name that are there
 pub scan_found_name : (gs : List EmailGroup) → AreGroups gs → (name email : Text) (head : List EmailGroup) (g : EmailGroup) (back : List EmailGroup) → gs ≡ head ++ g ∷ back → folded g.old_email ≡ folded email
     → (before : List NameGroup) (n : NameGroup) (after : List NameGroup) → g.names ≡ before ++ n ∷ after → folded n.old_name ≡ folded name
     → scan (listing gs) name email ≡ answered email (name_fields n) (Some g.old_email)
@@ -270,7 +270,7 @@ scan_found_name gs are name email head g back parted same before n after names_p
     let named : last_fields h (folded email, Some (folded name)) ≡ Some (name_fields n) = (λ i. last_fields h (sym same i, Some (sym same_name i))) ∙ ap (λ l. option_map new_fields (last l)) (named_at gs are head g back parted before n after names_parted) in
     ap₂ (λ o s. answered email (unwrap_or o (given_fields h (folded email))) s) named (ap (spelling h) (sym same) ∙ spelled_at gs are head g back parted)
 
--- an email that stands without the name
+-- an email that is there without the name
 pub scan_found_own : (gs : List EmailGroup) → AreGroups gs → (name email : Text) (head : List EmailGroup) (g : EmailGroup) (back : List EmailGroup) → gs ≡ head ++ g ∷ back → folded g.old_email ≡ folded email
     → AllByRecursion (λ n. name_key n ≡ folded name → ⊥) g.names → scan (listing gs) name email ≡ answered email g.own (Some g.old_email)
 scan_found_own gs are name email head g back parted same other =
@@ -280,7 +280,7 @@ scan_found_own gs are name email head g back parted same other =
     let spelled : spelling h (folded email) ≡ Some g.old_email = ap (spelling h) (sym same) ∙ spelled_at gs are head g back parted in
     λ i. answered email (unwrap_or (unnamed i) (given i)) (spelled i)
 
--- an email that does not stand
+-- an email that is not there
 pub scan_missing : (gs : List EmailGroup) (name email : Text) → AllByRecursion (λ g. email_key g ≡ folded email → ⊥) gs → scan (listing gs) name email ≡ None
 scan_missing gs name email other =
     let f : Fields = unwrap_or (last_fields (listing gs) (folded email, Some (folded name))) (given_fields (listing gs) (folded email)) in

@@ -72,7 +72,7 @@ step_joined ds os g c js more done below joined =
     subst (λ l. Alike (l ++ (js ++ more)) (listing (os ++ c ∷ []))) (sym (listing-push ds g))
     (subst (Alike ((listing ds ++ rows g) ++ (js ++ more))) (sym (listing-push os c)) (put_joined (listing ds) (rows g) js (rows_apart g js below) more (listing os) (rows c) done joined))
 
--- the entries of an email that does not stand
+-- the entries of an email that was not there before
 pub step_made : (ds os : List EmailGroup) (c : EmailGroup) (js more : List Mapping) → Alike (listing ds ++ js) (listing os) → Alike more (rows c) → Alike (listing ds ++ (js ++ more)) (listing (os ++ c ∷ []))
 step_made ds os c js more done new = subst (Alike (listing ds ++ (js ++ more))) (sym (listing-push os c)) (put_more (listing ds) js more (listing os) (rows c) done new)
 
@@ -143,7 +143,7 @@ names_replaced e ds os l js m y done same_email same_name given =
     (subst (λ l. Alike l (name_rows e os ++ name_row e new ∷ [])) (sym (append_assoc (name_rows e os) (name_row e l ∷ []) (m ∷ [])))
     (alike_joined (name_rows e os) (name_row e l ∷ m ∷ []) (name_rows e os) (name_row e new ∷ []) (alike_itself (name_rows e os)) (name_combined e l m y same_email same_name given))))
 
--- an entry with a name that does not stand
+-- an entry with a name that was not there before
 pub names_pushed : (e : Text) (ds os : List NameGroup) (js : List Mapping) (m : Mapping) (x y : Text) → Alike (name_rows e ds ++ js) (name_rows e os)
     → m.old_email ≡ e → m.old_name ≡ Some x → m.new_email ≡ Some y
     → Alike (name_rows e ds ++ (js ++ m ∷ [])) (name_rows e (os ++ renewed x m y ∷ []))
@@ -152,7 +152,7 @@ names_pushed e ds os js m x y done same_email named given =
     subst (Alike (name_rows e ds ++ (js ++ m ∷ []))) (sym (name_rows-push e os (renewed x m y)))
     (put_more (name_rows e ds) js (m ∷ []) (name_rows e os) (name_row e (renewed x m y) ∷ []) done (subst (λ r. Alike (m ∷ []) (r ∷ [])) same (alike_itself (m ∷ []))))
 
--- ---- the fields of one email e that stand without an old name
+-- ---- the fields of one email e without an old name
 
 abbrev pub own_of : Text → Fields → List Mapping
 own_of e f = if is_some f.name || is_some f.email then mapping_with f None e ∷ [] else []

@@ -1,4 +1,4 @@
--- The own texts of an email: its fields as they are given, and else as they stood.
+-- The own texts of an email: its fields as they are given, and else as they were before.
 use Rattle.std.proofs.Common.{◌≡◌, ◌∙◌, [], length, Option, option_map, ap}
 use Rattle.std.specs.Option.{ForSome, option_or}
 use Rattle.mailmap_entries.specs.Folding.{Text}

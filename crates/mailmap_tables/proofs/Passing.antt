@@ -46,7 +46,7 @@ names_ahead gs index to g lt read =
         let next : suc k ≡ k + 1 = omega arith in
         drop-cons xs k x (slice_get_within xs k x e) ∙ (λ i. get_or_from_slice_get xs k x x e i ∷ drop (next i) xs)
 
--- an email that stood takes its own names again
+-- an email that was there before takes its own names again
 pub passed_group : (a b : Text) → Extends a b → (row : Texts) (names : List Texts) (more : List NameGroup) (count : ℕ) → RowsLie a row names → count ≡ length names
     → record (group_of b row []) { names = take count ((group_of a row names).names ++ more) } ≡ group_of a row names
 passed_group a b e row names more count lie is =

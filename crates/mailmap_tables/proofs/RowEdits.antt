@@ -52,20 +52,20 @@ module _ (pool : Text) (names : List Texts) (emails : List EmailRow) {prefixes :
   end = end_within 0 (length names) emails h.ranges
 
   module _ (index : ℕ) (e : EmailRow) (lt : index < length emails) (read : e ≡ get_or emails index e) where
-    pub stands_up : e.names_start ≤ e.names_end
-    stands_up = subst (λ (r : EmailRow). r.names_start ≤ r.names_end) (sym read) (range_up 0 (length names) emails index e h.ranges lt)
+    pub email_range_up : e.names_start ≤ e.names_end
+    email_range_up = subst (λ (r : EmailRow). r.names_start ≤ r.names_end) (sym read) (range_up 0 (length names) emails index e h.ranges lt)
 
-    pub stands_before : e.names_end ≤ end_of 0 emails
-    stands_before = subst (λ (r : EmailRow). r.names_end ≤ end_of 0 emails) (sym read) (range_ends 0 (length names) emails index e h.ranges lt)
+    pub email_range_ends : e.names_end ≤ end_of 0 emails
+    email_range_ends = subst (λ (r : EmailRow). r.names_end ≤ end_of 0 emails) (sym read) (range_ends 0 (length names) emails index e h.ranges lt)
 
     pub names_within : e.names_end ≤ length names
-    names_within = omega (arith, stands_before, end)
+    names_within = omega (arith, email_range_ends, end)
 
     -- so many names has the group
     pub names_count : length (email_group pool names e).names ≡ e.names_end - e.names_start
     names_count =
         let rest = drop e.names_start names in
-        let le : e.names_end - e.names_start ≤ length rest = omega (arith, names_within, stands_up, length-drop e.names_start names) in
+        let le : e.names_end - e.names_start ≤ length rest = omega (arith, names_within, email_range_up, length-drop e.names_start names) in
         length-map (take (e.names_end - e.names_start) rest) (name_group pool) ∙ length-take-le (e.names_end - e.names_start) rest le
 
     lies : EmailLies (length pool) e
@@ -75,7 +75,7 @@ module _ (pool : Text) (names : List Texts) (emails : List EmailRow) {prefixes :
       -- a name more among those of an email
       module _ (le : d ≤ e.names_end - e.names_start) where
         within : p ≤ length names
-        within = omega (arith, at, le, names_within, stands_up)
+        within = omega (arith, at, le, names_within, email_range_up)
 
         pub tables-insert_name : NameLies (length pool) row → AreTables pool (insert names p row) (lengthen index emails) prefixes
         tables-insert_name row_lies =
@@ -93,7 +93,7 @@ module _ (pool : Text) (names : List Texts) (emails : List EmailRow) {prefixes :
             let gs = map (email_group pool names) emails in
             let g = record (email_group pool names e) { names = insert (email_group pool names e).names d (name_group pool row) } in
             let next : suc index ≡ index + 1 = omega arith in
-            let before : p ≤ end_of 0 emails = omega (arith, at, le, stands_before, stands_up) in
+            let before : p ≤ end_of 0 emails = omega (arith, at, le, email_range_ends, email_range_up) in
             let groups : map (email_group pool (insert names p row)) (lengthen index emails) ≡ take index gs ++ g ∷ drop (index + 1) gs =
             groups_insert pool names p row 0 emails index d e h.ranges lt read at le within ∙ ap (λ k. take index gs ++ g ∷ drop k gs) next in
             let pending : map (name_group pool) (drop (end_of 0 (lengthen index emails)) (insert names p row)) ≡ map (name_group pool) (drop (end_of 0 emails) names) =
@@ -117,7 +117,7 @@ module _ (pool : Text) (names : List Texts) (emails : List EmailRow) {prefixes :
             let gs = map (email_group pool names) emails in
             let g = record (email_group pool names e) { names = set (email_group pool names e).names d (name_group pool row) } in
             let next : suc index ≡ index + 1 = omega arith in
-            let before : p < end_of 0 emails = omega (arith, at, less, stands_before, stands_up) in
+            let before : p < end_of 0 emails = omega (arith, at, less, email_range_ends, email_range_up) in
             let groups : map (email_group pool (set names p row)) emails ≡ take index gs ++ g ∷ drop (index + 1) gs =
             groups_set pool names p row 0 (length names) emails index d e h.ranges lt read at less ∙ ap (λ k. take index gs ++ g ∷ drop k gs) next in
             let pending : map (name_group pool) (drop (end_of 0 emails) (set names p row)) ≡ map (name_group pool) (drop (end_of 0 emails) names) =

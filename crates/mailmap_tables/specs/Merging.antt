@@ -37,7 +37,7 @@ with_email e m = record m { old_email = e }
 abbrev pub Extends : Text → Text → Type 0
 Extends old new = (more : Text) × (new ≡ old ++ more)
 
--- how a name comes out: as it is, or as it comes first, at its index among the names that stand
+-- how a name comes out: as it is, or as it comes first, at its index among the names that were there before
 pub data NameLookup (ks passed : List NameGroup) (name kept : Text) (left : List NameGroup) : Type 0 where
   known : (k : NameGroup) → ks ≡ passed ++ k ∷ left → name_key k ≡ folded name → kept ≡ k.old_name
       → NameLookup ks passed name kept left
@@ -54,7 +54,7 @@ pub record NamePut (ks left : List NameGroup) (n : NameGroup) (old new : Content
   pub pending : new.pending ≡ old.pending ++ (passed ++ record n { old_name = kept } ∷ [])
   pub lookup : NameLookup ks passed n.old_name kept left
 
--- the names that come out stand for the names that stood and the named entries of the batch
+-- the names that come out say the same as the names that were there before and the named entries of the batch
 pub record NamesJoined (ks : List NameGroup) (ms : List Mapping) (ns : List NameGroup) : Type 0 where
   pub ascending : IsStrictlySortedBy text_cmp (map name_key ns)
   pub alike : (e : Text) → Alike (map (name_row e) ks ++ map (with_email e) ms) (map (name_row e) ns)
@@ -69,7 +69,7 @@ pub record NamesPut (ks : List NameGroup) (ms : List Mapping) (old new : Content
 
 -- ---- emails
 
--- the email that comes out stands for the email that stood and the entries of the batch for it
+-- the email that comes out says the same as the email that was there before and the entries of the batch for it
 pub record EmailJoined (g : EmailGroup) (ms : List Mapping) (c : EmailGroup) : Type 0 where
   pub old_email : c.old_email ≡ g.old_email
   pub ascending : IsStrictlySortedBy text_cmp (map name_key c.names)
@@ -124,7 +124,8 @@ pub record IsSpelling (gs : List EmailGroup) (ps : List (ℕ × Mapping)) (s : T
 abbrev pub spelled_by : (Text → Text) → Mapping → Mapping
 spelled_by s m = with_email (s (email_text m)) m
 
--- the emails that come out stand for those that stood and the batch, whose emails are spelled as they are kept
+-- the emails that come out say the same as those that were there before and the batch, whose emails are spelled as
+-- they are kept
 pub record AllJoined (gs : List EmailGroup) (ps : List (ℕ × Mapping)) (cs : List EmailGroup) : Type 0 where
   pub groups : AreGroups cs
   pub alike : (s : Text → Text) → IsSpelling gs ps s → Alike (listing gs ++ map (λ p. spelled_by s p.1) ps) (listing cs)

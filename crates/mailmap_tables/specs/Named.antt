@@ -7,7 +7,7 @@ use Rattle.mailmap_tables.specs.Texts.{old_span}
 use Rattle.mailmap_histories.specs.Histories.{Fields}
 use Rattle.mailmap_tables.specs.declared.texts.Texts.{Texts}
 
--- each field as it is given, and else as it stood
+-- each field as it is given, and else as it was before
 abbrev pub given_or : Fields → Fields → Fields
 given_or given existing = record {
   name = option_or given.name existing.name;

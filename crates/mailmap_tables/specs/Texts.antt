@@ -9,7 +9,7 @@ use Rattle.mailmap_tables.specs.declared.texts.Texts.{Texts}
 unfoldable pub span_of : ℕ → ℕ → Option Span
 span_of start len = if len == NO_TEXT then None else Some (record { start = start; len = len })
 
--- how many bytes a length stands for
+-- how many bytes a text of this length has: none, if there is no text
 unfoldable pub byte_count : ℕ → ℕ
 byte_count len = if len == NO_TEXT then 0 else len
 

@@ -199,7 +199,7 @@ impl ReservedTables {
         let start = self.emails[email].names_start;
         self.names.insert(start + index, row).unwrap();
         self.emails[email].names_end += 1;
-        stand_later(&mut self.emails[email + 1..]);
+        raise_ranges(&mut self.emails[email + 1..]);
     }
 
     /// Replaces a name of an email.
@@ -236,7 +236,7 @@ impl ReservedTables {
 }
 
 // Raises the name range of each row by one.
-fn stand_later(rows: &mut [EmailRow])
+fn raise_ranges(rows: &mut [EmailRow])
     requires { AllByRecursion (λ (r : EmailRow). (r.names_start < usize.MAX) × (r.names_end < usize.MAX)) rows.old }
     ensures { rows.new ≡ map one_later rows.old }
 {

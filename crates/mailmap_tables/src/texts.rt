@@ -196,7 +196,7 @@ fn are_together(old: Span, new_name: Option<Span>, new_email: Option<Span>) -> b
 #[inline(always)]
 fn end_after(span: Option<Span>, start: usize) -> Option<usize>
     requires { ForSome span (LiesIn (usize.MAX - 1)) }
-    ensures stands { IsSome result → ForSome span (λ s. s.start ≡ start) }
+    ensures starts { IsSome result → ForSome span (λ s. s.start ≡ start) }
     ensures end { ForSome result (λ end. end ≡ start + span_bytes span) }
 {
     match span {

@@ -11,7 +11,7 @@ use Rattle.mailmap_tables.specs.declared.texts.Texts.{Texts}
 use Rattle.mailmap_tables.proofs.NameLookups.{all_rest, extends_through, names_lie_on, name_groups_on, lookup_found, lookup_new, put_from}
 use Rattle.mailmap_tables.proofs.join.join_name.Goals as goal
 
--- ---- the name stands
+-- ---- the name is there
 
 pub returns-in_ok-push_named-in-Ok-clause-lie : goal.returns-in_ok-push_named-in-Ok-clause-lie
 returns-in_ok-push_named-in-Ok-clause-lie c =

@@ -27,12 +27,12 @@ pub returns : goal.returns
 returns c =
     let items = c.in_ok-batch.batch.items in
     let gs = c.view.result.groups in
-    let stands : gs ≡ c.args.old_tables.now.groups = ap (λ (v : Contents). v.groups) c.view.ensures in
+    let same_groups : gs ≡ c.args.old_tables.now.groups = ap (λ (v : Contents). v.groups) c.view.ensures in
     let xs = map mapping_of c.args.entries.now in
     if_ok_then c.join_sorted.result _ _ _ (λ (made : Contents) j none. (
       record { groups = j.groups; none_pending = none },
-      subst (λ g. IsNormal (listing g ++ xs) (listing made.groups)) stands
-          (joined_normal gs (subst AreGroups (sym stands) c.requires.old_tables) xs c.requires.accepted (map indexed_mapping items) c.in_ok-batch.ensures made.groups
+      subst (λ g. IsNormal (listing g ++ xs) (listing made.groups)) same_groups
+          (joined_normal gs (subst AreGroups (sym same_groups) c.requires.old_tables) xs c.requires.accepted (map indexed_mapping items) c.in_ok-batch.ensures made.groups
           (subst (λ (l : List IndexedEntry). AllJoined gs (map indexed_mapping l) made.groups) c.deref.ensures.value j)),
     )) c.join_sorted.ensures.joined c.join_sorted.ensures.none_pending
 

@@ -6,7 +6,7 @@ use Rattle.mailmap_tables.specs.Pool.{AreTables, NameLies, contents, email_group
 use Rattle.mailmap_tables.specs.Reserved.{Reserved, with_email_at}
 use Rattle.mailmap_tables.specs.declared.rows.EmailRow.{EmailRow}
 use Rattle.mailmap_tables.proofs.Edited.{lengthen, ranges_after}
-use Rattle.mailmap_tables.proofs.RowEdits.{at_group, contents-insert_name, emails_written, from_group, get_or_any, names_count, names_within, stands_up, tables-insert_name}
+use Rattle.mailmap_tables.proofs.RowEdits.{at_group, contents-insert_name, emails_written, from_group, get_or_any, names_count, names_within, email_range_up, tables-insert_name}
 use Rattle.mailmap_tables.proofs.reserved.ReservedTables.insert_name.Goals as goal
 
 pub prove-unreachable-requires : goal.prove-unreachable-requires
@@ -24,7 +24,7 @@ overflow_add-start c =
     let le = from_group pool names es c.args.self.now.held c.args.email e (λ (g : EmailGroup). c.args.index ≤ length g.names) held lt c.index.ensures c.requires.index in
     let count = names_count pool names es c.self.invariant c.args.email e lt c.index.ensures in
     let within = names_within pool names es c.self.invariant c.args.email e lt c.index.ensures in
-    let up = stands_up pool names es c.self.invariant c.args.email e lt c.index.ensures in
+    let up = email_range_up pool names es c.self.invariant c.args.email e lt c.index.ensures in
     omega (arith, le, count, within, up, c.len.ensures, c.len.type_inv, old.names.ok.0)
 
 pub insert-requires : goal.insert-requires
@@ -39,7 +39,7 @@ insert-requires c =
     let le = from_group pool names es c.args.self.now.held c.args.email e (λ (g : EmailGroup). c.args.index ≤ length g.names) held lt c.index.ensures c.requires.index in
     let count = names_count pool names es c.self.invariant c.args.email e lt c.index.ensures in
     let within = names_within pool names es c.self.invariant c.args.email e lt c.index.ensures in
-    let up = stands_up pool names es c.self.invariant c.args.email e lt c.index.ensures in
+    let up = email_range_up pool names es c.self.invariant c.args.email e lt c.index.ensures in
     omega (arith, le, count, within, up, old.names.ok.0)
 
 pub overflow_add-index_mut : goal.overflow_add-index_mut
@@ -53,8 +53,8 @@ overflow_add-index_mut c =
     let within = names_within pool names es c.self.invariant c.args.email c.index_mut.result.now lt c.index_mut.ensures.value in
     omega (arith, within, c.if-prove.false, c.len.ensures, c.capacity.type_inv, old.names.ok.0)
 
-pub stand_later-requires : goal.stand_later-requires
-stand_later-requires c =
+pub raise_ranges-requires : goal.raise_ranges-requires
+raise_ranges-requires c =
     let old = c.self.inside in
     let es = old.emails.items in
     let few : length old.names.items < 2 ^ 64 - 1 = omega (arith, c.if-prove.false, c.len.ensures, c.capacity.type_inv, old.names.ok.0) in
@@ -78,8 +78,8 @@ invariant_of-self c =
     let p = e.names_start + c.args.index in
     let reserved : vec_len old.names < vec_capacity old.names = omega (arith, c.if-prove.false, c.len.ensures, c.capacity.ensures) in
     let made = c.insert.ensures.items ∙ ap (λ b. cond b (insert names p c.args.row) names) (c.insert.ensures.succeeds reserved) in
-    let emails = emails_written es email old.emails.len longer c.deref_mut.result.now c.stand_later.new.rows _ lt old.emails.ok.0 c.deref_mut.ensures.value
-    (ap (λ (x : EmailRow). record x { names_end = x.names_end + 1 }) (c.index_mut.ensures.value ∙ get_or_any es email r longer lt)) c.stand_later.ensures in
+    let emails = emails_written es email old.emails.len longer c.deref_mut.result.now c.raise_ranges.new.rows _ lt old.emails.ok.0 c.deref_mut.ensures.value
+    (ap (λ (x : EmailRow). record x { names_end = x.names_end + 1 }) (c.index_mut.ensures.value ∙ get_or_any es email r longer lt)) c.raise_ranges.ensures in
     subst₂ (λ ns rs. AreTables pool ns rs old.prefixes.items) (sym made) (sym emails)
     (tables-insert_name pool names es c.self.invariant email e lt c.index.ensures c.args.index p c.args.row refl within
     (subst (λ (v : Contents). NameLies (length v.pool) c.args.row) (sym held) c.requires.lies))
@@ -103,8 +103,8 @@ returns-clause-held c =
     let p = e.names_start + c.args.index in
     let reserved : vec_len old.names < vec_capacity old.names = omega (arith, c.if-prove.false, c.len.ensures, c.capacity.ensures) in
     let made = c.insert.ensures.items ∙ ap (λ b. cond b (insert names p c.args.row) names) (c.insert.ensures.succeeds reserved) in
-    let emails = emails_written es email old.emails.len longer c.deref_mut.result.now c.stand_later.new.rows _ lt old.emails.ok.0 c.deref_mut.ensures.value
-    (ap (λ (x : EmailRow). record x { names_end = x.names_end + 1 }) (c.index_mut.ensures.value ∙ get_or_any es email r longer lt)) c.stand_later.ensures in
+    let emails = emails_written es email old.emails.len longer c.deref_mut.result.now c.raise_ranges.new.rows _ lt old.emails.ok.0 c.deref_mut.ensures.value
+    (ap (λ (x : EmailRow). record x { names_end = x.names_end + 1 }) (c.index_mut.ensures.value ∙ get_or_any es email r longer lt)) c.raise_ranges.ensures in
     let after = contents pool (insert names p c.args.row) (lengthen email es) in
     let P : EmailGroup → Type 0 = λ g. after ≡ with_email_at existing email (record g { names = insert g.names c.args.index (name_group existing.pool c.args.row) }) in
     let at : P (email_group pool names e) = contents-insert_name pool names es c.self.invariant email e lt c.index.ensures c.args.index p c.args.row refl within

@@ -3,7 +3,7 @@ use Rattle.std.proofs.lemmas.List.{length-map}
 use Rattle.mailmap_tables.specs.Groups.{Contents, EmailGroup}
 use Rattle.mailmap_tables.specs.Pool.{contents, email_group, name_group}
 use Rattle.mailmap_tables.specs.Reserved.{Reserved, with_email_at}
-use Rattle.mailmap_tables.proofs.RowEdits.{at_group, contents-set_name, from_group, names_count, names_within, stands_up}
+use Rattle.mailmap_tables.proofs.RowEdits.{at_group, contents-set_name, from_group, names_count, names_within, email_range_up}
 use Rattle.mailmap_tables.proofs.reserved.ReservedTables.replace_name.Goals as goal
 
 pub prove-unreachable-requires : goal.prove-unreachable-requires
@@ -32,7 +32,7 @@ overflow_add-start c =
     let less = from_group pool names es c.args.self.now.held c.args.email e (λ (g : EmailGroup). c.args.index < length g.names) held lt c.index.ensures c.requires.index in
     let count = names_count pool names es c.self.invariant c.args.email e lt c.index.ensures in
     let within = names_within pool names es c.self.invariant c.args.email e lt c.index.ensures in
-    let up = stands_up pool names es c.self.invariant c.args.email e lt c.index.ensures in
+    let up = email_range_up pool names es c.self.invariant c.args.email e lt c.index.ensures in
     omega (arith, less, count, within, up, c.len.ensures, c.len.type_inv, old.names.ok.0)
 
 pub index_mut-requires : goal.index_mut-requires
@@ -47,7 +47,7 @@ index_mut-requires c =
     let less = from_group pool names es c.args.self.now.held c.args.email e (λ (g : EmailGroup). c.args.index < length g.names) held lt c.index.ensures c.requires.index in
     let count = names_count pool names es c.self.invariant c.args.email e lt c.index.ensures in
     let within = names_within pool names es c.self.invariant c.args.email e lt c.index.ensures in
-    let up = stands_up pool names es c.self.invariant c.args.email e lt c.index.ensures in
+    let up = email_range_up pool names es c.self.invariant c.args.email e lt c.index.ensures in
     omega (arith, less, count, within, up, old.names.ok.0)
 
 pub returns-clause-held : goal.returns-clause-held

@@ -4,7 +4,7 @@ use Rattle.mailmap_tables.specs.Reserved.{one_later}
 use Rattle.mailmap_tables.specs.declared.rows.EmailRow.{EmailRow}
 use Rattle.mailmap_tables.proofs.Pooled.{all_at}
 use Rattle.mailmap_tables.proofs.RowEdits.{get_or_any}
-use Rattle.mailmap_tables.proofs.reserved.stand_later.Goals as goal
+use Rattle.mailmap_tables.proofs.reserved.raise_ranges.Goals as goal
 
 abbrev none : EmailRow
 none = record { texts = record { start = 0; old_len = 0; new_name_len = 0; new_email_len = 0 }; names_start = 0; names_end = 0 }
