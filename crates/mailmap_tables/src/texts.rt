@@ -31,7 +31,6 @@ pub struct Texts {
 
 impl Texts {
     /// An old text without a new name or a new email.
-    #[tactic(auto, unfolding(crate::specs::Texts::span_of, crate::specs::Texts::name_span, crate::specs::Texts::email_span, crate::specs::Texts::byte_count))]
     pub(crate) fn bare(old: Span) -> Texts
         ensures { IsBare result old }
     {
