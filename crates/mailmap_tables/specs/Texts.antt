@@ -1,6 +1,7 @@
 -- The texts of a row, one after another in the pool, as spans.
-use Rattle.std.specs.Prelude.{◌≡◌, ◌==◌, ◌+◌, ℕ, Option, Some, None, if◌then◌else◌}
+use Rattle.std.specs.Prelude.{◌≡◌, ◌==◌, ◌+◌, ℕ, Option, Some, None, if◌then◌else◌, is_some}
 use Rattle.std.specs.Option.{ForSome}
+use Rattle.mailmap_entries.specs.Folding.{Text}
 use Rattle.mailmap_tables.specs.declared.texts.TheConstants.{NO_TEXT}
 use Rattle.mailmap_tables.specs.declared.texts.Span.{Span}
 use Rattle.mailmap_tables.specs.declared.texts.Texts.{Texts}
@@ -37,6 +38,14 @@ len_of (Some s) = s.len
 abbrev pub span_bytes : Option Span → ℕ
 span_bytes None = 0
 span_bytes (Some s) = s.len
+
+-- how many bytes the texts of a row have
+abbrev pub row_bytes : Texts → ℕ
+row_bytes t = t.old_len + (byte_count t.new_name_len + byte_count t.new_email_len)
+
+-- how many bytes a text of a row has, if another one is given in its place
+abbrev pub replaced_bytes : Option Text → Option Span → ℕ
+replaced_bytes given existing = if is_some given then span_bytes existing else 0
 
 -- the row of texts with their lengths, from there on
 abbrev pub row_of : ℕ → Span → Option Span → Option Span → Texts

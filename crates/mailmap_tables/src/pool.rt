@@ -1,6 +1,6 @@
 //! The pool: the bytes of all texts, one after another, and how many of them no row uses any more.
-ghost use Rattle.std.specs.Prelude.{◌≡◌, ◌↔◌, ◌≤◌, ◌<◌, ◌+◌, ◌*◌, ◌++◌, [], IfOk, IsOk, IsTrue, OnOk, length};
-ghost use Rattle.std.specs.Prelude.{vec_capacity, vec_len};
+ghost use Rattle.std.specs.Prelude.{◌≡◌, ◌==◌, ◌↔◌, ◌≤◌, ◌<◌, ◌+◌, ◌*◌, ◌++◌, [], IfOk, IsOk, IsTrue, OnOk, if◌then◌else◌};
+ghost use Rattle.std.specs.Prelude.{length, min, vec_capacity, vec_len};
 ghost use Rattle.std.specs.Option.{ForSome, option_copied, option_map, option_or};
 
 use crate::texts::{Span, Texts, fields, span_len, together};
@@ -20,7 +20,7 @@ impl Pool {
     ghost use Rattle.mailmap_batches.specs.Given.{fields_given, named_group};
     ghost use Rattle.mailmap_tables.specs.Pool.{LiesIn, NameLies, RowSpells, TextsLie, group_of, name_group, spelled};
     ghost use Rattle.mailmap_tables.specs.Reserved.{fields_reserved, optional_bytes, own_reserved};
-    ghost use Rattle.mailmap_tables.specs.Texts.{span_bytes};
+    ghost use Rattle.mailmap_tables.specs.Texts.{email_span, name_span, replaced_bytes, row_bytes, span_bytes};
 
     /// No bytes, and no memory taken.
     pub(crate) fn new(alloc: Global) -> Pool
@@ -34,7 +34,8 @@ impl Pool {
 
     /// The same bytes in memory of their own, with room for `more` more.
     pub(crate) fn try_clone(&self, alloc: Global, more: usize) -> Result<Pool, AllocError>
-        ensures { IfOk result (λ copy. copy.bytes.items ≡ self.now.bytes.items) }
+        ensures bytes { IfOk result (λ copy. copy.bytes.items ≡ self.now.bytes.items) }
+        ensures unused { IfOk result (λ copy. copy.unused ≡ self.now.unused) }
     {
         let len = self.bytes.len();
         let mut bytes = Vec::with_capacity(alloc, len.saturating_add(more))?;
@@ -48,6 +49,7 @@ impl Pool {
     /// Puts a text at the end, in place of one of `replaced` bytes.
     pub(crate) fn push_text(&mut self, text: &[u8], replaced: usize) -> Result<Span, AllocError>
         ensures grown { Extends self.old.bytes.items self.new.bytes.items }
+        ensures counted { OnOk result (self.new.unused ≡ min (self.old.unused + replaced) usize.MAX) }
         ensures text { OnOk result (self.new.bytes.items ≡ self.old.bytes.items ++ text.now) }
         ensures lies { IfOk result (LiesIn (length self.new.bytes.items)) }
         ensures spells { IfOk result (λ span. spelled self.new.bytes.items span ≡ text.now) }
@@ -73,6 +75,8 @@ impl Pool {
     ) -> Result<Option<Span>, AllocError>
         requires { ForSome existing (LiesIn (length self.old.bytes.items)) }
         ensures grown { Extends self.old.bytes.items self.new.bytes.items }
+        ensures counted { OnOk result (min (self.old.unused + replaced_bytes (option_copied given.entry) existing)
+            usize.MAX ≤ self.new.unused) }
         ensures lies { IfOk result (λ span. ForSome span (LiesIn (length self.new.bytes.items))) }
         ensures spells { IfOk result (λ span. option_map (spelled self.new.bytes.items) span
             ≡ option_or (option_copied given.entry) (option_map (spelled self.old.bytes.items) existing)) }
@@ -102,6 +106,8 @@ impl Pool {
         requires new_name { ForSome new_name (LiesIn (length self.old.bytes.items)) }
         requires new_email { ForSome new_email (LiesIn (length self.old.bytes.items)) }
         ensures grown { Extends self.old.bytes.items self.new.bytes.items }
+        ensures counted { IfOk result (λ texts. self.new.unused ≡ min (self.old.unused
+            + (if texts.start == length self.old.bytes.items then row_bytes texts else 0)) usize.MAX) }
         ensures lies { IfOk result (TextsLie (length self.new.bytes.items)) }
         ensures spells { IfOk result (RowSpells self.old.bytes.items self.new.bytes.items old new_name new_email) }
         ensures bytes { length self.new.bytes.items
@@ -126,6 +132,7 @@ impl Pool {
     ) -> Result<Texts, AllocError>
         requires { LiesIn (length self.old.bytes.items) old_name }
         ensures grown { Extends self.old.bytes.items self.new.bytes.items }
+        ensures counted { OnOk result (min (self.old.unused + replaced) usize.MAX ≤ self.new.unused) }
         ensures lies { IfOk result (NameLies (length self.new.bytes.items)) }
         ensures spells { IfOk result (λ row. name_group self.new.bytes.items row
             ≡ record (named_group named.entry) { old_name = spelled self.old.bytes.items old_name }) }
@@ -145,6 +152,9 @@ impl Pool {
     pub(crate) fn own_row(&mut self, texts: Texts, given: Given<'_>) -> Result<Texts, AllocError>
         requires { TextsLie (length self.old.bytes.items) texts }
         ensures grown { Extends self.old.bytes.items self.new.bytes.items }
+        ensures counted { OnOk result (let given = fields_given given.entry in
+            min (self.old.unused + (replaced_bytes given.name (name_span texts)
+            + replaced_bytes given.email (email_span texts))) usize.MAX ≤ self.new.unused) }
         ensures lies { IfOk result (TextsLie (length self.new.bytes.items)) }
         ensures spells { IfOk result
             (OwnSpells self.old.bytes.items self.new.bytes.items texts (fields_given given.entry)) }

@@ -5,7 +5,7 @@ ghost use Rattle.std.specs.Option.{ForSome};
 ghost use Rattle.mailmap_tables.specs.Merging.{Extends};
 ghost use Rattle.mailmap_tables.specs.Pool.{LiesIn, RowSpells, TextsLie, bytes_of};
 ghost use Rattle.mailmap_tables.specs.Texts.{AreTogether, IsBare, byte_count, email_span, len_of, name_span, old_span};
-ghost use Rattle.mailmap_tables.specs.Texts.{row_of, span_bytes, span_of};
+ghost use Rattle.mailmap_tables.specs.Texts.{row_bytes, row_of, span_bytes, span_of};
 
 use std::alloc::AllocError;
 
@@ -72,7 +72,9 @@ impl Texts {
     }
 
     /// How many bytes the texts have, as far as they can be counted.
-    pub(crate) fn len(self) -> usize {
+    pub(crate) fn len(self) -> usize
+        ensures { result ≡ min (row_bytes self) usize.MAX }
+    {
         self.old_len.saturating_add(self.fields_len())
     }
 
@@ -96,7 +98,9 @@ pub(crate) fn fields(pool: &[u8], texts: Texts) -> (Option<Span>, Option<Span>)
 }
 
 /// How many bytes a span has, if there is one.
-pub(crate) fn span_len(span: Option<Span>) -> usize {
+pub(crate) fn span_len(span: Option<Span>) -> usize
+    ensures { result ≡ span_bytes span }
+{
     match span {
         Some(span) => span.len,
         None => 0,
