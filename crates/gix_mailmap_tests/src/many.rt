@@ -1,3 +1,4 @@
+use gix_mailmap::verify::verify;
 use gix_mailmap::{Snapshot, parse, parse_ignore_errors};
 use std::alloc::{AllocError, Global};
 use std::process::Abort;
@@ -35,5 +36,14 @@ fn many_entries_are_merged_and_listed(rt: HostRuntime) -> Result<(), AllocError>
     let mut snapshot = Snapshot::empty(rt.alloc());
     snapshot.merge(parse_ignore_errors(text.as_slice()))?;
     assert_count(&rt, snapshot.entries(rt.alloc())?.len(), COUNT);
+    Ok(())
+}
+
+/// A mailmap that comes twice has no effect the first time.
+#[test]
+fn many_findings_are_collected(rt: HostRuntime) -> Result<(), AllocError> {
+    let text = mailmap(rt.alloc())?;
+    let found = verify(rt.alloc(), &[text.as_slice(), text.as_slice()])?;
+    assert_count(&rt, found.len(), COUNT);
     Ok(())
 }
