@@ -51,7 +51,7 @@ class _Named(Structure):
 _LISTED = struct.Struct("@N N? N? N? N? 0N")
 # gix_mailmap_finding: line, kind and beside
 _FINDING = struct.Struct("@N I N 0N")
-# gix_mailmap_position: buffer and line
+# gix_mailmap_position: mailmap and line
 _POSITION = struct.Struct("@N N")
 
 
