@@ -186,7 +186,7 @@ def file_names(program):
 
 
 USAGE_LINE = (
-    b"usage: mailmap_verify [--] [FILE..] | --prune [--] [FILE] | --explain [--] FILE..\n"
+    b"usage: mailmap_verify [--] [FILE..] | --prune [--] [FILE] | --explain [--] [FILE..]\n"
     b"     | --contacts CONTACTS [--] [FILE..] | --help | --version\n"
 )
 
