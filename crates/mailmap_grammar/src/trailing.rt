@@ -1,18 +1,9 @@
-//! The entry of a line, and its trailing text, which says nothing. Users of the crate `gix_mailmap` don't see this.
+//! A line read strictly, with its trailing text, which says nothing. Users of the crate `gix_mailmap` don't see this.
 ghost use Rattle.std.specs.Prelude.{◌≡◌, IfOk, IfSome, option_map};
 ghost use Rattle.mailmap_grammar.specs.Lines.{trailing_text, cut, reading_with_trailing, strict_reading};
 ghost use Rattle.mailmap_grammar.specs.Trimming.{trim};
 
-use crate::lines::{Error, Strictness, read_with_trailing};
-use mailmap_entries::Entry;
-
-/// The entry of a line and the trailing text: all that follows the second contact, or the first one if the line has no
-/// second contact with a `>`. The text is not trimmed.
-#[derive(Clone, Copy, Debug)]
-pub struct WithTrailing<'a> {
-    pub entry: Entry<'a>,
-    pub trailing: &'a [u8],
-}
+use crate::lines::{Error, Strictness, WithTrailing, read_with_trailing};
 
 /// What the line `text` says, read strictly, as of [`read_line`](crate::lines::read_line), and the rest of a line with
 /// an entry.

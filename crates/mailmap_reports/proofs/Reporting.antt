@@ -1,4 +1,4 @@
--- The report of mailmaps and of the contacts that a history has taken.
+-- The report of mailmaps and of the contacts that were taken.
 use Rattle.std.proofs.Common.{◌≡◌, ◌++◌, ◌∙◌, ℕ, Bool, List, [], ◌∷◌, Option, ap, false, if◌then◌else◌, refl, subst, sym, take, true}
 use Rattle.std.specs.Io.KnownBytes.{Appends}
 use Rattle.std.specs.List.{flat_map, list_any}
@@ -18,8 +18,8 @@ use Rattle.mailmap_redundancy.specs.declared.located.Position.{Position}
 use Rattle.mailmap_reports.specs.Contacts.{IsReportBeside, Said, both_texts, counts, noted, outcome_of_both, remark_line, said_after, said_line, said_text}
 use Rattle.mailmap_reports.specs.Taken.{HasTaken}
 use Rattle.mailmap_reports.specs.Task.{AreContacts, AreMailmapsBeside, IsAnswer, contacts_name, is_dash}
-use Rattle.mailmap_reports.specs.declared.history.History.{History}
-use Rattle.mailmap_reports.specs.declared.history.Notice.{Notice}
+use Rattle.mailmap_reports.specs.declared.so_far.ContactsSoFar.{ContactsSoFar}
+use Rattle.mailmap_reports.specs.declared.so_far.Notice.{Notice}
 use Rattle.mailmap_reports.specs.declared.asked.Mode.TheVariants.{Contacts as TheContacts}
 use Rattle.mailmap_reports.proofs.TakingLines.{of_unread}
 
@@ -49,20 +49,20 @@ none_beside (r ∷ remarks) said found is none = refl
 -- ---- the report
 
 -- what these lines of contacts leave is what they don't need
-pub are_unneeded : (mailmaps : List Text) (taken : Text) (s : History) (found : List Position) → HasTaken mailmaps (whole_lines taken) s → found ≡ s.needs.left → AreUnneeded mailmaps taken found
+pub are_unneeded : (mailmaps : List Text) (taken : Text) (s : ContactsSoFar) (found : List Position) → HasTaken mailmaps (whole_lines taken) s → found ≡ s.needs.left → AreUnneeded mailmaps taken found
 are_unneeded mailmaps taken s found h is = record { kept = s.needs.kept; reduced = h.reduced; whole = is ∙ h.left }
 
 -- the lines of the remarks, and those of the notices that are kept
-abbrev pub made_text : List Text → Text → List Remark → History → Text
+abbrev pub made_text : List Text → Text → List Remark → ContactsSoFar → Text
 made_text paths file remarks s = both_texts paths file remarks (flat_map (noted s.answers) s.notices.items)
 
-pub is_report : (paths : List Text) (file : Text) (mailmaps : List Text) (taken : Text) (s : History) (remarks : List Remark) (outcome : Outcome) → HasTaken mailmaps (whole_lines taken) s
+pub is_report : (paths : List Text) (file : Text) (mailmaps : List Text) (taken : Text) (s : ContactsSoFar) (remarks : List Remark) (outcome : Outcome) → HasTaken mailmaps (whole_lines taken) s
     → AreRemarks mailmaps taken remarks → outcome ≡ outcome_of_both remarks (said_after (entries (located (lines mailmaps))) [] (whole_lines taken))
     → IsReportBeside paths file mailmaps taken outcome (made_text paths file remarks s)
 is_report paths file mailmaps taken s remarks outcome h are is = (remarks, are, ap (both_texts paths file remarks) h.said, is)
 
 -- both are written
-pub prints_both : (paths : List Text) (file : Text) (mailmaps : List Text) (taken : Text) (s : History) (remarks : List Remark) (outcome : Outcome) (before between after : Option Text)
+pub prints_both : (paths : List Text) (file : Text) (mailmaps : List Text) (taken : Text) (s : ContactsSoFar) (remarks : List Remark) (outcome : Outcome) (before between after : Option Text)
     → HasTaken mailmaps (whole_lines taken) s → AreRemarks mailmaps taken remarks → outcome ≡ outcome_of_both remarks (said_after (entries (located (lines mailmaps))) [] (whole_lines taken))
     → Appends before between (flat_map (remark_line paths) remarks) → Appends between after (said_text file (flat_map (noted s.answers) s.notices.items))
     → Prints (IsReportBeside paths file mailmaps taken outcome) before after
@@ -76,28 +76,28 @@ prints_both paths file mailmaps taken s remarks outcome before between after h a
 abbrev pub BeginsReport : List Text → Text → List Text → Text → Option Text → Option Text → Type 0
 BeginsReport paths file mailmaps taken before after = (outcome : Outcome) × PrintsFront (IsReportBeside paths file mailmaps taken outcome) before after
 
-begins : (paths : List Text) (file : Text) (mailmaps : List Text) (taken : Text) (s : History) (remarks : List Remark) (before after : Option Text) → HasTaken mailmaps (whole_lines taken) s
+begins : (paths : List Text) (file : Text) (mailmaps : List Text) (taken : Text) (s : ContactsSoFar) (remarks : List Remark) (before after : Option Text) → HasTaken mailmaps (whole_lines taken) s
     → AreRemarks mailmaps taken remarks → (count : ℕ) × Appends before after (take count (made_text paths file remarks s)) → BeginsReport paths file mailmaps taken before after
 begins paths file mailmaps taken s remarks before after h are part =
     let outcome = outcome_of_both remarks (said_after (entries (located (lines mailmaps))) [] (whole_lines taken)) in
     (outcome, (made_text paths file remarks s, is_report paths file mailmaps taken s remarks outcome h are refl, part))
 
 -- nothing is written yet
-pub begins_none : (paths : List Text) (file : Text) (mailmaps : List Text) (taken : Text) (s : History) (before : Option Text) → HasTaken mailmaps (whole_lines taken) s
+pub begins_none : (paths : List Text) (file : Text) (mailmaps : List Text) (taken : Text) (s : ContactsSoFar) (before : Option Text) → HasTaken mailmaps (whole_lines taken) s
     → BeginsReport paths file mailmaps taken before before
 begins_none paths file mailmaps taken s before h =
     let remarks = flat_map (line_remarks (entries (located (lines mailmaps))) s.needs.kept (whole_lines taken)) (lines mailmaps) in
     begins paths file mailmaps taken s remarks before before h (record { kept = s.needs.kept; reduced = h.reduced; whole = refl }) (0, Appends-nil before)
 
 -- printing breaks off in the remarks
-pub begins_first : (paths : List Text) (file : Text) (mailmaps : List Text) (taken : Text) (s : History) (remarks : List Remark) (before after : Option Text) (n : ℕ) → HasTaken mailmaps (whole_lines taken) s
+pub begins_first : (paths : List Text) (file : Text) (mailmaps : List Text) (taken : Text) (s : ContactsSoFar) (remarks : List Remark) (before after : Option Text) (n : ℕ) → HasTaken mailmaps (whole_lines taken) s
     → AreRemarks mailmaps taken remarks → Appends before after (take n (flat_map (remark_line paths) remarks)) → BeginsReport paths file mailmaps taken before after
 begins_first paths file mailmaps taken s remarks before after n h are part =
     begins paths file mailmaps taken s remarks before after h are
     (Appends-longer before after n (flat_map (remark_line paths) remarks) (said_text file (flat_map (noted s.answers) s.notices.items)) part)
 
 -- printing breaks off in the notices
-pub begins_second : (paths : List Text) (file : Text) (mailmaps : List Text) (taken : Text) (s : History) (remarks : List Remark) (before between after : Option Text) (n : ℕ)
+pub begins_second : (paths : List Text) (file : Text) (mailmaps : List Text) (taken : Text) (s : ContactsSoFar) (remarks : List Remark) (before between after : Option Text) (n : ℕ)
     → HasTaken mailmaps (whole_lines taken) s → AreRemarks mailmaps taken remarks → Appends before between (flat_map (remark_line paths) remarks)
     → Appends between after (take n (said_text file (flat_map (noted s.answers) s.notices.items))) → BeginsReport paths file mailmaps taken before after
 begins_second paths file mailmaps taken s remarks before between after n h are first part =

@@ -25,9 +25,9 @@ use Rattle.mailmap_likeness.specs.declared.answers.Likeness.{Likeness}
 use Rattle.mailmap_reports.specs.Alike.{answer_at}
 use Rattle.mailmap_reports.specs.Contacts.{Said, no_contact, answer_of, answer_on, answers_from, counts, noted, said_after, said_beside, said_of_answer, said_of_line}
 use Rattle.mailmap_reports.specs.Taken.{HasTaken, HaveSameFirsts}
-use Rattle.mailmap_reports.specs.declared.history.History.{History}
-use Rattle.mailmap_reports.specs.declared.history.Notice.{Notice}
-use Rattle.mailmap_reports.specs.declared.history.Notice.TheVariants.{Alike}
+use Rattle.mailmap_reports.specs.declared.so_far.ContactsSoFar.{ContactsSoFar}
+use Rattle.mailmap_reports.specs.declared.so_far.Notice.{Notice}
+use Rattle.mailmap_reports.specs.declared.so_far.Notice.TheVariants.{Alike}
 use Rattle.mailmap_reports.proofs.Firsts.{email_later, firsts_any, firsts_email, firsts_known, firsts_name, firsts_new, firsts_none, is_some-answer_at, is_some-position, name_later, slice_get-here}
 
 -- ---- one more line
@@ -52,7 +52,7 @@ answers_from-push h n (x ∷ xs) line =
 -- ---- the state after one more line
 
 -- What a line changes that comes after others.
-pub record TakesLine (h : List Mapping) (contacts : List Text) (line : Text) (s t : History) : Type 0 where
+pub record TakesLine (h : List Mapping) (contacts : List Text) (line : Text) (s t : ContactsSoFar) : Type 0 where
   pub history : t.needs.history ≡ s.needs.history
   pub kept : t.needs.kept ≡ s.needs.kept
   pub left : t.needs.left ≡ filter (λ p. not (contact_needs s.needs.kept (contact_in line) p)) s.needs.left
@@ -62,7 +62,7 @@ pub record TakesLine (h : List Mapping) (contacts : List Text) (line : Text) (s 
   pub firsts : HaveSameFirsts t.answers (answers_from h 1 contacts ++ answer_on h (length contacts + 1) (contact_in line))
   pub last : t.last ≡ s.last
 
-pub taken_line : (mailmaps contacts : List Text) (line : Text) (s t : History) → HasTaken mailmaps contacts s → TakesLine (entries (located (lines mailmaps))) contacts line s t → HasTaken mailmaps (contacts ++ line ∷ []) t
+pub taken_line : (mailmaps contacts : List Text) (line : Text) (s t : ContactsSoFar) → HasTaken mailmaps contacts s → TakesLine (entries (located (lines mailmaps))) contacts line s t → HasTaken mailmaps (contacts ++ line ∷ []) t
 taken_line mailmaps contacts line s t taken next =
     let h = entries (located (lines mailmaps)) in
     let all : List Text = contacts ++ line ∷ [] in
@@ -123,7 +123,7 @@ counts_none : (blank : Bool) (n : ℕ) → list_any counts (said_of_none blank n
 counts_none true n = refl
 counts_none false n = refl
 
-pub taken_none : (mailmaps contacts : List Text) (line : Text) (s : History) (number : ℕ) (notices : Vec Notice Global) (found is_blank : Bool) → HasTaken mailmaps contacts s → number ≡ length contacts + 1
+pub taken_none : (mailmaps contacts : List Text) (line : Text) (s : ContactsSoFar) (number : ℕ) (notices : Vec Notice Global) (found is_blank : Bool) → HasTaken mailmaps contacts s → number ≡ length contacts + 1
     → is_contact (contact_in line) ≡ false → is_blank ≡ is_empty (trim line)
     → ((answers : List Answered) → flat_map (noted answers) notices.items ≡ flat_map (noted answers) s.notices.items ++ said_of_none is_blank number)
     → found ≡ (s.found || not is_blank) → HasTaken mailmaps (contacts ++ line ∷ []) (record s { notices = notices; found = found; count = number })
@@ -163,7 +163,7 @@ said_of_line-contact h contacts line name email rest is =
     ∙ append-nil (f (answer_of h name email n))
 
 -- What a contact with this answer changes.
-pub record TakesAnswer (h : List Mapping) (contacts : List Text) (a : Answered) (s : History) (answers : List Answered) (notices : Vec Notice Global) (found : Bool) : Type 0 where
+pub record TakesAnswer (h : List Mapping) (contacts : List Text) (a : Answered) (s : ContactsSoFar) (answers : List Answered) (notices : Vec Notice Global) (found : Bool) : Type 0 where
   pub said : (later : List Answered) → flat_map (noted (answers ++ later)) notices.items ≡ said_after h [] contacts ++ said_of_answer (answers_from h 1 contacts) a
   pub found_is : found ≡ (s.found || list_any counts (said_of_answer (answers_from h 1 contacts) a))
   pub firsts : HaveSameFirsts answers (answers_from h 1 contacts ++ a ∷ [])
@@ -174,7 +174,7 @@ pub record CrossesOff (name email : Text) (old new : Needs) : Type 0 where
   pub kept : new.kept ≡ old.kept
   pub left : new.left ≡ filter (λ p. not (needs old.kept name email p)) old.left
 
-pub taken_contact : (mailmaps contacts : List Text) (line name email rest : Text) (s : History) (needs_now : Needs) (answers : List Answered) (notices : Vec Notice Global) (found : Bool) (number : ℕ)
+pub taken_contact : (mailmaps contacts : List Text) (line name email rest : Text) (s : ContactsSoFar) (needs_now : Needs) (answers : List Answered) (notices : Vec Notice Global) (found : Bool) (number : ℕ)
     → HasTaken mailmaps contacts s → number ≡ length contacts + 1 → contact_in line ≡ Closed name email rest → CrossesOff name email s.needs needs_now
     → TakesAnswer (entries (located (lines mailmaps))) contacts (answer_of (entries (located (lines mailmaps))) name email number) s answers notices found
     → HasTaken mailmaps (contacts ++ line ∷ []) (record { needs = needs_now; answers = answers; notices = notices; found = found; count = number; last = s.last })
@@ -202,7 +202,7 @@ said_known : (all : List Answered) (a : Answered) → list_any (is_answer a.name
 said_known all a came =
     cond-true (list_any (is_answer a.name a.email) all) [] (said_beside (Some a) (answer_at all (first_with_email a.email all)) (answer_at all (first_with_name a.name a.email all))) came
 
-pub answer_known : (mailmaps contacts : List Text) (a : Answered) (s : History) (answers : List Answered) → HasTaken mailmaps contacts s → answers ≡ s.answers
+pub answer_known : (mailmaps contacts : List Text) (a : Answered) (s : ContactsSoFar) (answers : List Answered) → HasTaken mailmaps contacts s → answers ≡ s.answers
     → list_any (is_answer a.name a.email) s.answers ≡ true → TakesAnswer (entries (located (lines mailmaps))) contacts a s answers s.notices s.found
 answer_known mailmaps contacts a s answers taken same came =
     let h = entries (located (lines mailmaps)) in
@@ -230,7 +230,7 @@ counts_beside a None (Some b) = refl
 counts_beside a (Some b) None = refl
 counts_beside a (Some b) (Some c) = refl
 
-pub answer_new : (mailmaps contacts : List Text) (a : Answered) (s : History) (answers : List Answered) (notices : Vec Notice Global) (found : Bool) (index : ℕ) (likeness : Likeness) → HasTaken mailmaps contacts s
+pub answer_new : (mailmaps contacts : List Text) (a : Answered) (s : ContactsSoFar) (answers : List Answered) (notices : Vec Notice Global) (found : Bool) (index : ℕ) (likeness : Likeness) → HasTaken mailmaps contacts s
     → IsAdded a s.answers answers (New likeness) → index ≡ length s.answers
     → ((ys : List Answered) → flat_map (noted ys) notices.items ≡ flat_map (noted ys) s.notices.items ++ noted ys (Alike index likeness)) → found ≡ (s.found || is_some likeness.email)
     → TakesAnswer (entries (located (lines mailmaps))) contacts a s answers notices found
@@ -311,7 +311,7 @@ crossed_again kept contacts line name email rest left left_is is came =
     ∙ ap (λ c. filter (λ p. not (contact_needs kept c p)) (unneeded kept contacts)) is
     ∙ ap (filter (λ p. not (needs kept name email p))) (sym left_is)
 
-pub taken_again : (mailmaps contacts : List Text) (line answer : Text) (s : History) (number : ℕ) → HasTaken mailmaps contacts s → number ≡ length contacts + 1 → Contains s.last (record { line = line; answer = answer })
+pub taken_again : (mailmaps contacts : List Text) (line answer : Text) (s : ContactsSoFar) (number : ℕ) → HasTaken mailmaps contacts s → number ≡ length contacts + 1 → Contains s.last (record { line = line; answer = answer })
     → HasTaken mailmaps (contacts ++ line ∷ []) (record s { count = number })
 taken_again mailmaps contacts line answer s number taken number_is among =
     let h = entries (located (lines mailmaps)) in
@@ -327,7 +327,7 @@ taken_again mailmaps contacts line answer s number taken number_is among =
 
 -- ---- which lines are kept
 
-pub taken_kept : (mailmaps contacts : List Text) (line : Text) (s : History) (last : List Kept) (is_kept : Bool) → HasTaken mailmaps (contacts ++ line ∷ []) s → is_kept ≡ is_contact (contact_in line)
+pub taken_kept : (mailmaps contacts : List Text) (line : Text) (s : ContactsSoFar) (last : List Kept) (is_kept : Bool) → HasTaken mailmaps (contacts ++ line ∷ []) s → is_kept ≡ is_contact (contact_in line)
     → ((k : Kept) → Contains last k → Contains s.last k ⊎ (IsTrue is_kept × (k.line ≡ line))) → HasTaken mailmaps (contacts ++ line ∷ []) (record s { last = last })
 taken_kept mailmaps contacts line s last is_kept taken is keeps = record {
   history = taken.history;

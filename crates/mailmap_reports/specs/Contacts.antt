@@ -1,4 +1,4 @@
--- What is reported of the contacts of a history, and of the mailmaps beside them.
+-- What is reported of contacts, and of the mailmaps beside them.
 use Rattle.std.specs.Prelude.{◌≡◌, ◌+◌, ℕ, Bool, true, false, if◌then◌else◌, List, [], ◌∷◌, ◌++◌, length, Option, None, Some, codes, option_to_list, slice_get, unwrap_or}
 use Rattle.std.specs.List.{flat_map, list_any}
 use Rattle.std.specs.Option.{option_map}
@@ -15,8 +15,8 @@ use Rattle.mailmap_io.specs.declared.outcome.Outcome.TheVariants.{Clean, Found}
 use Rattle.mailmap_likeness.specs.Likeness.{Answered, first_with_email, first_with_name, is_answer}
 use Rattle.mailmap_reports.specs.Alike.{answer_at, email_line, name_line, place_text}
 use Rattle.mailmap_reports.specs.Report.{finding_line, position_text, shown}
-use Rattle.mailmap_reports.specs.declared.history.Notice.{Notice}
-use Rattle.mailmap_reports.specs.declared.history.Notice.TheVariants.{NoContact, Alike}
+use Rattle.mailmap_reports.specs.declared.so_far.Notice.{Notice}
+use Rattle.mailmap_reports.specs.declared.so_far.Notice.TheVariants.{NoContact, Alike}
 
 -- ---- what is said of contacts
 

@@ -9,7 +9,7 @@ use Rattle.mailmap_likeness.specs.Likeness.{Answered}
 use Rattle.mailmap_repeats.specs.Kept.{Kept}
 use Rattle.mailmap_reports.specs.Alike.{answer_at}
 use Rattle.mailmap_reports.specs.Contacts.{answers_from, counts, noted, said_after}
-use Rattle.mailmap_reports.specs.declared.history.History.{History}
+use Rattle.mailmap_reports.specs.declared.so_far.ContactsSoFar.{ContactsSoFar}
 
 -- the first of these answers whose name and email pass a test
 abbrev pub first_of : (Text → Text → Bool) → List Answered → Option Answered
@@ -19,8 +19,8 @@ first_of test answers = answer_at answers (position (λ a. test a.name a.email) 
 abbrev pub HaveSameFirsts : List Answered → List Answered → Type 0
 HaveSameFirsts answers others = (test : Text → Text → Bool) → first_of test answers ≡ first_of test others
 
--- What is kept of a history of contacts is what follows from these lines of contacts beside these mailmaps.
-pub record HasTaken (mailmaps contacts : List Text) (s : History) : Type 0 where
+-- What is kept of contacts is what follows from these lines of contacts beside these mailmaps.
+pub record HasTaken (mailmaps contacts : List Text) (s : ContactsSoFar) : Type 0 where
   pub history : s.needs.history ≡ located (lines mailmaps)
   pub reduced : IsReduced (located (lines mailmaps)) s.needs.kept
   pub left : s.needs.left ≡ unneeded s.needs.kept contacts

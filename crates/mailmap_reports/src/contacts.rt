@@ -1,4 +1,4 @@
-//! Mailmaps and the contacts of a history: what is found in both, line by line.
+//! Mailmaps and contacts: what is found in both, line by line.
 ghost use Rattle.std.specs.Prelude.{◌≡◌, ◌≢◌, ◌⊎◌, ◌++◌, [], ℕ, IfErr, IfOk, IfSome, IsErr, IsErrOf, List, OnErr, OnOk};
 ghost use Rattle.std.specs.Prelude.{Option, false, map, take, true};
 ghost use Rattle.std.specs.Io.KnownBytes.{Appends};
@@ -20,10 +20,10 @@ ghost use Rattle.mailmap_reports.specs.Task.{contacts_name, is_dash};
 use crate::answer::{read_files, read_mailmaps};
 use crate::asked::Mode;
 use crate::failure::Failure;
-use crate::history::{History, Notice};
 use crate::likeness::{likeness_lines, push_place};
 use crate::printing::{flush, print};
 use crate::report::{line_of, push_position, shown_text};
+use crate::so_far::{ContactsSoFar, Notice};
 use bstr::ByteSlice;
 use gix_mailmap::remarks::{Remark, Remarks};
 use gix_mailmap::verify::{Mailmaps, Position, Verification};
@@ -73,9 +73,9 @@ pub fn verify_contacts<F: FileSystem, R: Read, W: Write>(
     let mailmaps = read_beside(system, alloc, contacts, paths, input)?;
     let buffers = list_of(alloc, mailmaps.as_slice())?;
     let mailmaps = Mailmaps::read(alloc, buffers.as_slice())?;
-    let mut history = History::new(alloc, &mailmaps)?;
-    read_contacts(system, alloc, contacts, input, &mut history)?;
-    print_both(alloc, contacts, paths, &mailmaps, &history, output)
+    let mut so_far = ContactsSoFar::new(alloc, &mailmaps)?;
+    read_contacts(system, alloc, contacts, input, &mut so_far)?;
+    print_both(alloc, contacts, paths, &mailmaps, &so_far, output)
 }
 
 // Reads the mailmaps at the paths. If there is no path, the input is the mailmap, unless it has the contacts.
@@ -106,23 +106,23 @@ fn read_contacts<F: FileSystem, R: Read>(
     alloc: Global,
     contacts: &[u8],
     input: &mut R,
-    history: &mut History<'_, '_>,
+    so_far: &mut ContactsSoFar<'_, '_>,
 ) -> Result<(), Failure>
     ensures takes { OnOk result ((text : Text) × AreContacts (F.may_open system.now) (F.bytes system.now)
-        contacts.now (R.remaining input.old) text × Takes (whole_lines text) history.old history.new) }
+        contacts.now (R.remaining input.old) text × Takes (whole_lines text) so_far.old so_far.new) }
     ensures unread { is_dash contacts.now ≡ false → input.new ≡ input.old }
     ensures fails { (before : Option Text) (paths : List Text) → IfErr result (FailsFor (F.may_open system.now)
         (F.bytes system.now) before Mode.Contacts contacts.now paths) }
     ensures no_output { ¬ IsErrOf result Failure.Output }
 {
     if contacts == b"-".as_slice() {
-        return take_all(alloc, input, history);
+        return take_all(alloc, input, so_far);
     }
     let mut file = match system.open(contacts) {
         Ok(file) => file,
         Err(e) => return Err(Failure::Contacts { cause: e.kind() }),
     };
-    match take_all(alloc, &mut file, history) {
+    match take_all(alloc, &mut file, so_far) {
         Ok(()) => Ok(()),
         Err(Failure::Input { cause }) => Err(Failure::Contacts { cause }),
         Err(_) => Err(Failure::Memory),
@@ -133,10 +133,10 @@ fn read_contacts<F: FileSystem, R: Read>(
 fn take_all<R: Read>(
     alloc: Global,
     reader: &mut R,
-    history: &mut History<'_, '_>,
+    so_far: &mut ContactsSoFar<'_, '_>,
 ) -> Result<(), Failure>
     ensures takes { OnOk result ((text : Text) × IfSome (R.remaining reader.old) (λ bytes. text ≡ bytes)
-        × Takes (whole_lines text) history.old history.new) }
+        × Takes (whole_lines text) so_far.old so_far.new) }
     ensures only { IfErr result (λ e. IsOfInput e ⊎ (e ≡ Failure.Memory)) }
 {
     let mut held = Vec::new(alloc);
@@ -147,9 +147,9 @@ fn take_all<R: Read>(
             Err(cause) => return Err(Failure::Input { cause }),
         };
         if count == 0 {
-            return take_lines(history, held.as_slice());
+            return take_lines(so_far, held.as_slice());
         }
-        take_part(history, &part[..count], &mut held)?;
+        take_part(so_far, &part[..count], &mut held)?;
     }
     // No input is so long.
     Err(Failure::Input {
@@ -158,10 +158,14 @@ fn take_all<R: Read>(
 }
 
 // Takes the lines that end in a part, of which the first may have begun in what is held, and holds the rest.
-fn take_part(history: &mut History<'_, '_>, part: &[u8], held: &mut Vec<u8>) -> Result<(), Failure>
+fn take_part(
+    so_far: &mut ContactsSoFar<'_, '_>,
+    part: &[u8],
+    held: &mut Vec<u8>,
+) -> Result<(), Failure>
     ensures takes { OnOk result ((ended : Text) × EndsLine ended
         × (held.old.items ++ part.now ≡ ended ++ held.new.items)
-        × Takes (whole_lines ended) history.old history.new) }
+        × Takes (whole_lines ended) so_far.old so_far.new) }
     ensures only { IfErr result (λ e. e ≡ Failure.Memory) }
 {
     let Some(feed) = part.rfind_byte(b'\n') else {
@@ -169,19 +173,19 @@ fn take_part(history: &mut History<'_, '_>, part: &[u8], held: &mut Vec<u8>) -> 
         return Ok(());
     };
     held.extend_from_slice(&part[..feed + 1])?;
-    take_lines(history, held.as_slice())?;
+    take_lines(so_far, held.as_slice())?;
     held.clear();
     held.extend_from_slice(&part[feed + 1..])?;
     Ok(())
 }
 
 // Takes each line of a text.
-fn take_lines(history: &mut History<'_, '_>, text: &[u8]) -> Result<(), Failure>
-    ensures takes { OnOk result (Takes (whole_lines text.now) history.old history.new) }
+fn take_lines(so_far: &mut ContactsSoFar<'_, '_>, text: &[u8]) -> Result<(), Failure>
+    ensures takes { OnOk result (Takes (whole_lines text.now) so_far.old so_far.new) }
     ensures only { IfErr result (λ e. e ≡ Failure.Memory) }
 {
     for line in text.lines_with_terminator() {
-        history.take(line)?;
+        so_far.take(line)?;
     }
     Ok(())
 }
@@ -192,29 +196,29 @@ fn print_both<W: Write>(
     contacts: &[u8],
     paths: &[Vec<u8>],
     mailmaps: &Mailmaps<'_, '_>,
-    history: &History<'_, '_>,
+    so_far: &ContactsSoFar<'_, '_>,
     output: &mut W,
 ) -> Result<Outcome, Failure>
-    ensures ok { (taken : Text) → HasTaken mailmaps.now (whole_lines taken) history.now → IfOk result (λ outcome.
+    ensures ok { (taken : Text) → HasTaken mailmaps.now (whole_lines taken) so_far.now → IfOk result (λ outcome.
         Prints (IsReportBeside (map (λ path. path.items) paths.now) (contacts_name contacts.now) mailmaps.now taken
         outcome) (W.contents output.old) (W.contents output.new)) }
-    ensures err { (taken : Text) → HasTaken mailmaps.now (whole_lines taken) history.now → OnErr result
+    ensures err { (taken : Text) → HasTaken mailmaps.now (whole_lines taken) so_far.now → OnErr result
         ((outcome : TheOutcome) × PrintsFront (IsReportBeside (map (λ path. path.items) paths.now)
         (contacts_name contacts.now) mailmaps.now taken outcome) (W.contents output.old) (W.contents output.new)) }
     ensures only { IfErr result (λ e. (e ≡ Failure.Memory) ⊎ (e ≡ Failure.Output)) }
 {
     let verification = Verification::new(alloc, mailmaps)?;
-    let unneeded = history.needs.unneeded(alloc)?;
+    let unneeded = so_far.needs.unneeded(alloc)?;
     let remarks = Remarks::new(verification.findings(), unneeded.as_slice());
     let outcome = print_remarks(alloc, paths, remarks, output)?;
     print_notices(
         alloc,
         shown_name(contacts),
-        history.answers.as_slice(),
-        history.notices.as_slice(),
+        so_far.answers.as_slice(),
+        so_far.notices.as_slice(),
         output,
     )?;
-    if history.found {
+    if so_far.found {
         return Ok(Outcome::Found);
     }
     Ok(outcome)

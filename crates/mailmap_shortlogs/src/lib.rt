@@ -5,6 +5,6 @@
 pub mod answers;
 pub mod counts;
 mod guesses;
-pub mod history;
+pub mod reading;
 pub mod shortlog;
 pub mod task;

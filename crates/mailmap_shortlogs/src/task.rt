@@ -5,7 +5,7 @@ ghost use Rattle.std.specs.List.{list_all, list_any};
 ghost use Rattle.mailmap_io.specs.Printing.{Prints, PrintsFront};
 ghost use Rattle.mailmap_shortlogs.specs.Task.{FailsFor, IsAnswer, asked, asked_of, counts_contacts, is_option, no_options, options_with, task, word_of};
 
-use crate::history::count_lines;
+use crate::reading::count_lines;
 use crate::shortlog::shortlog;
 use mailmap_io::VERSION;
 use mailmap_io::files::{FileSystem, list_of, read_each};

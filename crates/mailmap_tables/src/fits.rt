@@ -32,7 +32,7 @@ struct Existing {
 
 /// How many bytes of the pool are enough to put entries in place, one by one. `None` if there are so many entries,
 /// beside the rows of the tables, that a copy moves less, or if half of the pool could be unused after that.
-pub(crate) fn fits_in_place(tables: &Tables, entries: &[Entry<'_>]) -> Option<usize>
+pub(crate) fn bytes_in_place(tables: &Tables, entries: &[Entry<'_>]) -> Option<usize>
     requires { AreGroups tables.now.groups }
     ensures { ForSome result (HasReserved tables.now.groups (map mapping_of entries.now)) }
 {

@@ -24,7 +24,7 @@ use std::alloc::{AllocError, Global};
 use std::mem;
 
 /// Merges entries into the tables in place, after all that is there. `bytes` is the room in the pool that
-/// [`fits_in_place`](crate::fits::fits_in_place) found. All memory is taken first: if it runs out, the tables stay as
+/// [`bytes_in_place`](crate::fits::bytes_in_place) found. All memory is taken first: if it runs out, the tables stay as
 /// they were.
 pub(crate) fn merge_in_place(
     alloc: Global,

@@ -8,7 +8,7 @@ ghost use Rattle.mailmap_histories.specs.Histories.{IsNormal, accepted};
 ghost use Rattle.mailmap_tables.specs.Groups.{AreGroups, IsComplete, listing};
 ghost use Rattle.mailmap_tables.specs.Reserved.{HasReserved};
 
-use crate::fits::fits_in_place;
+use crate::fits::bytes_in_place;
 use crate::in_place::merge_in_place;
 use crate::portions::{Collected, accepted_of};
 use crate::tables::Tables;
@@ -59,5 +59,5 @@ fn room_in_place(collected: &Collected<'_>, tables: &Tables) -> Option<usize>
     if collected.made.is_some() {
         return None;
     }
-    fits_in_place(tables, &collected.batch)
+    bytes_in_place(tables, &collected.batch)
 }

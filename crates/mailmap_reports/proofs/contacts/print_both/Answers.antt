@@ -16,13 +16,13 @@ pub returns-in_err-verification-clause-err : goal.returns-in_err-verification-cl
 returns-in_err-verification-clause-err g c = λ taken h.
     let items : Vec ℕ Global → List ℕ = λ path. path.items in
     on_err c.from_residual.result _
-    (begins_none (map items c.args.paths.now) (contacts_name c.args.contacts.now) c.args.mailmaps.now taken c.args.history.now (g.W.Write.contents c.args.output.now) h)
+    (begins_none (map items c.args.paths.now) (contacts_name c.args.contacts.now) c.args.mailmaps.now taken c.args.so_far.now (g.W.Write.contents c.args.output.now) h)
 
 pub returns-in_err-unneeded-clause-err : goal.returns-in_err-unneeded-clause-err
 returns-in_err-unneeded-clause-err g c = λ taken h.
     let items : Vec ℕ Global → List ℕ = λ path. path.items in
     on_err c.from_residual-in_err-unneeded.result _
-    (begins_none (map items c.args.paths.now) (contacts_name c.args.contacts.now) c.args.mailmaps.now taken c.args.history.now (g.W.Write.contents c.args.output.now) h)
+    (begins_none (map items c.args.paths.now) (contacts_name c.args.contacts.now) c.args.mailmaps.now taken c.args.so_far.now (g.W.Write.contents c.args.output.now) h)
 
 pub returns-in_err-outcome-clause-err : goal.returns-in_err-outcome-clause-err
 returns-in_err-outcome-clause-err g c = λ taken h.
@@ -31,17 +31,17 @@ returns-in_err-outcome-clause-err g c = λ taken h.
     let remarks = c.new-remarks.result in
     let found : AreFindings mailmaps c.findings.result = search rules in
     let are : AreRemarks mailmaps taken remarks = c.new-remarks.ensures mailmaps taken found
-    (are_unneeded mailmaps taken c.args.history.now c.as_slice.result.now h (c.as_slice.ensures.value ∙ c.in_ok-unneeded.ensures)) in
+    (are_unneeded mailmaps taken c.args.so_far.now c.as_slice.result.now h (c.as_slice.ensures.value ∙ c.in_ok-unneeded.ensures)) in
     let broken = c.in_err-outcome.ensures.err in
     on_err c.from_residual-in_err-outcome.result _
-    (begins_first (map items c.args.paths.now) (contacts_name c.args.contacts.now) mailmaps taken c.args.history.now remarks (g.W.Write.contents c.args.output.now)
+    (begins_first (map items c.args.paths.now) (contacts_name c.args.contacts.now) mailmaps taken c.args.so_far.now remarks (g.W.Write.contents c.args.output.now)
     (g.W.Write.contents c.print_remarks.new.output) broken.0 h are broken.1)
 
 pub returns-in_err-print_notices-clause-err : goal.returns-in_err-print_notices-clause-err
 returns-in_err-print_notices-clause-err g c = λ taken h.
     let items : Vec ℕ Global → List ℕ = λ path. path.items in
     let mailmaps = c.args.mailmaps.now in
-    let s = c.args.history.now in
+    let s = c.args.so_far.now in
     let remarks = c.new-remarks.result in
     let found : AreFindings mailmaps c.findings.result = search rules in
     let are : AreRemarks mailmaps taken remarks =
@@ -55,11 +55,11 @@ returns-in_err-print_notices-clause-err g c = λ taken h.
     (begins_second (map items c.args.paths.now) file mailmaps taken s remarks (g.W.Write.contents c.args.output.now) between after broken.0 h are c.in_ok-outcome.ensures.ok.1
     (subst (λ t. Appends between after (take broken.0 t)) same broken.1))
 
-pub returns-then-history-clause-ok : goal.returns-then-history-clause-ok
-returns-then-history-clause-ok g c = λ taken h.
+pub returns-then-so_far-clause-ok : goal.returns-then-so_far-clause-ok
+returns-then-so_far-clause-ok g c = λ taken h.
     let items : Vec ℕ Global → List ℕ = λ path. path.items in
     let mailmaps = c.args.mailmaps.now in
-    let s = c.args.history.now in
+    let s = c.args.so_far.now in
     let remarks = c.new-remarks.result in
     let found : AreFindings mailmaps c.findings.result = search rules in
     let are : AreRemarks mailmaps taken remarks =
@@ -69,14 +69,14 @@ returns-then-history-clause-ok g c = λ taken h.
     let between = g.W.Write.contents c.print_remarks.new.output in
     let after = g.W.Write.contents c.print_notices.new.output in
     prints_both (map items c.args.paths.now) file mailmaps taken s remarks Found (g.W.Write.contents c.args.output.now) between after h are
-    (found_beside remarks (said_after (entries (located (lines mailmaps))) [] (whole_lines taken)) s.found h.found c.if-history.true) c.in_ok-outcome.ensures.ok.1
+    (found_beside remarks (said_after (entries (located (lines mailmaps))) [] (whole_lines taken)) s.found h.found c.if-so_far.true) c.in_ok-outcome.ensures.ok.1
     (subst (λ t. Appends between after t) same c.in_ok-print_notices.ensures.ok)
 
 pub returns-clause-ok : goal.returns-clause-ok
 returns-clause-ok g c = λ taken h.
     let items : Vec ℕ Global → List ℕ = λ path. path.items in
     let mailmaps = c.args.mailmaps.now in
-    let s = c.args.history.now in
+    let s = c.args.so_far.now in
     let remarks = c.new-remarks.result in
     let found : AreFindings mailmaps c.findings.result = search rules in
     let are : AreRemarks mailmaps taken remarks =
@@ -86,5 +86,5 @@ returns-clause-ok g c = λ taken h.
     let between = g.W.Write.contents c.print_remarks.new.output in
     let after = g.W.Write.contents c.print_notices.new.output in
     prints_both (map items c.args.paths.now) file mailmaps taken s remarks c.in_ok-outcome.outcome (g.W.Write.contents c.args.output.now) between after h are
-    (c.in_ok-outcome.ensures.ok.0 ∙ none_beside remarks (said_after (entries (located (lines mailmaps))) [] (whole_lines taken)) s.found h.found c.if-history.false) c.in_ok-outcome.ensures.ok.1
+    (c.in_ok-outcome.ensures.ok.0 ∙ none_beside remarks (said_after (entries (located (lines mailmaps))) [] (whole_lines taken)) s.found h.found c.if-so_far.false) c.in_ok-outcome.ensures.ok.1
     (subst (λ t. Appends between after t) same c.in_ok-print_notices.ensures.ok)

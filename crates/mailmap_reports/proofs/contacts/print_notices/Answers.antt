@@ -5,8 +5,8 @@ use Rattle.std.proofs.lemmas.Result.{on_err_weaker, on_ok_weaker}
 use Rattle.mailmap_entries.proofs.Results.{on_err}
 use Rattle.mailmap_likeness.specs.Likeness.{answered}
 use Rattle.mailmap_reports.specs.Contacts.{noted, said_text}
-use Rattle.mailmap_reports.specs.declared.history.Notice.{Notice}
-use Rattle.mailmap_reports.specs.declared.history.Notice.TheVariants.{NoContact}
+use Rattle.mailmap_reports.specs.declared.so_far.Notice.{Notice}
+use Rattle.mailmap_reports.specs.declared.so_far.Notice.TheVariants.{NoContact}
 use Rattle.mailmap_reports.proofs.Explaining.{printed_all, printed_broken, printed_first_broken, printed_more}
 use Rattle.mailmap_reports.proofs.Reporting.{said_each}
 use Rattle.mailmap_reports.proofs.contacts.print_notices.Goals as goal

@@ -6,4 +6,4 @@ use Rattle.mailmap_reports.specs.Taking.{Takes}
 use Rattle.mailmap_reports.proofs.contacts.take_lines.Given as goal
 
 abbrev pub invariant-loop-line : goal.invariant-loop-line
-invariant-loop-line l = (done : List Text) × (whole_lines l.fn.text ≡ done ++ l.line-iterator) × Takes done l.fn.history l.history
+invariant-loop-line l = (done : List Text) × (whole_lines l.fn.text ≡ done ++ l.line-iterator) × Takes done l.fn.so_far l.so_far

@@ -6,7 +6,7 @@ use Rattle.mailmap_reports.proofs.TakingLines.{takes_no_text}
 use Rattle.mailmap_reports.proofs.contacts.take_part.Goals as goal
 
 pub returns-in_default-clause-takes : goal.returns-in_default-clause-takes
-returns-in_default-clause-takes c = ([], inl refl, sym c.in_ok-extend_from_slice.ensures.items, takes_no_text c.args.history.now)
+returns-in_default-clause-takes c = ([], inl refl, sym c.in_ok-extend_from_slice.ensures.items, takes_no_text c.args.so_far.now)
 
 pub returns-clause-takes : goal.returns-clause-takes
 returns-clause-takes c =
@@ -19,5 +19,5 @@ returns-clause-takes c =
       ended,
       parts.ends,
       parts.whole ∙ ap (λ l. ended ++ l) (sym kept),
-      subst (λ t. Takes (whole_lines t) c.args.history.now c.take_lines.new.history) c.as_slice.ensures.value c.in_ok-take_lines.ensures.takes,
+      subst (λ t. Takes (whole_lines t) c.args.so_far.now c.take_lines.new.so_far) c.as_slice.ensures.value c.in_ok-take_lines.ensures.takes,
     )

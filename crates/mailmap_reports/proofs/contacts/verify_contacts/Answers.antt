@@ -22,7 +22,7 @@ returns-clause-prints g c =
     let mailmaps = c.in_ok-mailmaps-2.mailmaps in
     let same : map items c.in_ok-mailmaps.mailmaps.items ≡ mailmaps = search rules in
     let taken = c.in_ok-read_contacts.ensures.takes in
-    let h : HasTaken mailmaps (whole_lines taken.0) c.read_contacts.new.history = taken.2 mailmaps [] c.in_ok-history.ensures in
+    let h : HasTaken mailmaps (whole_lines taken.0) c.read_contacts.new.so_far = taken.2 mailmaps [] c.in_ok-so_far.ensures in
     let are : AreReadBeside may_open known input c.args.contacts.now paths mailmaps taken.0 =
     read_beside may_open known c.args.contacts.now input (g.R.Read.remaining c.read_beside.new.input) paths (map items c.in_ok-mailmaps.mailmaps.items) mailmaps taken.0 c.in_ok-mailmaps.ensures.ok same
     (λ dash. ap (λ i. g.R.Read.remaining i) (c.read_beside.ensures.unread_for_contacts dash)) taken.1 in
@@ -40,7 +40,7 @@ returns-clause-breaks_off g c = λ broke.
     let mailmaps = c.in_ok-mailmaps-2.mailmaps in
     let same : map items c.in_ok-mailmaps.mailmaps.items ≡ mailmaps = search rules in
     let taken = c.in_ok-read_contacts.ensures.takes in
-    let h : HasTaken mailmaps (whole_lines taken.0) c.read_contacts.new.history = taken.2 mailmaps [] c.in_ok-history.ensures in
+    let h : HasTaken mailmaps (whole_lines taken.0) c.read_contacts.new.so_far = taken.2 mailmaps [] c.in_ok-so_far.ensures in
     let are : AreReadBeside may_open known input c.args.contacts.now paths mailmaps taken.0 =
     read_beside may_open known c.args.contacts.now input (g.R.Read.remaining c.read_beside.new.input) paths (map items c.in_ok-mailmaps.mailmaps.items) mailmaps taken.0 c.in_ok-mailmaps.ensures.ok same
     (λ dash. ap (λ i. g.R.Read.remaining i) (c.read_beside.ensures.unread_for_contacts dash)) taken.1 in
@@ -57,7 +57,7 @@ returns-clause-memory g c = λ lost.
     let mailmaps = c.in_ok-mailmaps-2.mailmaps in
     let same : map items c.in_ok-mailmaps.mailmaps.items ≡ mailmaps = search rules in
     let taken = c.in_ok-read_contacts.ensures.takes in
-    let h : HasTaken mailmaps (whole_lines taken.0) c.read_contacts.new.history = taken.2 mailmaps [] c.in_ok-history.ensures in
+    let h : HasTaken mailmaps (whole_lines taken.0) c.read_contacts.new.so_far = taken.2 mailmaps [] c.in_ok-so_far.ensures in
     let are : AreReadBeside may_open known input c.args.contacts.now paths mailmaps taken.0 =
     read_beside may_open known c.args.contacts.now input (g.R.Read.remaining c.read_beside.new.input) paths (map items c.in_ok-mailmaps.mailmaps.items) mailmaps taken.0 c.in_ok-mailmaps.ensures.ok same
     (λ dash. ap (λ i. g.R.Read.remaining i) (c.read_beside.ensures.unread_for_contacts dash)) taken.1 in

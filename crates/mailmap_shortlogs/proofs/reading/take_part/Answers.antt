@@ -5,7 +5,7 @@ use Rattle.gix_mailmap.specs.Folding.{Text}
 use Rattle.mailmap_entries.proofs.Results.{on_ok_then}
 use Rattle.mailmap_shortlogs.specs.Counts.{AreCounts}
 use Rattle.mailmap_shortlogs.proofs.Reading.{takes_ended, takes_none, when_ok}
-use Rattle.mailmap_shortlogs.proofs.history.take_part.Goals as goal
+use Rattle.mailmap_shortlogs.proofs.reading.take_part.Goals as goal
 
 pub returns-in_default : goal.returns-in_default
 returns-in_default c = on_ok_then c.extend_from_slice.result _ _ (λ is. takes_none c.args.held.now.items c.args.part.now c.extend_from_slice.new.self.items c.args.counts.now is)

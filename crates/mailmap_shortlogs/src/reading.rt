@@ -1,4 +1,4 @@
-//! The lines of a history, counted as they are read.
+//! The lines of contacts, counted as they are read.
 ghost use Rattle.std.specs.Prelude.{◌≡◌, ◌++◌, List, IfErr, IfOk, IfSome, OnOk};
 ghost use Rattle.std.specs.Io.KnownBytes.{IsAtEnd};
 ghost use Rattle.gix_mailmap.specs.Folding.{Text};
@@ -19,7 +19,7 @@ const PART: usize = 64 * 1024;
 
 /// Counts each line of what a reader has left.
 ///
-/// It is read in parts, so memory grows with the lines that differ and with the longest line, not with the history.
+/// It is read in parts, so memory grows with the lines that differ and with the longest line, not with their number.
 pub fn count_lines<R: Read>(alloc: Global, input: &mut R) -> Result<Counts, RunError>
     ensures ok { IfOk result (λ counts. (text : Text) × IfSome (R.remaining input.old) (λ bytes. text ≡ bytes)
         × AreCounts (lines text) counts) }

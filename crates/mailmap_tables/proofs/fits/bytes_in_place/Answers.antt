@@ -4,7 +4,7 @@ use Rattle.mailmap_entries.specs.Entries.{mapping_of}
 use Rattle.mailmap_tables.specs.Groups.{Contents}
 use Rattle.mailmap_tables.specs.Reserved.{OwnWithin, entry_bytes}
 use Rattle.mailmap_tables.proofs.InPlace.{product_whole, reserved_sum}
-use Rattle.mailmap_tables.proofs.fits.fits_in_place.Goals as goal
+use Rattle.mailmap_tables.proofs.fits.bytes_in_place.Goals as goal
 
 pub returns : goal.returns
 returns c =

@@ -7,7 +7,7 @@ use Rattle.mailmap_likeness.specs.declared.answers.Added.TheVariants.{Known, New
 use Rattle.mailmap_reports.specs.Contacts.{answer_of}
 use Rattle.mailmap_reports.proofs.Firsts.{is_some-position}
 use Rattle.mailmap_reports.proofs.Taking.{answer_known, answer_new, on_ok_both, taken_contact}
-use Rattle.mailmap_reports.proofs.history.History.take_contact.Goals as goal
+use Rattle.mailmap_reports.proofs.so_far.ContactsSoFar.take_contact.Goals as goal
 
 pub returns-in-New-clause-taken : goal.returns-in-New-clause-taken
 returns-in-New-clause-taken c = λ mailmaps contacts line rest taken number_is is.

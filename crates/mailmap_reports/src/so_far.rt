@@ -1,4 +1,4 @@
-//! The contacts of a history: which lines of mailmaps they don't need, and what is reported of themselves.
+//! The contacts so far: which lines of mailmaps they don't need, and what is reported of themselves.
 ghost use Rattle.std.specs.Prelude.{◌≡◌, ◌⊎◌, ◌+◌, ◌||◌, ◌∷◌, ◌++◌, [], Contains, IfErr, IfOk, IsOkUnless};
 ghost use Rattle.std.specs.Prelude.{IsTrue, List, OnErr, OnOk, false, if◌then◌else◌, is_some, length, not};
 ghost use Rattle.std.specs.List.{flat_map};
@@ -33,7 +33,7 @@ pub(crate) enum Notice {
 ///
 /// Memory grows with the mailmaps, with the answers that differ, and with the lines that are no contacts.
 #[derive(Drop)]
-pub(crate) struct History<'m, 'a> {
+pub(crate) struct ContactsSoFar<'m, 'a> {
     pub(crate) needs: Needs<'m, 'a>,
     pub(crate) answers: Answers,
     pub(crate) notices: Vec<Notice>,
@@ -45,19 +45,19 @@ pub(crate) struct History<'m, 'a> {
     last: LastAnswers,
 }
 
-impl<'m, 'a> History<'m, 'a> {
+impl<'m, 'a> ContactsSoFar<'m, 'a> {
     /// Before the first line.
     pub(crate) fn new(
         alloc: Global,
         mailmaps: &'m Mailmaps<'_, 'a>,
-    ) -> Result<History<'m, 'a>, AllocError>
+    ) -> Result<ContactsSoFar<'m, 'a>, AllocError>
         ensures { IfOk result (λ s. HasTaken mailmaps.now [] s) }
     {
         let needs = Needs::new(alloc, mailmaps)?;
         let answers = Answers::new(alloc);
         let notices = Vec::new(alloc);
         let last = LastAnswers::new(alloc)?;
-        Ok(History {
+        Ok(ContactsSoFar {
             needs,
             answers,
             notices,

@@ -4,7 +4,7 @@ use Rattle.std.proofs.lemmas.List.{map-append}
 use Rattle.gix_mailmap.specs.Contacts.{lines}
 use Rattle.gix_mailmap.proofs.Contacts.{lines-given}
 use Rattle.mailmap_shortlogs.specs.Counts.{AreCounts}
-use Rattle.mailmap_shortlogs.proofs.history.count_each.Goals as goal
+use Rattle.mailmap_shortlogs.proofs.reading.count_each.Goals as goal
 
 pub loop-line-preserved : goal.loop-line-preserved
 loop-line-preserved c = λ texts are.

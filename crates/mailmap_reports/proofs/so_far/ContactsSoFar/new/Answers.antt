@@ -1,5 +1,5 @@
 use Rattle.mailmap_reports.proofs.Taking.{taken_nothing}
-use Rattle.mailmap_reports.proofs.history.History.new.Goals as goal
+use Rattle.mailmap_reports.proofs.so_far.ContactsSoFar.new.Goals as goal
 
 pub returns : goal.returns
 returns c =

@@ -4,7 +4,7 @@ use Rattle.gix_mailmap.specs.Contacts.{lines}
 use Rattle.gix_mailmap.specs.Folding.{Text}
 use Rattle.mailmap_shortlogs.specs.Counts.{AreCounts}
 use Rattle.mailmap_shortlogs.proofs.Reading.{Taken, taken_all, taken_more, taken_none}
-use Rattle.mailmap_shortlogs.proofs.history.count_lines.Goals as goal
+use Rattle.mailmap_shortlogs.proofs.reading.count_lines.Goals as goal
 
 pub loop-init : goal.loop-init
 loop-init g c =

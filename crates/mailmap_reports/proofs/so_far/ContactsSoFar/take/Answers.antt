@@ -1,6 +1,6 @@
 use Rattle.std.proofs.Common.{◌≡◌, ◌+◌, arith, length}
 use Rattle.mailmap_reports.proofs.Taking.{taken_again, taken_kept}
-use Rattle.mailmap_reports.proofs.history.History.take.Goals as goal
+use Rattle.mailmap_reports.proofs.so_far.ContactsSoFar.take.Goals as goal
 
 pub returns-in-Some-get-clause-taken : goal.returns-in-Some-get-clause-taken
 returns-in-Some-get-clause-taken c = λ mailmaps contacts taken.

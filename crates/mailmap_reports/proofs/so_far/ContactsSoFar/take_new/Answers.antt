@@ -4,7 +4,7 @@ use Rattle.gix_mailmap.specs.Needs.{contact_in, is_contact, is_empty}
 use Rattle.gix_mailmap.specs.Trimming.{trim}
 use Rattle.mailmap_needs.proofs.Taking.{unclosed_some}
 use Rattle.mailmap_reports.proofs.Taking.{empty_by_length, on_ok_both, taken_none}
-use Rattle.mailmap_reports.proofs.history.History.take_new.Goals as goal
+use Rattle.mailmap_reports.proofs.so_far.ContactsSoFar.take_new.Goals as goal
 
 pub returns-in_ok-take_contact-in-Closed-clause-taken : goal.returns-in_ok-take_contact-in-Closed-clause-taken
 returns-in_ok-take_contact-in-Closed-clause-taken c = λ mailmaps contacts taken number_is.
