@@ -9,7 +9,7 @@ use Rattle.mailmap_grammar.specs.declared.lines.Error.TheVariants.{NoEmail, Miss
 use Rattle.mailmap_grammar.specs.declared.lines.Error.TheVariants.{NothingToMap, UnclosedSecond}
 use Rattle.mailmap_grammar.specs.declared.contacts.ParsedContact as the_contact
 use Rattle.mailmap_grammar.specs.declared.contacts.ParsedContact.TheVariants as variant
-use Rattle.mailmap_grammar.specs.declared.lines.WithTrailing.{WithTrailing}
+use Rattle.mailmap_grammar.specs.declared.trailing.WithTrailing.{WithTrailing}
 use Rattle.mailmap_grammar.specs.declared.lines.Strictness.{Strictness}
 use Rattle.mailmap_grammar.specs.declared.lines.Strictness.TheVariants.{Lenient, Strict}
 use Rattle.mailmap_entries.specs.Folding.{Text}

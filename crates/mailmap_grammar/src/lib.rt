@@ -5,6 +5,7 @@
 pub mod contacts;
 pub mod laws;
 pub mod lines;
+pub mod strict;
 pub mod trailing;
 pub mod writing;
 

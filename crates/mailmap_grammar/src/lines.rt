@@ -28,6 +28,7 @@ ghost use Rattle.mailmap_grammar.specs.Trimming.{trim as spec_trim};
 mod derived;
 
 use crate::contacts::{ParsedContact, parse_name_and_email, trim};
+use crate::trailing::WithTrailing;
 use bstr::ByteSlice;
 use mailmap_entries::Entry;
 use std::marker::Model;
@@ -254,14 +255,6 @@ pub fn read_line(
         Ok(read) => Some(Ok(read.entry)),
         Err(error) => Some(Err(error)),
     }
-}
-
-/// The entry of a line and the trailing text: all that follows the second contact, or the first one if the line has no
-/// second contact with a `>`. The text is not trimmed.
-#[derive(Clone, Copy, Debug)]
-pub struct WithTrailing<'a> {
-    pub entry: Entry<'a>,
-    pub trailing: &'a [u8],
 }
 
 /// What the line `text` says, and beside its entry what is after the last email that counts.

@@ -13,7 +13,7 @@ use crate::verify::lines::Line;
 use mailmap_entries::Entry;
 use mailmap_grammar::contacts::trim;
 use mailmap_grammar::lines::{Strictness, read_line};
-use mailmap_grammar::trailing;
+use mailmap_grammar::strict;
 
 /// The entry that a line gives, read leniently as for lookups.
 #[inline]
@@ -93,7 +93,7 @@ fn read_piece<'a>(line: &Line<'a>) -> (Option<Kind<'a>>, Option<Entry<'a>>)
         ≡ spec_reported line.now.text.now (strict_reading line.now.position.line line.now.text.now) }
     ensures entry { option_map mapping_of result.1 ≡ spec_entry (line_of line.now) }
 {
-    match trailing::read_strictly(line.text, line.position.line) {
+    match strict::read_strictly(line.text, line.position.line) {
         None => (None, None),
         Some(Err(error)) => (Some(Kind::Fault(error)), entry_of_piece(line)),
         Some(Ok(read)) => (
