@@ -1,4 +1,4 @@
-/* gix_mailmap: mailmaps for git tools, proved.
+/* gix_mailmap: mailmaps for git tools, over a proved library.
  *
  * A mailmap says which names and emails people want to be known by. These calls read one, look contacts up in it, list
  * it, and find what is wrong with it.
@@ -187,9 +187,9 @@ void gix_mailmap_len(const gix_mailmap *map, size_t *GIX_MAILMAP_RESTRICT entrie
     GIX_MAILMAP_NONNULL(1, 2, 3);
 
 /* Lists the mailmap: one entry for each old email that is mapped whatever the name, and one for each old name of it.
- * They come in ascending order of old emails, and for each of these of old names. Entry i is in entries[i], and its
- * texts are in `texts` from its `start` on. `entries_len` counts entries, `texts_len` bytes; gix_mailmap_len gives
- * how many are needed.
+ * They come in ascending order of old emails, and for each of these of old names, whatever the case of ASCII letters;
+ * the entry without an old name comes first. Entry i is in entries[i], and its texts are in `texts` from its `start`
+ * on. `entries_len` counts entries, `texts_len` bytes; gix_mailmap_len gives how many are needed.
  * OK; TOO_SHORT: `entries` or `texts` is too short, and both are as they were. */
 gix_mailmap_status gix_mailmap_list(const gix_mailmap *map, gix_mailmap_listed *GIX_MAILMAP_RESTRICT entries,
                                     size_t entries_len, char *GIX_MAILMAP_RESTRICT texts, size_t texts_len)
@@ -292,7 +292,7 @@ gix_mailmap_status gix_mailmap_unneeded(const gix_mailmap_named *mailmaps, size_
  *     }
  *
  * After the last part call gix_mailmap_stream_finish, and read once more. A stream takes some 1.1 MiB for the last
- * lines and their answers, beside the mailmap and the answers that wait.
+ * lines and their answers, in addition to the mailmap and the answers that wait.
  * OK; OUT_OF_MEMORY: `*stream` is NULL. */
 gix_mailmap_status gix_mailmap_stream_open(gix_mailmap_stream **stream, const char *mailmap, size_t mailmap_len)
     GIX_MAILMAP_NONNULL(1) GIX_MAILMAP_MUST_CHECK;

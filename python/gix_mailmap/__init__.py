@@ -1,6 +1,6 @@
-"""Mailmaps for git tools, proved: the library gix_mailmap.
+"""Mailmaps for git tools, by the proved library gix_mailmap.
 
-A mailmap says which names and emails replace which:
+A mailmap says which names and emails to show in place of others:
 
 >>> from gix_mailmap import Mailmap
 >>> with Mailmap("Jane Doe <jane@x> <jd@y>\\n") as mailmap:
@@ -11,9 +11,9 @@ Texts are `str` or bytes, and what a call answers is of the same kind. Bytes may
 is encoded; in a `str`, bytes that aren't UTF-8 are lone surrogates (`surrogateescape`). A `bytearray` and a
 `memoryview` are taken as bytes.
 
-The errors of the module are of the class Error, and also of Python's own class for that case. Others are a TypeError
-for an argument of a wrong type, a ValueError of `index` and of a slice, as of a list, and an ImportError if no library
-is found.
+The errors of the module are of the class Error, and also of Python's own class for that case. Three are not: a
+TypeError for an argument of a wrong type, the ValueError that `index` and a slice raise as those of a list do, and the
+ImportError if no library is found.
 """
 
 from ._calls import check, compact, explain, prune, report, unneeded, verify

@@ -22,7 +22,8 @@ _Written = tuple[object, Optional[bytes]]
 class Mailmap(Sequence[Entry[AnyStr]], Generic[AnyStr]):
     """A mailmap that is held: open until `close`, or until the end of its `with` block.
 
-    It is a sequence of its entries, in ascending order of their old emails and, in each, of their old names:
+    It is a sequence of its entries, in ascending order of their old emails and, for each email, of their old names,
+    whatever the case of ASCII letters:
 
     >>> with Mailmap("Jane Doe <jane@x> <jd@y>\\nJoe <joe@x>\\n") as mailmap:
     ...     len(mailmap), mailmap[0].new_name, [entry.old_email for entry in mailmap[1:]]
@@ -137,11 +138,11 @@ class Mailmap(Sequence[Entry[AnyStr]], Generic[AnyStr]):
         ...     list(mailmap.map_contacts(["jd <JD@y>\\n", "plain\\n"]))
         ['Jane Doe <jane@x>', 'plain']
 
-        Lines are taken in parts of 1024, so some are read ahead. What is added meanwhile counts from a later part on,
-        and once the mailmap is closed there is no other part. Each call reads the whole mailmap, so give it all lines
-        that there are. With an entry that no line can hold, it is no faster than lookups.
+        Lines are taken in parts of 1024, so some are read ahead. What is added meanwhile counts from a later part on.
+        If the mailmap is closed meanwhile, the next part raises Closed. Each call reads the whole mailmap, so give it
+        all lines that there are. With an entry that no line can hold, it is no faster than lookups.
 
-        Raises NotALine if a line has a line feed before its end, NotAText, and OutOfMemory.
+        Raises NotALine if a line has a line feed before its end, Closed, NotAText, and OutOfMemory.
         """
         if isinstance(lines, (str, bytes, bytearray, memoryview)):
             raise TypeError(f"lines are wanted, not one {type(lines).__name__}")
