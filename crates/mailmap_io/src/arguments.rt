@@ -1,4 +1,4 @@
-// The arguments of a program.
+//! The arguments of a program.
 use std::alloc::{AllocError, Global};
 use std::env::FillError;
 use std::rt::Env;

@@ -1,4 +1,4 @@
-// What ends the program early.
+//! What ends the program early.
 ghost use Rattle.std.specs.Prelude.{◌≡◌, ◌↔◌, IsTrue};
 ghost use Rattle.mailmap_io.specs.declared.failure.Failure.TheVariants.{Memory};
 

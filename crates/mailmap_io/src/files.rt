@@ -1,4 +1,4 @@
-// The mailmaps that the arguments name.
+//! The mailmaps that the arguments name.
 ghost use Rattle.std.specs.Prelude.{◌≡◌, ◌⊎◌, ◌<◌, ◌≤◌, ℕ, List, Option, None, IfErr, IfOk, IfSome, OnOk, Some, length, map};
 ghost use Rattle.mailmap_io.specs.Files.{AreRead, BreaksOff, IsRead, MayOpenBefore};
 

@@ -1,4 +1,4 @@
-// What keeps files from being read.
+//! What keeps files from being read.
 ghost use Rattle.std.specs.Prelude.{◌≡◌};
 ghost use Rattle.mailmap_io.specs.declared.read_error.ReadError.TheVariants.{Memory};
 

@@ -1,4 +1,4 @@
-// What a reader has, all at once or in parts, and a text to a writer.
+//! What a reader has, all at once or in parts, and a text to a writer.
 ghost use Rattle.std.specs.Prelude.{◌≡◌, ◌≢◌, ◌<◌, ◌≤◌, ℕ, IfErr, IfOk, IsOkUnless, OnErr, OnOk, length, take};
 ghost use Rattle.std.specs.Io.KnownBytes.{Appends, Consumes, IsAtEnd, Keeps};
 

@@ -1,4 +1,4 @@
-// A line and its answer, in a row of a fixed size.
+//! A line and its answer, in a row of a fixed size.
 ghost use Rattle.std.specs.Prelude.{◌≡◌, ◌+◌, ◌≤◌, ◌↔◌, IfSome, IsSome, drop, length, take};
 ghost use Rattle.mailmap_repeats.specs.Kept.{Kept};
 

@@ -2,5 +2,5 @@ pub mod Counting
 pub mod Ordered
 pub mod Joining
 pub mod Listing
-pub mod Reading
+pub mod Parts
 pub mod Answered

@@ -1,4 +1,4 @@
-// Where one input is split into a mailmap and contact lines.
+//! Where one input is split into a mailmap and contact lines.
 ghost use Rattle.std.specs.Prelude.{◌↔◌, IsTrue};
 ghost use Rattle.gix_mailmap.specs.Parts.{IsDividerLine, IsSplit};
 

@@ -3,7 +3,7 @@ use Rattle.std.specs.Io.KnownBytes.{Consumes, IsAtEnd}
 use Rattle.gix_mailmap.specs.Contacts.{lines}
 use Rattle.gix_mailmap.specs.Folding.{Text}
 use Rattle.mailmap_shortlogs.specs.Counts.{AreCounts}
-use Rattle.mailmap_shortlogs.proofs.Reading.{Taken, taken_all, taken_more, taken_none}
+use Rattle.mailmap_shortlogs.proofs.Parts.{Taken, taken_all, taken_more, taken_none}
 use Rattle.mailmap_shortlogs.proofs.reading.count_lines.Goals as goal
 
 pub loop-init : goal.loop-init

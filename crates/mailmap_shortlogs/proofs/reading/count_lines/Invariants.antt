@@ -1,5 +1,5 @@
 -- Of what was read so far the ended lines are counted, and the rest is held.
-use Rattle.mailmap_shortlogs.proofs.Reading.{Taken}
+use Rattle.mailmap_shortlogs.proofs.Parts.{Taken}
 use Rattle.mailmap_shortlogs.proofs.reading.count_lines.Given as goal
 
 abbrev pub invariant-loop : goal.invariant-loop

@@ -4,7 +4,7 @@ use Rattle.gix_mailmap.specs.Contacts.{lines}
 use Rattle.gix_mailmap.specs.Folding.{Text}
 use Rattle.mailmap_entries.proofs.Results.{on_ok_then}
 use Rattle.mailmap_shortlogs.specs.Counts.{AreCounts}
-use Rattle.mailmap_shortlogs.proofs.Reading.{takes_ended, takes_none, when_ok}
+use Rattle.mailmap_shortlogs.proofs.Parts.{takes_ended, takes_none, when_ok}
 use Rattle.mailmap_shortlogs.proofs.reading.take_part.Goals as goal
 
 pub returns-in_default : goal.returns-in_default
