@@ -1,5 +1,5 @@
 # make run: maps the sample contacts by the sample mailmap. make test: the gate. make edits: the wrong bodies that the
-# gate leaves out for its time. make build: the programs. make lib: the libraries for C. make wheel: the package for
+# gate leaves out to save time. make build: the programs. make lib: the libraries for C. make wheel: the package for
 # Python, in dist. make install: the programs and their manual pages, the libraries, their header, what pkg-config reads
 # and the package for Python, under PREFIX. make uninstall: removes those. make dist and make deb: a tarball and a
 # Debian package of them, in dist, for machines without the toolchain.
@@ -93,7 +93,7 @@ $(LIB)/c/$(SHARED): $(LIB)/c/libgix_mailmap.a include/gix_mailmap.map VERSION Ma
 	ln -sf ../../$(LIB)/c/$(LINKED) python/gix_mailmap/$(LINKED)
 
 # the package for Python, with the shared library in it: what pip builds, without pip
-WHEEL = PYTHONDONTWRITEBYTECODE=1 PYTHONPATH=python/build \
+WHEEL = GIX_MAILMAP_LIBRARY= PYTHONDONTWRITEBYTECODE=1 PYTHONPATH=python/build \
     python3 -c 'import backend, sys; backend.build_wheel(sys.argv[1])'
 
 wheel: lib
@@ -122,7 +122,7 @@ test:
 edits:
 	tests/more_must_fail.sh
 
-# What is already there stays as it is.
+# A file that is already there with the same bytes isn't written again.
 install: build lib
 	mkdir -p $(DESTDIR)$(BINDIR) $(DESTDIR)$(MANDIR)/man1
 	install -C -m 755 $(PROGRAM) $(VERIFIER) $(COUNTER) $(DESTDIR)$(BINDIR)
@@ -131,7 +131,7 @@ install: build lib
 
 PAGES = man/mailmap_check.1 man/mailmap_shortlog.1 man/mailmap_verify.1
 PACKAGE = python/gix_mailmap/py.typed $(wildcard python/gix_mailmap/*.py)
-# a folder as pkg-config has it: from the prefix on, where it is below that
+# a folder as pkg-config has it: from the prefix on, if it is below that
 BELOW = $(patsubst $(PREFIX)/%,$${prefix}/%,$(1))
 
 # what pkg-config reads, and what Python's own tools do
@@ -141,7 +141,7 @@ INFO = gix_mailmap-$(VERSION).dist-info
 METADATA = sed -e 's|@VERSION@|$(VERSION)|' packaging/METADATA.in
 # the shared library, as it is named from the package for Python
 FROM_PYTHON = $$(realpath -sm --relative-to=$(PYTHONDIR)/gix_mailmap $(LIBDIR))/$(SONAME)
-# installs what a command prints as a file, and a link, where they are not there yet
+# installs what a command prints as a file; and a link, if it isn't there yet
 install_printed = made=$$(mktemp) && $(1) > $$made && install -C -m 644 $$made $(2) && rm $$made
 install_link = [ "$$(readlink $(2))" = "$(1)" ] || ln -sf $(1) $(2)
 
@@ -187,7 +187,7 @@ dist: build lib
 	rm -rf $(DIST)/$(TARBALL)
 	$(MAKE) install DESTDIR=$(DIST)/$(TARBALL) PREFIX= BINDIR=/bin INCLUDEDIR=/include LIBDIR=/lib MANDIR=/share/man \
 	    PYTHONDIR=/share/gix_mailmap/python
-	GIX_MAILMAP_LIBRARY= $(WHEEL) $(DIST)/$(TARBALL)
+	$(WHEEL) $(DIST)/$(TARBALL)
 	install -m 755 packaging/install.sh $(DIST)/$(TARBALL)
 	install -m 644 LICENSE $(DIST)/$(TARBALL)
 	$(FILLED) packaging/INSTALL.in > $(DIST)/$(TARBALL)/INSTALL

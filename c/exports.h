@@ -1,6 +1,6 @@
 /* The proved calls, as crates/gix_mailmap_c exports them. No pointer may be NULL, and no call may have a handle that
- * another has at that time. Each returns a number of gix_mailmap_status, or one of a handle that is closed, or is open
- * already, which gix_mailmap.c never gives them. */
+ * another has at that time. A call that returns a number returns one of gix_mailmap_status, 6 for a handle that is
+ * closed, or 7 for one that is open already. gix_mailmap.c never causes the last two. */
 #ifndef EXPORTS_H
 #define EXPORTS_H
 

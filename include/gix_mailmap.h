@@ -234,7 +234,7 @@ gix_mailmap_status gix_mailmap_prune(const char *mailmap, size_t mailmap_len, ch
                                      size_t out_len, size_t *GIX_MAILMAP_RESTRICT needed)
     GIX_MAILMAP_NONNULL(5) GIX_MAILMAP_MUST_CHECK;
 
-/* Writes what is wrong with the lines of a mailmap, in their order. A line may have three findings. All lines of no
+/* Writes what is wrong with the lines of a mailmap, in their order. A line has at most three findings. All lines of no
  * effect can be removed at once: gix_mailmap_prune does that. `out_len` counts findings. `needed` is the number of
  * all findings, and 0 at OUT_OF_MEMORY.
  * OK; TOO_SHORT; OUT_OF_MEMORY. */

@@ -30,6 +30,7 @@ install_all() {
         mkdir -p "$root/$(dirname "$file")"
         rm -f "$root/$file"
         cp -P "$file" "$root/$file"
+        [ -h "$root/$file" ] || chmod u=rwX,go=rX "$root/$file"
     done
     { echo "prefix=$prefix" && sed 1d lib/pkgconfig/gix_mailmap.pc; } > "$root/lib/pkgconfig/gix_mailmap.pc"
 }

@@ -99,16 +99,18 @@ built dist DIST="$work/dist"
 (umask 077 && built dist DIST="$work/again")
 cmp "$work/dist/$name.tar.gz" "$work/again/$name.tar.gz"
 same 'make dist' "$(ls "$work/dist")" "$name.tar.gz"
-tar -C "$work" -xzf "$work/dist/$name.tar.gz"
+(umask 077 && tar -C "$work" -xzf "$work/dist/$name.tar.gz")
 # all that it needs to be installed
 mkdir "$work/tools"
-for tool in sh cat cp dirname find mkdir rm rmdir sed; do
+for tool in sh cat chmod cp dirname find mkdir rm rmdir sed; do
     ln -s "$(command -v "$tool")" "$work/tools"
 done
 installed() {
     env -i PATH="$work/tools" "$work/$name/install.sh" "$@"
 }
 installed "$work/prefix"
+same 'what only its owner may read' "$(find "$work/prefix" ! -type l ! -perm -a=r)" ''
+same 'what only its owner may run' "$(find "$work/prefix/bin" -type f ! -perm -a=x)" ''
 programs_answer "$work/prefix/bin"
 page_programs_answer tarball '' "$work/prefix/include" "$work/prefix/lib" "$work/prefix/share/gix_mailmap/python"
 installed --uninstall "$work/prefix"

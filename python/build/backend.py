@@ -62,8 +62,8 @@ def _library() -> bytes:
 
 
 def _platform(library: bytes) -> str:
-    """The platform of the library: Linux with the newest version of glibc that one of its symbols asks for, and no
-    older one than pip knows."""
+    """The platform of the library: Linux with the newest version of glibc that one of its symbols asks for, and at
+    least 2.17, the oldest one that pip knows for every processor."""
     minors = [int(minor) for minor in re.findall(rb"\0GLIBC_2\.(\d+)", library)]
     machine = platform.machine()
     return f"manylinux_2_{max(minors + [17])}_{machine}" if minors else f"linux_{machine}"
@@ -113,7 +113,6 @@ def _metadata(project: dict[str, Any], version: str) -> str:
         f"Summary: {project['description']}",
         f"Requires-Python: {project['requires-python']}",
         *(f"Classifier: {classifier}" for classifier in project["classifiers"]),
-        f"License-File: {project['license']['file']}",
         "Description-Content-Type: text/markdown",
     ]
     readme = TOP / str(project["readme"])

@@ -25,7 +25,7 @@ def check(mailmap: Buffer, contacts: Buffer) -> bytes: ...
 
 
 def check(mailmap: Text, contacts: Text) -> Union[str, bytes]:
-    """Answers each line of `contacts`, as `Jane <jane@x>`, by what the mailmap maps: a line for each line.
+    """Answers each line of `contacts`, such as `Jane <jane@x>`, by what the mailmap maps: a line for each line.
 
     A line that is no contact is its own answer. Raises OutOfMemory.
 

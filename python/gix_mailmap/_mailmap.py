@@ -20,7 +20,7 @@ _Written = tuple[object, Optional[bytes]]
 
 
 class Mailmap(Sequence[Entry[AnyStr]], Generic[AnyStr]):
-    """A mailmap that is held: open until `close`, or until the end of its `with` block.
+    """An open mailmap: it stays open until `close`, or until the end of its `with` block.
 
     It is a sequence of its entries, in ascending order of their old emails and, for each email, of their old names,
     whatever the case of ASCII letters:
@@ -72,8 +72,8 @@ class Mailmap(Sequence[Entry[AnyStr]], Generic[AnyStr]):
         self._changed = object()
 
     def add_entry(self, entry: Entry[AnyStr]) -> None:
-        """Adds one entry after those that are held. Its texts are taken as they are, and none is read as a line. One
-        that is None or empty isn't there.
+        """Adds one entry after those that are held. Its texts are taken as they are, and none is read as a line. An
+        empty new name, new email or old name counts as missing, as None does. The old email may be empty.
 
         >>> with Mailmap("") as mailmap:
         ...     mailmap.add_entry(Entry("Jane Doe", None, None, "jd@y"))
@@ -109,7 +109,7 @@ class Mailmap(Sequence[Entry[AnyStr]], Generic[AnyStr]):
     def lookup(self, name: Buffer, email: Buffer) -> Answer[bytes]: ...
 
     def lookup(self, name: Text, email: Text) -> Union[Answer[str], Answer[bytes]]:
-        """The proper name and email of a contact, `str` or bytes as it is itself.
+        """The proper name and email of a contact, `str` or bytes as the contact is.
 
         >>> with Mailmap("Jane Doe <jane@x> <jd@y>") as mailmap:
         ...     mailmap.lookup(b"jd", b"JD@y")
@@ -128,7 +128,7 @@ class Mailmap(Sequence[Entry[AnyStr]], Generic[AnyStr]):
     def map_contacts(self, lines: Iterable[Buffer]) -> Iterator[bytes]: ...
 
     def map_contacts(self, lines: Iterable[Any]) -> Iterator[Any]:
-        """Answers lines of contacts, as `Jane <jane@x>`, one after the other. A line that is no contact is its own
+        """Answers lines of contacts, such as `Jane <jane@x>`, one after the other. A line that is no contact is its own
         answer.
 
         It is for many lines, and much faster than as many lookups. The lines may be `str` or bytes, and with or
@@ -138,9 +138,10 @@ class Mailmap(Sequence[Entry[AnyStr]], Generic[AnyStr]):
         ...     list(mailmap.map_contacts(["jd <JD@y>\\n", "plain\\n"]))
         ['Jane Doe <jane@x>', 'plain']
 
-        Lines are taken in parts of 1024, so some are read ahead. What is added meanwhile counts from a later part on.
-        If the mailmap is closed meanwhile, the next part raises Closed. Each call reads the whole mailmap, so give it
-        all lines that there are. With an entry that no line can hold, it is no faster than lookups.
+        Lines are taken in parts of 1024, and those of a file in parts of 64 KiB, so some are read ahead. What is added
+        meanwhile counts from a later part on. If the mailmap is closed meanwhile, the next part raises Closed. Each
+        call reads the whole mailmap, so give it all lines that there are. With an entry that no line can hold, it is no
+        faster than lookups.
 
         Raises NotALine if a line has a line feed before its end, Closed, NotAText, and OutOfMemory.
         """

@@ -339,7 +339,7 @@ class Handle(_Uncopied):
         self._called(_library.gix_mailmap_add, text, len(text))
 
     def add_entry(self, entry: Fields) -> None:
-        """Adds one entry. A text that is empty isn't there."""
+        """Adds one entry. A text that is empty counts as missing, except for the old email."""
         arguments: list[object] = []
         for text in entry:
             arguments += text, 0 if text is None else len(text)
@@ -406,7 +406,8 @@ class Handle(_Uncopied):
 
 
 class Stream(_Uncopied):
-    """Contacts that come in parts, and their answers by the text of a mailmap. It is freed as nothing refers to it."""
+    """Contacts that come in parts, and their answers by the text of a mailmap. It is freed once nothing refers to
+    it."""
 
     def __init__(self, mailmap: bytes) -> None:
         self._held = _Held(_library.gix_mailmap_stream_open, _library.gix_mailmap_stream_close, mailmap)

@@ -43,9 +43,8 @@ class Entry(NamedTuple, Generic[AnyStr]):
 class Kind(IntEnum):
     """What may be wrong with a line of a mailmap.
 
-    A line of one of the first four kinds gives no entry. One of the kind
-    UNCLOSED_SECOND gives the entry of its first contact, if that has a
-    name. One of the kind GIT_READS is read otherwise by git.
+    A line of one of the first four kinds gives no entry. One of the kind UNCLOSED_SECOND gives the entry of its first
+    contact, if that has a name. One of the kind GIT_READS is read otherwise by git.
 
     A later version of the library may have more kinds. They are shown by their numbers:
 

@@ -26,7 +26,7 @@ static const row rows[] = {
     ROW("The case of an email", "Jane <a@x>", "jd", "A@x"),
     ROW("The case of an old name", "<j@x> jd <a@x>", "JD", "a@x"),
     ROW("Fields from two lines", "Jane <a@x>\n<j@x> <a@x>", "jd", "a@x"),
-    ROW("An email alone", "Jane <a@x>\n<a@x>", "jd", "a@x"),
+    ROW("Only an email", "Jane <a@x>\n<a@x>", "jd", "a@x"),
     ROW("An empty old email", "<j@x> <>", "jd", ""),
     ROW("Lines beside such a one", "Jane <a@x>\n<j@x> <>", "jd", "a@x"),
     ROW("An empty new email", "Jane <> <a@x>", "jd", "a@x"),

@@ -4,7 +4,7 @@
 #     beside_libgit2.sh LIBRARIES            LIBRARIES is the folder of libgix_mailmap.a
 #     beside_libgit2.sh LIBRARIES --write    stores the table, and puts it into docs/C.md
 #
-# Where libgit2 isn't there, the stored table is compared with the page only. If libgit2 is of another version than the stored
+# If libgit2 isn't there, the stored table is compared with the page only. If libgit2 is of another version than the stored
 # one, its answers are left out of the comparison.
 set -euo pipefail
 library="$(cd "$1" && pwd)"

@@ -1,12 +1,12 @@
 /* Every call of gix_mailmap.h with every status that it has. malloc, realloc and free are wrapped (-Wl,--wrap), so that
- * each request for memory can be refused in turn, and so that what is never given back shows. */
+ * each request for memory can fail in turn, and so that what is never given back shows. */
 #include "gix_mailmap.h"
 #include <malloc.h>
 #include <stdio.h>
 #include <stdlib.h>
 #include <string.h>
 
-static long refused_request = -1;
+static long failed_request = -1;
 static long requests = 0;
 /* how many blocks of memory are not given back, and how many bytes they have */
 static long blocks = 0;
@@ -21,7 +21,7 @@ void __wrap_free(void *at);
 
 void *__wrap_malloc(size_t size)
 {
-    void *made = requests++ == refused_request || size > PTRDIFF_MAX ? NULL : __real_malloc(size);
+    void *made = requests++ == failed_request || size > PTRDIFF_MAX ? NULL : __real_malloc(size);
     blocks += made != NULL;
     in_use += malloc_usable_size(made);
     return made;
@@ -30,7 +30,7 @@ void *__wrap_malloc(size_t size)
 void *__wrap_realloc(void *at, size_t size)
 {
     size_t before = malloc_usable_size(at);
-    void *made = requests++ == refused_request ? NULL : __real_realloc(at, size);
+    void *made = requests++ == failed_request ? NULL : __real_realloc(at, size);
     blocks += at == NULL && made != NULL;
     in_use += made != NULL ? malloc_usable_size(made) - before : 0;
     return made;
@@ -461,7 +461,7 @@ static void entries(void)
     gix_mailmap_close(map);
 }
 
-/* Reads what waits in a stream, by buffers of this length, and puts it behind `to`. Returns how many bytes it read. */
+/* Reads what waits in a stream, by buffers of this length, and puts it at `to`. Returns how many bytes it read. */
 static size_t read_all(gix_mailmap_stream *stream, size_t room, char *to)
 {
     size_t len = 0, count;
@@ -611,56 +611,56 @@ static void words(void)
 }
 
 /* whether a call did its work, or ran out of memory and needs nothing; counts the latter */
-static bool is_done(gix_mailmap_status status, const size_t *needed, int *refused)
+static bool is_done(gix_mailmap_status status, const size_t *needed, int *out_of_memory)
 {
-    *refused += status == GIX_MAILMAP_OUT_OF_MEMORY;
+    *out_of_memory += status == GIX_MAILMAP_OUT_OF_MEMORY;
     return status == GIX_MAILMAP_OK || (status == GIX_MAILMAP_OUT_OF_MEMORY && (needed == NULL || *needed == 0));
 }
 
 /* The calls without a mailmap, each once: how many ran out of memory. */
 static int texts_once(void)
 {
-    int refused = 0;
+    int out_of_memory = 0;
     size_t needed = 99;
     buffer out = filled();
-    WANT(is_done(gix_mailmap_check(TEXT(MAP), TEXT("jd <jd@y>"), out.bytes, 64, &needed), &needed, &refused));
+    WANT(is_done(gix_mailmap_check(TEXT(MAP), TEXT("jd <jd@y>"), out.bytes, 64, &needed), &needed, &out_of_memory));
     WANT(holds(&out, needed ? "Jane Doe <jane@x>\n" : ""));
     out = filled();
-    WANT(is_done(gix_mailmap_compact(TEXT(MAP), out.bytes, 64, &needed), &needed, &refused));
+    WANT(is_done(gix_mailmap_compact(TEXT(MAP), out.bytes, 64, &needed), &needed, &out_of_memory));
     WANT(holds(&out, needed ? " Jane Doe <jane@x> <jd@y>\n Joe <joe@x>\n" : ""));
     out = filled();
-    WANT(is_done(gix_mailmap_prune(TEXT(MAP), out.bytes, 64, &needed), &needed, &refused));
+    WANT(is_done(gix_mailmap_prune(TEXT(MAP), out.bytes, 64, &needed), &needed, &out_of_memory));
     WANT(holds(&out, needed ? MAP : ""));
     gix_mailmap_finding found[9] = {UNFOUND};
-    WANT(is_done(gix_mailmap_verify(TEXT(FAULTY), found, 9, &needed), &needed, &refused));
+    WANT(is_done(gix_mailmap_verify(TEXT(FAULTY), found, 9, &needed), &needed, &out_of_memory));
     WANT(needed ? needed == 9 && is_finding(found[0], 1, GIX_MAILMAP_NO_EMAIL, 0) : is_finding(found[0], 99, 98, 97));
     char all[sizeof REPORT] = "#";
-    WANT(is_done(gix_mailmap_report(BOTH, 2, all, sizeof all, &needed), &needed, &refused));
+    WANT(is_done(gix_mailmap_report(BOTH, 2, all, sizeof all, &needed), &needed, &out_of_memory));
     WANT(needed ? needed == sizeof REPORT - 1 && memcmp(all, REPORT, needed) == 0 : all[0] == '#');
     all[0] = '#';
-    WANT(is_done(gix_mailmap_explain(GIVING, 2, TEXT(EXPLAINED), all, sizeof all, &needed), &needed, &refused));
+    WANT(is_done(gix_mailmap_explain(GIVING, 2, TEXT(EXPLAINED), all, sizeof all, &needed), &needed, &out_of_memory));
     WANT(needed ? needed == sizeof EXPLANATION - 1 && memcmp(all, EXPLANATION, needed) == 0 : all[0] == '#');
     gix_mailmap_position listed[3] = {{97, 98}};
-    WANT(is_done(gix_mailmap_unneeded(NEEDED, 2, TEXT(NEEDING), listed, 3, &needed), &needed, &refused));
+    WANT(is_done(gix_mailmap_unneeded(NEEDED, 2, TEXT(NEEDING), listed, 3, &needed), &needed, &out_of_memory));
     WANT(needed ? needed == 3 && is_position(listed[2], 1, 6) : is_position(listed[0], 97, 98));
-    return refused;
+    return out_of_memory;
 }
 
 /* Those with one, each once, and open once more if it ran out of memory: how many ran out of memory. */
 static int calls_once(void)
 {
-    int refused = 0;
+    int out_of_memory = 0;
     gix_mailmap *map;
-    if (!is_done(gix_mailmap_open(&map, TEXT(MAP)), NULL, &refused) || refused)
+    if (!is_done(gix_mailmap_open(&map, TEXT(MAP)), NULL, &out_of_memory) || out_of_memory)
         WANT(map == NULL && gix_mailmap_open(&map, TEXT(MAP)) == GIX_MAILMAP_OK);
     gix_mailmap_status added = gix_mailmap_add(map, TEXT("New <new@x> <q@z>"));
     gix_mailmap_status entry = gix_mailmap_add_entry(map, TEXT("Own"), NULL, 0, NULL, 0, TEXT("o@z"));
-    WANT(is_done(added, NULL, &refused) && is_done(entry, NULL, &refused));
+    WANT(is_done(added, NULL, &out_of_memory) && is_done(entry, NULL, &out_of_memory));
     size_t needed = 99;
     buffer out = filled();
-    WANT(is_done(gix_mailmap_write(map, out.bytes, 96, &needed), &needed, &refused));
+    WANT(is_done(gix_mailmap_write(map, out.bytes, 96, &needed), &needed, &out_of_memory));
     WANT(needed != 0 || holds(&out, ""));
-    long behind = requests;
+    long requests_before = requests;
     WANT(gix_mailmap_add(map, TEXT("plain")) == GIX_MAILMAP_OK);
     WANT(gix_mailmap_add_entry(map, NULL, 0, NULL, 0, TEXT("o"), TEXT("o@z")) == GIX_MAILMAP_NOT_AN_ENTRY);
     maps(map, "q", "q@z", added == GIX_MAILMAP_OK ? "New <new@x>" : "q <q@z>");
@@ -672,51 +672,51 @@ static int calls_once(void)
     WANT(gix_mailmap_list(map, listed, 4, out.bytes, 64) == GIX_MAILMAP_OK);
     WANT(gix_mailmap_entry(map, 1, listed, out.bytes, 64) == GIX_MAILMAP_OK);
     gix_mailmap_close(map);
-    WANT(requests == behind);
-    return refused;
+    WANT(requests == requests_before);
+    return out_of_memory;
 }
 
 /* Those of a stream, each once, and once more if it ran out of memory: how many did. The answers are the same. */
 static int stream_once(void)
 {
-    int refused = 0;
+    int out_of_memory = 0;
     gix_mailmap_stream *stream;
-    if (!is_done(gix_mailmap_stream_open(&stream, TEXT(MAP)), NULL, &refused) || refused)
+    if (!is_done(gix_mailmap_stream_open(&stream, TEXT(MAP)), NULL, &out_of_memory) || out_of_memory)
         WANT(stream == NULL && gix_mailmap_stream_open(&stream, TEXT(MAP)) == GIX_MAILMAP_OK);
     size_t taken = 99;
     for (size_t at = 0; at < sizeof CONTACTS - 1; at += taken) {
         size_t left = sizeof CONTACTS - 1 - at;
         gix_mailmap_status pushed = gix_mailmap_stream_push(stream, CONTACTS + at, left, &taken);
-        WANT(is_done(pushed, &taken, &refused));
+        WANT(is_done(pushed, &taken, &out_of_memory));
         /* out of memory after some lines */
-        refused += pushed == GIX_MAILMAP_OK && taken < left;
+        out_of_memory += pushed == GIX_MAILMAP_OK && taken < left;
     }
     char all[sizeof ANSWERS];
-    int before = refused;
-    if (!is_done(gix_mailmap_stream_finish(stream), NULL, &refused) || refused > before)
+    int before = out_of_memory;
+    if (!is_done(gix_mailmap_stream_finish(stream), NULL, &out_of_memory) || out_of_memory > before)
         WANT(gix_mailmap_stream_finish(stream) == GIX_MAILMAP_OK);
-    long behind = requests;
+    long requests_before = requests;
     WANT(read_all(stream, 9, all) == sizeof ANSWERS - 1 && memcmp(all, ANSWERS, sizeof ANSWERS - 1) == 0);
     gix_mailmap_stream_close(stream);
-    WANT(requests == behind);
-    return refused;
+    WANT(requests == requests_before);
+    return out_of_memory;
 }
 
-/* Requests that were refused, and then made again for less: those of the vector of findings, which grows three times
+/* Requests that failed, and were then made again for less: those of the vector of findings, which grows three times
  * for the nine of them, and one for each of the three lists of positions that gix_mailmap_unneeded makes. If a vector
  * can't have all the room at once, it asks for less. */
 static int made_again;
 
-/* One run with one refused request: false once there is no request of that number. */
-static bool refuses(long number)
+/* One run in which one request fails: false once there is no request of that number. */
+static bool fails(long number)
 {
     requests = 0;
-    refused_request = number;
-    int refused = texts_once() + calls_once() + stream_once();
-    made_again += number < requests && !refused;
-    WANT(refused <= (number < requests));
+    failed_request = number;
+    int out_of_memory = texts_once() + calls_once() + stream_once();
+    made_again += number < requests && !out_of_memory;
+    WANT(out_of_memory <= (number < requests));
     WANT(blocks == 0);
-    refused_request = -1;
+    failed_request = -1;
     return number < requests;
 }
 
@@ -729,9 +729,9 @@ int main(void)
         WANT(blocks == 0);
     }
     long number = 0;
-    while (refuses(number))
+    while (fails(number))
         number++;
     WANT(number > 0 && made_again == 6);
-    printf("calls from C: %s, %ld requests for memory refused in turn\n", failures ? "failed" : "passed", number);
+    printf("calls from C: %s, %ld requests for memory failed in turn\n", failures ? "failed" : "passed", number);
     return failures ? 1 : 0;
 }

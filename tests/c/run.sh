@@ -1,10 +1,10 @@
 #!/usr/bin/env bash
 # Tests the libraries in the folder that the first argument names. Both have to show what the header declares, and
-# nothing else, and the header has to have the version of the file VERSION. gcc and clang, where they are there, have to
+# nothing else, and the header has to have the version of the file VERSION. gcc and clang, if they are there, have to
 # take the header in each standard, and the parts of programs that the pages show. The C tests are built against the
-# static library and run: as they are, under memcheck, where it is there, and under the sanitizers where the compiler has
-# them; that with threads also under helgrind. Then comes a program in C++ over the header, where there is a compiler for
-# that. At last the answers are compared with those of libgit2, where it is there.
+# static library and run: as they are, under memcheck, if it is there, and under the sanitizers if the compiler has
+# them; that with threads also under helgrind. Then comes a program in C++ over the header, if there is a C++
+# compiler. Last, the answers are compared with those of libgit2, if it is there.
 set -euo pipefail
 library="$(cd "$1" && pwd)"
 here="$(cd "$(dirname "$0")" && pwd)"

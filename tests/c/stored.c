@@ -1,5 +1,5 @@
-/* What mailmap_check and mailmap_dump print, by the calls of gix_mailmap.h alone: tests/original/compare.py runs it on the
- * stored answers of the original.
+/* Prints what mailmap_check and mailmap_dump do, using only the calls of gix_mailmap.h. tests/original/compare.py runs it
+ * on the stored answers of the original.
  *
  *     stored FILE..            answers each line of standard input
  *     stored --compact FILE..  the mailmap of all FILEs
@@ -66,7 +66,7 @@ static gix_mailmap *merged(char **paths)
     return map;
 }
 
-static void put_hex(const char *bytes, gix_mailmap_field field, char behind)
+static void put_hex(const char *bytes, gix_mailmap_field field, char after)
 {
     if (!field.is_given)
         putchar('-');
@@ -74,7 +74,7 @@ static void put_hex(const char *bytes, gix_mailmap_field field, char behind)
         putchar('.');
     for (size_t i = 0; field.is_given && i < field.len; i++)
         printf("%02x", (unsigned char)bytes[i]);
-    putchar(behind);
+    putchar(after);
 }
 
 typedef struct {
@@ -104,12 +104,13 @@ static void free_list(list l)
 static void same_by_index(const gix_mailmap *map, size_t index, const gix_mailmap_listed *e, const char *texts)
 {
     size_t len = e->new_name.len + e->new_email.len + e->old_name.len + e->old_email.len;
-    text alone = buffer(len);
+    text one = buffer(len);
     gix_mailmap_listed entry;
-    must(gix_mailmap_entry(map, index, &entry, alone.bytes, len) == GIX_MAILMAP_OK, "entry");
-    must(entry.start == 0 && memcmp(alone.bytes, texts + e->start, len) == 0, "an entry and its index in the list differ");
+    must(gix_mailmap_entry(map, index, &entry, one.bytes, len) == GIX_MAILMAP_OK, "entry");
+    bool is_same = entry.start == 0 && memcmp(one.bytes, texts + e->start, len) == 0;
+    must(is_same, "an entry and its index in the list differ");
     must(entry.new_name.is_given == e->new_name.is_given && entry.old_name.len == e->old_name.len, "entries differ");
-    free(alone.bytes);
+    free(one.bytes);
 }
 
 static void put_entries(const gix_mailmap *map)
@@ -126,7 +127,7 @@ static void put_entries(const gix_mailmap *map)
         put_hex(at + e->new_name.len + e->new_email.len + e->old_name.len, e->old_email, '\n');
     }
     gix_mailmap_listed none;
-    must(gix_mailmap_entry(map, l.len, &none, l.texts.bytes, 0) == GIX_MAILMAP_NO_ENTRY, "an entry behind the last");
+    must(gix_mailmap_entry(map, l.len, &none, l.texts.bytes, 0) == GIX_MAILMAP_NO_ENTRY, "an entry after the last");
     free_list(l);
 }
 
@@ -194,7 +195,7 @@ static void put_all_resolved(const gix_mailmap *map, text pairs)
         char *second = strchr(line, ' ');
         must(second != NULL, "a name and an email are wanted");
         *second++ = 0;
-        second[strcspn(second, " ")] = 0; /* a time may stand behind the email */
+        second[strcspn(second, " ")] = 0; /* a time may follow the email */
         text name = unhexed(line), email = unhexed(second);
         put_resolved(map, name, email);
         free(name.bytes);

@@ -120,11 +120,6 @@ class Texts(unittest.TestCase):
         self.assertEqual(gix_mailmap.verify(MANY), [])
         self.assertEqual(len(gix_mailmap.verify(b"plain\n" * COUNT)), COUNT)
 
-    def test_what_is_no_text(self):
-        for wrong in (None, 1, ["N <a@x>"]):
-            with self.assertRaises(TypeError):
-                gix_mailmap.compact(wrong)
-
 
 class Handles(unittest.TestCase):
     def test_lookup(self):
@@ -185,11 +180,11 @@ class Handles(unittest.TestCase):
             mailmap.add(MANY)
             self.assertEqual((len(mailmap), len(mailmap.entries()), mailmap.write()), (COUNT, COUNT, MANY))
 
-    def test_an_empty_one(self):
+    def test_an_empty_mailmap_has_no_entries(self):
         with Mailmap() as mailmap:
             self.assertEqual((mailmap.entries(), len(mailmap)), ([], 0))
 
-    def test_a_closed_one(self):
+    def test_calls_on_a_closed_mailmap_raise_closed(self):
         with Mailmap(MAP) as mailmap:
             self.assertFalse(mailmap.closed)
             list(mailmap.map_contacts([b"a"]))
@@ -220,7 +215,7 @@ class Handles(unittest.TestCase):
                     with self.assertRaisesRegex(TypeError, "can't be copied or pickled"):
                         call(whole)
 
-    def test_one_that_is_dropped(self):
+    def test_dropped_mailmaps_are_collected(self):
         for _ in range(100):
             Mailmap(MAP)
         gc.collect()

@@ -33,7 +33,7 @@ class Kinds(unittest.TestCase):
             mailmap.add(TEXT.encode())
             self.assertEqual(mailmap[0], entry)
 
-    def test_texts(self):
+    def test_calls_over_texts_answer_in_their_kind(self):
         for call in (gix_mailmap.compact, gix_mailmap.prune):
             answer = call("N <ä@x>\n")
             self.assertIsInstance(answer, str)
@@ -100,7 +100,7 @@ class Kinds(unittest.TestCase):
 
 
 class Errors(unittest.TestCase):
-    def test_their_classes(self):
+    def test_each_error_is_also_one_of_pythons(self):
         self.assertTrue(issubclass(Error, Exception))
         for error, usual in (
             (Closed, ValueError), (NoEntry, IndexError), (NotALine, ValueError), (NotAnEntry, ValueError),

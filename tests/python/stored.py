@@ -2,7 +2,7 @@
 
     stored.py CASES
 
-Those to walks over lines are left out: no call tells lines one by one.
+Those to walks over lines are left out: no call reports single lines.
 """
 import json
 import sys

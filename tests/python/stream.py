@@ -1,7 +1,13 @@
 """`map_contacts`, beside `check`."""
+import io
 import itertools
+import os
 import random
+import signal
+import tempfile
+import tracemalloc
 import unittest
+from pathlib import Path
 from unittest import mock
 
 import gix_mailmap
@@ -19,6 +25,13 @@ def by_check(lines):
     return [gix_mailmap.check(MAP, line)[:-1] if line else "" for line in lines]
 
 
+def answers_or_error(mailmap, lines):
+    try:
+        return list(mailmap.map_contacts(lines))
+    except NotALine:
+        return NotALine
+
+
 class Stream(unittest.TestCase):
     def test_each_line(self):
         wanted = by_check(LINES)
@@ -33,6 +46,13 @@ class Stream(unittest.TestCase):
                 self.assertEqual(answers, wanted)
             self.assertEqual(list(mailmap.map_contacts([])), [])
 
+    def test_lines_that_may_change(self):
+        """Also after an equal line whose answer is kept. Only some of them have a hash."""
+        with Mailmap(MAP) as mailmap, mock.patch.multiple(_stream, _LINES=2, _PAUSE=0):
+            for kind in (bytearray, memoryview, lambda text: memoryview(bytearray(text))):
+                lines = [b"jd <jd@y>", kind(b"jd <jd@y>")] * 3
+                self.assertEqual(list(mailmap.map_contacts(lines)), [b"Jane Doe <jane@x>"] * 6)
+
     def test_many_parts(self):
         """Lines that come again and lines that don't, in parts of all lengths, with few answers kept and with many."""
         rng = random.Random(7)
@@ -40,8 +60,48 @@ class Stream(unittest.TestCase):
             for _ in range(200):
                 names = rng.choice([3, 30, 1000])
                 lines = [f"{rng.randrange(names)} <{rng.choice(LINES)}@y>" for _ in range(rng.randrange(200))]
-                with mock.patch.multiple(_stream, _PART=rng.randrange(1, 40), _KEPT=rng.choice([0, 5, 1000])):
+                kept, pause = rng.choice([0, 5, 1000]), rng.choice([0, 1, 7])
+                with mock.patch.multiple(_stream, _LINES=rng.randrange(1, 40), _KEPT=kept, _PAUSE=pause):
                     self.assertEqual(list(mailmap.map_contacts(lines)), by_check(lines))
+
+    def test_files_are_answered_as_their_lines_are(self):
+        """Opened in each way, with all kinds of line ends, in parts of all lengths."""
+        rng = random.Random(5)
+        text = {"encoding": "utf-8", "errors": "surrogateescape"}
+        ways = [{"mode": "rb"}, *({**text, "newline": end} for end in (None, "", "\n", "\r", "\r\n"))]
+        with tempfile.TemporaryDirectory() as folder, Mailmap(MAP) as mailmap:
+            path = Path(folder) / "contacts"
+            for _ in range(300):
+                ends = rng.choice([["\n"], ["\r\n"], ["\n", "\r\n", "\r", ""]])
+                lines = [rng.choice(LINES) + rng.choice(ends) for _ in range(rng.randrange(12))]
+                path.write_bytes("".join(lines).encode(errors="surrogateescape"))
+                for way in ways:
+                    with path.open(**way) as file:
+                        wanted = answers_or_error(mailmap, list(file))
+                    with path.open(**way) as file, mock.patch.multiple(_stream, _BLOCK=rng.randrange(1, 40)):
+                        if isinstance(file, io.TextIOWrapper):
+                            file._CHUNK_SIZE = rng.randrange(1, 40)  # how much of the file it decodes at a time
+                        self.assertEqual(answers_or_error(mailmap, file), wanted)
+
+    def test_a_subclass_of_a_file_keeps_its_own_lines(self):
+        class Upper(io.BytesIO):
+            def __next__(self):
+                return super().__next__().upper()
+
+        with Mailmap(MAP) as mailmap:
+            self.assertEqual(list(mailmap.map_contacts(io.BytesIO(b"a <b>\nc"))), [b"a <b>", b"c"])
+            self.assertEqual(list(mailmap.map_contacts(Upper(b"a <b>\nc"))), [b"A <B>", b"C"])
+
+    def test_what_has_arrived_in_a_pipe_is_answered(self):
+        """Before the other end writes more, or closes it. If this waits, the alarm ends it."""
+        read, write = os.pipe()
+        signal.alarm(60)
+        with open(read, "rb") as file, open(write, "wb", buffering=0) as pipe, Mailmap(MAP) as mailmap:
+            answers = mailmap.map_contacts(file)
+            for _ in range(3):
+                pipe.write(b"jd <jd@y>\n")
+                self.assertEqual(next(answers), b"Jane Doe <jane@x>")
+        signal.alarm(0)
 
     def test_lines_are_taken_as_answers_are_wanted(self):
         with Mailmap(MAP) as mailmap:
@@ -49,11 +109,21 @@ class Stream(unittest.TestCase):
             self.assertEqual(set(itertools.islice(answers, 1_000_000)), {b"Jane Doe <jane@x>"})
 
     def test_a_changed_mailmap(self):
-        with Mailmap(MAP) as mailmap, mock.patch.multiple(_stream, _PART=1):
+        with Mailmap(MAP) as mailmap, mock.patch.multiple(_stream, _LINES=1):
             answers = mailmap.map_contacts(itertools.repeat("jd <jd@y>"))
             self.assertEqual(next(answers), "Jane Doe <jane@x>")
             mailmap.add("JD <jd@y>")
             self.assertEqual(next(answers), "JD <jane@x>")
+            mailmap.close()
+            with self.assertRaises(Closed):
+                next(answers)
+
+    def test_a_mailmap_changed_in_the_middle_of_a_file(self):
+        with Mailmap(MAP) as mailmap, mock.patch.multiple(_stream, _BLOCK=10):
+            answers = mailmap.map_contacts(io.BytesIO(b"jd <jd@y>\n" * 3))
+            self.assertEqual(next(answers), b"Jane Doe <jane@x>")
+            mailmap.add("JD <jd@y>")
+            self.assertEqual(next(answers), b"JD <jane@x>")
             mailmap.close()
             with self.assertRaises(Closed):
                 next(answers)
@@ -67,13 +137,24 @@ class Stream(unittest.TestCase):
             self.assertEqual(list(mailmap.map_contacts(lines)), wanted)
             self.assertEqual(list(mailmap.map_contacts(lines * 20)), wanted * 20)
 
+    def test_long_answers_to_a_file_do_not_pile_up(self):
+        """Those to one part of it have 200 MB together."""
+        with Mailmap(f"{'n' * 65_536} <a@x>") as mailmap:
+            tracemalloc.start()
+            answers = mailmap.map_contacts(io.BytesIO(b"<a@x>\n" * 3000))
+            self.assertEqual(sum(map(len, answers)), 3000 * (65_536 + 6))
+            _, peak = tracemalloc.get_traced_memory()
+            tracemalloc.stop()
+        self.assertLess(peak, 20_000_000)
+
     def test_lines_of_both_kinds(self):
-        with Mailmap(MAP) as mailmap, mock.patch.multiple(_stream, _PART=2):
-            for lines in (["a", b"a"], ["a", "b", b"a"], [b"a", b"a", b"a", "a"]):
-                with self.assertRaises(TypeError):
+        with Mailmap(MAP) as mailmap, mock.patch.multiple(_stream, _LINES=2):
+            for lines in (["a", b"a"], ["a", "b", b"a"], [b"a", b"a", b"a", "a"], ["a", "a", bytearray(b"a")]):
+                with self.assertRaisesRegex(TypeError, "can't be mixed"):
                     list(mailmap.map_contacts(lines))
-            with self.assertRaises(TypeError):
-                list(mailmap.map_contacts([None]))
+            for lines in ([None], ["a", None], [b"a", b"a", 1]):
+                with self.assertRaisesRegex(TypeError, "str or bytes wanted"):
+                    list(mailmap.map_contacts(lines))
 
     def test_one_text_in_place_of_lines(self):
         with Mailmap(MAP) as mailmap:
@@ -89,15 +170,17 @@ class Stream(unittest.TestCase):
             lines = [line.encode(errors="surrogateescape") for line in LINES]
             answers = [answer.decode(errors="surrogateescape") for answer in mailmap.map_contacts(lines)]
             self.assertEqual(answers, by_check(LINES))
-            with mock.patch.multiple(_stream, _PART=1):
+            with mock.patch.multiple(_stream, _LINES=1):
                 answers = mailmap.map_contacts(itertools.repeat("jd <odd@x>"))
                 self.assertEqual(next(answers), "jd <odd@x>")
                 mailmap.add_entry(Entry("<\n", None, None, "odd@x"))
                 self.assertEqual(next(answers), "<\n <odd@x>")
+            file = io.BytesIO(b"jd <odd@x>\nplain")
+            self.assertEqual(list(mailmap.map_contacts(file)), [b"<\n <odd@x>", b"plain"])
 
     def test_long_lines_are_not_kept(self):
         with Mailmap(f"{'n' * 400} <a@x>") as mailmap:
-            answered = _stream._Answers(mailmap.write().encode(), mailmap._handle.lookup)
+            answered = _stream._Answers(mailmap.write().encode(), mailmap._handle.lookup, set())
             for lines in (["a", "b" * 400, "a <a@x>", "c"], ["a", "b" * 400, "d", "c"]):
                 answers = [f"{'n' * 400} <a@x>" if line == "a <a@x>" else line for line in lines]
                 self.assertEqual(answered.of(lines), answers)

@@ -235,7 +235,7 @@ class Cycles(Ending):
         gc.collect()
         self.assertFalse(any(held._owned for held in maps))
 
-    def test_one_that_comes_back(self):
+    def test_a_mailmap_that_a_del_brings_back(self):
         """What a `__del__` keeps is closed or answers, and nothing else."""
         back = []
         mailmap = Mailmap(MAP)
@@ -268,7 +268,7 @@ class Cycles(Ending):
 
 
 class Buffers(unittest.TestCase):
-    def test_they_shrink(self):
+    def test_long_buffers_are_not_kept(self):
         long = b"n" * 10_000_000
         with Mailmap(b"%b <n@x>" % long) as mailmap:
             mailmap.lookup(b"a", b"b")
