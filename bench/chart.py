@@ -4,7 +4,7 @@
     chart.py FIGURES FOLDER        writes benchmarks.svg and benchmarks-memory.svg into FOLDER
 
 FIGURES is the JSON file that figures.py writes. It needs matplotlib (Debian's python3-matplotlib). Both axes are
-logarithmic; the empty map stands at their left end. Where a program was stopped, its line ends.
+logarithmic; the empty map is at their left end. If a program was stopped, its line ends there.
 """
 import json
 import sys
@@ -24,7 +24,7 @@ LOOKS = {
     "git": ("#15803d", "^", 1.4),
     "libgit2": ("#6b7280", "D", 1.4),
 }
-# where the empty map stands
+# where the empty map is
 EMPTY = 100
 
 

@@ -4,7 +4,7 @@
     compare.py ORIGINAL PORT MAPS [--seconds S] [--without-million] [--only WORD]
 
 ORIGINAL and PORT are programs that know the bench- modes, and MAPS is a folder that make_maps.py filled. For each cell
-the two programs run in turn, at least twice each and for S seconds (4 where it is not given). A time is the shortest of
+the two programs run in turn, at least twice each and for S seconds (4 if it is not given). A time is the shortest of
 all runs, since other work on the machine only ever adds to it. `port / original` is the port's time divided by the
 original's: 0.5 is twice as fast. A cell's target follows it, if it has one.
 
@@ -104,17 +104,24 @@ def small_merges(port, maps, sizes, seconds, only):
                 yield dict(map=kind, lines=lines, port=min(found["median_ns"] for found in runs))
 
 
+def peak(measure, words):
+    found = run(measure, words)
+    if found.status != 0:
+        raise Failed(f"{words[0]}: status {found.status} {found.complaints.strip()}")
+    return found.peak
+
+
 def weighed(programs, maps, sizes, only):
     """The peak memory of building, beyond the file and the program's start."""
     with scratch() as folder:
         measure = built("measure", folder, "-static")
-        starts = [run(measure, [program, "bench-parse", "/dev/null", "1"]).peak for program in programs]
+        starts = [peak(measure, [program, "bench-parse", "/dev/null", "1"]) for program in programs]
         for kind in KINDS:
             for lines in sizes:
                 path = Path(maps) / f"{kind}-{lines}.mailmap"
                 length = path.stat().st_size
                 if only in f"peak memory {kind} {lines}":
-                    peaks = [run(measure, [program, "bench-build", str(path), "1"]).peak for program in programs]
+                    peaks = [peak(measure, [program, "bench-build", str(path), "1"]) for program in programs]
                     original, port = [peak - start - length for peak, start in zip(peaks, starts)]
                     cell = dict(map=kind, lines=lines, file=length, aim=aim("peak", kind, lines))
                     yield dict(cell, original=original, port=port)

@@ -4,7 +4,7 @@
     compare_verify.py MAILMAP_VERIFY MAILMAP_CHECK MAPS [--seconds S]
 
 MAPS is a folder that make_maps.py filled. mailmap_check gets no contacts, so it builds its snapshot and answers nothing.
-Both run in turn, at least twice each and for S seconds (4 where it is not given) a map; a time is the shortest of all
+Both run in turn, at least twice each and for S seconds (4 if it is not given) a map; a time is the shortest of all
 runs, and the peak the largest resident set (measure.c). It prints a table for docs/BENCHMARKS.md.
 """
 import argparse
@@ -18,6 +18,8 @@ SIZES = [1_000, 100_000, MILLION]
 
 def least(measure, words, best):
     found = run(measure, words)
+    if found.status not in (0, 1):
+        raise Failed(f"{words[0]}: status {found.status} {found.complaints.strip()}")
     if best is None:
         return found
     best.nanos, best.peak = min(best.nanos, found.nanos), max(best.peak, found.peak)

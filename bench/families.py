@@ -171,7 +171,7 @@ def measured_cell(programs: Programs, family: Family, lines: int, faults: dict[s
 
 
 def kept(figures: Figures, cell: Cell, path: Path | None) -> None:
-    """Puts a cell among the figures, where it adds to one that is there, and the figures into their file."""
+    """Puts a cell among the figures, if it adds to one that is there, and the figures into their file."""
     costs = [f"{name} {cost.fault or duration(cost.time)}" for name, cost in cell.costs.items()]
     print(f"{cell.family}, {cell.lines:,}: {', '.join(costs)}", file=sys.stderr, flush=True)
     cells = figures.merges if cell.family == MERGES else figures.cells

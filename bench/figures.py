@@ -1,12 +1,13 @@
 #!/usr/bin/python3
-"""Measures all that docs/BENCHMARKS.md shows, puts its tables in and draws its charts. It takes some ten minutes.
+"""Measures calls and whole processes for docs/BENCHMARKS.md, puts their tables in and draws the charts. It takes some ten
+minutes.
 
     bench/figures.py ORIGINAL [--without-million] [--seconds S] [--maps FOLDER]
     bench/figures.py --again          puts in and draws what was measured before, in docs/benchmarks.json
 
 ORIGINAL is a program over the original crate; compare.py and peers.py say how it is called. Before it, `rt run` builds
-crates/mailmap_bench and `make build` mailmap_check. The maps are made where they aren't there yet (bench/out/maps, some
-330 MB with the million lines). `--seconds` is what each cell may take, 4 where it is not given; each program runs twice
+crates/mailmap_bench and `make build` mailmap_check. The maps are made if they aren't there yet (bench/out/maps, some
+330 MB with the million lines). `--seconds` is what each cell may take, 4 if it is not given; each program runs twice
 at least. It needs `cc`, git, Debian's libgit2-dev and python3-matplotlib, and nothing else running on the machine.
 """
 import argparse
@@ -39,7 +40,7 @@ def measured(original, maps, sizes, seconds):
 
 
 def tables(figures):
-    """The tables of docs/BENCHMARKS.md, by the names between which they stand there."""
+    """The tables of docs/BENCHMARKS.md, by the names between which they are there."""
     m, processes = figures["machine"], figures["processes"]
     return {
         "machine": "{processor}, {system}; git {git}, libgit2 {libgit2}; measured in {minutes} minutes.".format(**m),

@@ -8,7 +8,7 @@ docs/BENCHMARKS.md.
 
 The map and the million contacts, of which 4,000 differ, are those of streams.py. git shortlog reads from standard input
 what git log prints, here an author and a subject for each commit. All programs run in turn, at least twice each and for
-S seconds (20 where it is not given) in all. A time is the shortest processor time of all runs, with that of the programs
+S seconds (20 if it is not given) in all. A time is the shortest processor time of all runs, with that of the programs
 that a pipe joins, and the peak the largest resident set (measure.c).
 """
 import argparse

@@ -1,7 +1,7 @@
 #!/usr/bin/env python3
-"""Makes the maps and the contacts that bench/compare.py measures with.
+"""Makes the maps and the contacts that the benchmarks measure with.
 
-    make_maps.py FOLDER [LINES ..]      LINES: 1000 10000 100000 1000000 where none is given
+    make_maps.py FOLDER [LINES ..]      LINES: 1000 10000 100000 1000000 if none is given
 
 For each number of lines it writes into FOLDER three maps and four lists of contacts for each map:
 
@@ -11,7 +11,7 @@ For each number of lines it writes into FOLDER three maps and four lists of cont
     KIND-LINES.hits           contacts that are mapped, in random order, some of them in other letters
     KIND-LINES.misses         contacts whose email no line of the map has, with the same domains and like names
     KIND-LINES.1000.contacts, KIND-LINES.100000.contacts
-                              so many contacts, hits and misses in turn, again and again where there are fewer
+                              so many contacts, hits and misses in turn, again and again if there are fewer
 
 At most 100,000 hits and misses are written. Beside these there is an empty map, empty-0.mailmap, with contacts. The
 generator has a seed, so the same call writes the same bytes everywhere.
@@ -71,7 +71,7 @@ class Person:
 
 
 def entry(rng, person, spelling, name):
-    """A line for an old email, and for an old name where there is one; a fifth of the lines without one has two names."""
+    """A line for an old email, and for an old name if there is one; a fifth of the lines without one has two names."""
     if name is not None:
         proper = f"{person.name()} " if rng.random() < 0.7 else ""
         return f"{proper}<{person.proper_email()}> {name} <{spelling}>"
@@ -84,7 +84,7 @@ def entry(rng, person, spelling, name):
 
 
 def dressed(rng, line):
-    """The line as some people write it: with a comment behind it, or with more white space."""
+    """The line as some people write it: with a comment after it, or with more white space."""
     form = rng.random()
     if form < 0.02:
         return f"{line} # was wrong"
@@ -121,7 +121,7 @@ def mixed(rng, lines):
 
 
 def hundred(rng, lines):
-    """Entries of which a hundred stand for each email."""
+    """Entries of which a hundred are for each email."""
     made = []
     for person in people(rng):
         email = person.email()

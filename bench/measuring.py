@@ -1,4 +1,4 @@
-"""What compare.py and peers.py share: programs that are built and run, rounds in alternation, and tables."""
+"""What the benchmarks and some tests share: programs that are built and run, rounds in alternation, and tables."""
 import argparse
 import json
 import os
@@ -17,11 +17,11 @@ MILLION = 1_000_000
 
 
 class Failed(Exception):
-    """What is told in one line in place of a trace."""
+    """What is reported in one line in place of a traceback."""
 
 
 def scratch() -> "tempfile.TemporaryDirectory[str]":
-    """A folder that goes away again, in memory where the system has such: what is written isn't to wait for a disk."""
+    """A folder that goes away again, in memory if the system has such: what is written isn't to wait for a disk."""
     return tempfile.TemporaryDirectory(dir="/dev/shm" if Path("/dev/shm").is_dir() else None)
 
 
@@ -61,11 +61,11 @@ def run(
 ) -> Run:
     """Runs a program once, from its start to its end, by measure.c."""
     line = [measure, str(seconds), stdin, stdout, *words]
-    told = subprocess.run(line, capture_output=True, text=True, errors="replace", **more)
-    if told.returncode != 0:
-        raise Failed(f"{measure}: status {told.returncode}")
-    nanos, kib, status, processor = map(int, told.stdout.split())
-    return Run(nanos, kib * 1024, status, processor, told.stderr)
+    ended = subprocess.run(line, capture_output=True, text=True, errors="replace", **more)
+    if ended.returncode != 0:
+        raise Failed(f"{measure}: status {ended.returncode}")
+    nanos, kib, status, processor = map(int, ended.stdout.split())
+    return Run(nanos, kib * 1024, status, processor, ended.stderr)
 
 
 def rounds(seconds: float, least: int = 2, most: int = 50) -> Iterator[int]:
@@ -88,7 +88,7 @@ def mebibytes(count: int) -> str:
 
 
 def ratio(port: float, peer: float, aim: float | None = None) -> list[str]:
-    """Port to peer, and the aim with a mark where it is reached, as the two last columns of a row."""
+    """Port to peer, and the aim with a mark if it is reached, as the two last columns of a row."""
     found = port / peer
     text = f"{found:.3f}" if found < 0.1 else f"{found:.2f}"
     if aim is None:

@@ -8,7 +8,7 @@ as `ORIGINAL check MAP < contacts` it answers what `mailmap_check MAP < contacts
 `git -c mailmap.file=MAP check-mailmap --stdin`, and libgit2, by libgit2_check.c; that needs `cc` and libgit2's header
 (Debian's libgit2-dev).
 
-A cell is a map and a list of contacts. All programs run in turn, at least twice each and for S seconds (4 where it is
+A cell is a map and a list of contacts. All programs run in turn, at least twice each and for S seconds (4 if it is
 not given). A time is the shortest of all runs, from the start of the process to its end, and the peak the largest
 resident set, as the system counted them (measure.c). All write into a file in memory: into a pipe git would flush each
 answer. Past twenty seconds of processor time a program is stopped, and the cell says so; it is not tried with more
@@ -113,7 +113,7 @@ def measured(original, port, maps, sizes, seconds, only=""):
                     continue
                 names = [name for name in NAMES if name not in faults]
                 found = {**faults, **cell(peers, f"{stem}.mailmap", f"{stem}.{contacts}.contacts", seconds, names)}
-                faults = {name: told for name, told in found.items() if "fault" in told}
+                faults = {name: ended for name, ended in found.items() if "fault" in ended}
                 cells.append(dict(map=kind, lines=lines, contacts=contacts, peers=found))
                 print(f"{kind}, {lines:,} lines, {contacts:,} contacts: {', '.join(times(found))}", file=sys.stderr)
         return {"processes": cells, "versions": peers.versions()}
@@ -156,8 +156,8 @@ def answers_table(cells):
     rows = []
     for c in cells:
         if c["contacts"] == CONTACTS[-1]:
-            told = shown(c["peers"], "differing", "{:,}".format)[1:]
-            rows.append([c["map"], f"{c['lines']:,}", *told])
+            differing = shown(c["peers"], "differing", "{:,}".format)[1:]
+            rows.append([c["map"], f"{c['lines']:,}", *differing])
     return table(head, rows)
 
 

@@ -11,10 +11,10 @@ histories have a million or ten million contacts, of which 4,000 differ: the sec
 half as often as the first one, the third one a third as often, and so on. A quarter of the 4,000 is mapped. One more
 list has 100,000 contacts that all differ.
 
-All programs run in turn, at least twice each and for S seconds a row (8 where it is not given). A time is the shortest
+All programs run in turn, at least twice each and for S seconds a row (8 if it is not given). A time is the shortest
 of all runs, from the start of the process to its end, and the peak the largest resident set (measure.c). All write into
-a file in memory. The answers of each program are compared with the port's. Ten million contacts are given to the port
-and PROGRAM only, since the original would hold them all.
+a file in memory. The answers of the original and of PROGRAM have to be the port's; those of git and libgit2 aren't
+compared. Ten million contacts are given to the port and PROGRAM only, since the original would hold them all.
 """
 import argparse
 import itertools
@@ -77,7 +77,7 @@ class Programs:
             self.words[BEFORE] = [os.path.abspath(given.before), str(self.mailmap)]
 
     def row(self, contacts, names, seconds):
-        """Each program's shortest time, its largest peak, and how many bytes of its answers are the port's."""
+        """Each program's shortest time and its largest peak."""
         found, answers = {}, None
         names = [name for name in names if name in self.words]
         for number in rounds(seconds):

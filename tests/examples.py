@@ -25,7 +25,7 @@ def steps(block):
 
 
 def run(command, status, folder, path):
-    """What a command prints and its status, behind one that ended with `status`."""
+    """What a command prints and its status, after one that ended with `status`."""
     done = subprocess.run(
         ["bash", "-c", f"(exit {status}); {command}"],
         cwd=folder,

@@ -1,5 +1,5 @@
 #!/usr/bin/env bash
-# Runs mailmap_check, mailmap_verify and mailmap_shortlog, the programs that the three arguments name, where files,
+# Runs mailmap_check, mailmap_verify and mailmap_shortlog, the programs that the three arguments name, if files,
 # streams or memory fail them; what they say of themselves; and 200,000 lines, with which nothing fails. A run that
 # fails must end with status 2, with the lines of its failure on standard error, and with nothing on standard output but
 # the answers to the lines before the failure. No run may take long: one that makes a failed write again and again would
@@ -24,12 +24,13 @@ install -m 000 mailmap unreadable
 cat contacts large > long
 
 runs=0
-# fails LINE PROGRAM ARGUMENTS: runs the program, with contacts as its standard input where it has no other; it prints
+# fails LINE PROGRAM ARGUMENTS: runs the program, with contacts as its standard input if it has no other; it prints
 # what is in `answered`
 fails() {
     local line="$1" program="$2" status=0
     bash -c "${limit:-}${as_user:-}timeout 60 ./$program $3" < contacts > printed 2> said || status=$?
-    if [ "$status" != 2 ] || [ "$(cat printed)" != "${answered:-}" ] || [ "$(cat said)" != "$program: $line" ]; then
+    printf %s "${answered:+$answered$'\n'}" > wanted
+    if [ "$status" != 2 ] || ! cmp -s printed wanted || [ "$(cat said)" != "$program: $line" ]; then
         echo "failures: $program $3: status $status" >&2
         cat printed said >&2
         exit 1
@@ -146,7 +147,8 @@ fails "unknown option: -\\x1b"$'\n'"$usage" mailmap_shortlog "$'-\\x1b'"
 prints() {
     local text="$1" want="$2" program="$3" status=0
     bash -c "timeout 60 ./$program $4" > printed 2> said || status=$?
-    if [ "$status" != "$want" ] || [ -s said ] || [ "$(cat printed)" != "$text" ]; then
+    printf %s "${text:+$text$'\n'}" > wanted
+    if [ "$status" != "$want" ] || [ -s said ] || ! cmp -s printed wanted; then
         echo "failures: $program $4: status $status" >&2
         head -c 4000 printed said >&2
         exit 1

@@ -1,12 +1,12 @@
 #!/usr/bin/env bash
-# Looks the manual pages over: by mandoc where there is one, else by man.
+# Looks the manual pages over: by mandoc if there is one, else by man.
 set -euo pipefail
 cd "$(dirname "$0")/../man"
 for page in *.1; do
     if [ -n "$(command -v mandoc)" ]; then
         said="$(mandoc -Tlint "$page" 2>&1 || true)"
     elif [ -n "$(command -v man)" ]; then
-        said="$(man --warnings -E UTF-8 -l "$page" 2>&1 > /dev/null)"
+        said="$(man --warnings -E UTF-8 -l "$page" 2>&1 > /dev/null)" || said="${said:-man: status $?}"
     else
         echo 'manual pages: neither mandoc nor man here'
         exit 0

@@ -1,7 +1,7 @@
 #!/usr/bin/env bash
 # Tries the edits of crates/NAME/more-must-fail, as the gate tries those of crates/NAME/must-fail: in a clone of the
 # commit that is checked out, so that nothing of this folder is touched. The proofs of this folder are used again.
-# Each edit takes one processor for most of a minute, so as many crates are tried at once as there are processors.
+# An edit takes one processor for 10 to 40 seconds, and as many crates are tried at once as there are processors.
 set -euo pipefail
 top="$(cd "$(dirname "$0")/.." && pwd)"
 work="$(mktemp -d)"

@@ -1,5 +1,5 @@
 #!/usr/bin/env bash
-# Refuses each request for memory in turn: those of the library's calls, which the program out_of_memory makes and
+# Fails each request for memory in turn: those of the library's calls, which the program out_of_memory makes and
 # judges, and those of mailmap_check, mailmap_verify and mailmap_shortlog.
 #
 # Each program is built once, and run for many cases. It is always the request of one number that is refused, so the
@@ -13,7 +13,7 @@ trap 'rm -rf "$work"' EXIT
 
 fail() {
     {
-        echo "refused memory: $1"
+        echo "out of memory: $1"
         cat "$printed" "$said"
     } >&2
     exit 1
@@ -179,7 +179,7 @@ none_between \
     "the request behind the calls that accept or write nothing" \
     "the request behind the calls that take none"
 
-# Where a request was refused and no call reported it, it was that of a collect, which asks again for less: in entries,
+# If a request was refused and no call reported it, it was that of a collect, which asks again for less: in entries,
 # twice in verify, three times in unneeded, and in each merge that gives texts up, which calls entries. Of so few texts
 # half are soon out of use, so two more merges than the one that is made for it give some up: that of Snapshot::merge,
 # and that of the third source.
@@ -267,5 +267,5 @@ judge mailmap_shortlog
 counts="$refusals"
 says mailmap_shortlog counted 'out of memory' 'empty: out of memory' 'mailmap: out of memory'
 
-echo "refused memory: $calls requests of the library's calls, $checks of mailmap_check," \
+echo "out of memory: $calls requests of the library's calls, $checks of mailmap_check," \
     "$verifies of mailmap_verify and $counts of mailmap_shortlog, each refused, end as they must"

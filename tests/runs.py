@@ -5,7 +5,7 @@ failed = 0
 
 
 def run(program, words, stdin=b""):
-    done = subprocess.run([program, *words], input=stdin, capture_output=True)
+    done = subprocess.run([program, *words], input=stdin, capture_output=True, timeout=120)
     return done.returncode, done.stdout, done.stderr
 
 

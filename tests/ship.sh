@@ -77,6 +77,8 @@ once="$(listed)"
 built install DESTDIR="$root" "${folders[@]}"
 same 'make install, for the second time,' "$(listed)" "$once"
 wanted=(libgix_mailmap.a "$so" "$so.$(interface)" "$so.$version" pkgconfig/gix_mailmap.pc)
+same 'the programs' "$(ls "$root/srv/bin" | xargs)" 'mailmap_check mailmap_shortlog mailmap_verify'
+same 'the pages' "$(ls "$root/srv/pages/man1" | xargs)" 'mailmap_check.1 mailmap_shortlog.1 mailmap_verify.1'
 same 'the libraries' "$(cd "$root/srv/own/lib64" && find . ! -type d | sort)" "$(printf './%s\n' "${wanted[@]}" | sort)"
 programs_answer "$root/srv/bin"
 page_programs_answer 'make install' "$root" /srv/own/headers /srv/own/lib64 /srv/python

@@ -20,7 +20,7 @@ interface() {
     sed -n 's/^ABI = //p' "$top/Makefile"
 }
 
-# Wants what mailmap_check in a folder says of the sample, and mailmap_verify of a line.
+# Wants what mailmap_check and mailmap_shortlog in a folder say of the sample, and mailmap_verify of a line.
 programs_answer() {
     local found wanted='Joe R. Developer <joe@example.com>
 Joe R. Developer <joe@example.com>
@@ -31,6 +31,8 @@ not a contact'
     same mailmap_check "$("$1/mailmap_check" "$top/sample/mailmap" < "$top/sample/contacts")" "$wanted"
     found="$(echo 'Jane Doe <jane@example.com> jd' | "$1/mailmap_verify" || [ $? = 1 ])"
     same mailmap_verify "$found" '<stdin>:1: warning: ignored text: jd'
+    found="$("$1/mailmap_shortlog" -n "$top/sample/mailmap" < "$top/sample/contacts")"
+    same mailmap_shortlog "$found" $'     2\tJane Doe\n     2\tJoe R. Developer\n     1\tEve'
 }
 
 # page_programs_answer WHAT ROOT INCLUDEDIR LIBDIR PYTHONDIR: builds the C program of docs/C.md against what is under

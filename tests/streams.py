@@ -4,8 +4,8 @@
     streams.py MAILMAP_CHECK MAILMAP_VERIFY
 
 By the first two each line has to be answered before the next one is written. Lines may have any length and come again,
-and the peak of a long history has to stay below a bound, by itself and over that of a short one. A peak is the largest resident set, as
-bench/measure.c counts it.
+and the peak of a long history has to stay below a bound, by itself and over that of a short one. A peak is the largest
+resident set, as bench/measure.c counts it.
 """
 import os
 import subprocess
@@ -59,7 +59,7 @@ class Asked:
 
 def answered_in_turn(asked: Asked) -> None:
     """Each answer is read before the next line is written; the last line has no line feed, and is answered at the end."""
-    with subprocess.Popen(asked.command, stdin=subprocess.PIPE, stdout=subprocess.PIPE, bufsize=0) as program:
+    with subprocess.Popen(["timeout", "60", *asked.command], stdin=subprocess.PIPE, stdout=subprocess.PIPE, bufsize=0) as program:
         for line, answer in asked.lines:
             program.stdin.write(line)
             wants("a line and its answer", program.stdout.readline() if answer else b"", answer)

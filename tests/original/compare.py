@@ -3,7 +3,7 @@
 
     compare.py MAILMAP_CHECK MAILMAP_DUMP [MODE ..]
 
-With modes, it runs the cases of these alone.
+With modes, it runs only the cases of these.
 
 A line of cases.jsonl is one case: its mode, the buffers, the standard input, and the status and the output of the
 original; the texts are in hex. The buffers were made by a seeded generator, hostile and realistic ones. The answers are

@@ -5,7 +5,7 @@
 
 A line of cases.jsonl is one case: its mailmaps, which are the files m1, m2 and so on, the contacts, and what is printed
 of them without an option, with -e, with -n, and with both. The texts are in hex. The answers are those of a model that was
-written from the definitions alone. If git is there, `git shortlog` has to print the same of a repository whose commits
+written from the definitions only. If git is there, `git shortlog` has to print the same of a repository whose commits
 have such authors.
 """
 import json
@@ -96,10 +96,10 @@ def options(program):
     wants("a missing file", run(program, ["m1", "missing"], contacts), 2, b"",
           b"mailmap_shortlog: missing: No such file or directory\n")
     wants("a folder", run(program, [".", "m1"], contacts), 2, b"", b"mailmap_shortlog: .: Is a directory\n")
-    folder = subprocess.run(["sh", "-c", '"$1" m1 < .', "sh", program], capture_output=True)
+    folder = subprocess.run(["sh", "-c", '"$1" m1 < .', "sh", program], capture_output=True, timeout=120)
     wants("input that is a folder", (folder.returncode, folder.stdout, folder.stderr), 2, b"",
           b"mailmap_shortlog: standard input: Is a directory\n")
-    full = subprocess.run(["sh", "-c", '"$1" m1 > /dev/full', "sh", program], input=contacts, capture_output=True)
+    full = subprocess.run(["sh", "-c", '"$1" m1 > /dev/full', "sh", program], input=contacts, capture_output=True, timeout=120)
     wants("output that is full", (full.returncode, full.stdout, full.stderr), 2, b"",
           b"mailmap_shortlog: cannot write output\n")
 

@@ -47,8 +47,8 @@ def long_lines(size):
     found = b"m1:1: warning: ignored text: " + parts[1023 + 7:] + b"\n"
     found += git_reads(1, b"it as %d lines" % (size // 1023))
     yield "an entry in each part of a long line", parts, found, REFUSED
-    behind = b"N <a@x> " + long + b"  "
-    yield "much behind an email", behind, b"m1:1: warning: ignored text: " + long + b"\n", behind
+    after = b"N <a@x> " + long + b"  "
+    yield "much after an email", after, b"m1:1: warning: ignored text: " + long + b"\n", after
     open_second = b"N <a@x> <" + long
     yield "a long second email without an end", open_second, error(1, b"the second '<' has no '>'"), open_second
 
@@ -86,7 +86,7 @@ def many_lines(count):
     pruned = b"# c\n\r\nplain\n" * (count - 1) + between
     yield "equal lines between others", between * count, found, pruned
 
-    # Each contact is mapped on by the line behind it, and the last one's not.
+    # Each contact is mapped on by the line after it, and the last one's not.
     chain = lines(b"N <e%d@x> <e")
     chain = b"".join(text + b"%d@x>\n" % (k - 1) for k, text in enumerate(chain, 1))
     found = b"".join(itself_mapped(k, b"N <e%d@x>" % k, b"N <e%d@x>" % (k + 1)) for k in range(1, count))
@@ -99,7 +99,7 @@ def small_ones():
     found = b"m1:1: warning: ignored text: \xfe\xfd\n" + itself_mapped(2, b"J\xe4ne <\xe9@x>", b"K <\xe9@x>")
     yield "texts that are not UTF-8", mailmap, found, mailmap
     yield "nothing", b"", b"", b""
-    yield "a line feed alone", b"\n", b"", b"\n"
+    yield "only a line feed", b"\n", b"", b"\n"
     yield "a zero byte", b"\0", error(1, b"no email in brackets"), b"\0"
     # The last line has no line feed, and it is the first that goes.
     yield "no line feed at the end", b"N <a@x>\nN <a@x>", no_effect(1, 2), b"N <a@x>"

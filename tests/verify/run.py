@@ -4,14 +4,14 @@
     run.py MAILMAP_VERIFY
 
 A line of cases.jsonl and of git.jsonl is one case: its mailmaps, which are the files m1, m2 and so on, and the status
-and what is printed of them; where there is one file, also the status, what `--prune` prints of it, and what it says on
+and what is printed of them; if there is one file, also the status, what `--prune` prints of it, and what it says on
 standard error. The texts are in hex. The mailmaps were made by generators with a seed, of few names and emails, so that
 lines meet; git reads many lines of git.jsonl otherwise. The answers are those of a model that was written from the
-definitions alone, and asks each question of whole histories: a line has no effect if the history without it has the
+definitions only, and asks each question of whole histories: a line has no effect if the history without it has the
 same list of mappings, tried line by line.
 
 A line of explained.jsonl has mailmaps, contacts, and by the same model what `--explain` prints of them, and the status
-and what is printed with `--contacts`, where the contacts are the file c.
+and what is printed with `--contacts`, if the contacts are the file c.
 """
 import json
 import os
@@ -26,15 +26,17 @@ import runs
 from runs import run, wants
 from hostile import REFUSED, hostile  # the file beside this one
 
+VERSION = (Path(__file__).resolve().parents[2] / "VERSION").read_bytes().strip()
+
 
 def as_standard_input(printed):
-    """What is printed of the one file m1, where standard input has it."""
+    """What is printed of the one file m1, if standard input has it."""
     begun = re.sub(rb"^m1:", b"<stdin>:", printed, flags=re.MULTILINE)
     return re.sub(rb"(: warning: no effect beside )m1:(?=[0-9]+$)", rb"\1<stdin>:", begun, flags=re.MULTILINE)
 
 
 def wants_case(program, what, files, status, printed, pruning):
-    """The files as they are named; and where there is one, it as standard input, pruned, and pruned again."""
+    """The files as they are named; and if there is one, it as standard input, pruned, and pruned again."""
     names = [f"m{number}" for number in range(1, len(files) + 1)]
     for name, file in zip(names, files):
         Path(name).write_bytes(file)
@@ -97,7 +99,7 @@ def explanations(program):
         b"bob\\x00 <bob@x> is not mapped\n"
     )
     wants("explanations", run(program, ["--explain", "team", "\x1b"], contacts), 0, printed)
-    wants("explanations behind --", run(program, ["--explain", "--", "team", "\x1b"], contacts), 0, printed)
+    wants("explanations after --", run(program, ["--explain", "--", "team", "\x1b"], contacts), 0, printed)
     wants("explanations by no mailmap", run(program, ["--explain"], b"jd <JD@old>\n"), 0, b"jd <JD@old> is not mapped\n")
     said = b"mailmap_verify: -: No such file or directory\n"
     wants("explanations by -", run(program, ["--explain", "-"], contacts), 2, b"", said)
@@ -197,7 +199,7 @@ def options(program):
     wants("help", (status, printed[:22], said), 0, b"usage: mailmap_verify ")
     for words in ["-h"], ["--help", "missing"], ["--prune", "--help"], ["-h", "--version"], ["--explain", "-h", "missing"]:
         wants(f"help: {words}", run(program, words), 0, printed)
-    version = b"mailmap_verify 0.1.0\n"
+    version = b"mailmap_verify " + VERSION + b"\n"
     for words in ["--version"], ["--prune", "--version", "missing"], ["--version", "--help"]:
         wants(f"the version: {words}", run(program, words), 0, version)
     for words, wrong in [
@@ -216,8 +218,8 @@ def options(program):
         wants(f"a misuse: {words}", run(program, words), 2, b"", said)
     Path("-x").write_bytes(b"plain\n")
     found = b":1: error: no email in brackets\n"
-    wants("behind --", run(program, ["--", "-x"]), 1, b"-x" + found)
-    wants("pruned behind --", run(program, ["--prune", "--", "-x"]), 0, b"plain\n")
+    wants("after --", run(program, ["--", "-x"]), 1, b"-x" + found)
+    wants("pruned after --", run(program, ["--prune", "--", "-x"]), 0, b"plain\n")
     for words in [], ["-"], ["--"], ["--", "-"]:
         wants(f"standard input: {words}", run(program, words, b"plain\n"), 1, b"<stdin>" + found)
         wants(f"standard input pruned: {words}", run(program, ["--prune", *words], b"plain\n"), 0, b"plain\n")
