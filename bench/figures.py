@@ -1,6 +1,6 @@
 #!/usr/bin/python3
-"""Measures calls and whole processes for docs/BENCHMARKS.md, puts their tables in and draws the charts. It takes some ten
-minutes.
+"""Measures calls and whole processes for docs/BENCHMARKS.md, puts their tables in and draws the charts. It takes some
+ten minutes.
 
     bench/figures.py ORIGINAL [--without-million] [--seconds S] [--maps FOLDER]
     bench/figures.py --again          puts in and draws what was measured before, in docs/benchmarks.json

@@ -59,7 +59,8 @@ class Asked:
 
 def answered_in_turn(asked: Asked) -> None:
     """Each answer is read before the next line is written; the last line has no line feed, and is answered at the end."""
-    with subprocess.Popen(["timeout", "60", *asked.command], stdin=subprocess.PIPE, stdout=subprocess.PIPE, bufsize=0) as program:
+    limited = ["timeout", "60", *asked.command]
+    with subprocess.Popen(limited, stdin=subprocess.PIPE, stdout=subprocess.PIPE, bufsize=0) as program:
         for line, answer in asked.lines:
             program.stdin.write(line)
             wants("a line and its answer", program.stdout.readline() if answer else b"", answer)

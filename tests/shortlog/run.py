@@ -99,7 +99,8 @@ def options(program):
     folder = subprocess.run(["sh", "-c", '"$1" m1 < .', "sh", program], capture_output=True, timeout=120)
     wants("input that is a folder", (folder.returncode, folder.stdout, folder.stderr), 2, b"",
           b"mailmap_shortlog: standard input: Is a directory\n")
-    full = subprocess.run(["sh", "-c", '"$1" m1 > /dev/full', "sh", program], input=contacts, capture_output=True, timeout=120)
+    to_full = ["sh", "-c", '"$1" m1 > /dev/full', "sh", program]
+    full = subprocess.run(to_full, input=contacts, capture_output=True, timeout=120)
     wants("output that is full", (full.returncode, full.stdout, full.stderr), 2, b"",
           b"mailmap_shortlog: cannot write output\n")
 
