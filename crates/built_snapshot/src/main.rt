@@ -1,5 +1,5 @@
 //! What a caller may rely on who builds a snapshot: the headline of the library. It is proved here for all sources, all
-//! batches, all calls that merge and all calls that resolve, from the contracts and laws of `gix_mailmap` alone. A
+//! batches, all calls that merge and all calls that resolve, from the contracts and laws of `gix_mailmap` only. A
 //! contract that loses what the headline needs is refused here.
 //!
 //! Reads a mailmap from standard input, merges it by each call, prints the snapshot as it is written, and then to what

@@ -141,7 +141,7 @@ fn the_first_spelling_of_an_email_stands_for_the_others(rt: HostRuntime) -> Resu
 }
 
 #[test]
-fn an_email_with_names_alone_is_respelled_for_others(rt: HostRuntime) -> Result<(), AllocError> {
+fn an_email_with_names_only_is_respelled_for_others(rt: HostRuntime) -> Result<(), AllocError> {
     static TABLES: [Known; 1] = [(
         &[
             BothOfName(b"Q", b"n1@y", b"Jane", b"x@y"),

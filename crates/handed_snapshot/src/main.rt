@@ -1,5 +1,5 @@
 //! What a caller may rely on who was handed a snapshot and doesn't know how it came about: its entries rebuild it, and
-//! its text reads back to it. Both are proved here from the contracts and laws of `gix_mailmap` alone.
+//! its text reads back to it. Both are proved here from the contracts and laws of `gix_mailmap` only.
 //!
 //! Reads a mailmap from standard input, and prints it as it is written once it was rebuilt and read back.
 #![tactic(auto)]

@@ -20,7 +20,7 @@ pub fn law_entries()
         → ⟦<Entry<'static> as Hash>⟧.hash_input a ≡ mapping_writes (mapping_of a) }
 {}
 
-/// The order of entries is total, and tells all that differ apart.
+/// The order of entries is total, and distinguishes all that differ.
 pub fn law_order()
     ensures total { IsTotalOrder mapping_cmp }
     ensures same { (a b : Mapping) → (mapping_cmp a b ≡ Ordering.Equal) ↔ (a ≡ b) }

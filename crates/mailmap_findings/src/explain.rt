@@ -57,8 +57,9 @@ pub struct Explanation<'a> {
 /// spells it.
 #[derive(Clone, Copy, Debug, PartialEq, Eq)]
 pub struct Needed {
+    /// The first line that the answer needs, if any.
     pub first: Option<Position>,
-    /// There is none if there is no first.
+    /// The other line, if there are two. There is none if there is no first.
     pub second: Option<Position>,
 }
 
@@ -76,7 +77,7 @@ impl<'m, 'a> Explanations<'m, 'a> {
         })
     }
 
-    /// What a name and an email are mapped to, `None` if neither changes, and the lines that give it. A line that
+    /// What a name and an email are mapped to, and the lines that give it; `None` if no line gives either. A line that
     /// spells the email counts only if it spells it in another way.
     pub fn of(&self, name: &[u8], email: &[u8]) -> Option<Explanation<'a>>
         ensures fields { option_map explained result ≡ scan (entries self.now.history) name.now email.now }

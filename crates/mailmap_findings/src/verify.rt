@@ -47,6 +47,7 @@ use walk::{LineFindings, MarkedLines, line_findings, pruned_text};
 pub struct Finding<'a> {
     /// The buffer and the number of the line.
     pub position: Position,
+    /// What is wrong with it.
     pub kind: Kind<'a>,
 }
 
@@ -76,7 +77,9 @@ pub enum Kind<'a> {
 /// A name and an email. There is no name if a line names neither a new one nor an old one.
 #[derive(Clone, Copy, Debug, PartialEq, Eq)]
 pub struct Contact<'a> {
+    /// The name, if the line has one.
     pub name: Option<&'a [u8]>,
+    /// The email.
     pub email: &'a [u8],
 }
 

@@ -9,7 +9,7 @@
 //! brackets: `Proper <proper@x> Commit <commit@x>`.
 //!
 //! - The first `<` opens the email and the first `>` after it closes it; name and email are trimmed, too. So a `>` may
-//!   stand in a name and a `<` in an email.
+//!   be in a name and a `<` in an email.
 //! - Either name may be missing, and the second contact as well. The second email may be empty, the first one not.
 //! - What is after the second contact is ignored. So is text after the first contact that has no `<`. A second `<`
 //!   without its `>` is ignored, too, unless lines are read strictly, by [`parse_strict`].

@@ -16,7 +16,7 @@ pub fn law_self()
     ensures { (h n : List Mapping) → IsNormal h n → IsNormal n n }
 {}
 
-/// A normal list may stand for its history, whatever comes before and after.
+/// A normal list may replace its history, whatever comes before and after.
 pub fn law_condense()
     ensures { (a b c m n : List Mapping) → IsNormal b m → IsNormal (a ++ b ++ c) n ↔ IsNormal (a ++ m ++ c) n }
 {}

@@ -88,7 +88,7 @@ impl<'m, 'a> Needs<'m, 'a> {
         cross_off(&mut self.marks, needed.second);
     }
 
-    /// What a contact is mapped to, `None` if neither its name nor its email changes.
+    /// What a contact is mapped to, `None` if no line gives its name or its email.
     pub fn answer(&self, name: &[u8], email: &[u8]) -> Option<Explanation<'a>>
         ensures { option_map explained result ≡ scan (entries self.now.history) name.now email.now }
     {

@@ -64,7 +64,7 @@ fn assert_order<R: Abort>(rt: &R, a: &[u8], b: &[u8], want: Ordering) {
 }
 
 #[test]
-fn order_folds_the_letters_of_ascii_alone(rt: HostRuntime) {
+fn order_folds_only_the_letters_of_ascii(rt: HostRuntime) {
     assert_order(&rt, b"FooBar", b"foobar", Ordering::Equal);
     assert_order(&rt, b"Masse", b"Ma\xc3\x9fe", Ordering::Less);
     assert_order(&rt, b"FOO\xff", b"foo\xff", Ordering::Equal);

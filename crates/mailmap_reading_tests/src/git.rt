@@ -9,7 +9,7 @@ fn assert_otherwise(rt: &impl Abort, line: &[u8], want: Option<GitReading<'_>>) 
     assert_eq!(rt; read_otherwise(line), want);
 }
 
-/// The entry of a name alone.
+/// The entry of a name only.
 fn name<'a>(name: &'a [u8], email: &'a [u8]) -> GitReading<'a> {
     GitReading::Entry(Entry::change_name_by_email(name, email))
 }

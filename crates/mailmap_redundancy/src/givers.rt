@@ -30,7 +30,7 @@ pub struct Givers<'p, 'a> {
 }
 
 impl<'p, 'a> Givers<'p, 'a> {
-    /// What they give for the email that they were asked for, `None` if they change nothing.
+    /// What they give for the email that they were asked for, `None` if they give nothing.
     pub fn fields(&self, email: &[u8]) -> Option<Fields<'a>>
         ensures { option_map fields_of result ≡ spec.given (givers_of self.now) email.now }
     {

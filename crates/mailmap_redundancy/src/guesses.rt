@@ -1,5 +1,5 @@
 //! Guesses of the numbers of keys, by hashes of the keys. A wrong guess costs time and changes nothing, so no contract
-//! speaks of it. Only keys whose emails begin as another key's are guessed: others are found by their prefixes alone.
+//! speaks of it. Only keys whose emails begin as another key's are guessed: others are found by their prefixes only.
 use crate::keys::KeptKey;
 use std::alloc::{AllocError, Global};
 

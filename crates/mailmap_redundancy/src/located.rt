@@ -9,7 +9,9 @@ use mailmap_entries::Entry;
 /// The first line of the second of two buffers is `Position { buffer: 1, line: 1 }`.
 #[derive(Clone, Copy, Debug, PartialEq, Eq)]
 pub struct Position {
+    /// The place of the buffer among the buffers, from 0.
     pub buffer: usize,
+    /// The number of the line in its buffer, from 1.
     pub line: usize,
 }
 

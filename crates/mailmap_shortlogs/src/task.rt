@@ -31,7 +31,7 @@ Counts the contacts of standard input by the names that the mailmaps give them.
 pub struct Options {
     /// `-n`: the greatest count comes first. Without it the lines are in the order of their bytes.
     pub by_count: bool,
-    /// `-e`: contacts are counted by name and email. Without it by name alone.
+    /// `-e`: contacts are counted by name and email. Without it by name only.
     pub with_email: bool,
 }
 

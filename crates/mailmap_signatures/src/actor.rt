@@ -8,7 +8,7 @@ use crate::date::Time;
 /// The author or committer of a commit, as its three texts are in the commit.
 ///
 /// It is made by naming its three fields: cutting them out of the line of a commit is left to the caller. Two are equal
-/// where all three texts are, so two spellings of one time are different.
+/// if all three texts are, so two spellings of one time are different.
 #[derive(Clone, Copy, PartialEq, Eq, Debug)]
 pub struct SignatureRef<'a> {
     /// The name, as it was recorded.

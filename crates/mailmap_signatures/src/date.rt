@@ -12,7 +12,7 @@ mod order;
 pub struct Time {
     /// The seconds since the beginning of 1970 in UTC, below zero before it.
     pub seconds: i64,
-    /// The seconds by which the clock was ahead of UTC, below zero where it was behind. It does not move the moment.
+    /// The seconds by which the clock was ahead of UTC, below zero if it was behind. It does not move the moment.
     pub offset: i32,
 }
 
@@ -20,7 +20,7 @@ impl Time {
     /// Reads the time of a commit as git stores it, as in `1711398853 +0800`: the seconds, one blank, and the offset as
     /// a sign, two digits of hours and two of minutes. That one is (1711398853, 28800).
     ///
-    /// The seconds are one decimal digit or more, with leading zeros if any and a `-` in front where they are below
+    /// The seconds are one decimal digit or more, with leading zeros if any and a `-` in front if they are below
     /// zero, and have to fit an `i64`. Hours and minutes may be any two digits, so that the offset is between -362340
     /// and 362340. Any other text is `None`, also one with white space round it: this is the form that git itself
     /// writes, and of the many further forms of dates that it understands none is read.

@@ -205,7 +205,7 @@ pub const NOBODY: SignatureRef<'static> = SignatureRef {
     time: "soon",
 };
 
-/// A signature whose email is known in its spelling, for another name alone.
+/// A signature whose email is known in its spelling, for another name only.
 pub const BOB: SignatureRef<'static> = SignatureRef {
     name: b"Bob",
     email: b"x@y",

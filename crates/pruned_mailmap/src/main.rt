@@ -1,5 +1,5 @@
 //! What a caller may rely on who prunes a mailmap: what is found in the pruned text, that it says the same and has no
-//! line to spare, and what git answers by it. It is proved here from the contracts and laws of `gix_mailmap` alone. A
+//! line to spare, and what git answers by it. It is proved here from the contracts and laws of `gix_mailmap` only. A
 //! contract that loses what this needs is refused here.
 //!
 //! Reads a mailmap from standard input, and prints its pruned text, the lines of it that have a finding, a snapshot of

@@ -7,7 +7,7 @@ use crate::date::Time;
 use std::cmp::Ordering;
 use std::hash::{Hash, Hasher};
 
-/// The order is by the seconds, and where they are equal by the offset.
+/// The order is by the seconds, and if they are equal by the offset.
 fn compare(a: &Time, b: &Time) -> Ordering
     ensures value { result ≡ time_cmp a.now b.now }
     ensures less { (result ≡ Ordering.Less) ↔ IsEarlier a.now b.now }

@@ -13,7 +13,7 @@ use std::hash::{Hash, Hasher};
 
 /// The listing.
 impl Snapshot {
-    /// The entries that say what the snapshot maps, one for each key: for an old email itself, where a field was given
+    /// The entries that say what the snapshot maps, one for each key: for an old email itself, if a field was given
     /// without an old name, and for each old name of it.
     ///
     /// They come in ascending order of the old emails and, in each, of the old names, both without regard to the case

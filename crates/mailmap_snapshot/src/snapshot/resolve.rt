@@ -21,9 +21,9 @@ use std::borrow::CowSlice;
 impl Snapshot {
     /// The signature as the mailmap maps it, or `None` if it maps neither its name nor its email.
     ///
-    /// Nothing is mapped if no entry is for the email, or if the entry for it would change nothing. An email that
-    /// differs from the mailmap's spelling only in the case of its letters is mapped to that spelling. This runs out
-    /// of memory only if something is mapped.
+    /// Nothing is mapped if no entry is for the email, or if its entries are for other names and spell it in the same
+    /// way. An email that differs from the mailmap's spelling only in the case of its letters is mapped to that
+    /// spelling. This runs out of memory only if something is mapped.
     ///
     /// ```rust
     /// let mailmap = Snapshot::from_bytes(alloc, b"Jane Doe <jane@x> <jd@y>")?;
