@@ -52,14 +52,23 @@ class Kind(IntEnum):
     <Kind.NUMBER_100: 100>
     """
 
+    #: There is no `<`.
     NO_EMAIL = 1
+    #: The first `<` has no `>` after it.
     MISSING_CLOSING_BRACKET = 2
+    #: The first email is empty or white space.
     EMPTY_EMAIL = 3
+    #: There is only an email.
     NOTHING_TO_MAP = 4
+    #: The second `<` has no `>` after it.
     UNCLOSED_SECOND = 5
+    #: Text after the last email is ignored.
     IGNORED_TEXT = 6
+    #: Removing the line changes no mapping.
     NO_EFFECT = 7
+    #: The line maps to a contact that the mailmap maps to another.
     ITSELF_MAPPED = 8
+    #: git reads the line otherwise.
     GIT_READS = 9
 
     @classmethod
