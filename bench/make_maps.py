@@ -108,7 +108,7 @@ def people(rng):
 
 
 def mixed(rng, lines):
-    """Entries as (old email, old name, line), one to three an email, and the people behind them."""
+    """Entries as (old email, old name, line), one to three an email, and their people."""
     made = []
     for person in people(rng):
         email = person.email()

@@ -166,7 +166,7 @@ verify::prune
 needs::unneeded
 END
 
-# The calls that take no memory made no request: the runs that refuse the request ahead of them and the one behind them
+# The calls that take no memory made no request: the runs that refuse the request ahead of them and the one after them
 # follow each other. So it is with those that accept or write nothing, and with the others.
 grep '^refused' "$printed" | tac > "$work/in_turn"
 none_between() {
@@ -174,10 +174,10 @@ none_between() {
 }
 none_between \
     "the request ahead of the calls that accept or write nothing" \
-    "the request behind the calls that accept or write nothing"
+    "the request after the calls that accept or write nothing"
 none_between \
-    "the request behind the calls that accept or write nothing" \
-    "the request behind the calls that take none"
+    "the request after the calls that accept or write nothing" \
+    "the request after the calls that take none"
 
 # If a request was refused and no call reported it, it was that of a collect, which asks again for less: in entries,
 # twice in verify, three times in unneeded, and in each merge that gives texts up, which calls entries. Of so few texts

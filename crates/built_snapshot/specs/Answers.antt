@@ -1,4 +1,4 @@
--- What a snapshot answers to a signature, by the history that it stands for.
+-- What a snapshot answers to a signature, by the history that it was built from.
 use Rattle.std.specs.Prelude.{◌≡◌, ◌≤◌, ◌+◌, ◌↔◌, List, None, IfSome, min, option_map}
 use Rattle.gix_mailmap.specs.Answers.{IsResolved, OwnsMapped, mapped}
 use Rattle.gix_mailmap.specs.Entries.{Mapping}

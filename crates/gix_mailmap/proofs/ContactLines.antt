@@ -11,7 +11,7 @@ use Rattle.gix_mailmap.specs.Contacts.{AreLines, IsBare, lines}
 no_end : (b : ℕ) (x y : List Text) → cond (b == 13 && false) x y ≡ y
 no_end b x y = elim (b == 13) as (λ t. cond (t && false) x y ≡ y) [ true ↦ refl | false ↦ refl ]
 
--- a byte that ends no piece stands in front of the first line
+-- a byte that ends no piece is in front of the first line
 lines-byte : (b c : ℕ) (s : Text) → b ≢ 10 → c ≢ 10 → lines (b ∷ c ∷ s) ≡ with_first b (lines (c ∷ s))
 unfolding lines
 lines-byte b c s off other =

@@ -63,7 +63,7 @@ with_byte b c s other =
     let len : line_len (b ∷ bs) ≡ suc n = cond-false _ _ _ (ne_eqb b 10 other) in
     let whole : map without_terminator (lines_of (b ∷ bs)) ≡ without_terminator (b ∷ take n bs) ∷ ls =
     ap (map without_terminator) (lines-step (b ∷ bs) (omega arith)) ∙ ap (λ k. without_terminator (take k (b ∷ bs)) ∷ map without_terminator (lines_of (drop k (b ∷ bs)))) len in
-    let behind : map without_terminator (lines_of bs) ≡ without_terminator (take n bs) ∷ ls = ap (map without_terminator) (lines-step bs (omega arith)) in
+    let after : map without_terminator (lines_of bs) ≡ without_terminator (take n bs) ∷ ls = ap (map without_terminator) (lines-step bs (omega arith)) in
     ⊎_elim
     (λ feed.
     let one : take n bs ≡ c ∷ [] = ap (λ k. take k bs) (cond-true _ _ _ feed) in
@@ -72,12 +72,12 @@ with_byte b c s other =
     whole ∙ ap (λ l. without_terminator (b ∷ l) ∷ ls) one ∙ ap (λ l. l ∷ ls) both
     ∙ chosen (b == 13) b [] [] ls
     ∙ ap (λ t. cond (b == 13 && t) ([] ∷ ls) ((b ∷ []) ∷ ls)) (sym feed)
-    ∙ ap (λ rest. cond (b == 13 && feeds bs) rest (with_first b rest)) (sym (behind ∙ ap (λ l. without_terminator l ∷ ls) one ∙ ap (λ l. l ∷ ls) alone)))
+    ∙ ap (λ rest. cond (b == 13 && feeds bs) rest (with_first b rest)) (sym (after ∙ ap (λ l. without_terminator l ∷ ls) one ∙ ap (λ l. l ∷ ls) alone)))
     (λ off.
     let more : take n bs ≡ c ∷ take (line_len s) s = ap (λ k. take k bs) (cond-false _ _ _ off) in
     let both : without_terminator (b ∷ take n bs) ≡ b ∷ without_terminator (take n bs) =
     ap (λ l. without_terminator (b ∷ l)) more ∙ without-cons b c (take (line_len s) s) (eqb-false c 10 off) ∙ ap (λ l. b ∷ without_terminator l) (sym more) in
-    whole ∙ ap (λ l. l ∷ ls) both ∙ ap (with_first b) (sym behind)
+    whole ∙ ap (λ l. l ∷ ls) both ∙ ap (with_first b) (sym after)
     ∙ sym (never (b == 13) (feeds bs) off (map without_terminator (lines_of bs)) (with_first b (map without_terminator (lines_of bs)))))
     (cases_Bool (c == 10))
   where

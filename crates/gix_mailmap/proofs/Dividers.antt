@@ -48,9 +48,9 @@ line_len-feed (x ∷ xs) ys =
     (cases_Bool (x == 10))
 
 -- a line `--` at the front of some bytes is their first line
-first_divider : (line behind : List ℕ) → IsDivider line behind → take (line_len (line ++ behind)) (line ++ behind) ≡ line
+first_divider : (line after : List ℕ) → IsDivider line after → take (line_len (line ++ after)) (line ++ after) ≡ line
 unfolding line_len
-first_divider line behind (divider, last) = ⊎_elim
+first_divider line after (divider, last) = ⊎_elim
     (λ is. rw is)
     (λ others. ⊎_elim (λ is. rw is) (λ is. rw (last is, is)) others)
     divider
@@ -65,14 +65,14 @@ EndsLine-drop n xs (inr (front, is)) = ⊎_elim
     inr (drop n front, ap (drop n) is ∙ drop-append-le n front (10 ∷ []) (omega arith)))
     (le_or_lt (length xs) n)
 
--- no parting stands within a first line that is not `--`
-past_line : (before line behind : List ℕ) → EndsLine before → IsDivider line behind → (IsDividerLine (take (line_len (before ++ (line ++ behind))) (before ++ (line ++ behind))) → ⊥)
-    → line_len (before ++ (line ++ behind)) ≤ length before
-past_line before line behind (inl none) divider other = absurd (other (subst IsDividerLine (sym (ap (λ b. take (line_len (b ++ (line ++ behind))) (b ++ (line ++ behind))) none ∙ first_divider line behind divider)) divider.0))
-past_line before line behind (inr (front, is)) divider other =
+-- no parting is within a first line that is not `--`
+past_line : (before line after : List ℕ) → EndsLine before → IsDivider line after → (IsDividerLine (take (line_len (before ++ (line ++ after))) (before ++ (line ++ after))) → ⊥)
+    → line_len (before ++ (line ++ after)) ≤ length before
+past_line before line after (inl none) divider other = absurd (other (subst IsDividerLine (sym (ap (λ b. take (line_len (b ++ (line ++ after))) (b ++ (line ++ after))) none ∙ first_divider line after divider)) divider.0))
+past_line before line after (inr (front, is)) divider other =
     let long : length before ≡ length front + 1 = ap length is ∙ length-append front (10 ∷ []) in
-    let regrouped : before ++ (line ++ behind) ≡ front ++ 10 ∷ (line ++ behind) = ap (λ b. b ++ (line ++ behind)) is ∙ append_assoc front (10 ∷ []) (line ++ behind) in
-    let feed = line_len-feed front (line ++ behind) in
+    let regrouped : before ++ (line ++ after) ≡ front ++ 10 ∷ (line ++ after) = ap (λ b. b ++ (line ++ after)) is ∙ append_assoc front (10 ∷ []) (line ++ after) in
+    let feed = line_len-feed front (line ++ after) in
     let len = ap line_len regrouped in
     omega arith
 
@@ -162,11 +162,11 @@ module _ (input : List ℕ) (index : ℕ) (lines : List (List ℕ)) (line : List
     parts = record {
       line = line;
       whole =
-          let behind = drop (length line) rest in
+          let after = drop (length line) rest in
           let line_is : take (length line) rest ≡ line = ap (λ n. take n rest) stepped.len ∙ sym stepped.is in
           sym (take-append-drop index input)
-          ∙ ap (λ l. take index input ++ l) (sym (take-append-drop (length line) rest) ∙ ap (λ l. l ++ behind) line_is)
-          ∙ sym (append_assoc (take index input) line behind)
+          ∙ ap (λ l. take index input ++ l) (sym (take-append-drop (length line) rest) ∙ ap (λ l. l ++ after) line_is)
+          ∙ sym (append_assoc (take index input) line after)
           ∙ ap (λ l. (take index input ++ line) ++ l) (drop-drop (length line) index input);
       starts = passed.starts (omega (arith, stepped.some, stepped.long));
       divides = (
@@ -196,8 +196,8 @@ ended input index lines over passed = inr (record {
 -- ---- an input is parted in one way
 
 -- what is after a line `--` is after it in each reading: the line is the first one, either way
-same_behind : (line behind line' behind' : List ℕ) → IsDivider line behind → IsDivider line' behind' → line ++ behind ≡ line' ++ behind' → behind ≡ behind'
-same_behind line r line' s here there same =
+same_after : (line after line' after' : List ℕ) → IsDivider line after → IsDivider line' after' → line ++ after ≡ line' ++ after' → after ≡ after'
+same_after line r line' s here there same =
     let lines : line ≡ line' = sym (first_divider line r here) ∙ ap (λ bs. take (line_len bs) bs) same ∙ first_divider line' s there in
     append_cancel_left line' r s (ap (λ l. l ++ r) (sym lines) ∙ same)
 
@@ -210,7 +210,7 @@ first_same input p r q s here there =
     let fronts : p ≡ q = sym p_is ∙ ap (λ n. take n input) long ∙ q_is in
     let wholes : p ++ (here.parts.line ++ r) ≡ p ++ (there.parts.line ++ s) =
     sym (append_assoc p here.parts.line r) ∙ sym here.parts.whole ∙ there.parts.whole ∙ append_assoc q there.parts.line s ∙ ap (λ l. l ++ (there.parts.line ++ s)) (sym fronts) in
-    (fronts, same_behind here.parts.line r there.parts.line s here.parts.divides there.parts.divides (append_cancel_left p _ _ wholes))
+    (fronts, same_after here.parts.line r there.parts.line s here.parts.divides there.parts.divides (append_cancel_left p _ _ wholes))
 
 -- an input is parted in one way
 pub parted_same : (input p r q s : List ℕ) → IsSplit input p r → IsSplit input q s → (p ≡ q) × (r ≡ s)

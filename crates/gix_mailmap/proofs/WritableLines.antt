@@ -32,10 +32,10 @@ contact_fits s line =
       | Closed a b c ↦ λ e.
           let is = closed-cut s a b c e in
           let whole : HoldsNo 10 (a ++ 60 ∷ (b ++ 62 ∷ c)) = subst (HoldsNo 10) is.whole line in
-          let behind = all_tail _ a (60 ∷ (b ++ 62 ∷ c)) whole in (
+          let after = all_tail _ a (60 ∷ (b ++ 62 ∷ c)) whole in (
             name_fits (trim a) (sym (trim-trim a)) (HoldsNo-trim 60 a is.no_opening) (HoldsNo-trim 10 a (all_head _ a (60 ∷ (b ++ 62 ∷ c)) whole)),
-            record { trimmed = sym (trim-trim b); no_closing = HoldsNo-trim 62 b is.no_closing; one_line = HoldsNo-trim 10 b (all_head _ b (62 ∷ c) behind.1) },
-            (all_tail _ b (62 ∷ c) behind.1).1,
+            record { trimmed = sym (trim-trim b); no_closing = HoldsNo-trim 62 b is.no_closing; one_line = HoldsNo-trim 10 b (all_head _ b (62 ∷ c) after.1) },
+            (all_tail _ b (62 ∷ c) after.1).1,
           )
     ] refl
 

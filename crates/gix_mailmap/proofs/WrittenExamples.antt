@@ -25,7 +25,7 @@ three : text (by (Some (codes "Jane")) (Some (codes "j@x")) None [] ∷ by (Some
     ≡ codes " Jane <j@x> <>" ++ 10 ∷ (codes " # c <a@x>" ++ 10 ∷ (codes " <n@y> Bob <a@x>" ++ 10 ∷ []))
 three = refl
 
--- brackets that the grammar lets stand
+-- brackets that the grammar takes as text
 brackets : text (by (Some (codes "a>b")) (Some (codes "c<d")) (Some (codes "e>f")) (codes "g") ∷ []) ≡ codes " a>b <c<d> e>f <g>" ++ 10 ∷ []
 brackets = refl
 

@@ -12,26 +12,26 @@ IsDividerLine line = (line ≡ 45 ∷ 45 ∷ 10 ∷ []) ⊎ ((line ≡ 45 ∷ 45
 
 -- such a line before these bytes: if nothing ends it, nothing is after it
 abbrev pub IsDivider : List ℕ → List ℕ → Type 0
-IsDivider line behind = IsDividerLine line × (line ≡ 45 ∷ 45 ∷ [] → behind ≡ [])
+IsDivider line after = IsDividerLine line × (line ≡ 45 ∷ 45 ∷ [] → after ≡ [])
 
--- the input is `before`, a line `--`, and `behind`
-pub record PartsAt (input before behind : List ℕ) : Type 0 where
+-- the input is `before`, a line `--`, and `after`
+pub record PartsAt (input before after : List ℕ) : Type 0 where
   pub line : List ℕ
-  pub whole : input ≡ before ++ line ++ behind
+  pub whole : input ≡ before ++ line ++ after
   pub starts : EndsLine before
-  pub divides : IsDivider line behind
+  pub divides : IsDivider line after
 
 -- the input is parted at its first line `--`
-pub record IsFirstParting (input before behind : List ℕ) : Type 0 where
-  pub parts : PartsAt input before behind
+pub record IsFirstParting (input before after : List ℕ) : Type 0 where
+  pub parts : PartsAt input before after
   pub first : (p r : List ℕ) → PartsAt input p r → length before ≤ length p
 
 -- no line of the input is `--`, and all of it is after
-pub record IsUndivided (input before behind : List ℕ) : Type 0 where
+pub record IsUndivided (input before after : List ℕ) : Type 0 where
   pub none : (p r : List ℕ) → PartsAt input p r → ⊥
   pub nothing : before ≡ []
-  pub all : behind ≡ input
+  pub all : after ≡ input
 
 -- what is before the first line `--` and what after it; without such a line nothing and the whole input
 abbrev pub IsSplit : List ℕ → List ℕ → List ℕ → Type 0
-IsSplit input before behind = IsFirstParting input before behind ⊎ IsUndivided input before behind
+IsSplit input before after = IsFirstParting input before after ⊎ IsUndivided input before after

@@ -40,7 +40,7 @@ impl Listed {
     }
 }
 
-/// Gives how many entries the mailmap lists, and how long all their texts are: the largest number where they are longer
+/// Gives how many entries the mailmap lists, and how long all their texts are: the largest number if they are longer
 /// than that.
 ///
 /// `OK`, or `CLOSED`: nothing is given. It goes over all entries.

@@ -48,7 +48,7 @@ fn assert_no_finding(rt: &impl Abort, alloc: Global, buffers: &[&[u8]]) -> Resul
     assert_findings(rt, alloc, buffers, &[])
 }
 
-/// A fault or ignored text comes before what the entry of the line does. Clean lines may stand between.
+/// A fault or ignored text comes before what the entry of the line does. Clean lines may come between.
 #[test]
 fn each_line_has_up_to_two_findings_in_order(rt: HostRuntime) -> Result<(), AllocError> {
     let buffers: [&[u8]; 3] = [

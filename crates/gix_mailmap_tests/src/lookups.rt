@@ -271,7 +271,7 @@ fn assert_counts(
     Ok(())
 }
 
-/// Wants eleven comparisons at most of the lookup of 1024 emails, and ten where the last is not known.
+/// Wants eleven comparisons at most of the lookup of 1024 emails, and ten if the last is not known.
 fn assert_thousand(rt: &impl Abort, alloc: Global, texts: &[String]) -> Result<(), AllocError> {
     let mut entries = names_of(alloc, texts)?;
     assert_counts(rt, alloc, &entries, texts, 11)?;

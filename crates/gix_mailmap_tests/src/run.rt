@@ -181,7 +181,7 @@ fn a_writer_that_takes_little_is_given_all(rt: HostRuntime) -> Result<(), AllocE
     Ok(())
 }
 
-/// Wants all that was taken to be flushed, where the run ended well.
+/// Wants all that was taken to be flushed, if the run ended well.
 fn assert_flushed(rt: &impl Abort, output: &Sink<'_>, ended: Result<(), Failure>) {
     let left = output.taken.len() != output.flushed;
     assert!(rt; ended.is_err() || !left);

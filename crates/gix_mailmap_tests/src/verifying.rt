@@ -213,7 +213,7 @@ fn help_is_the_usage_and_the_version_has_the_name(rt: HostRuntime) {
     }
 }
 
-/// What [`BREAKS`] is where standard input is read.
+/// What [`BREAKS`] is if standard input is read.
 pub(crate) const BROKEN: Failure = Failure::Input {
     cause: ErrorKind::BrokenPipe,
 };

@@ -18,7 +18,7 @@ filter-map p f (x ∷ xs) =
       | false ↦ filter-map p f xs
     ]
 
--- what neither stands below nor above
+-- what is neither below nor above
 pub neither : (o : Ordering) → (not (is_lt o) && not (is_lt (ordering_reverse o))) ≡ is_eq o
 neither Less = refl
 neither Equal = refl

@@ -9,7 +9,7 @@ use Rattle.mailmap_batches.specs.Batches.{name_text}
 use Rattle.mailmap_batches.specs.declared.groups.Given.{Given}
 use Rattle.mailmap_batches.specs.declared.groups.Named.{Named}
 
--- an old name as it is kept, and the fields that stand for it
+-- an old name as it is kept, and the fields that replace it
 pub record NameGroup : Type 0 where
   pub old_name : Text
   pub new_name : Option Text
@@ -25,7 +25,7 @@ abbrev pub StartsOther : {X : Type 0} → (X → Type 0) → List X → Type 0
 StartsOther P [] = Unit {0}
 StartsOther P (x ∷ xs) = ¬ P x
 
--- the entries at the start of a batch that have one old name, and the name that stands for them:
+-- the entries at the start of a batch that have one old name, and what they are together:
 -- spelled as the first has it, with the fields of the last
 pub record NameEntries (ms : List Mapping) (n : NameGroup) (later : List Mapping) : Type 0 where
   pub head : Mapping

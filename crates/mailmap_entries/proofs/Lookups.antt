@@ -53,7 +53,7 @@ module _ {X K : Type 0} (R : K → K → Ordering) (key : X → K) (q : K) where
   pub found-key : IsAntisymmetric R → (xs : List X) (i : ℕ) → slice_get (map (λ x. R (key x) q) xs) i ≡ Some Equal → (i < length xs) × HoldsAt (λ x. key x ≡ q) xs i
   found-key same xs i found = let at = found-at xs i found in (at.0, λ d. same (key (get_or xs i d)) q (at.1 d))
 
-  -- before the index where nothing is found stand the lower keys
+  -- before the index where nothing is found are the lower keys
   pub missing-below : (xs : List X) (i : ℕ) → i ≤ length xs → IsPartitionPoint (λ a. a ≡ Less) (λ a. a ≡ Greater) (map (λ x. R (key x) q) xs) i → AllWithin (λ x. R (key x) q ≡ Less) xs 0 i
   missing-below xs i le missing = λ k d low high.
       sym (get_or-map (λ x. R (key x) q) xs k d Less (omega arith)) ∙ missing.0 k Less low high

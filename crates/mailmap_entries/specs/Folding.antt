@@ -1,4 +1,4 @@
--- Texts, and how they compare where the case of ASCII letters does not count.
+-- Texts, and how they compare if the case of ASCII letters does not count.
 use Rattle.std.specs.Prelude.{◌≡◌, ◌<◌, ◌⊎◌, ℕ, List, [], ◌∷◌}
 use Rattle.std.specs.Cmp.Lexicographic.{slice_cmp}
 use Rattle.std.specs.Ordering.{nat_cmp}

@@ -10,7 +10,7 @@ pub mod prefix;
 use std::cmp::Ordering;
 use std::marker::Model;
 
-/// Compares two texts byte by byte, where the bytes `A` to `Z` count as `a` to `z`.
+/// Compares two texts byte by byte; the bytes `A` to `Z` count as `a` to `z`.
 ///
 /// No other byte is changed, so letters past ASCII keep their case. A proper prefix is smaller:
 /// `a` is smaller than `B`, and `foo` than `FOO1`. `FooBar` and `foobar` are equal.

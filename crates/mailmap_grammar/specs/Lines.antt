@@ -87,7 +87,7 @@ trimmed_contact Absent = Absent
 trimmed_contact Unclosed = Unclosed
 trimmed_contact (Closed a b c) = Closed (trim a) (trim b) c
 
--- what is after the last email that counts: that of the second contact, where `rest` has one
+-- what is after the last email that counts: that of the second contact, if `rest` has one
 abbrev pub after_second : Text → ParsedContact → Text
 after_second rest Absent = rest
 after_second rest Unclosed = rest
@@ -108,7 +108,7 @@ parsed_contact_of (variant.Closed name email rest) = Closed name.now email.now r
 abbrev pub fault : Kind → ℕ → Text → Reading
 fault kind line input = Err (record { kind = kind; line = line; input = input })
 
--- what a line with two contacts maps: their names and emails, where an empty name is none
+-- what a line with two contacts maps: their names and emails; an empty name is none
 abbrev pub by_both : Text → Text → Text → Text → Mapping
 by_both name email old_name old_email = record {
   new_name = non_empty name;
@@ -117,7 +117,7 @@ by_both name email old_name old_email = record {
   old_email = old_email;
 }
 
--- what a name and an email alone map: the name stands in for that of the email
+-- what a name and an email map: the name replaces that of the email
 abbrev pub by_name : Text → Text → Mapping
 by_name name email = record { new_name = Some name; new_email = None; old_name = None; old_email = email }
 
@@ -135,7 +135,7 @@ strict_contacts n t name email rest Absent = two_contacts n t name email Absent
 strict_contacts n t name email rest Unclosed = fault unclosed_second n rest
 strict_contacts n t name email rest (Closed a b c) = two_contacts n t name email (Closed a b c)
 
--- what a line says by its first contact; where that has an email, `both` says it by name, email and rest
+-- what a line says by its first contact; if that has an email, `both` says it by name, email and rest
 abbrev pub first_contact : (Text → Text → Text → Reading) → ℕ → Text → ParsedContact → Reading
 first_contact both n t Absent = fault no_email n t
 first_contact both n t Unclosed = fault missing_closing_bracket n t
@@ -162,7 +162,7 @@ abbrev pub unless_blank : (ℕ → Text → Reading) → ℕ → Text → Option
 unless_blank says n [] = None
 unless_blank says n (b ∷ t) = Some (says n (b ∷ t))
 
--- what a line says, where `says` reads trimmed lines; None for a comment and for a blank line
+-- what a line says, if `says` reads trimmed lines; None for a comment and for a blank line
 abbrev pub reading_by : (ℕ → Text → Reading) → ℕ → Text → Option Reading
 reading_by says n line = if is_comment line then None else unless_blank says n (trim line)
 
@@ -174,7 +174,7 @@ reading = reading_by line_reading
 abbrev pub strict_reading : ℕ → Text → Option Reading
 strict_reading = reading_by strict_line_reading
 
--- the reader of trimmed lines that the code's choice stands for
+-- the reader of trimmed lines that the code chooses
 abbrev pub line_reader : Strictness → ℕ → Text → Reading
 line_reader Lenient = line_reading
 line_reader Strict = strict_line_reading
@@ -265,7 +265,7 @@ pub data IsSecondReadStrictly (n : ℕ) (t name email rest : Text) (r : Reading)
   open_second : IsUnclosed rest → r ≡ fault unclosed_second n rest → IsSecondReadStrictly n t name email rest r
   as_ever : (IsUnclosed rest → ⊥) → IsSecondRead n t name email rest r → IsSecondReadStrictly n t name email rest r
 
--- what line n, trimmed t, says, where Second says how it goes on after a first contact with an email
+-- what line n, trimmed t, says, if Second says how it goes on after a first contact with an email
 pub data IsFirstRead (Second : Text → Text → Text → Reading → Type 0) (n : ℕ) (t : Text) (r : Reading) : Type 0 where
   no_bracket : HoldsNo 60 t → r ≡ fault no_email n t → IsFirstRead Second n t r
   open_first : IsUnclosed t → r ≡ fault missing_closing_bracket n t → IsFirstRead Second n t r
@@ -277,7 +277,7 @@ pub data IsFirstRead (Second : Text → Text → Text → Reading → Type 0) (n
 abbrev pub IsComment : Text → Type 0
 IsComment line = (after : Text) × (line ≡ 35 ∷ after)
 
--- what a line says, or None, where Says gives what its trimmed text says
+-- what a line says, or None, if Says gives what its trimmed text says
 pub data IsReadBy (Says : Text → Reading → Type 0) (line : Text) (o : Option Reading) : Type 0 where
   comment : IsComment line → o ≡ None → IsReadBy Says line o
   blank : (IsComment line → ⊥) → IsTrimmed line [] → o ≡ None → IsReadBy Says line o

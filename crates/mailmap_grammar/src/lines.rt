@@ -56,7 +56,7 @@ pub fn parse(buf: &[u8]) -> Lines<'_>
 /// Parses `buf` as [`parse`] does, but takes a second contact that has its `<` and not its `>` for a fault,
 /// [`Error::UnclosedSecond`].
 ///
-/// Of `Jane <a@x> <b` this makes a fault, where [`parse`] gives the entry of `Jane` by `a@x`. Text after a closed
+/// Of `Jane <a@x> <b` this makes a fault; [`parse`] gives the entry of `Jane` by `a@x`. Text after a closed
 /// email, as in `Jane <a@x> tail`, is no fault here, either. A line that has another fault in its first contact keeps
 /// that one.
 pub fn parse_strict(buf: &[u8]) -> Lines<'_>
@@ -318,7 +318,7 @@ fn parse_line(
     })
 }
 
-/// The entry of a line with two contacts, where either name may be empty and then is none.
+/// The entry of a line with two contacts. Either name may be empty, and is none then.
 fn change_by_both<'a>(
     name: &'a [u8],
     email: &'a [u8],

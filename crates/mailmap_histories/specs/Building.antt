@@ -14,7 +14,7 @@ pub record IsListing (n : List Mapping) : Type 0 where
   pub own : IsNormal n n
   pub paired : All IsPaired n
 
--- what a merge that is made turns the listing `old` into, where `added` is what it merges
+-- what a merge that is made turns the listing `old` into, if `added` is what it merges
 pub record IsMerged (old added new : List Mapping) : Type 0 where
   -- the normal list of what was listed and what is added after it
   pub normal : IsNormal (old ++ added) new

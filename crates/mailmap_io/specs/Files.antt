@@ -3,7 +3,7 @@ use Rattle.std.specs.Prelude.{◌≡◌, ℕ, suc, ◌<◌, ◌≤◌, ⊤, List
 use Rattle.mailmap_io.specs.declared.read_error.ReadError.{ReadError}
 use Rattle.mailmap_io.specs.declared.read_error.ReadError.TheVariants.{File, Memory}
 
--- These are all the bytes of a file that may be opened, where its bytes are known.
+-- These are all the bytes of a file that may be opened, if its bytes are known.
 abbrev pub IsRead : (List ℕ → Type 0) → (List ℕ → Option (List ℕ)) → List ℕ → List ℕ → Type 0
 IsRead may_open known path contents = may_open path × IfSome (known path) (λ bytes. contents ≡ bytes)
 

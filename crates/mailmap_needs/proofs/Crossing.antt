@@ -116,9 +116,9 @@ unfolding IsStrictlySortedBy
 left_crossed [] i m q up within here is = absurd (omega arith)
 left_crossed (n ∷ ms) zero m q up within here is =
     let position : n.position ≡ q = here n in
-    let behind : AllByRecursion (λ (l : Mark). same_position l.position q ≡ false) ms =
+    let after : AllByRecursion (λ (l : Mark). same_position l.position q ≡ false) ms =
     all_weaker ms (λ (l : Mark) less. above_differs q l.position (subst (λ p. position_cmp p l.position ≡ Less) position less)) (all_map (λ (l : Mark). l.position) (λ y. position_cmp n.position y ≡ Less) ms up.0) in
-    crossed_left m ms is ∙ sym (left_itself n ms q position ∙ left_others ms q behind)
+    crossed_left m ms is ∙ sym (left_itself n ms q position ∙ left_others ms q after)
 left_crossed (n ∷ ms) (suc i) m q up within here is =
     let less : position_cmp n.position q ≡ Less =
     subst (λ p. position_cmp n.position p ≡ Less) (here n) (all_index ms i n (omega arith) (all_map (λ (l : Mark). l.position) (λ y. position_cmp n.position y ≡ Less) ms up.0)) in

@@ -51,6 +51,6 @@ pub record IsTakenFrom (from : SignatureRef) (s : Signature) : Type 0 where
   pub email : cow_slice_items s.email ≡ from.email.now
   pub time : IsTimeOf from.time.now s.time
 
--- one is owned where the other is
+-- one is owned if the other is
 abbrev pub IsHeldAs : CowSlice ℕ Global → CowSlice ℕ Global → Type 0
 IsHeldAs a b = (IsOwnedSlice a → IsOwnedSlice b) × (IsBorrowedSlice a → IsBorrowedSlice b)

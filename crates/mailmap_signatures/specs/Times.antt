@@ -57,11 +57,11 @@ Reads text read = MatchOption read ((time : Time) → ¬ Spells text time) (Spel
 abbrev pub epoch : Time
 epoch = record { seconds = pos 0; offset = pos 0 }
 
--- the time of a signature whose time text is this one: the time that it spells, and the epoch where it spells none
+-- the time of a signature whose time text is this one: the time that it spells, and the epoch if it spells none
 abbrev pub IsTimeOf : Text → Time → Type 0
 IsTimeOf text time = Spells text time ⊎ (((other : Time) → ¬ Spells text other) × (time ≡ epoch))
 
--- the seconds decide, and where they are equal the offsets
+-- the seconds decide, and if they are equal the offsets
 abbrev pub IsEarlier : Time → Time → Type 0
 IsEarlier a b = (a.seconds <ℤ b.seconds) ⊎ ((a.seconds ≡ b.seconds) × (a.offset <ℤ b.offset))
 

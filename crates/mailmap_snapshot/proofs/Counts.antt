@@ -106,9 +106,9 @@ name_count-at email (x ∷ gs) zero g up read same =
     let is : x ≡ g = cc in
     let k = folded email in
     let here : email_key x ≡ k = ap email_key is ∙ same in
-    let behind = other_rows (λ y. text_cmp (email_key x) (email_key y) ≡ Less) k (λ y less. ap (λ t. eq_by_cmp text_cmp t (email_key y)) (sym here) ∙ ap is_eq less) gs (all_map email_key (λ y. text_cmp (email_key x) y ≡ Less) gs up.0) in
+    let after = other_rows (λ y. text_cmp (email_key x) (email_key y) ≡ Less) k (λ y less. ap (λ t. eq_by_cmp text_cmp t (email_key y)) (sym here) ∙ ap is_eq less) gs (all_map email_key (λ y. text_cmp (email_key x) y ≡ Less) gs up.0) in
     sum_by-append (λ e. cond (is_name_of k e) 1 0) (rows x) (listing gs)
-    ∙ ap₂ (λ m n. m + n) (rows_counted k x here) (none_of_others k (listing gs) behind)
+    ∙ ap₂ (λ m n. m + n) (rows_counted k x here) (none_of_others k (listing gs) after)
     ∙ ap (λ y. length y.names + 0) is
     ∙ omega arith
 name_count-at email (x ∷ gs) (suc i) g up read same =

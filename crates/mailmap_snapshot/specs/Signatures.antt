@@ -15,7 +15,7 @@ shown r = record { name = option_copied r.name; email = option_copied r.email }
 abbrev pub has_email : Text → Mapping → Bool
 has_email email e = eq_by_cmp text_cmp (folded email) (folded e.old_email)
 
--- how many old emails the entries have, where those that differ only in case are one
+-- how many old emails the entries have, if those that differ only in case are one
 abbrev pub email_count : List Mapping → ℕ
 email_count [] = 0
 email_count (e ∷ es) = if list_any (has_email e.old_email) es then email_count es else email_count es + 1

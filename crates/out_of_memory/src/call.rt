@@ -45,8 +45,8 @@ pub enum Call {
     /// the others that take no memory.
     Before,
     AheadOfNothing,
-    BehindNothing,
-    Behind,
+    AfterNothing,
+    AfterAll,
 }
 
 impl fmt::Display for Call {
@@ -85,8 +85,8 @@ impl fmt::Display for Call {
             Call::Unrefusable => "a call that takes no memory",
             Call::Before => "a request before all calls",
             Call::AheadOfNothing => "the request ahead of the calls that accept or write nothing",
-            Call::BehindNothing => "the request behind the calls that accept or write nothing",
-            Call::Behind => "the request behind the calls that take none",
+            Call::AfterNothing => "the request after the calls that accept or write nothing",
+            Call::AfterAll => "the request after the calls that take none",
         })
     }
 }

@@ -51,7 +51,7 @@ fn walk(run: &mut Run, alloc: Global, before: usize) -> Result<(), Wrong> {
     }
     let team = refusable::build(run, alloc)?;
     judge(run, alloc, &team)?;
-    run.request(alloc, Call::Behind)
+    run.request(alloc, Call::AfterAll)
 }
 
 // Makes the calls on the snapshot of the team.

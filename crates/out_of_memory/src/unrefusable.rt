@@ -87,7 +87,7 @@ fn accept_and_write_nothing(run: &mut Run, alloc: Global, team: &Snapshot) -> Re
         && copy == *team
         && cannot_write(&unwritable, alloc);
     wants(Call::Nothing, answers)?;
-    run.request(alloc, Call::BehindNothing)
+    run.request(alloc, Call::AfterNothing)
 }
 
 // Makes the other calls, on a snapshot and on one that knows one email for one name.
