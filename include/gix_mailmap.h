@@ -228,7 +228,8 @@ gix_mailmap_status gix_mailmap_compact(const char *mailmap, size_t mailmap_len, 
     GIX_MAILMAP_NONNULL(5) GIX_MAILMAP_MUST_CHECK;
 
 /* Writes the mailmap without the lines that have no effect. All other lines stay byte for byte, comments and faulty
- * lines too. `needed` is its length, and 0 at OUT_OF_MEMORY.
+ * lines too. If verify finds GIX_MAILMAP_GIT_READS, git may answer otherwise by the result. `needed` is its length, and
+ * 0 at OUT_OF_MEMORY.
  * OK; TOO_SHORT; OUT_OF_MEMORY. */
 gix_mailmap_status gix_mailmap_prune(const char *mailmap, size_t mailmap_len, char *GIX_MAILMAP_RESTRICT out,
                                      size_t out_len, size_t *GIX_MAILMAP_RESTRICT needed)

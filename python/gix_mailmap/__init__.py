@@ -9,7 +9,7 @@ Answer(name='Jane Doe', email='jane@x', is_name_given=True, is_email_given=True)
 
 Texts are `str` or bytes, and what a call answers is of the same kind. Bytes may be any, as nothing says how a mailmap
 is encoded; in a `str`, bytes that aren't UTF-8 are lone surrogates (`surrogateescape`). A `bytearray` and a
-`memoryview` are taken as bytes. Any call that takes a `str` raises NotAText for one that stands for no bytes.
+`memoryview` are taken as bytes. Any call that takes a `str` raises NotAText if it has a surrogate that is no byte.
 
 The errors of the module are of the class Error, and also of Python's own class for that case. Three are not: a
 TypeError for an argument of a wrong type, the ValueError that `index` and a slice raise as those of a list do, and the

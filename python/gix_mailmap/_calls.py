@@ -61,7 +61,8 @@ def prune(mailmap: Buffer) -> bytes: ...
 
 
 def prune(mailmap: Text) -> Union[str, bytes]:
-    """The mailmap without its lines that have no effect. All others stay byte for byte. Raises OutOfMemory.
+    """The mailmap without its lines that have no effect. All others stay byte for byte. git may answer otherwise by the
+    result if `verify` finds Kind.GIT_READS. Raises OutOfMemory.
 
     >>> prune("N <a@x>\\n# why\\nM <a@x>\\n")
     '# why\\nM <a@x>\\n'
