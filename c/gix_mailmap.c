@@ -1,23 +1,35 @@
 /* The calls of gix_mailmap.h, each by a proved one. Four things are done here, since a proved call can't do them. A
- * handle is handed out as a pointer. NULL is taken for what has length 0. Several calls may read a mailmap at a time:
- * each is given a handle of its own, a copy that ends with the call, and only looks at what it leads to. And texts that
- * an array points to are put together. */
+ * handle is handed out as a pointer. NULL is taken for what has length 0. A call that reads takes the handle as one
+ * that several may read at a time. And texts that an array points to are put together. */
 #include "exports.h"
 #include "layout.h"
 #include <stdlib.h>
 #include <string.h>
 
-/* what stands for NULL, aligned for all elements; nothing reads or writes it */
+#if defined(__GNUC__)
+#define LIKELY(condition) __builtin_expect(condition, 1)
+#else
+#define LIKELY(condition) (condition)
+#endif
+
+/* the address that is given in place of NULL, aligned for all elements; nothing reads or writes it */
 static uint64_t nothing;
 
 static const void *text_at(const char *at)
 {
-    return at != NULL ? at : (const void *)&nothing;
+    return LIKELY(at != NULL) ? at : (const void *)&nothing;
 }
 
 static void *room_at(void *at)
 {
-    return at != NULL ? at : &nothing;
+    return LIKELY(at != NULL) ? at : &nothing;
+}
+
+/* The handle of a call that only reads. An exported function takes each handle as one that it may change, but those
+ * that get this one only look at it and at the mailmap that it leads to. */
+static gix_mailmap *read_only(const gix_mailmap *map)
+{
+    return (gix_mailmap *)map;
 }
 
 const char *gix_mailmap_version(void)
@@ -84,38 +96,34 @@ gix_mailmap_status gix_mailmap_lookup(const gix_mailmap *map, const char *name, 
                                       char *GIX_MAILMAP_RESTRICT email_out, size_t email_out_len,
                                       gix_mailmap_field *GIX_MAILMAP_RESTRICT new_email)
 {
-    gix_mailmap own = *map;
-    return gix_mailmap_handle_lookup(&own, text_at(name), name_len, text_at(email), email_len, room_at(name_out),
-                                     name_out_len, new_name, room_at(email_out), email_out_len, new_email);
+    return gix_mailmap_handle_lookup(read_only(map), text_at(name), name_len, text_at(email), email_len,
+                                     room_at(name_out), name_out_len, new_name, room_at(email_out), email_out_len,
+                                     new_email);
 }
 
 void gix_mailmap_len(const gix_mailmap *map, size_t *GIX_MAILMAP_RESTRICT entries_len,
                      size_t *GIX_MAILMAP_RESTRICT texts_len)
 {
-    gix_mailmap own = *map;
-    gix_mailmap_handle_len(&own, entries_len, texts_len);
+    gix_mailmap_handle_len(read_only(map), entries_len, texts_len);
 }
 
 gix_mailmap_status gix_mailmap_list(const gix_mailmap *map, gix_mailmap_listed *GIX_MAILMAP_RESTRICT entries,
                                     size_t entries_len, char *GIX_MAILMAP_RESTRICT texts, size_t texts_len)
 {
-    gix_mailmap own = *map;
-    return gix_mailmap_handle_list(&own, room_at(entries), entries_len, room_at(texts), texts_len);
+    return gix_mailmap_handle_list(read_only(map), room_at(entries), entries_len, room_at(texts), texts_len);
 }
 
 gix_mailmap_status gix_mailmap_entry(const gix_mailmap *map, size_t index,
                                      gix_mailmap_listed *GIX_MAILMAP_RESTRICT entry, char *GIX_MAILMAP_RESTRICT texts,
                                      size_t texts_len)
 {
-    gix_mailmap own = *map;
-    return gix_mailmap_handle_entry(&own, index, entry, room_at(texts), texts_len);
+    return gix_mailmap_handle_entry(read_only(map), index, entry, room_at(texts), texts_len);
 }
 
 gix_mailmap_status gix_mailmap_write(const gix_mailmap *map, char *GIX_MAILMAP_RESTRICT out, size_t out_len,
                                      size_t *GIX_MAILMAP_RESTRICT needed)
 {
-    gix_mailmap own = *map;
-    return gix_mailmap_handle_write(&own, room_at(out), out_len, needed);
+    return gix_mailmap_handle_write(read_only(map), room_at(out), out_len, needed);
 }
 
 gix_mailmap_status gix_mailmap_stream_open(gix_mailmap_stream **stream, const char *mailmap, size_t mailmap_len)

@@ -7,7 +7,7 @@ use Rattle.gix_mailmap.specs.Lines.{ParsedContact, Absent, Unclosed, Closed, cut
 use Rattle.gix_mailmap.specs.Trimming.{trim}
 use Rattle.mailmap_histories.proofs.Alike.{same_scan}
 use Rattle.mailmap_histories.proofs.Normal.{alike_normal}
-use Rattle.mailmap_shortlogs.specs.Counts.{Counted, standing}
+use Rattle.mailmap_shortlogs.specs.Counts.{Counted, mapped_count}
 use Rattle.mailmap_shortlogs.specs.Shortlog.{contact_counted, line_counted, replaced_text}
 
 module _ (with_email : Bool) (h n : List Mapping) (d : IsNormal h n) where
@@ -19,8 +19,8 @@ module _ (with_email : Bool) (h n : List Mapping) (d : IsNormal h n) where
   same_contact Unclosed = refl
   same_contact (Closed name email rest) = ap (λ f. Some (replaced_text with_email f name email)) (same_fields name email)
 
-  pub same_standing : (counts : List Counted) → flat_map (standing (line_counted with_email n)) counts ≡ flat_map (standing (line_counted with_email h)) counts
-  same_standing [] = refl
-  same_standing (c ∷ counts) =
-      ap (λ o. option_to_list (option_map (λ t. record { text = t; count = c.count }) o) ++ flat_map (standing (line_counted with_email n)) counts) (same_contact (trimmed_contact (cut (trim c.text))))
-      ∙ ap (λ l. standing (line_counted with_email h) c ++ l) (same_standing counts)
+  pub same_mapped_counts : (counts : List Counted) → flat_map (mapped_count (line_counted with_email n)) counts ≡ flat_map (mapped_count (line_counted with_email h)) counts
+  same_mapped_counts [] = refl
+  same_mapped_counts (c ∷ counts) =
+      ap (λ o. option_to_list (option_map (λ t. record { text = t; count = c.count }) o) ++ flat_map (mapped_count (line_counted with_email n)) counts) (same_contact (trimmed_contact (cut (trim c.text))))
+      ∙ ap (λ l. mapped_count (line_counted with_email h) c ++ l) (same_mapped_counts counts)

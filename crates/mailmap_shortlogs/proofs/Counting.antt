@@ -7,7 +7,7 @@ use Rattle.gix_mailmap.specs.Folding.{Text}
 use Rattle.mailmap_histories.proofs.Parts.{all_append}
 use Rattle.std.proofs.lemmas.List.{get_or-map, length-map, map-append, map-set}
 use Rattle.std.proofs.Math.Seq.{take-suc}
-use Rattle.mailmap_shortlogs.specs.Counts.{AreCounts, Counted, counted, passing_count, standing}
+use Rattle.mailmap_shortlogs.specs.Counts.{AreCounts, Counted, counted, passing_count, mapped_count}
 use Rattle.mailmap_shortlogs.specs.declared.counts.Tally.{Tally}
 
 -- how much a count is to a test
@@ -84,17 +84,17 @@ passes test (Some t) = test t
 pub passing_cons : (test : Text → Bool) (c : Counted) (counts : List Counted) → passing_count test (c ∷ counts) ≡ weight test c + passing_count test counts
 passing_cons test c counts = sum_by-cons (weight test) c counts
 
-one_standing : (test : Text → Bool) (o : Option Text) (n : ℕ) → passing_count test (option_to_list (option_map (λ t. record { text = t; count = n }) o)) ≡ cond (passes test o) n 0
+one_mapped_count : (test : Text → Bool) (o : Option Text) (n : ℕ) → passing_count test (option_to_list (option_map (λ t. record { text = t; count = n }) o)) ≡ cond (passes test o) n 0
 unfolding passes
-one_standing test None n = refl
-one_standing test (Some t) n = omega arith
+one_mapped_count test None n = refl
+one_mapped_count test (Some t) n = omega arith
 
-passing_standing : (f : Text → Option Text) (test : Text → Bool) (counts : List Counted) → passing_count test (flat_map (standing f) counts) ≡ passing_count (λ t. passes test (f t)) counts
-passing_standing f test [] = refl
-passing_standing f test (c ∷ counts) =
-    sum_by-append (weight test) (standing f c) (flat_map (standing f) counts)
-    ∙ ap (λ n. n + passing_count test (flat_map (standing f) counts)) (one_standing test (f c.text) c.count)
-    ∙ ap (λ n. cond (passes test (f c.text)) c.count 0 + n) (passing_standing f test counts)
+passing_mapped_counts : (f : Text → Option Text) (test : Text → Bool) (counts : List Counted) → passing_count test (flat_map (mapped_count f) counts) ≡ passing_count (λ t. passes test (f t)) counts
+passing_mapped_counts f test [] = refl
+passing_mapped_counts f test (c ∷ counts) =
+    sum_by-append (weight test) (mapped_count f c) (flat_map (mapped_count f) counts)
+    ∙ ap (λ n. n + passing_count test (flat_map (mapped_count f) counts)) (one_mapped_count test (f c.text) c.count)
+    ∙ ap (λ n. cond (passes test (f c.text)) c.count 0 + n) (passing_mapped_counts f test counts)
     ∙ sym (passing_cons (λ t. passes test (f t)) c counts)
 
 one_kept : (test : Text → Bool) (o : Option Text) (texts : List Text) → count_by test (cons_option o texts) ≡ cond (passes test o) 1 0 + count_by test texts
@@ -107,17 +107,17 @@ kept f test [] = refl
 kept f test (t ∷ texts) =
     one_kept test (f t) (filter_map f texts) ∙ ap (λ n. cond (passes test (f t)) 1 0 + n) (kept f test texts) ∙ sym (sum_by-cons (one (λ x. passes test (f x))) t texts)
 
-some_standing : (o : Option Text) (n : ℕ) → 0 < n → AllByRecursion (λ (c : Counted). 0 < c.count) (option_to_list (option_map (λ t. record { text = t; count = n }) o))
-some_standing None n lt = tt
-some_standing (Some t) n lt = (lt, tt)
+some_mapped_count : (o : Option Text) (n : ℕ) → 0 < n → AllByRecursion (λ (c : Counted). 0 < c.count) (option_to_list (option_map (λ t. record { text = t; count = n }) o))
+some_mapped_count None n lt = tt
+some_mapped_count (Some t) n lt = (lt, tt)
 
-all_standing : (f : Text → Option Text) (counts : List Counted) → AllByRecursion (λ c. 0 < c.count) counts → AllByRecursion (λ c. 0 < c.count) (flat_map (standing f) counts)
-all_standing f [] a = tt
-all_standing f (c ∷ counts) a = all_append (λ c. 0 < c.count) (standing f c) (flat_map (standing f) counts) (some_standing (f c.text) c.count a.0) (all_standing f counts a.1)
+all_mapped_counts : (f : Text → Option Text) (counts : List Counted) → AllByRecursion (λ c. 0 < c.count) counts → AllByRecursion (λ c. 0 < c.count) (flat_map (mapped_count f) counts)
+all_mapped_counts f [] a = tt
+all_mapped_counts f (c ∷ counts) a = all_append (λ c. 0 < c.count) (mapped_count f c) (flat_map (mapped_count f) counts) (some_mapped_count (f c.text) c.count a.0) (all_mapped_counts f counts a.1)
 
 -- what stands for the texts is counted as they are
-pub counts_standing : (f : Text → Option Text) (texts : List Text) (counts : List Counted) → AreCounts texts counts → AreCounts (filter_map f texts) (flat_map (standing f) counts)
-counts_standing f texts counts are = record {
-  of_each = λ test. passing_standing f test counts ∙ are.of_each (λ t. passes test (f t)) ∙ sym (kept f test texts);
-  some = all_standing f counts are.some;
+pub counts_mapped : (f : Text → Option Text) (texts : List Text) (counts : List Counted) → AreCounts texts counts → AreCounts (filter_map f texts) (flat_map (mapped_count f) counts)
+counts_mapped f texts counts are = record {
+  of_each = λ test. passing_mapped_counts f test counts ∙ are.of_each (λ t. passes test (f t)) ∙ sym (kept f test texts);
+  some = all_mapped_counts f counts are.some;
 }

@@ -22,9 +22,9 @@ pub record AreCounts (texts : List Text) (counts : List Counted) : Type 0 where
   pub of_each : (test : Text → Bool) → passing_count test counts ≡ count_by test texts
   pub some : AllByRecursion (λ c. 0 < c.count) counts
 
--- the count of a text, for what stands for it, if anything does
-abbrev pub standing : (Text → Option Text) → Counted → List Counted
-standing f c = option_to_list (option_map (λ text. record { text = text; count = c.count }) (f c.text))
+-- the count of a text, for the text that f makes of it, if it makes one
+abbrev pub mapped_count : (Text → Option Text) → Counted → List Counted
+mapped_count f c = option_to_list (option_map (λ text. record { text = text; count = c.count }) (f c.text))
 
 -- one count more: it comes after the others, or if the last one has its text, it is added to that
 abbrev pub Joins : List Counted → Counted → List Counted → Type 0

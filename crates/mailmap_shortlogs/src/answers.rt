@@ -5,7 +5,7 @@ ghost use Rattle.gix_mailmap.specs.Entries.{Mapping};
 ghost use Rattle.gix_mailmap.specs.Folding.{Text};
 ghost use Rattle.gix_mailmap.specs.Histories.{fields_for};
 ghost use Rattle.gix_mailmap.specs.Lines.{good};
-ghost use Rattle.mailmap_shortlogs.specs.Counts.{counted, standing};
+ghost use Rattle.mailmap_shortlogs.specs.Counts.{counted, mapped_count};
 ghost use Rattle.mailmap_shortlogs.specs.Shortlog.{line_counted, answer_text, replaced_text};
 
 use crate::counts::{Counts, Tally};
@@ -25,7 +25,7 @@ pub fn answers_of(
     with_email: bool,
 ) -> Result<Vec<Tally>, AllocError>
     ensures { IfOk result (λ answers. map counted answers.items ≡ flat_map
-        (standing (line_counted with_email (flat_map good (map (λ b. b.now) buffers.now)))) lines.now) }
+        (mapped_count (line_counted with_email (flat_map good (map (λ b. b.now) buffers.now)))) lines.now) }
 {
     let snapshot = merged(alloc, buffers)?;
     answers_by(alloc, &snapshot, lines.tallies(), with_email)
@@ -39,7 +39,7 @@ fn answers_by(
     with_email: bool,
 ) -> Result<Vec<Tally>, AllocError>
     ensures { IfOk result (λ answers. map counted answers.items ≡ flat_map
-        (standing (line_counted with_email snapshot.now)) (map counted lines.now)) }
+        (mapped_count (line_counted with_email snapshot.now)) (map counted lines.now)) }
 {
     let mut answers = Vec::new(alloc);
     for line in lines {
@@ -56,7 +56,7 @@ fn push_answer(
     with_email: bool,
 ) -> Result<(), AllocError>
     ensures { OnOk result (map counted answers.new.items ≡ map counted answers.old.items
-        ++ standing (line_counted with_email snapshot.now) (counted line.now)) }
+        ++ mapped_count (line_counted with_email snapshot.now) (counted line.now)) }
 {
     if let Some(text) = answer(
         *answers.allocator(),
