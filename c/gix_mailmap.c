@@ -1,6 +1,7 @@
-/* The calls of gix_mailmap.h, each by a proved one. Four things are done here, since a proved call can't do them. A
- * handle is handed out as a pointer. NULL is taken for what has length 0. A call that reads takes the handle as one
- * that several may read at a time. And texts that an array points to are put together. */
+/* The calls of gix_mailmap.h. Each calls a proved function of the same name with `handle` or `text` in it, but for the
+ * version and the texts of statuses. Four things are done here, since a proved function can't do them. The memory of a
+ * handle is asked for and freed. NULL is allowed where a length is 0. A call that reads takes a `const` handle, so that
+ * several threads may read it at a time. And texts that an array points to are put together. */
 #include "exports.h"
 #include "layout.h"
 #include <stdlib.h>
@@ -25,8 +26,8 @@ static void *room_at(void *at)
     return LIKELY(at != NULL) ? at : &nothing;
 }
 
-/* The handle of a call that only reads. An exported function takes each handle as one that it may change, but those
- * that get this one only look at it and at the mailmap that it leads to. */
+/* The handle of a call that only reads. All exported functions take a handle that isn't `const`, but those that are
+ * called with this one change neither it nor its mailmap. */
 static gix_mailmap *read_only(const gix_mailmap *map)
 {
     return (gix_mailmap *)map;
@@ -214,6 +215,7 @@ static block block_of(const gix_mailmap_named *mailmaps, size_t count)
         total.name = sum(total.name, mailmaps[i].name_len);
         total.text = sum(total.text, mailmaps[i].text_len);
     }
+    /* The product fits, since the caller's array is longer. With 1 more, malloc isn't asked for nothing. */
     size_t size = sum(count * sizeof(lengths) + 1, sum(total.name, total.text));
     lengths *all = size < SIZE_MAX ? malloc(size) : NULL;
     if (all == NULL)

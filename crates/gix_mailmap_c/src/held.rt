@@ -13,7 +13,8 @@ use std::marker::{Model, Send};
 
 /// A mailmap that C holds, open or closed. C makes one as zeros, which is a closed one.
 ///
-/// It owns the boxed snapshot that it points to while it is open.
+/// It owns the boxed snapshot that it points to while it is open. Exported functions take it by `&mut` even if they
+/// change nothing, since a struct that shares what it owns can't cross to C.
 #[repr(C)]
 pub struct Mailmap {
     at: *mut u8,

@@ -14,7 +14,7 @@ use gix_mailmap::Snapshot;
 
 /// Looks a name and an email up: the proper ones are copied into `name_out` and `email_out`, and `new_name` and
 /// `new_email` say how long they are, and whether the mailmap gave them. If it doesn't give one, the caller's own is
-/// copied.
+/// copied. The handle stays as it is.
 ///
 /// `OK`; `TOO_SHORT`: one of the buffers is too short, both stay as they were, and the lengths are given; `CLOSED`:
 /// nothing is written. What is after an answer in its buffer stays as it was.

@@ -1,4 +1,4 @@
-//! What is counted for lines of contacts: their answers by mailmaps.
+//! The answers by mailmaps to the lines that were counted, each with the count of its line.
 ghost use Rattle.std.specs.Prelude.{◌≡◌, ◌++◌, IfOk, List, OnOk, map, option_map};
 ghost use Rattle.std.specs.List.{flat_map};
 ghost use Rattle.gix_mailmap.specs.Entries.{Mapping};
@@ -15,7 +15,7 @@ use mailmap_grammar::contacts::{ParsedContact, parse_name_and_email, trim};
 use std::alloc::{AllocError, Global};
 
 /// The answers by mailmaps to the lines that were counted, each with how often its line comes. So two of these may have
-/// one text.
+/// the same text.
 ///
 /// Each line is looked up once, however often it comes.
 pub fn answers_of(
@@ -72,7 +72,7 @@ fn push_answer(
     Ok(())
 }
 
-// What is counted for a line.
+// The text that a line counts for, `None` if it is no contact.
 fn answer(
     alloc: Global,
     snapshot: &Snapshot,
@@ -87,7 +87,7 @@ fn answer(
     Ok(Some(replaced(alloc, snapshot, name, email, with_email)?))
 }
 
-// A contact with what a mailmap puts in place of its name and its email.
+// The text that a contact counts for: its name and, if that is asked for, its email, as the mailmap maps them.
 fn replaced(
     alloc: Global,
     snapshot: &Snapshot,
@@ -102,7 +102,7 @@ fn replaced(
     answer_text(alloc, name, email, with_email)
 }
 
-// A name alone, or with its email. As git has it, there is a blank before the email even if the name is empty.
+// Only the name, or the name with the email. As git has it, a blank is before the email even if the name is empty.
 fn answer_text(
     alloc: Global,
     name: &[u8],

@@ -14,7 +14,7 @@ use mailmap_snapshot::snapshot::Snapshot;
 use std::alloc::{AllocError, Global};
 use std::marker::Model;
 
-/// After so many bytes of answers `push` returns, so that they can be written before there are more.
+/// `push` returns once the text of the answers is this long, so that they can be written before there are more.
 const ENOUGH: usize = 65536;
 
 /// Answers contacts that come in parts, as [`check`](crate::check::check()) answers all of them at once.
@@ -46,7 +46,7 @@ impl Model for ContactStream {
 
     ghost view = { λ s. record { mappings = s.snapshot; kept = s.kept.items } };
 
-    // Each row of the table is a line and its answer.
+    // Each row of `last` is a line and its answer.
     ghost invariant = { λ s. AnswersAll s.snapshot s.last };
 }
 
@@ -125,7 +125,8 @@ impl ContactStream {
     }
 }
 
-// Ends the line that is kept, and answers it. At an `Err` it stays as it was.
+// Answers the line that begins with what is kept and ends with `line`. Then nothing is kept. At an `Err` what was kept
+// and the text stay as they were.
 fn end_line(
     kept: &mut Vec<u8>,
     line: &[u8],
@@ -149,7 +150,7 @@ fn end_line(
     pushed
 }
 
-// Appends the answer to a line with its line feed: from the table, if it is there. At an `Err` the text is as before.
+// Appends the answer to a line with its line feed: from `last`, if it is there. At an `Err` the text is as before.
 fn push_line_answer(
     text: &mut Vec<u8>,
     snapshot: &Snapshot,
@@ -167,6 +168,7 @@ fn push_line_answer(
     }
     let begun = text.len();
     push_answers(text, snapshot, line)?;
+    // This notes that the line was missed, too.
     if last.missed_before(hash) {
         last.put(hash, line, &text.as_slice()[begun..]);
     }
