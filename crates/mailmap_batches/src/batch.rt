@@ -1,4 +1,7 @@
 //! Entries sorted by key, stably.
+//!
+//! A prefix is the number that `key_prefix` makes of the first sixteen bytes of a text, without regard to case. If two
+//! prefixes differ, they are ordered as the texts are.
 ghost use Rattle.std.specs.Prelude.{◌≡◌, ◌+◌, ◌≤◌, [], ◌++◌, ◌∷◌, List, OnOk, IfOk, drop, map};
 ghost use Rattle.std.specs.Option.{ForSome, option_copied, option_map, option_cmp};
 ghost use Rattle.std.specs.Ordering.{nat_cmp};
@@ -179,10 +182,11 @@ impl<'e, 'a> PrefixGroups<'e, 'a> {
     }
 }
 
-// Up to this length a group is sorted by whole keys. Longer groups are mostly of one email.
+// Up to this length a group is sorted by whole keys. Most longer groups have only one email.
 const SMALL_GROUP: usize = 8;
 
-// Puts a group in order. In a long group of several emails, the last sort finds almost all of them in order.
+// Puts a group in order. A long one of several emails takes three stable sorts, from the last part of the key to the
+// first: by names, by the next bytes of the emails, and by whole keys. The last one finds almost all in order.
 fn sort_group(group: &mut Vec<IndexedEntry<'_, '_>>) -> Result<(), AllocError>
     ensures { OnOk result (IsArranged group.old.items group.new.items) }
 {
@@ -208,7 +212,7 @@ fn sort_next_bytes(group: &mut Vec<IndexedEntry<'_, '_>>) -> Result<(), AllocErr
     Ok(())
 }
 
-// An entry with its index, and some bytes of its old email as a number.
+// An entry with its index, and the number that `key_prefix` makes of the next sixteen bytes of its old email.
 #[derive(Drop)]
 struct NumberedEntry<'e, 'a> {
     number: u128,
@@ -355,7 +359,7 @@ fn without_name_prefixes<'e, 'a>(
     Ok(group)
 }
 
-// Compares the old names: their prefixes, and if these are equal the names.
+// Compares old names by their prefixes, and if these are equal by the names themselves.
 #[inline(always)]
 fn compare_old_names(a: &NamePrefixEntry, b: &NamePrefixEntry) -> Ordering
     ensures { result ≡ option_cmp text_cmp (key (mapping_at a.now)).1 (key (mapping_at b.now)).1 }

@@ -20,7 +20,7 @@ const MIN_PORTION: usize = 16_384;
 // How many entries of a portion are looked at, to see whether their keys come again and again.
 const SAMPLE: usize = 4_096;
 
-// In the time that it takes to join one entry, at least about so many bytes of the pool can be copied.
+// Copying this many bytes of the pool takes no longer than joining one entry.
 const BYTES_PER_ENTRY: usize = 256;
 
 // The size of the table of hashes that were seen.
@@ -38,7 +38,7 @@ pub(crate) struct Collected<'a> {
     pub(crate) made: Option<Tables>,
     // the accepted entries after those
     pub(crate) batch: Vec<Entry<'a>>,
-    // how many entries make the batch a portion
+    // how many entries make the batch a portion; `usize::MAX` if all that follow are one batch
     portion: usize,
 }
 
@@ -125,7 +125,7 @@ impl<'a> Collected<'a> {
         Ok(())
     }
 
-    /// Whether all entries are in the tables.
+    /// Whether no entry is left to be joined.
     pub(crate) fn is_batch_empty(&self) -> bool
         ensures all { result ≡ true → self.now.batch.items ≡ [] }
         ensures some { result ≡ false → self.now.batch.items ≢ [] }
@@ -133,7 +133,8 @@ impl<'a> Collected<'a> {
         self.batch.is_empty()
     }
 
-    /// Replaces the old tables by those that were made of the portions, if there were any.
+    /// Replaces the old tables by those that were joined with the portions, if there were any. Entries that are left
+    /// are dropped.
     pub(crate) fn put_into(self, old_tables: &mut Tables)
         ensures { old_tables.new ≡ unwrap_or self.entry.made old_tables.old }
     {
@@ -166,8 +167,8 @@ impl<'a> Collected<'a> {
     }
 }
 
-// How many entries make a portion to be joined with these tables. To join it passes on all rows of the tables and
-// copies their pool, so it has to have so many entries that these cost more.
+// How many entries make a portion to be joined with these tables. Each join passes on all rows and copies the pool. So
+// a portion has so many entries that joining them costs more than that.
 fn portion_after(tables: &Tables) -> usize
     ensures { result ≡ max (max 16384 (min usize.MAX (row_count tables.now * 4))) (length tables.now.pool / 256) }
 {

@@ -13,17 +13,17 @@ use mailmap_signatures::actor::SignatureRef;
 use std::alloc::{AllocError, Global};
 use std::borrow::CowSlice;
 
-/// Resolving signatures: a name or an email that the mailmap gives replaces the recorded one, and the other stays. A
-/// time that can't be read becomes the default one.
+/// Resolving signatures: a name or an email that the mailmap gives replaces the recorded one. What it doesn't give
+/// stays as it is. A time that can't be read becomes the default one.
 ///
-/// Each answer is stated twice by the contracts: from the entries of the snapshot, and from any history whose normal
-/// list these are, as the entries that were merged one after another.
+/// Each answer is stated twice by the contracts: by the entries of the snapshot, and by any sequence of entries whose
+/// merge gives these, such as all entries that were merged, in their order.
 impl Snapshot {
     /// The signature as the mailmap maps it, or `None` if it maps neither its name nor its email.
     ///
-    /// Nothing is mapped if no entry is for the email, or if its entries are for other names and spell it in the same
-    /// way. An email that differs from the mailmap's spelling only in the case of its letters is mapped to that
-    /// spelling. This runs out of memory only if something is mapped.
+    /// Nothing is mapped if no entry is for the email, or if its entries are for other names and the mailmap spells the
+    /// email as the signature does. An email that differs from the mailmap's spelling only in the case of its letters
+    /// is mapped to that spelling. This runs out of memory only if something is mapped.
     ///
     /// ```rust
     /// let mailmap = Snapshot::from_bytes(alloc, b"Jane Doe <jane@x> <jd@y>")?;
