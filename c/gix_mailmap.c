@@ -201,13 +201,13 @@ static char *append(char *to, const char *text, size_t len)
 
 /* The names and the texts of some mailmaps in one block of memory: all lengths, then all names, and then all texts. */
 typedef struct block {
-    lengths *all;
+    lengths *each;
     lengths total;
     char *names;
     char *texts;
 } block;
 
-/* Makes a block, which is to be freed by its `all`. That is NULL if there is no memory for it. */
+/* Makes a block, which is to be freed by its `each`. That is NULL if there is no memory for it. */
 static block block_of(const gix_mailmap_named *mailmaps, size_t count)
 {
     lengths total = {0, 0};
@@ -217,16 +217,16 @@ static block block_of(const gix_mailmap_named *mailmaps, size_t count)
     }
     /* The product fits, since the caller's array is longer. With 1 more, malloc isn't asked for nothing. */
     size_t size = sum(count * sizeof(lengths) + 1, sum(total.name, total.text));
-    lengths *all = size < SIZE_MAX ? malloc(size) : NULL;
-    if (all == NULL)
+    lengths *each = size < SIZE_MAX ? malloc(size) : NULL;
+    if (each == NULL)
         return (block){NULL, total, NULL, NULL};
-    char *names = (char *)(all + count), *texts = names + total.name, *name = names, *text = texts;
+    char *names = (char *)(each + count), *texts = names + total.name, *name = names, *text = texts;
     for (size_t i = 0; i < count; i++) {
-        all[i] = (lengths){mailmaps[i].name_len, mailmaps[i].text_len};
+        each[i] = (lengths){mailmaps[i].name_len, mailmaps[i].text_len};
         name = append(name, mailmaps[i].name, mailmaps[i].name_len);
         text = append(text, mailmaps[i].text, mailmaps[i].text_len);
     }
-    return (block){all, total, names, texts};
+    return (block){each, total, names, texts};
 }
 
 gix_mailmap_status gix_mailmap_report(const gix_mailmap_named *mailmaps, size_t count, char *GIX_MAILMAP_RESTRICT out,
@@ -234,11 +234,11 @@ gix_mailmap_status gix_mailmap_report(const gix_mailmap_named *mailmaps, size_t 
 {
     block b = block_of(mailmaps, count);
     *needed = 0;
-    if (b.all == NULL)
+    if (b.each == NULL)
         return GIX_MAILMAP_OUT_OF_MEMORY;
-    gix_mailmap_status status = gix_mailmap_text_report(b.all, count, b.names, b.total.name, b.texts, b.total.text,
+    gix_mailmap_status status = gix_mailmap_text_report(b.each, count, b.names, b.total.name, b.texts, b.total.text,
                                                         room_at(out), out_len, needed);
-    free(b.all);
+    free(b.each);
     return status;
 }
 
@@ -248,12 +248,12 @@ gix_mailmap_status gix_mailmap_explain(const gix_mailmap_named *mailmaps, size_t
 {
     block b = block_of(mailmaps, count);
     *needed = 0;
-    if (b.all == NULL)
+    if (b.each == NULL)
         return GIX_MAILMAP_OUT_OF_MEMORY;
-    gix_mailmap_status status = gix_mailmap_text_explain(b.all, count, b.names, b.total.name, b.texts, b.total.text,
+    gix_mailmap_status status = gix_mailmap_text_explain(b.each, count, b.names, b.total.name, b.texts, b.total.text,
                                                          text_at(contacts), contacts_len, room_at(out), out_len,
                                                          needed);
-    free(b.all);
+    free(b.each);
     return status;
 }
 
@@ -263,11 +263,11 @@ gix_mailmap_status gix_mailmap_unneeded(const gix_mailmap_named *mailmaps, size_
 {
     block b = block_of(mailmaps, count);
     *needed = 0;
-    if (b.all == NULL)
+    if (b.each == NULL)
         return GIX_MAILMAP_OUT_OF_MEMORY;
-    gix_mailmap_status status = gix_mailmap_text_unneeded(b.all, count, b.texts, b.total.text, text_at(contacts),
+    gix_mailmap_status status = gix_mailmap_text_unneeded(b.each, count, b.texts, b.total.text, text_at(contacts),
                                                           contacts_len, room_at(out), out_len, needed);
-    free(b.all);
+    free(b.each);
     return status;
 }
 

@@ -12,9 +12,9 @@ use crate::held::{Mailmap, is_open};
 use crate::status::CLOSED;
 use gix_mailmap::Snapshot;
 
-/// Looks a name and an email up: the proper ones are copied into `name_out` and `email_out`, and `new_name` and
-/// `new_email` say how long they are, and whether the mailmap gave them. If it doesn't give one, the caller's own is
-/// copied. The handle stays as it is.
+/// Looks a name and an email up: what the mailmap gives for them is copied into `name_out` and `email_out`, and
+/// `name_field` and `email_field` say how long it is, and whether the mailmap gave it. If it doesn't give one, the
+/// caller's own is copied. The handle stays as it is.
 ///
 /// `OK`; `TOO_SHORT`: one of the buffers is too short, both stay as they were, and the lengths are given; `CLOSED`:
 /// nothing is written. What is after an answer in its buffer stays as it was.
@@ -24,19 +24,19 @@ pub extern "C" fn gix_mailmap_handle_lookup(
     name: &[u8],
     email: &[u8],
     name_out: &mut [u8],
-    new_name: &mut Field,
+    name_field: &mut Field,
     email_out: &mut [u8],
-    new_email: &mut Field,
+    email_field: &mut Field,
 ) -> u32
     ensures kept { contents m.new ≡ contents m.old }
     ensures described { IfSome (contents m.old) (λ n. let f = fields_for n name.now email.now in
-        IsDescribed f.name name.now new_name.new × IsDescribed f.email email.now new_email.new) }
+        IsDescribed f.name name.now name_field.new × IsDescribed f.email email.now email_field.new) }
     ensures answer { IfSome (contents m.old) (λ n.
         IsAnswered (fields_for n name.now email.now) name.now email.now name_out.old name_out.new
         email_out.old email_out.new result) }
     ensures closed { IfNone (contents m.old)
-        ((result ≡ 6) × (name_out.new ≡ name_out.old) × (new_name.new ≡ new_name.old)
-        × (email_out.new ≡ email_out.old) × (new_email.new ≡ new_email.old)) }
+        ((result ≡ 6) × (name_out.new ≡ name_out.old) × (name_field.new ≡ name_field.old)
+        × (email_out.new ≡ email_out.old) × (email_field.new ≡ email_field.old)) }
 {
     if !is_open(m) {
         return CLOSED;
@@ -46,9 +46,9 @@ pub extern "C" fn gix_mailmap_handle_lookup(
         name,
         email,
         name_out,
-        new_name,
+        name_field,
         email_out,
-        new_email,
+        email_field,
     )
 }
 
@@ -59,29 +59,29 @@ fn answer(
     name: &[u8],
     email: &[u8],
     name_out: &mut [u8],
-    new_name: &mut Field,
+    name_field: &mut Field,
     email_out: &mut [u8],
-    new_email: &mut Field,
+    email_field: &mut Field,
 ) -> u32
-    ensures name { IsDescribed (fields_for snapshot.now name.now email.now).name name.now new_name.new }
-    ensures email { IsDescribed (fields_for snapshot.now name.now email.now).email email.now new_email.new }
+    ensures name { IsDescribed (fields_for snapshot.now name.now email.now).name name.now name_field.new }
+    ensures email { IsDescribed (fields_for snapshot.now name.now email.now).email email.now email_field.new }
     ensures answer { IsAnswered (fields_for snapshot.now name.now email.now) name.now email.now name_out.old
         name_out.new email_out.old email_out.new result }
 {
-    let (proper_name, proper_email) = proper(snapshot, name, email);
-    new_name.describe(proper_name, name);
-    new_email.describe(proper_email, email);
+    let (found_name, found_email) = found(snapshot, name, email);
+    name_field.describe(found_name, name);
+    email_field.describe(found_email, email);
     put_both(
-        proper_name.unwrap_or(name),
+        found_name.unwrap_or(name),
         name_out,
-        proper_email.unwrap_or(email),
+        found_email.unwrap_or(email),
         email_out,
     )
 }
 
 // The name and the email that a snapshot gives.
 #[inline(always)]
-fn proper<'a>(
+fn found<'a>(
     snapshot: &'a Snapshot,
     name: &[u8],
     email: &[u8],

@@ -19,8 +19,8 @@ use Rattle.mailmap_histories.proofs.Alike.{picked-append}
 use Rattle.mailmap_histories.proofs.Keys.{keys_total, keys_exact}
 use Rattle.mailmap_histories.proofs.Parts.{all_append, filter-filter, all_weaker}
 use Rattle.mailmap_batches.specs.Batches.{IsAscending, IsSorted, mapping_at, indexed_mapping, email_text}
-use Rattle.mailmap_batches.specs.Sorting.{IsArranged, IsDone, IsPrefixGroup, KeepsKeys, email_prefix, numbered_after}
-use Rattle.mailmap_batches.specs.declared.batch.NumberedEntry.{NumberedEntry}
+use Rattle.mailmap_batches.specs.Sorting.{IsArranged, IsDone, IsPrefixGroup, KeepsKeys, email_prefix, next_prefix_entry}
+use Rattle.mailmap_batches.specs.declared.batch.NextPrefixEntry.{NextPrefixEntry}
 use Rattle.mailmap_batches.specs.declared.indexed.IndexedEntry.{IndexedEntry}
 use Rattle.mailmap_batches.proofs.Stable.{filter-map, keyed_from_stable, neither}
 use Rattle.mailmap_batches.proofs.Numbered.{ascending_from, mapped_twice, numbered, unmade}
@@ -147,29 +147,29 @@ arranged_then old mid new a b =
       ascending = b.ascending;
     }
 
--- ---- by numbers
+-- ---- by the prefixes of what follows
 
-abbrev pub by_number : NumberedEntry → NumberedEntry → Bool
-by_number p q = is_lt (nat_cmp p.number q.number)
+abbrev pub by_prefix : NextPrefixEntry → NextPrefixEntry → Bool
+by_prefix p q = is_lt (nat_cmp p.prefix q.prefix)
 
-all_numbered : (len : ℕ) (xs : List IndexedEntry) → AllByRecursion (λ n. n ≡ numbered_after len n.indexed) (map (numbered_after len) xs)
-all_numbered len [] = tt
-all_numbered len (x ∷ xs) = (refl, all_numbered len xs)
+all_prefixed : (len : ℕ) (xs : List IndexedEntry) → AllByRecursion (λ n. n ≡ next_prefix_entry len n.indexed) (map (next_prefix_entry len) xs)
+all_prefixed len [] = tt
+all_prefixed len (x ∷ xs) = (refl, all_prefixed len xs)
 
-made_again : (len : ℕ) (ns : List NumberedEntry) → AllByRecursion (λ n. n ≡ numbered_after len n.indexed) ns → ns ≡ map (numbered_after len) (map (λ n. n.indexed) ns)
+made_again : (len : ℕ) (ns : List NextPrefixEntry) → AllByRecursion (λ n. n ≡ next_prefix_entry len n.indexed) ns → ns ≡ map (next_prefix_entry len) (map (λ n. n.indexed) ns)
 made_again len [] a = refl
 made_again len (n ∷ ns) a = ap₂ (λ m ms. m ∷ ms) a.0 (made_again len ns a.1)
 
-pub kept_by_numbers : (len : ℕ) (old : List IndexedEntry) (new : List NumberedEntry) → IsPermutation (map (numbered_after len) old) new → IsStableBy by_number (map (numbered_after len) old) new → KeepsKeys old (map (λ n. n.indexed) new)
-kept_by_numbers len old new moved stable =
-    let make = numbered_after len in
-    let of : NumberedEntry → IndexedEntry = λ n. n.indexed in
-    let next : IndexedEntry → ℕ = λ p. (make p).number in
-    let again = made_again len new (moved_all _ (map make old) new moved (all_numbered len old)) in
-    let made : IsStableBy by_number (map make old) (map make (map of new)) = subst (IsStableBy by_number (map make old)) again stable in
+pub kept_by_prefixes : (len : ℕ) (old : List IndexedEntry) (new : List NextPrefixEntry) → IsPermutation (map (next_prefix_entry len) old) new → IsStableBy by_prefix (map (next_prefix_entry len) old) new → KeepsKeys old (map (λ n. n.indexed) new)
+kept_by_prefixes len old new moved stable =
+    let make = next_prefix_entry len in
+    let of : NextPrefixEntry → IndexedEntry = λ n. n.indexed in
+    let next : IndexedEntry → ℕ = λ p. (make p).prefix in
+    let again = made_again len new (moved_all _ (map make old) new moved (all_prefixed len old)) in
+    let made : IsStableBy by_prefix (map make old) (map make (map of new)) = subst (IsStableBy by_prefix (map make old)) again stable in
     record {
       moved = subst (λ l. IsPermutation l (map of new)) (unmade make of (λ p. refl) old) (IsPermutation-map of (map make old) new moved);
-      keyed = keyed_by nat_cmp_total next (λ p q e. ap (λ (j : Key). key_prefix 16 (drop len j.0)) e) old (map of new) (stable_made make of (λ p. refl) by_number old (map of new) made);
+      keyed = keyed_by nat_cmp_total next (λ p q e. ap (λ (j : Key). key_prefix 16 (drop len j.0)) e) old (map of new) (stable_made make of (λ p. refl) by_prefix old (map of new) made);
     }
 
 -- by whole keys

@@ -5,16 +5,16 @@ use Rattle.std.specs.List.Sorted.{IsPermutation}
 use Rattle.mailmap_entries.specs.Prefixes.{AreBytes, IsKeyPrefix, key_prefix}
 use Rattle.mailmap_histories.specs.Histories.{Key, key, key_cmp, of_key}
 use Rattle.mailmap_batches.specs.Batches.{IsAscending, mapping_at, email_text}
-use Rattle.mailmap_batches.specs.declared.batch.NumberedEntry.{NumberedEntry}
+use Rattle.mailmap_batches.specs.declared.batch.NextPrefixEntry.{NextPrefixEntry}
 use Rattle.mailmap_batches.specs.declared.indexed.IndexedEntry.{IndexedEntry}
 
 -- the number of the first sixteen bytes of the old email
 abbrev pub email_prefix : IndexedEntry → ℕ
 email_prefix p = key_prefix 16 (email_text (mapping_at p))
 
--- an entry with the number of the sixteen bytes of its old email that follow so many
-abbrev pub numbered_after : ℕ → IndexedEntry → NumberedEntry
-numbered_after len p = record { number = key_prefix 16 (drop len (email_text (mapping_at p))); indexed = p }
+-- an entry with the prefix of what follows so many bytes of its old email
+abbrev pub next_prefix_entry : ℕ → IndexedEntry → NextPrefixEntry
+next_prefix_entry len p = record { prefix = key_prefix 16 (drop len (email_text (mapping_at p))); indexed = p }
 
 -- the same entries, those of one key as they came
 pub record KeepsKeys (old new : List IndexedEntry) : Type 0 where

@@ -12,7 +12,7 @@ ghost use Rattle.mailmap_entries.specs.Prefixes.{IsKeyPrefix};
 ghost use Rattle.mailmap_batches.specs.Batches.{IsSorted, IsAscending, mapping_at, indexed_mapping, email_text};
 ghost use Rattle.mailmap_batches.specs.Batches.{name_text};
 ghost use Rattle.mailmap_batches.specs.Sorting.{IsArranged, IsDone, IsPrefixGroup, KeepsKeys, email_prefix};
-ghost use Rattle.mailmap_batches.specs.Sorting.{numbered_after};
+ghost use Rattle.mailmap_batches.specs.Sorting.{next_prefix_entry};
 ghost use Rattle.mailmap_batches.specs.declared.indexed.IndexedEntry.{IndexedEntry as SpecEntry};
 
 use crate::groups::email_group_len;
@@ -33,8 +33,8 @@ pub fn sorted<'e, 'a, T: HasEntry<'a>>(
     if let Some(batch) = sorted_if_prefixes_ascend(alloc, entries)? {
         return Ok(batch);
     }
-    let mut batch = with_prefixes(alloc, entries)?;
-    batch.sort_by(compare_prefixes)?;
+    let mut batch = with_email_prefixes(alloc, entries)?;
+    batch.sort_by(compare_email_prefixes)?;
     sorted_by_groups(alloc, &batch)
 }
 
@@ -61,7 +61,7 @@ fn sorted_if_prefixes_ascend<'e, 'a, T: HasEntry<'a>>(
 // Sorts entries whose prefixes ascend already.
 fn sorted_by_groups<'e, 'a>(
     alloc: Global,
-    batch: &[PrefixedEntry<'e, 'a>],
+    batch: &[EmailPrefixEntry<'e, 'a>],
 ) -> Result<Vec<IndexedEntry<'e, 'a>>, AllocError>
     requires { IsAscending nat_cmp (map email_prefix batch.now) }
     ensures { IfOk result (λ done. IsArranged batch.now done.items) }
@@ -75,12 +75,12 @@ fn sorted_by_groups<'e, 'a>(
 
 // An entry with its index, and the prefix of its old email.
 #[derive(Drop)]
-struct PrefixedEntry<'e, 'a> {
+struct EmailPrefixEntry<'e, 'a> {
     prefix: u128,
     indexed: IndexedEntry<'e, 'a>,
 }
 
-impl<'e, 'a> Model for PrefixedEntry<'e, 'a> {
+impl<'e, 'a> Model for EmailPrefixEntry<'e, 'a> {
     ghost Value = { SpecEntry };
 
     ghost view = { λ f. f.indexed };
@@ -89,30 +89,30 @@ impl<'e, 'a> Model for PrefixedEntry<'e, 'a> {
 }
 
 // Each entry with its index and the prefix of its old email.
-fn with_prefixes<'e, 'a, T: HasEntry<'a>>(
+fn with_email_prefixes<'e, 'a, T: HasEntry<'a>>(
     alloc: Global,
     entries: &'e [T],
-) -> Result<Vec<PrefixedEntry<'e, 'a>>, AllocError>
+) -> Result<Vec<EmailPrefixEntry<'e, 'a>>, AllocError>
     ensures { IfOk result (λ batch. map indexed_mapping batch.items ≡ enumerate_from 0 (map T.mapped entries.now)) }
 {
     let mut batch = Vec::with_capacity(alloc, entries.len())?;
     for (index, item) in entries.iter().enumerate() {
         let entry = item.entry();
-        batch.push(with_prefix(IndexedEntry { index, entry }))?;
+        batch.push(with_email_prefix(IndexedEntry { index, entry }))?;
     }
     Ok(batch)
 }
 
-fn with_prefix<'e, 'a>(indexed: IndexedEntry<'e, 'a>) -> PrefixedEntry<'e, 'a>
+fn with_email_prefix<'e, 'a>(indexed: IndexedEntry<'e, 'a>) -> EmailPrefixEntry<'e, 'a>
     ensures { result ≡ indexed.entry }
 {
     let prefix = key_prefix(indexed.entry.old_email());
-    PrefixedEntry { prefix, indexed }
+    EmailPrefixEntry { prefix, indexed }
 }
 
 // Compares only the prefixes of the old emails.
 #[inline(always)]
-fn compare_prefixes(a: &PrefixedEntry, b: &PrefixedEntry) -> Ordering
+fn compare_email_prefixes(a: &EmailPrefixEntry, b: &EmailPrefixEntry) -> Ordering
     ensures { result ≡ nat_cmp (email_prefix a.now) (email_prefix b.now) }
 {
     a.prefix.cmp(&b.prefix)
@@ -191,14 +191,14 @@ fn sort_group(group: &mut Vec<IndexedEntry<'_, '_>>) -> Result<(), AllocError>
     ensures { OnOk result (IsArranged group.old.items group.new.items) }
 {
     if group.len() <= SMALL_GROUP {
-        return group.sort_by(compare);
+        return group.sort_by(compare_keys);
     }
     if email_group_len(group, group[0].entry.old_email()) == group.len() {
         return sort_names(group);
     }
     sort_names(group)?;
     sort_next_bytes(group)?;
-    group.sort_by(compare)
+    group.sort_by(compare_keys)
 }
 
 // Puts entries in the order of the sixteen bytes after those that all their emails begin with.
@@ -206,16 +206,16 @@ fn sort_next_bytes(group: &mut Vec<IndexedEntry<'_, '_>>) -> Result<(), AllocErr
     ensures { OnOk result (KeepsKeys group.old.items group.new.items) }
 {
     let alloc = *group.allocator();
-    let mut numbered = with_next_bytes(alloc, group, common_len(group))?;
-    numbered.sort_by(compare_numbers)?;
-    *group = without_numbers(alloc, &numbered)?;
+    let mut prefixed = with_next_prefixes(alloc, group, common_len(group))?;
+    prefixed.sort_by(compare_next_prefixes)?;
+    *group = without_next_prefixes(alloc, &prefixed)?;
     Ok(())
 }
 
-// An entry with its index, and the number that `key_prefix` makes of the next sixteen bytes of its old email.
+// An entry with its index, and the prefix of the next bytes of its old email.
 #[derive(Drop)]
-struct NumberedEntry<'e, 'a> {
-    number: u128,
+struct NextPrefixEntry<'e, 'a> {
+    prefix: u128,
     indexed: IndexedEntry<'e, 'a>,
 }
 
@@ -242,26 +242,29 @@ fn common_len_of(a: &[u8], b: &[u8]) -> usize {
     len
 }
 
-// The entries with the numbers of the sixteen bytes that follow the first `skipped` ones.
-fn with_next_bytes<'e, 'a>(
+// The entries with the prefixes of what follows the first `skipped` bytes of their emails.
+fn with_next_prefixes<'e, 'a>(
     alloc: Global,
     group: &[IndexedEntry<'e, 'a>],
     skipped: usize,
-) -> Result<Vec<NumberedEntry<'e, 'a>>, AllocError>
-    ensures { IfOk result (λ numbered. numbered.items ≡ map (numbered_after skipped) group.now) }
+) -> Result<Vec<NextPrefixEntry<'e, 'a>>, AllocError>
+    ensures { IfOk result (λ prefixed. prefixed.items ≡ map (next_prefix_entry skipped) group.now) }
 {
-    let mut numbered = Vec::with_capacity(alloc, group.len())?;
+    let mut prefixed = Vec::with_capacity(alloc, group.len())?;
     for indexed in group {
-        numbered.push(with_next_number(*indexed, skipped))?;
+        prefixed.push(with_next_prefix(*indexed, skipped))?;
     }
-    Ok(numbered)
+    Ok(prefixed)
 }
 
-fn with_next_number<'e, 'a>(indexed: IndexedEntry<'e, 'a>, skipped: usize) -> NumberedEntry<'e, 'a>
-    ensures { result ≡ numbered_after skipped indexed.entry }
+fn with_next_prefix<'e, 'a>(
+    indexed: IndexedEntry<'e, 'a>,
+    skipped: usize,
+) -> NextPrefixEntry<'e, 'a>
+    ensures { result ≡ next_prefix_entry skipped indexed.entry }
 {
-    let number = key_prefix(bytes_after(indexed.entry.old_email(), skipped));
-    NumberedEntry { number, indexed }
+    let prefix = key_prefix(bytes_after(indexed.entry.old_email(), skipped));
+    NextPrefixEntry { prefix, indexed }
 }
 
 // What is after the first `len` bytes.
@@ -274,25 +277,25 @@ fn bytes_after(text: &[u8], len: usize) -> &[u8]
     &text[len..]
 }
 
-// The entries without their numbers.
-fn without_numbers<'e, 'a>(
+// The entries without those prefixes.
+fn without_next_prefixes<'e, 'a>(
     alloc: Global,
-    numbered: &[NumberedEntry<'e, 'a>],
+    prefixed: &[NextPrefixEntry<'e, 'a>],
 ) -> Result<Vec<IndexedEntry<'e, 'a>>, AllocError>
-    ensures { IfOk result (λ group. group.items ≡ map (λ n. n.indexed) numbered.now) }
+    ensures { IfOk result (λ group. group.items ≡ map (λ p. p.indexed) prefixed.now) }
 {
-    let mut group = Vec::with_capacity(alloc, numbered.len())?;
-    for entry in numbered {
+    let mut group = Vec::with_capacity(alloc, prefixed.len())?;
+    for entry in prefixed {
         group.push(entry.indexed)?;
     }
     Ok(group)
 }
 
 #[inline(always)]
-fn compare_numbers(a: &NumberedEntry, b: &NumberedEntry) -> Ordering
-    ensures { result ≡ nat_cmp a.now.number b.now.number }
+fn compare_next_prefixes(a: &NextPrefixEntry, b: &NextPrefixEntry) -> Ordering
+    ensures { result ≡ nat_cmp a.now.prefix b.now.prefix }
 {
-    a.number.cmp(&b.number)
+    a.prefix.cmp(&b.prefix)
 }
 
 // Puts entries in the order of their names. Most names differ in their first bytes.
@@ -304,7 +307,7 @@ fn sort_names(group: &mut Vec<IndexedEntry<'_, '_>>) -> Result<(), AllocError>
 {
     let alloc = *group.allocator();
     let mut prefixed = with_name_prefixes(alloc, group)?;
-    prefixed.sort_by(compare_old_names)?;
+    prefixed.sort_by(compare_prefixed_names)?;
     *group = without_name_prefixes(alloc, &prefixed)?;
     Ok(())
 }
@@ -359,9 +362,9 @@ fn without_name_prefixes<'e, 'a>(
     Ok(group)
 }
 
-// Compares old names by their prefixes, and if these are equal by the names themselves.
+// Compares old names: their prefixes, and if these are equal the names themselves.
 #[inline(always)]
-fn compare_old_names(a: &NamePrefixEntry, b: &NamePrefixEntry) -> Ordering
+fn compare_prefixed_names(a: &NamePrefixEntry, b: &NamePrefixEntry) -> Ordering
     ensures { result ≡ option_cmp text_cmp (key (mapping_at a.now)).1 (key (mapping_at b.now)).1 }
 {
     match a.prefix.cmp(&b.prefix) {
@@ -371,7 +374,7 @@ fn compare_old_names(a: &NamePrefixEntry, b: &NamePrefixEntry) -> Ordering
 }
 
 // Compares keys: the old emails, and if these are equal the old names, without regard to case.
-fn compare(a: &IndexedEntry, b: &IndexedEntry) -> Ordering
+fn compare_keys(a: &IndexedEntry, b: &IndexedEntry) -> Ordering
     ensures { result ≡ key_cmp (key (mapping_at a.now)) (key (mapping_at b.now)) }
 {
     match cmp_ignore_ascii_case(a.entry.old_email(), b.entry.old_email()) {

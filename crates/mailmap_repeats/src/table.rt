@@ -34,22 +34,22 @@ struct Slot {
 /// The last lines that were put in, and their answers.
 ///
 /// ```text
-/// let mut table = LastAnswers::new(alloc)?;
+/// let mut table = RecentAnswers::new(alloc)?;
 /// let hash = hash_of(b"jane <JANE@x>\n");
-/// table.missed_before(hash)            // `false`
-/// table.missed_before(hash)            // `true`
+/// table.note_miss(hash)                // `false`
+/// table.note_miss(hash)                // `true`
 /// table.put(hash, b"jane <JANE@x>\n", b"Jane Doe <jane@x>\n");
 /// table.get(hash, b"jane <JANE@x>\n") // `Jane Doe <jane@x>` and its line feed
 /// ```
 ///
 /// All of its memory, some 1.1 MiB, is asked for at once, but most of it isn't touched before it is needed. Putting a
-/// line in takes longer than looking for it. So a caller asks [`missed_before`](LastAnswers::missed_before()) when a
+/// line in takes longer than looking for it. So a caller asks [`note_miss`](RecentAnswers::note_miss()) when a
 /// line isn't found, and puts it in when it comes for the second time: few lines are kept that never come again.
 ///
 /// A hash says where a line may be. With a wrong hash, or one that several lines have, a line may not be found. That
 /// costs time and changes no answer.
 #[derive(Drop)]
-pub struct LastAnswers {
+pub struct RecentAnswers {
     rows: Vec<Row>,
     slots: Vec<Slot>,
     // the bits of a hash that are the index of its slot
@@ -57,7 +57,7 @@ pub struct LastAnswers {
     next: u16,
 }
 
-impl Model for LastAnswers {
+impl Model for RecentAnswers {
     ghost Value = { List Kept };
 
     ghost view = { λ t. t.rows.items };
@@ -65,9 +65,9 @@ impl Model for LastAnswers {
     ghost invariant = { λ t. (t.next < 4096) × (4096 ≤ vec_capacity t.rows) };
 }
 
-impl LastAnswers {
+impl RecentAnswers {
     /// No line yet.
-    pub fn new(alloc: Global) -> Result<LastAnswers, AllocError>
+    pub fn new(alloc: Global) -> Result<RecentAnswers, AllocError>
         ensures { IfOk result (λ t. t ≡ []) }
     {
         let rows = Vec::with_capacity(alloc, ROWS)?;
@@ -79,7 +79,7 @@ impl LastAnswers {
                 tag: 0,
             },
         )?;
-        Ok(LastAnswers {
+        Ok(RecentAnswers {
             rows,
             slots,
             mask: FIRST_SLOTS - 1,
@@ -102,10 +102,10 @@ impl LastAnswers {
         Some(row.answer())
     }
 
-    /// Whether a line with this hash was missed before, which means that `get` didn't find it. If not, that is noted.
+    /// Notes that `get` didn't find a line with this hash, and says whether that was noted before.
     ///
     /// This is a guess: another line may have the same hash, or may have been noted in its place. It changes no answer.
-    pub fn missed_before(&mut self, hash: u64) -> bool
+    pub fn note_miss(&mut self, hash: u64) -> bool
         ensures { self.new ≡ self.old }
     {
         let place = self.place_of(hash);

@@ -60,7 +60,7 @@ pub record TakesLine (h : List Mapping) (contacts : List Text) (line : Text) (s 
   pub said : (later : List Answered) → flat_map (noted (t.answers ++ later)) t.notices.items ≡ said_after h [] contacts ++ said_of_line h contacts line
   pub found : t.found ≡ (s.found || list_any counts (said_of_line h contacts line))
   pub firsts : HaveSameFirsts t.answers (answers_from h 1 contacts ++ answer_on h (length contacts + 1) (contact_in line))
-  pub last : t.last ≡ s.last
+  pub recent : t.recent ≡ s.recent
 
 pub taken_line : (mailmaps contacts : List Text) (line : Text) (s t : ContactsSoFar) → HasTaken mailmaps contacts s → TakesLine (entries (located (lines mailmaps))) contacts line s t → HasTaken mailmaps (contacts ++ line ∷ []) t
 taken_line mailmaps contacts line s t taken next =
@@ -84,7 +84,7 @@ taken_line mailmaps contacts line s t taken next =
       firsts = subst (HaveSameFirsts t.answers)
           (ap (λ n. answers_from h 1 contacts ++ answer_on h n (contact_in line)) (sym number) ∙ sym (answers_from-push h 1 contacts line)) next.firsts;
       came = λ k among.
-          let before = taken.came k (subst (λ l. Contains l k) next.last among) in
+          let before = taken.came k (subst (λ l. Contains l k) next.recent among) in
           (Contains-append_left contacts (line ∷ []) k.line before.0, before.1);
     }
 
@@ -142,7 +142,7 @@ taken_none mailmaps contacts line s number notices found is_blank taken number_i
       said = λ later. notes (s.answers ++ later) ∙ (λ i. taken.said_later later i ++ sym said i);
       found = found_is ∙ ap (λ b. s.found || b) (sym (ap (list_any counts) said ∙ counts_none is_blank number));
       firsts = subst (HaveSameFirsts s.answers) same taken.firsts;
-      last = refl;
+      recent = refl;
     })
 
 -- ---- a contact
@@ -177,7 +177,7 @@ pub record CrossesOff (name email : Text) (old new : Needs) : Type 0 where
 pub taken_contact : (mailmaps contacts : List Text) (line name email rest : Text) (s : ContactsSoFar) (needs_now : Needs) (answers : List Answered) (notices : Vec Notice Global) (found : Bool) (number : ℕ)
     → HasTaken mailmaps contacts s → number ≡ length contacts + 1 → contact_in line ≡ Closed name email rest → CrossesOff name email s.needs needs_now
     → TakesAnswer (entries (located (lines mailmaps))) contacts (answer_of (entries (located (lines mailmaps))) name email number) s answers notices found
-    → HasTaken mailmaps (contacts ++ line ∷ []) (record { needs = needs_now; answers = answers; notices = notices; found = found; count = number; last = s.last })
+    → HasTaken mailmaps (contacts ++ line ∷ []) (record { needs = needs_now; answers = answers; notices = notices; found = found; count = number; recent = s.recent })
 taken_contact mailmaps contacts line name email rest s needs_now answers notices found number taken number_is is crosses its =
     let h = entries (located (lines mailmaps)) in
     let all = answers_from h 1 contacts in
@@ -185,7 +185,7 @@ taken_contact mailmaps contacts line name email rest s needs_now answers notices
     said_of_line-contact h contacts line name email rest is ∙ ap (λ n. said_of_answer all (answer_of h name email n)) (sym number_is) in
     let on : answer_of h name email number ∷ [] ≡ answer_on h (length contacts + 1) (contact_in line) =
     ap (λ n. answer_of h name email n ∷ []) number_is ∙ ap (answer_on h (length contacts + 1)) (sym is) in
-    taken_line mailmaps contacts line s (record { needs = needs_now; answers = answers; notices = notices; found = found; count = number; last = s.last }) taken (record {
+    taken_line mailmaps contacts line s (record { needs = needs_now; answers = answers; notices = notices; found = found; count = number; recent = s.recent }) taken (record {
       history = crosses.history;
       kept = crosses.kept;
       left = crosses.left ∙ ap (λ c. filter (λ p. not (contact_needs s.needs.kept c p)) s.needs.left) (sym is);
@@ -193,7 +193,7 @@ taken_contact mailmaps contacts line name email rest s needs_now answers notices
       said = λ later. its.said later ∙ ap (λ l. said_after h [] contacts ++ l) (sym said);
       found = its.found_is ∙ ap (λ l. s.found || list_any counts l) (sym said);
       firsts = subst (λ ys. HaveSameFirsts answers (all ++ ys)) on its.firsts;
-      last = refl;
+      recent = refl;
     })
 
 -- ---- its answer is known
@@ -311,7 +311,7 @@ crossed_again kept contacts line name email rest left left_is is came =
     ∙ ap (λ c. filter (λ p. not (contact_needs kept c p)) (unneeded kept contacts)) is
     ∙ ap (filter (λ p. not (needs kept name email p))) (sym left_is)
 
-pub taken_again : (mailmaps contacts : List Text) (line answer : Text) (s : ContactsSoFar) (number : ℕ) → HasTaken mailmaps contacts s → number ≡ length contacts + 1 → Contains s.last (record { line = line; answer = answer })
+pub taken_again : (mailmaps contacts : List Text) (line answer : Text) (s : ContactsSoFar) (number : ℕ) → HasTaken mailmaps contacts s → number ≡ length contacts + 1 → Contains s.recent (record { line = line; answer = answer })
     → HasTaken mailmaps (contacts ++ line ∷ []) (record s { count = number })
 taken_again mailmaps contacts line answer s number taken number_is among =
     let h = entries (located (lines mailmaps)) in
@@ -327,9 +327,9 @@ taken_again mailmaps contacts line answer s number taken number_is among =
 
 -- ---- which lines are kept
 
-pub taken_kept : (mailmaps contacts : List Text) (line : Text) (s : ContactsSoFar) (last : List Kept) (is_kept : Bool) → HasTaken mailmaps (contacts ++ line ∷ []) s → is_kept ≡ is_contact (contact_in line)
-    → ((k : Kept) → Contains last k → Contains s.last k ⊎ (IsTrue is_kept × (k.line ≡ line))) → HasTaken mailmaps (contacts ++ line ∷ []) (record s { last = last })
-taken_kept mailmaps contacts line s last is_kept taken is keeps = record {
+pub taken_kept : (mailmaps contacts : List Text) (line : Text) (s : ContactsSoFar) (recent : List Kept) (is_kept : Bool) → HasTaken mailmaps (contacts ++ line ∷ []) s → is_kept ≡ is_contact (contact_in line)
+    → ((k : Kept) → Contains recent k → Contains s.recent k ⊎ (IsTrue is_kept × (k.line ≡ line))) → HasTaken mailmaps (contacts ++ line ∷ []) (record s { recent = recent })
+taken_kept mailmaps contacts line s recent is_kept taken is keeps = record {
   history = taken.history;
   reduced = taken.reduced;
   left = taken.left;
@@ -346,10 +346,10 @@ taken_kept mailmaps contacts line s last is_kept taken is keeps = record {
 
 -- ---- no line yet
 
-pub taken_nothing : (mailmaps : List Text) (needs_now : Needs) (answers : List Answered) (notices : Vec Notice Global) (last : List Kept) → needs_now.history ≡ located (lines mailmaps)
-    → IsReduced (located (lines mailmaps)) needs_now.kept → needs_now.left ≡ map (λ x. x.position) needs_now.kept → answers ≡ [] → notices.items ≡ [] → last ≡ []
-    → HasTaken mailmaps [] (record { needs = needs_now; answers = answers; notices = notices; found = false; count = 0; last = last })
-taken_nothing mailmaps needs_now answers notices last history reduced left no_answer no_notice no_line = record {
+pub taken_nothing : (mailmaps : List Text) (needs_now : Needs) (answers : List Answered) (notices : Vec Notice Global) (recent : List Kept) → needs_now.history ≡ located (lines mailmaps)
+    → IsReduced (located (lines mailmaps)) needs_now.kept → needs_now.left ≡ map (λ x. x.position) needs_now.kept → answers ≡ [] → notices.items ≡ [] → recent ≡ []
+    → HasTaken mailmaps [] (record { needs = needs_now; answers = answers; notices = notices; found = false; count = 0; recent = recent })
+taken_nothing mailmaps needs_now answers notices recent history reduced left no_answer no_notice no_line = record {
   history = history;
   reduced = reduced;
   left = left ∙ no_contact_takes needs_now.kept (map (λ (x : LocatedMapping). x.position) needs_now.kept);

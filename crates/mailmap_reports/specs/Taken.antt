@@ -29,8 +29,9 @@ pub record HasTaken (mailmaps contacts : List Text) (s : ContactsSoFar) : Type 0
   pub found : s.found ≡ list_any counts (said_after (entries (located (lines mailmaps))) [] contacts)
   -- it stays what is said, whatever answers come later
   pub said_later : (later : List Answered)
-      → flat_map (noted (s.answers ++ later)) s.notices.items ≡ said_after (entries (located (lines mailmaps))) [] contacts
+      → flat_map (noted (s.answers ++ later)) s.notices.items
+      ≡ said_after (entries (located (lines mailmaps))) [] contacts
   -- the answers are those to the contacts, without those that came before
   pub firsts : HaveSameFirsts s.answers (answers_from (entries (located (lines mailmaps))) 1 contacts)
   -- the lines that need no second look are contacts that came
-  pub came : (k : Kept) → Contains s.last k → Contains contacts k.line × (is_contact (contact_in k.line) ≡ true)
+  pub came : (k : Kept) → Contains s.recent k → Contains contacts k.line × (is_contact (contact_in k.line) ≡ true)

@@ -15,7 +15,7 @@ use gix_mailmap::explain::{Explanation, Explanations};
 use gix_mailmap::verify::Mailmaps;
 use mailmap_grammar::contacts::{ParsedContact, parse_name_and_email, trim};
 use mailmap_repeats::hashes::hash_of;
-use mailmap_repeats::table::LastAnswers;
+use mailmap_repeats::table::RecentAnswers;
 use std::alloc::{AllocError, Global};
 use std::marker::Model;
 
@@ -31,7 +31,7 @@ pub struct Explainer<'p, 'm, 'a> {
     // those of the mailmaps
     paths: &'p [Vec<u8>],
     explanations: Explanations<'m, 'a>,
-    last: LastAnswers,
+    recent: RecentAnswers,
 }
 
 impl<'p, 'm, 'a> Model for Explainer<'p, 'm, 'a> {
@@ -51,7 +51,7 @@ impl<'p, 'm, 'a> Model for Explainer<'p, 'm, 'a> {
       paths = map (λ path. path.items) s.paths.now;
       history = s.explanations.history;
       kept = s.explanations.kept;
-    }) s.last };
+    }) s.recent };
 }
 
 impl<'p, 'm, 'a> Explainer<'p, 'm, 'a> {
@@ -69,7 +69,7 @@ impl<'p, 'm, 'a> Explainer<'p, 'm, 'a> {
             alloc,
             paths,
             explanations: Explanations::new(alloc, mailmaps)?,
-            last: LastAnswers::new(alloc)?,
+            recent: RecentAnswers::new(alloc)?,
         })
     }
 
@@ -83,12 +83,12 @@ impl<'p, 'm, 'a> Explainer<'p, 'm, 'a> {
         ensures same { self.new ≡ self.old }
     {
         let hash = hash_of(line);
-        if let Some(explained) = self.last.get(hash, line) {
+        if let Some(explained) = self.recent.get(hash, line) {
             return text.extend_from_slice(explained);
         }
         let explained = self.explained_line(line)?;
-        if self.last.missed_before(hash) {
-            self.last.put(hash, line, explained.as_slice());
+        if self.recent.note_miss(hash) {
+            self.recent.put(hash, line, explained.as_slice());
         }
         text.extend_from_slice(explained.as_slice())
     }

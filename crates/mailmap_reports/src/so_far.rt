@@ -17,7 +17,7 @@ use gix_mailmap::verify::Mailmaps;
 use mailmap_grammar::contacts::{ParsedContact, parse_name_and_email, trim};
 use mailmap_likeness::answers::{Added, Answers, Likeness};
 use mailmap_repeats::hashes::hash_of;
-use mailmap_repeats::table::LastAnswers;
+use mailmap_repeats::table::RecentAnswers;
 use std::alloc::{AllocError, Global};
 
 /// What is reported of a line of contacts: an error, a warning or a note.
@@ -42,7 +42,7 @@ pub(crate) struct ContactsSoFar<'m, 'a> {
     // how many lines there are
     count: usize,
     // contacts that came twice: one that comes again changes nothing
-    last: LastAnswers,
+    recent: RecentAnswers,
 }
 
 impl<'m, 'a> ContactsSoFar<'m, 'a> {
@@ -56,14 +56,14 @@ impl<'m, 'a> ContactsSoFar<'m, 'a> {
         let needs = Needs::new(alloc, mailmaps)?;
         let answers = Answers::new(alloc);
         let notices = Vec::new(alloc);
-        let last = LastAnswers::new(alloc)?;
+        let recent = RecentAnswers::new(alloc)?;
         Ok(ContactsSoFar {
             needs,
             answers,
             notices,
             found: false,
             count: 0,
-            last,
+            recent,
         })
     }
 
@@ -78,12 +78,12 @@ impl<'m, 'a> ContactsSoFar<'m, 'a> {
             return Err(Failure::Memory);
         };
         let hash = hash_of(line);
-        if let Some(_) = self.last.get(hash, line) {
+        if let Some(_) = self.recent.get(hash, line) {
             self.count = number;
             return Ok(());
         }
         let is_contact = self.take_new(line, number)?;
-        keep_contact(is_contact, &mut self.last, hash, line);
+        keep_contact(is_contact, &mut self.recent, hash, line);
         self.count = number;
         Ok(())
     }
@@ -171,11 +171,11 @@ fn note_alike(
 }
 
 // Keeps a line, if it is a contact that comes again.
-fn keep_contact(is_contact: bool, last: &mut LastAnswers, hash: u64, line: &[u8])
-    ensures { (k : Kept) → Contains last.new k → Contains last.old k ⊎ (IsTrue is_contact × (k.line ≡ line.now)) }
+fn keep_contact(is_contact: bool, recent: &mut RecentAnswers, hash: u64, line: &[u8])
+    ensures { (k : Kept) → Contains recent.new k → Contains recent.old k ⊎ (IsTrue is_contact × (k.line ≡ line.now)) }
 {
-    if is_contact && last.missed_before(hash) {
-        last.put(hash, line, b"");
+    if is_contact && recent.note_miss(hash) {
+        recent.put(hash, line, b"");
     }
 }
 

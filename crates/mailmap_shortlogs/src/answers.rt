@@ -21,29 +21,29 @@ use std::alloc::{AllocError, Global};
 pub fn answers_of(
     alloc: Global,
     buffers: &[&[u8]],
-    lines: &Counts,
+    counts: &Counts,
     with_email: bool,
 ) -> Result<Vec<Tally>, AllocError>
     ensures { IfOk result (λ answers. map counted answers.items ≡ flat_map
-        (mapped_count (line_counted with_email (flat_map good (map (λ b. b.now) buffers.now)))) lines.now) }
+        (mapped_count (line_counted with_email (flat_map good (map (λ b. b.now) buffers.now)))) counts.now) }
 {
     let snapshot = merged(alloc, buffers)?;
-    answers_by(alloc, &snapshot, lines.tallies(), with_email)
+    answers_by(alloc, &snapshot, counts.tallies(), with_email)
 }
 
 // The answers by a snapshot.
 fn answers_by(
     alloc: Global,
     snapshot: &Snapshot,
-    lines: &[Tally],
+    tallies: &[Tally],
     with_email: bool,
 ) -> Result<Vec<Tally>, AllocError>
     ensures { IfOk result (λ answers. map counted answers.items ≡ flat_map
-        (mapped_count (line_counted with_email snapshot.now)) (map counted lines.now)) }
+        (mapped_count (line_counted with_email snapshot.now)) (map counted tallies.now)) }
 {
     let mut answers = Vec::new(alloc);
-    for line in lines {
-        push_answer(&mut answers, snapshot, line, with_email)?;
+    for tally in tallies {
+        push_answer(&mut answers, snapshot, tally, with_email)?;
     }
     Ok(answers)
 }
@@ -52,21 +52,21 @@ fn answers_by(
 fn push_answer(
     answers: &mut Vec<Tally>,
     snapshot: &Snapshot,
-    line: &Tally,
+    tally: &Tally,
     with_email: bool,
 ) -> Result<(), AllocError>
     ensures { OnOk result (map counted answers.new.items ≡ map counted answers.old.items
-        ++ mapped_count (line_counted with_email snapshot.now) (counted line.now)) }
+        ++ mapped_count (line_counted with_email snapshot.now) (counted tally.now)) }
 {
     if let Some(text) = answer(
         *answers.allocator(),
         snapshot,
-        line.text.as_slice(),
+        tally.text.as_slice(),
         with_email,
     )? {
         answers.push(Tally {
             text,
-            count: line.count,
+            count: tally.count,
         })?;
     }
     Ok(())
@@ -84,11 +84,11 @@ fn answer(
     let ParsedContact::Closed { name, email, .. } = parse_name_and_email(trim(line)) else {
         return Ok(None);
     };
-    Ok(Some(replaced(alloc, snapshot, name, email, with_email)?))
+    Ok(Some(answer_to_contact(alloc, snapshot, name, email, with_email)?))
 }
 
 // The text that a contact counts for: its name and, if that is asked for, its email, as the mailmap maps them.
-fn replaced(
+fn answer_to_contact(
     alloc: Global,
     snapshot: &Snapshot,
     name: &[u8],

@@ -6,9 +6,9 @@ use Rattle.mailmap_tables.specs.Groups.{Contents, IsComplete, listing}
 
 -- Of the accepted entries of a history after tables, the first are joined with these, if tables were made of them,
 -- and the others are in the batch.
-pub record IsCollected (old_tables : Contents) (h : List Mapping) (made : Option Contents) (batch : List Mapping)
+pub record IsCollected (old_tables : Contents) (h : List Mapping) (joined : Option Contents) (batch : List Mapping)
     : Type 0 where
   pub head : List Mapping
   pub parts : accepted h ≡ head ++ batch
-  pub complete : IsComplete (unwrap_or made old_tables)
-  pub normal : IsNormal (listing old_tables.groups ++ head) (listing (unwrap_or made old_tables).groups)
+  pub complete : IsComplete (unwrap_or joined old_tables)
+  pub normal : IsNormal (listing old_tables.groups ++ head) (listing (unwrap_or joined old_tables).groups)

@@ -38,7 +38,7 @@ impl Tables {
         let alloc = self.allocator();
         let collected = accepted_of(alloc, self, entries)?;
         if collected.is_batch_empty() {
-            collected.put_into(self);
+            collected.replace_tables(self);
             return Ok(());
         }
         if let Some(bytes) = room_in_place(&collected, self) {
@@ -53,10 +53,10 @@ impl Tables {
 // after a portion.
 fn room_in_place(collected: &Collected<'_>, tables: &Tables) -> Option<usize>
     requires { AreGroups tables.now.groups }
-    ensures none { ForSome result (λ bytes. collected.now.made ≡ None) }
+    ensures none { ForSome result (λ bytes. collected.now.joined ≡ None) }
     ensures reserved { ForSome result (HasReserved tables.now.groups (map mapping_of collected.now.batch.items)) }
 {
-    if collected.made.is_some() {
+    if collected.joined.is_some() {
         return None;
     }
     bytes_in_place(tables, &collected.batch)

@@ -35,11 +35,11 @@ const HASH_FACTOR: u64 = 0x0000_0100_0000_01b3;
 #[derive(Drop)]
 pub(crate) struct Collected<'a> {
     // the old tables joined with all portions so far, `None` before the first one
-    pub(crate) made: Option<Tables>,
+    pub(crate) joined: Option<Tables>,
     // the accepted entries after those
     pub(crate) batch: Vec<Entry<'a>>,
     // how many entries make the batch a portion; `usize::MAX` if all that follow are one batch
-    portion: usize,
+    portion_len: usize,
 }
 
 /// The accepted entries that an iterator gives, to be put after the old tables.
@@ -53,7 +53,7 @@ pub(crate) fn accepted_of<'a, I: Iterator<Item = Entry<'a>> + Drop>(
     requires complete { IsComplete old_tables.now }
     ensures ok { IfOk result
         (λ c. (xs : List Item) × Drains I.next_gives entries xs
-        × IsCollected old_tables.now (map mapping_of xs) c.made (map mapping_of c.batch.items)) }
+        × IsCollected old_tables.now (map mapping_of xs) c.joined (map mapping_of c.batch.items)) }
 
     // Out of memory is reported only once an entry was accepted.
     ensures out_of_memory { OnErr result
@@ -61,7 +61,7 @@ pub(crate) fn accepted_of<'a, I: Iterator<Item = Entry<'a>> + Drop>(
 {
     let mut collected = Collected::none(alloc, old_tables);
     for entry in entries {
-        if maps(&entry) {
+        if has_new_name_or_email(&entry) {
             collected.push(old_tables, entry)?;
         }
     }
@@ -69,7 +69,7 @@ pub(crate) fn accepted_of<'a, I: Iterator<Item = Entry<'a>> + Drop>(
 }
 
 // Whether there is a new name or a new email.
-fn maps(entry: &Entry) -> bool
+fn has_new_name_or_email(entry: &Entry) -> bool
     ensures { result ≡ is_accepted (mapping_of entry.now) }
 {
     entry.new_name().is_some() || entry.new_email().is_some()
@@ -79,12 +79,12 @@ impl<'a> Collected<'a> {
     // No entry yet.
     fn none(alloc: Global, old_tables: &Tables) -> Collected<'a>
         requires { IsComplete old_tables.now }
-        ensures { IsCollected old_tables.now [] result.made (map mapping_of result.batch.items) }
+        ensures { IsCollected old_tables.now [] result.joined (map mapping_of result.batch.items) }
     {
         Collected {
-            made: None,
+            joined: None,
             batch: Vec::new(alloc),
-            portion: portion_after(old_tables),
+            portion_len: portion_len_after(old_tables),
         }
     }
 
@@ -93,14 +93,14 @@ impl<'a> Collected<'a> {
     fn push(&mut self, old_tables: &Tables, entry: Entry<'a>) -> Result<(), AllocError>
         requires accepted { is_accepted (mapping_of entry) ≡ true }
         requires collected { (h : List Mapping)
-            × IsCollected old_tables.now h self.old.made (map mapping_of self.old.batch.items) }
+            × IsCollected old_tables.now h self.old.joined (map mapping_of self.old.batch.items) }
         ensures { OnOk result
-            ((h : List Mapping) → IsCollected old_tables.now h self.old.made (map mapping_of self.old.batch.items)
-            → IsCollected old_tables.now (h ++ mapping_of entry.entry ∷ []) self.new.made
+            ((h : List Mapping) → IsCollected old_tables.now h self.old.joined (map mapping_of self.old.batch.items)
+            → IsCollected old_tables.now (h ++ mapping_of entry.entry ∷ []) self.new.joined
             (map mapping_of self.new.batch.items)) }
     {
         self.batch.push(entry)?;
-        if self.batch.len() < self.portion {
+        if self.batch.len() < self.portion_len {
             return Ok(());
         }
         self.end_portion(old_tables)
@@ -109,18 +109,18 @@ impl<'a> Collected<'a> {
     // Joins the batch with the tables, if its keys come again and again. Else all that follows is one batch.
     fn end_portion(&mut self, old_tables: &Tables) -> Result<(), AllocError>
         requires { (h : List Mapping)
-            × IsCollected old_tables.now h self.old.made (map mapping_of self.old.batch.items) }
+            × IsCollected old_tables.now h self.old.joined (map mapping_of self.old.batch.items) }
         ensures { OnOk result
-            ((h : List Mapping) → IsCollected old_tables.now h self.old.made (map mapping_of self.old.batch.items)
-            → IsCollected old_tables.now h self.new.made (map mapping_of self.new.batch.items)) }
+            ((h : List Mapping) → IsCollected old_tables.now h self.old.joined (map mapping_of self.old.batch.items)
+            → IsCollected old_tables.now h self.new.joined (map mapping_of self.new.batch.items)) }
     {
-        self.portion = usize::MAX;
+        self.portion_len = usize::MAX;
         if !come_again(*self.batch.allocator(), &self.batch)? {
             return Ok(());
         }
-        let made = self.tables(old_tables)?;
-        self.portion = portion_after(&made);
-        self.made = Some(made);
+        let joined = self.tables(old_tables)?;
+        self.portion_len = portion_len_after(&joined);
+        self.joined = Some(joined);
         self.batch.clear();
         Ok(())
     }
@@ -135,21 +135,22 @@ impl<'a> Collected<'a> {
 
     /// Replaces the old tables by those that were joined with the portions, if there were any. Entries that are left
     /// are dropped.
-    pub(crate) fn put_into(self, old_tables: &mut Tables)
-        ensures { old_tables.new ≡ unwrap_or self.entry.made old_tables.old }
+    pub(crate) fn replace_tables(self, old_tables: &mut Tables)
+        ensures { old_tables.new ≡ unwrap_or self.entry.joined old_tables.old }
     {
-        let Collected { made, .. } = self;
-        if let Some(made) = made {
-            *old_tables = made;
+        let Collected { joined, .. } = self;
+        if let Some(joined) = joined {
+            *old_tables = joined;
         }
     }
 
     /// The old tables with all entries after them.
     pub(crate) fn tables(&self, old_tables: &Tables) -> Result<Tables, AllocError>
         requires { (h : List Mapping)
-            × IsCollected old_tables.now h self.now.made (map mapping_of self.now.batch.items) }
+            × IsCollected old_tables.now h self.now.joined (map mapping_of self.now.batch.items) }
         ensures { IfOk result
-            (λ t. (h : List Mapping) → IsCollected old_tables.now h self.now.made (map mapping_of self.now.batch.items)
+            (λ t. (h : List Mapping)
+            → IsCollected old_tables.now h self.now.joined (map mapping_of self.now.batch.items)
             → IsCollected old_tables.now h (Some t) []) }
     {
         let alloc = *self.batch.allocator();
@@ -158,10 +159,10 @@ impl<'a> Collected<'a> {
 
     // The tables that the batch goes after.
     fn base<'t>(&'t self, old_tables: &'t Tables) -> &'t Tables
-        ensures { result.now ≡ unwrap_or self.now.made old_tables.now }
+        ensures { result.now ≡ unwrap_or self.now.joined old_tables.now }
     {
-        match &self.made {
-            Some(made) => made,
+        match &self.joined {
+            Some(joined) => joined,
             None => old_tables,
         }
     }
@@ -169,7 +170,7 @@ impl<'a> Collected<'a> {
 
 // How many entries make a portion to be joined with these tables. Each join passes on all rows and copies the pool. So
 // a portion has so many entries that joining them costs more than that.
-fn portion_after(tables: &Tables) -> usize
+fn portion_len_after(tables: &Tables) -> usize
     ensures { result ≡ max (max 16384 (min usize.MAX (row_count tables.now * 4))) (length tables.now.pool / 256) }
 {
     let view = tables.view();

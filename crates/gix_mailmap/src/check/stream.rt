@@ -9,7 +9,7 @@ ghost use Rattle.gix_mailmap.specs.Streams.{AnswersAll, AnswersFront};
 use crate::check::{merged, push_answers};
 use bstr::ByteSlice;
 use mailmap_repeats::hashes::hash_of;
-use mailmap_repeats::table::LastAnswers;
+use mailmap_repeats::table::RecentAnswers;
 use mailmap_snapshot::snapshot::Snapshot;
 use std::alloc::{AllocError, Global};
 use std::marker::Model;
@@ -35,8 +35,10 @@ const ENOUGH: usize = 65536;
 #[derive(Drop)]
 pub struct ContactStream {
     snapshot: Snapshot,
+    // the beginning of a line that has not ended yet
     kept: Vec<u8>,
-    last: LastAnswers,
+    // lines that came twice, and their answers
+    recent: RecentAnswers,
 }
 
 impl Model for ContactStream {
@@ -46,8 +48,8 @@ impl Model for ContactStream {
 
     ghost view = { λ s. record { mappings = s.snapshot; kept = s.kept.items } };
 
-    // Each row of `last` is a line and its answer.
-    ghost invariant = { λ s. AnswersAll s.snapshot s.last };
+    // Each row of `recent` is a line and its answer.
+    ghost invariant = { λ s. AnswersAll s.snapshot s.recent };
 }
 
 impl ContactStream {
@@ -59,7 +61,7 @@ impl ContactStream {
         Ok(ContactStream {
             snapshot: merged(alloc, buffers)?,
             kept: Vec::new(alloc),
-            last: LastAnswers::new(alloc)?,
+            recent: RecentAnswers::new(alloc)?,
         })
     }
 
@@ -100,7 +102,7 @@ impl ContactStream {
             return Ok(part.len());
         };
         let line = &part[..feed + 1];
-        end_line(&mut self.kept, line, &self.snapshot, &mut self.last, text)?;
+        end_line(&mut self.kept, line, &self.snapshot, &mut self.recent, text)?;
         Ok(line.len())
     }
 
@@ -125,52 +127,51 @@ impl ContactStream {
     }
 }
 
-// Answers the line that begins with what is kept and ends with `line`. Then nothing is kept. At an `Err` what was kept
+// Answers the line that begins with what is kept and ends with `rest`. Then nothing is kept. At an `Err` what was kept
 // and the text stay as they were.
 fn end_line(
     kept: &mut Vec<u8>,
-    line: &[u8],
+    rest: &[u8],
     snapshot: &Snapshot,
-    last: &mut LastAnswers,
+    recent: &mut RecentAnswers,
     text: &mut Vec<u8>,
 ) -> Result<(), AllocError>
-    requires { AnswersAll snapshot.now last.old }
-    ensures ok { OnOk result (text.new.items ≡ text.old.items ++ answers snapshot.now (kept.old.items ++ line.now)) }
+    requires { AnswersAll snapshot.now recent.old }
+    ensures ok { OnOk result (text.new.items ≡ text.old.items ++ answers snapshot.now (kept.old.items ++ rest.now)) }
     ensures ended { OnOk result (kept.new.items ≡ []) }
     ensures err { OnErr result ((kept.new.items ≡ kept.old.items) × (text.new.items ≡ text.old.items)) }
-    ensures last { AnswersAll snapshot.now last.new }
+    ensures recent { AnswersAll snapshot.now recent.new }
 {
     if kept.is_empty() {
-        return push_line_answer(text, snapshot, last, line);
+        return push_line_answer(text, snapshot, recent, rest);
     }
     let begun = kept.len();
-    kept.extend_from_slice(line)?;
-    let pushed = push_line_answer(text, snapshot, last, kept.as_slice());
+    kept.extend_from_slice(rest)?;
+    let pushed = push_line_answer(text, snapshot, recent, kept.as_slice());
     kept.truncate(if pushed.is_ok() { 0 } else { begun });
     pushed
 }
 
-// Appends the answer to a line with its line feed: from `last`, if it is there. At an `Err` the text is as before.
+// Appends the answer to a line with its line feed: from `recent`, if it is there. At an `Err` the text is as before.
 fn push_line_answer(
     text: &mut Vec<u8>,
     snapshot: &Snapshot,
-    last: &mut LastAnswers,
+    recent: &mut RecentAnswers,
     line: &[u8],
 ) -> Result<(), AllocError>
-    requires { AnswersAll snapshot.now last.old }
+    requires { AnswersAll snapshot.now recent.old }
     ensures ok { OnOk result (text.new.items ≡ text.old.items ++ answers snapshot.now line.now) }
     ensures err { OnErr result (text.new.items ≡ text.old.items) }
-    ensures last { AnswersAll snapshot.now last.new }
+    ensures recent { AnswersAll snapshot.now recent.new }
 {
     let hash = hash_of(line);
-    if let Some(answer) = last.get(hash, line) {
+    if let Some(answer) = recent.get(hash, line) {
         return text.extend_from_slice(answer);
     }
     let begun = text.len();
     push_answers(text, snapshot, line)?;
-    // This notes that the line was missed, too.
-    if last.missed_before(hash) {
-        last.put(hash, line, &text.as_slice()[begun..]);
+    if recent.note_miss(hash) {
+        recent.put(hash, line, &text.as_slice()[begun..]);
     }
     Ok(())
 }

@@ -51,8 +51,8 @@ impl Snapshot {
             IfOk result (λ answer. IfSome answer (λ s. IsResolved h signature.entry (owned_fields s))) }
     {
         match self.try_resolve_ref(signature) {
-            Some(new) => {
-                let enriched = enriched_signature(alloc, signature, new)?;
+            Some(found) => {
+                let enriched = enriched_signature(alloc, signature, found)?;
                 Ok(Some(actor::Signature::from_cow(alloc, enriched)?))
             }
             None => Ok(None),
@@ -111,7 +111,7 @@ impl Snapshot {
         ensures history_owned { (h : List Mapping) → IsNormal h self.now → IfOk result (OwnsMapped h signature.entry) }
     {
         match self.try_resolve_ref(signature) {
-            Some(new) => enriched_signature(alloc, signature, new),
+            Some(found) => enriched_signature(alloc, signature, found),
             None => Ok(signature.into()),
         }
     }
@@ -122,14 +122,14 @@ impl Snapshot {
 fn enriched_signature<'a>(
     alloc: Global,
     signature: SignatureRef<'a>,
-    new: ResolvedSignature<'_>,
+    found: ResolvedSignature<'_>,
 ) -> Result<Signature<'a>, AllocError>
-    requires { IsTrue (is_some new.name || is_some new.email) }
-    ensures fields { IfOk result (λ s. IsEnriched (shown new.entry) signature.entry (cow_fields s)) }
-    ensures owned { IfOk result (OwnsJust (shown new.entry)) }
+    requires { IsTrue (is_some found.name || is_some found.email) }
+    ensures fields { IfOk result (λ s. IsEnriched (shown found.entry) signature.entry (cow_fields s)) }
+    ensures owned { IfOk result (OwnsJust (shown found.entry)) }
 {
     let Signature { name, email, time } = signature.into();
-    match (new.email, new.name) {
+    match (found.email, found.name) {
         (Some(new_email), Some(new_name)) => Ok(Signature {
             email: owned(alloc, new_email)?,
             name: owned(alloc, new_name)?,

@@ -25,7 +25,7 @@ loop-entry-preserved-in-Continue-1 g c =
     record {
       can = search rules;
       finite = search rules;
-      kept = subst (λ h. IsCollected c.args.old_tables.now h c.push.new.self.made (map mapping_of c.push.new.self.batch.items)) (sym (map_push mapping_of xs x)) kept;
+      kept = subst (λ h. IsCollected c.args.old_tables.now h c.push.new.self.joined (map mapping_of c.push.new.self.batch.items)) (sym (map_push mapping_of xs x)) kept;
     }
 
 pub returns-in_err-push-clause-out_of_memory : goal.returns-in_err-push-clause-out_of_memory
@@ -37,7 +37,7 @@ returns-in_err-push-clause-out_of_memory g c =
       xs ++ x ∷ [],
       c.next.new.self,
       subst (λ s. Yields g.I.Iterator.next_gives s (xs ++ x ∷ []) c.next.new.self) c.into_iter-entry-iterator.ensures.into_iter_gives more,
-      λ e. some_taken (map mapping_of xs) (mapping_of x) (sym c.maps.ensures ∙ c.if-maps.true) (ap accepted (sym (map_push mapping_of xs x)) ∙ e),
+      λ e. some_taken (map mapping_of xs) (mapping_of x) (sym c.has_new_name_or_email.ensures ∙ c.if-has_new_name_or_email.true) (ap accepted (sym (map_push mapping_of xs x)) ∙ e),
     ) in
     on_err _ _ why
 
@@ -45,10 +45,10 @@ pub loop-entry-preserved : goal.loop-entry-preserved
 loop-entry-preserved g c =
     let x = c.in-Some.entry in
     let xs = c.loop-entry.yielded in
-    let same = collected_same c.args.old_tables.now (map mapping_of xs) c.loop-entry.collected.made (map mapping_of c.loop-entry.collected.batch.items) c.loop-entry.invariant.kept (mapping_of x)
-    (accepted-ignored (map mapping_of xs) (mapping_of x) (sym c.maps.ensures ∙ c.if-maps.false)) in
+    let same = collected_same c.args.old_tables.now (map mapping_of xs) c.loop-entry.collected.joined (map mapping_of c.loop-entry.collected.batch.items) c.loop-entry.invariant.kept (mapping_of x)
+    (accepted-ignored (map mapping_of xs) (mapping_of x) (sym c.has_new_name_or_email.ensures ∙ c.if-has_new_name_or_email.false)) in
     record {
       can = search rules;
       finite = search rules;
-      kept = subst (λ h. IsCollected c.args.old_tables.now h c.loop-entry.collected.made (map mapping_of c.loop-entry.collected.batch.items)) (sym (map_push mapping_of xs x)) same;
+      kept = subst (λ h. IsCollected c.args.old_tables.now h c.loop-entry.collected.joined (map mapping_of c.loop-entry.collected.batch.items)) (sym (map_push mapping_of xs x)) same;
     }

@@ -10,5 +10,5 @@ returns-in-Some-get-clause-taken c = λ mailmaps contacts taken.
 pub returns-clause-taken : goal.returns-clause-taken
 returns-clause-taken c = λ mailmaps contacts taken.
     let number_is : c.in-Some.number ≡ length contacts + 1 = omega (arith, taken.count, c.in-Some.ensures) in
-    taken_kept mailmaps contacts c.args.line.now (record c.take_new.new.self { count = c.in-Some.number }) c.keep_contact.new.last c.in_ok-is_contact.is_contact
+    taken_kept mailmaps contacts c.args.line.now (record c.take_new.new.self { count = c.in-Some.number }) c.keep_contact.new.recent c.in_ok-is_contact.is_contact
     (c.in_ok-is_contact.ensures.taken mailmaps contacts taken number_is) c.in_ok-is_contact.ensures.contact c.keep_contact.ensures

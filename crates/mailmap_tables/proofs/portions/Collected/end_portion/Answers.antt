@@ -4,4 +4,4 @@ use Rattle.mailmap_tables.specs.Collecting.{IsCollected}
 use Rattle.mailmap_tables.proofs.portions.Collected.end_portion.Goals as goal
 
 pub returns : goal.returns
-returns c = λ h is. subst (λ l. IsCollected c.args.old_tables.now h (Some c.in_ok-made.made) (map mapping_of l)) (sym c.clear.ensures.items) (c.in_ok-made.ensures h is)
+returns c = λ h is. subst (λ l. IsCollected c.args.old_tables.now h (Some c.in_ok-joined.joined) (map mapping_of l)) (sym c.clear.ensures.items) (c.in_ok-joined.ensures h is)

@@ -12,7 +12,7 @@ end_portion-requires c =
     let m = mapping_of c.args.entry in
     let pushed : map mapping_of c.push.new.self.items ≡ map mapping_of old.batch.items ++ m ∷ [] = ap (map mapping_of) c.in_ok-push.ensures.items ∙ map_push mapping_of old.batch.items c.args.entry in
     let h = c.requires.collected.0 in
-    (h ++ m ∷ [], subst (IsCollected c.args.old_tables.now (h ++ m ∷ []) old.made) (sym pushed) (collected_push c.args.old_tables.now h old.made (map mapping_of old.batch.items) c.requires.collected.1 m c.requires.accepted))
+    (h ++ m ∷ [], subst (IsCollected c.args.old_tables.now (h ++ m ∷ []) old.joined) (sym pushed) (collected_push c.args.old_tables.now h old.joined (map mapping_of old.batch.items) c.requires.collected.1 m c.requires.accepted))
 
 pub returns : goal.returns
 returns c =
@@ -20,4 +20,4 @@ returns c =
     let m = mapping_of c.args.entry in
     let pushed : map mapping_of c.push.new.self.items ≡ map mapping_of old.batch.items ++ m ∷ [] = ap (map mapping_of) c.in_ok-push.ensures.items ∙ map_push mapping_of old.batch.items c.args.entry in
     on_ok_then c.end_portion.result _ _ (λ joins. λ h is.
-    joins (h ++ m ∷ []) (subst (IsCollected c.args.old_tables.now (h ++ m ∷ []) old.made) (sym pushed) (collected_push c.args.old_tables.now h old.made (map mapping_of old.batch.items) is m c.requires.accepted))) c.end_portion.ensures
+    joins (h ++ m ∷ []) (subst (IsCollected c.args.old_tables.now (h ++ m ∷ []) old.joined) (sym pushed) (collected_push c.args.old_tables.now h old.joined (map mapping_of old.batch.items) is m c.requires.accepted))) c.end_portion.ensures

@@ -18,9 +18,9 @@ joined-requires-clause-accepted c =
 
 pub returns : goal.returns
 returns c =
-    let base = unwrap_or c.args.self.now.made c.args.old_tables.now in
+    let base = unwrap_or c.args.self.now.joined c.args.old_tables.now in
     let entries = map mapping_of c.args.self.now.batch.items in
     let joined = c.in_ok-joined.ensures in
     let put : IsNormal (listing base.groups ++ entries) (listing c.in_ok-joined.field-0.groups) = subst (λ (b : Contents). IsNormal (listing b.groups ++ entries) (listing c.in_ok-joined.field-0.groups)) c.base.ensures
     (subst (λ (l : List Item). IsNormal (listing c.base.result.now.groups ++ map mapping_of l) (listing c.in_ok-joined.field-0.groups)) c.deref.ensures.value joined.1) in
-    if_ok_map c.rewritten_if_half_unused.result _ _ (λ (t : Contents) d. λ h is. collected_joined c.args.old_tables.now h c.args.self.now.made entries is t d.0 (subst (IsNormal (listing base.groups ++ entries)) (sym d.1) put)) c.rewritten_if_half_unused.ensures
+    if_ok_map c.rewritten_if_half_unused.result _ _ (λ (t : Contents) d. λ h is. collected_joined c.args.old_tables.now h c.args.self.now.joined entries is t d.0 (subst (IsNormal (listing base.groups ++ entries)) (sym d.1) put)) c.rewritten_if_half_unused.ensures

@@ -17,19 +17,19 @@ pub returns-then-is_batch_empty-clause-ok : goal.returns-then-is_batch_empty-cla
 returns-then-is_batch_empty-clause-ok g c =
     let w = c.in_ok-collected.ensures.ok in
     let existing = c.args.self.now in
-    let made = c.in_ok-collected.collected.made in
+    let made = c.in_ok-collected.collected.joined in
     let all = subst (λ (l : List Item). IsCollected existing (map mapping_of w.0) made (map mapping_of l)) (c.is_batch_empty.ensures.all c.if-is_batch_empty.true) w.2 in (
       w.0,
       w.1,
-      subst IsComplete (sym c.put_into.ensures) all.complete,
-      subst (λ (t : Contents). IsNormal (listing existing.groups ++ map mapping_of w.0) (listing t.groups)) (sym c.put_into.ensures) (collected_all existing (map mapping_of w.0) made all),
+      subst IsComplete (sym c.replace_tables.ensures) all.complete,
+      subst (λ (t : Contents). IsNormal (listing existing.groups ++ map mapping_of w.0) (listing t.groups)) (sym c.replace_tables.ensures) (collected_all existing (map mapping_of w.0) made all),
     )
 
 pub merge_in_place-requires-clause-accepted : goal.merge_in_place-requires-clause-accepted
 merge_in_place-requires-clause-accepted g c =
     let w = c.in_ok-collected.ensures.ok in
     subst (λ (l : List Item). AllByRecursion (λ m. is_accepted m ≡ true) (map mapping_of l)) (sym c.deref.ensures.value)
-    (collected_good c.args.self.now (map mapping_of w.0) c.in_ok-collected.collected.made _ w.2)
+    (collected_good c.args.self.now (map mapping_of w.0) c.in_ok-collected.collected.joined _ w.2)
 
 pub returns-in-Some-clause-ok : goal.returns-in-Some-clause-ok
 returns-in-Some-clause-ok g c =
@@ -45,14 +45,14 @@ returns-in-Some-clause-ok g c =
 pub returns-in-Some-clause-out_of_memory : goal.returns-in-Some-clause-out_of_memory
 returns-in-Some-clause-out_of_memory g c =
     let w = c.in_ok-collected.ensures.ok in
-    let some = collected_some mapping_of c.args.self.now (map mapping_of w.0) c.in_ok-collected.collected.made _ w.2 (c.is_batch_empty.ensures.some c.if-is_batch_empty.false) in
+    let some = collected_some mapping_of c.args.self.now (map mapping_of w.0) c.in_ok-collected.collected.joined _ w.2 (c.is_batch_empty.ensures.some c.if-is_batch_empty.false) in
     let why : (ys : List Item) × (rest : _) × Yields g.I.Iterator.next_gives c.args.entries ys rest × (accepted (map mapping_of ys) ≢ []) = (w.0, w.1.1.0, w.1.1.1, some) in
     on_err _ _ why
 
 pub returns-in_err-self-clause-out_of_memory : goal.returns-in_err-self-clause-out_of_memory
 returns-in_err-self-clause-out_of_memory g c =
     let w = c.in_ok-collected.ensures.ok in
-    let some = collected_some mapping_of c.args.self.now (map mapping_of w.0) c.in_ok-collected.collected.made _ w.2 (c.is_batch_empty.ensures.some c.if-is_batch_empty.false) in
+    let some = collected_some mapping_of c.args.self.now (map mapping_of w.0) c.in_ok-collected.collected.joined _ w.2 (c.is_batch_empty.ensures.some c.if-is_batch_empty.false) in
     let why : (ys : List Item) × (rest : _) × Yields g.I.Iterator.next_gives c.args.entries ys rest × (accepted (map mapping_of ys) ≢ []) = (w.0, w.1.1.0, w.1.1.1, some) in
     on_err _ _ why
 

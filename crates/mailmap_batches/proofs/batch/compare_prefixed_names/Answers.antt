@@ -5,7 +5,7 @@ use Rattle.mailmap_entries.specs.Folding.{text_cmp}
 use Rattle.mailmap_histories.specs.Histories.{key}
 use Rattle.mailmap_batches.specs.Batches.{mapping_at}
 use Rattle.mailmap_batches.proofs.Arranged.{names_settled}
-use Rattle.mailmap_batches.proofs.batch.compare_old_names.Goals as goal
+use Rattle.mailmap_batches.proofs.batch.compare_prefixed_names.Goals as goal
 
 pub returns-in_default : goal.returns-in_default
 returns-in_default c =
