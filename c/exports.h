@@ -24,8 +24,8 @@ uint32_t gix_mailmap_handle_add_entry(gix_mailmap *map, const void *new_name, si
                                       const void *new_email, size_t new_email_len, const void *old_name,
                                       size_t old_name_len, const void *old_email, size_t old_email_len);
 uint32_t gix_mailmap_handle_lookup(gix_mailmap *map, const void *name, size_t name_len, const void *email,
-                                   size_t email_len, void *name_out, size_t name_out_len, gix_mailmap_field *new_name,
-                                   void *email_out, size_t email_out_len, gix_mailmap_field *new_email);
+                                   size_t email_len, void *name_out, size_t name_out_len, gix_mailmap_field *name_field,
+                                   void *email_out, size_t email_out_len, gix_mailmap_field *email_field);
 uint32_t gix_mailmap_handle_len(gix_mailmap *map, size_t *entries_len, size_t *texts_len);
 uint32_t gix_mailmap_handle_list(gix_mailmap *map, void *entries, size_t entries_len, void *texts,
                                  size_t texts_len);

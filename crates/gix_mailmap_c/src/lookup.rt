@@ -12,9 +12,9 @@ use crate::held::{Mailmap, is_open};
 use crate::status::CLOSED;
 use gix_mailmap::Snapshot;
 
-/// Looks a name and an email up: what the mailmap gives for them is copied into `name_out` and `email_out`, and
-/// `name_field` and `email_field` say how long it is, and whether the mailmap gave it. If it doesn't give one, the
-/// caller's own is copied. The handle stays as it is.
+/// Looks a name and an email up: those that the mailmap gives, or else the caller's own, are copied into `name_out` and
+/// `email_out`. `name_field` and `email_field` say how long each is, and whether the mailmap gave it. The handle stays
+/// as it is.
 ///
 /// `OK`; `TOO_SHORT`: one of the buffers is too short, both stay as they were, and the lengths are given; `CLOSED`:
 /// nothing is written. What is after an answer in its buffer stays as it was.

@@ -8,7 +8,7 @@ use Rattle.mailmap_batches.specs.Batches.{IsAscending, mapping_at, email_text}
 use Rattle.mailmap_batches.specs.declared.batch.NextPrefixEntry.{NextPrefixEntry}
 use Rattle.mailmap_batches.specs.declared.indexed.IndexedEntry.{IndexedEntry}
 
--- the number of the first sixteen bytes of the old email
+-- the prefix of the old email
 abbrev pub email_prefix : IndexedEntry → ℕ
 email_prefix p = key_prefix 16 (email_text (mapping_at p))
 

@@ -58,7 +58,7 @@ fn sorted_if_prefixes_ascend<'e, 'a, T: HasEntry<'a>>(
     Ok(Some(groups.finish()?))
 }
 
-// Sorts entries whose prefixes ascend already.
+// Sorts entries that come in the order of the prefixes of their emails.
 fn sorted_by_groups<'e, 'a>(
     alloc: Global,
     batch: &[EmailPrefixEntry<'e, 'a>],
@@ -118,8 +118,8 @@ fn compare_email_prefixes(a: &EmailPrefixEntry, b: &EmailPrefixEntry) -> Orderin
     a.prefix.cmp(&b.prefix)
 }
 
-// Entries that come in the order of their prefixes. A group here is the entries whose emails share a prefix: `done` has
-// all groups but the last, in order, and `group` those of `prefix`, as they came.
+// Entries that come in the order of the prefixes of their emails. A group here is the entries whose emails share a
+// prefix: `done` has all groups but the last, in order, and `group` those of `prefix`, as they came.
 #[derive(Drop)]
 struct PrefixGroups<'e, 'a> {
     done: Vec<IndexedEntry<'e, 'a>>,
@@ -277,7 +277,7 @@ fn bytes_after(text: &[u8], len: usize) -> &[u8]
     &text[len..]
 }
 
-// The entries without those prefixes.
+// The entries without the prefixes of what follows.
 fn without_next_prefixes<'e, 'a>(
     alloc: Global,
     prefixed: &[NextPrefixEntry<'e, 'a>],

@@ -46,8 +46,8 @@ struct Slot {
 /// line in takes longer than looking for it. So a caller asks [`note_miss`](RecentAnswers::note_miss()) when a
 /// line isn't found, and puts it in when it comes for the second time: few lines are kept that never come again.
 ///
-/// A hash says where a line may be. With a wrong hash, or one that several lines have, a line may not be found. That
-/// costs time and changes no answer.
+/// A hash says where a line may be. With a wrong hash, or after another line of the same slot was put in or missed, a
+/// line may not be found. That costs time and changes no answer.
 #[derive(Drop)]
 pub struct RecentAnswers {
     rows: Vec<Row>,
@@ -104,7 +104,8 @@ impl RecentAnswers {
 
     /// Notes that `get` didn't find a line with this hash, and says whether that was noted before.
     ///
-    /// This is a guess: another line may have the same hash, or may have been noted in its place. It changes no answer.
+    /// This is a guess, made by some bits of the hash: those of another line may be the same, or may have been noted in
+    /// their place. It changes no answer.
     pub fn note_miss(&mut self, hash: u64) -> bool
         ensures { self.new ≡ self.old }
     {

@@ -14,10 +14,10 @@ use gix_mailmap::check::{merged, resolved};
 use mailmap_grammar::contacts::{ParsedContact, parse_name_and_email, trim};
 use std::alloc::{AllocError, Global};
 
-/// The answers by mailmaps to the lines that were counted, each with how often its line comes. So two of these may have
+/// The answers by mailmaps to the lines that were counted, one for each tally, with its count. So two of these may have
 /// the same text.
 ///
-/// Each line is looked up once, however often it comes.
+/// Each tally is looked up once, however often its line comes.
 pub fn answers_of(
     alloc: Global,
     buffers: &[&[u8]],

@@ -59,7 +59,7 @@ impl Tables {
     }
 
     /// The pool of `old_tables` with its texts where they are, and no email and no name. There is room for the rows of
-    /// `old_tables` and for `rows` more, and in the pool for `bytes` more.
+    /// `old_tables` and for up to `rows` more, and in the pool for `bytes` more.
     pub fn over_pool(
         alloc: Global,
         old_tables: &Tables,

@@ -14,7 +14,7 @@ use mailmap_snapshot::snapshot::Snapshot;
 use std::alloc::{AllocError, Global};
 use std::marker::Model;
 
-/// `push` returns once the text of the answers is this long, so that they can be written before there are more.
+/// `push` returns once the text is this long, so that the answers can be written before there are more.
 const ENOUGH: usize = 65536;
 
 /// Answers contacts that come in parts, as [`check`](crate::check::check()) answers all of them at once.
@@ -152,7 +152,8 @@ fn end_line(
     pushed
 }
 
-// Appends the answer to a line with its line feed: from `recent`, if it is there. At an `Err` the text is as before.
+// Appends the answer to a line with its line feed: from `recent`, if it is there. Else the line is looked up, and put
+// there if it was missed before. At an `Err` the text is as before.
 fn push_line_answer(
     text: &mut Vec<u8>,
     snapshot: &Snapshot,
