@@ -82,15 +82,15 @@ $(LIB)/c/libgix_mailmap.a: $(PROVED) $(wildcard c/*) include/gix_mailmap.h inclu
 	objcopy --keep-global-symbols=$(LIB)/c/shown $(LIB)/c/gix_mailmap.o
 	ar rcsD $@ $(LIB)/c/gix_mailmap.o
 
-# The shared one, made of it; the Makefile has its number. Its other names are no symbolic links here, since rt stops at
-# such in out.
+# The shared one, made of it; the Makefile has its number. Its other names, and that beside the package for Python, are
+# hard links: rt stops at symbolic ones.
 $(LIB)/c/$(SHARED): $(LIB)/c/libgix_mailmap.a include/gix_mailmap.map VERSION Makefile
 	rm -f $(LIB)/c/$(LINKED)*
 	$(CC) -shared -o $@ -Wl,-soname,$(SONAME) -Wl,--version-script,include/gix_mailmap.map \
 	    -Wl,--whole-archive $< -Wl,--no-whole-archive $(CFLAGS) $(LDFLAGS)
 	ln $@ $(LIB)/c/$(SONAME)
 	ln $@ $(LIB)/c/$(LINKED)
-	ln -sf ../../$(LIB)/c/$(LINKED) python/gix_mailmap/$(LINKED)
+	ln -f $@ python/gix_mailmap/$(LINKED)
 
 # the package for Python, with the shared library in it: what pip builds, without pip
 WHEEL = GIX_MAILMAP_LIBRARY= PYTHONDONTWRITEBYTECODE=1 PYTHONPATH=python/build \

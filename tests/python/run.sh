@@ -10,6 +10,13 @@ trap 'rm -rf "$work"' EXIT
 export PYTHONDONTWRITEBYTECODE=1 PIP_DISABLE_PIP_VERSION_CHECK=1
 unset PYTHONPATH GIX_MAILMAP_LIBRARY
 
+# With a symbolic link in this folder `rt ci` would refuse to start: what `make lib` puts beside the package is none.
+links="$(find "$top" -name .git -prune -o -type l -print)"
+if [ -n "$links" ]; then
+    echo "rt ci refuses links: $links"
+    exit 1
+fi
+
 # all tests, by the Python and with the variables of the environment that the words are
 tests() {
     local name
