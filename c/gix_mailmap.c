@@ -207,12 +207,14 @@ typedef struct block {
     char *texts;
 } block;
 
-/* Makes a block, which is to be freed by its `each`. That is NULL if there is no memory for it. */
-static block block_of(const gix_mailmap_named *mailmaps, size_t count)
+/* Makes a block, which is to be freed by its `each`. That is NULL if there is no memory for it. Without names, those of
+ * the mailmaps may be anything, and each has the length 0. */
+static block block_of(const gix_mailmap_named *mailmaps, size_t count, bool with_names)
 {
     lengths total = {0, 0};
     for (size_t i = 0; i < count; i++) {
-        total.name = sum(total.name, mailmaps[i].name_len);
+        if (with_names)
+            total.name = sum(total.name, mailmaps[i].name_len);
         total.text = sum(total.text, mailmaps[i].text_len);
     }
     /* The product fits, since the caller's array is longer. With 1 more, malloc isn't asked for nothing. */
@@ -222,8 +224,9 @@ static block block_of(const gix_mailmap_named *mailmaps, size_t count)
         return (block){NULL, total, NULL, NULL};
     char *names = (char *)(each + count), *texts = names + total.name, *name = names, *text = texts;
     for (size_t i = 0; i < count; i++) {
-        each[i] = (lengths){mailmaps[i].name_len, mailmaps[i].text_len};
-        name = append(name, mailmaps[i].name, mailmaps[i].name_len);
+        each[i] = (lengths){with_names ? mailmaps[i].name_len : 0, mailmaps[i].text_len};
+        if (with_names)
+            name = append(name, mailmaps[i].name, mailmaps[i].name_len);
         text = append(text, mailmaps[i].text, mailmaps[i].text_len);
     }
     return (block){each, total, names, texts};
@@ -232,7 +235,7 @@ static block block_of(const gix_mailmap_named *mailmaps, size_t count)
 gix_mailmap_status gix_mailmap_report(const gix_mailmap_named *mailmaps, size_t count, char *GIX_MAILMAP_RESTRICT out,
                                       size_t out_len, size_t *GIX_MAILMAP_RESTRICT needed)
 {
-    block b = block_of(mailmaps, count);
+    block b = block_of(mailmaps, count, true);
     *needed = 0;
     if (b.each == NULL)
         return GIX_MAILMAP_OUT_OF_MEMORY;
@@ -246,7 +249,7 @@ gix_mailmap_status gix_mailmap_explain(const gix_mailmap_named *mailmaps, size_t
                                        size_t contacts_len, char *GIX_MAILMAP_RESTRICT out, size_t out_len,
                                        size_t *GIX_MAILMAP_RESTRICT needed)
 {
-    block b = block_of(mailmaps, count);
+    block b = block_of(mailmaps, count, true);
     *needed = 0;
     if (b.each == NULL)
         return GIX_MAILMAP_OUT_OF_MEMORY;
@@ -261,7 +264,7 @@ gix_mailmap_status gix_mailmap_unneeded(const gix_mailmap_named *mailmaps, size_
                                         size_t contacts_len, gix_mailmap_position *GIX_MAILMAP_RESTRICT out,
                                         size_t out_len, size_t *GIX_MAILMAP_RESTRICT needed)
 {
-    block b = block_of(mailmaps, count);
+    block b = block_of(mailmaps, count, false);
     *needed = 0;
     if (b.each == NULL)
         return GIX_MAILMAP_OUT_OF_MEMORY;

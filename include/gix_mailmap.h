@@ -272,7 +272,7 @@ gix_mailmap_status gix_mailmap_explain(const gix_mailmap_named *mailmaps, size_t
  * contact on each line, such as all those of a history; lines that are no contacts need nothing. A contact needs the
  * line that gives its new name, and the one that gives its new email. If no line gives an email, it needs the first
  * line for its old email, which says how that is spelled. Without the lines that are listed, and without those of no
- * effect, all these contacts are answered as before. Mailmaps are as for gix_mailmap_report; their names are not used.
+ * effect, all these contacts are answered as before. Mailmaps are as for gix_mailmap_report; their names are not read.
  * `out_len` counts positions. `needed` is the number of all lines that are listed, and 0 at OUT_OF_MEMORY.
  * OK; TOO_SHORT; OUT_OF_MEMORY. */
 gix_mailmap_status gix_mailmap_unneeded(const gix_mailmap_named *mailmaps, size_t count, const char *contacts,

@@ -276,12 +276,16 @@ static void unneeded(void)
         WANT(is_position(listed[3], 97, 98));
     }
     size_t needed = 99;
-    gix_mailmap_named nameless = {NULL, 0, TEXT("N <a@x>")}, huge = {"", SIZE_MAX, "", 2};
+    gix_mailmap_named nameless = {NULL, 0, TEXT("N <a@x>")}, huge = {NULL, 0, "", SIZE_MAX};
+    gix_mailmap_named unread = {(const char *)1, SIZE_MAX, TEXT("N <a@x>")};
     WANT(gix_mailmap_unneeded(NULL, 0, NULL, 0, NULL, 0, &needed) == GIX_MAILMAP_OK && needed == 0);
     WANT(gix_mailmap_unneeded(NULL, 0, TEXT("a <b>"), NULL, 0, &needed) == GIX_MAILMAP_OK && needed == 0);
     WANT(gix_mailmap_unneeded(NEEDED, 2, NULL, 0, NULL, 0, &needed) == GIX_MAILMAP_TOO_SHORT && needed == 5);
     WANT(gix_mailmap_unneeded(&nameless, 1, TEXT("n <a@x>"), NULL, 0, &needed) == GIX_MAILMAP_OK && needed == 0);
     WANT(gix_mailmap_unneeded(&nameless, 1, TEXT("a <b>"), listed, 1, &needed) == GIX_MAILMAP_OK && needed == 1);
+    WANT(is_position(listed[0], 0, 1));
+    listed[0] = (gix_mailmap_position){97, 98};
+    WANT(gix_mailmap_unneeded(&unread, 1, TEXT("a <b>"), listed, 1, &needed) == GIX_MAILMAP_OK && needed == 1);
     WANT(is_position(listed[0], 0, 1));
     WANT(gix_mailmap_unneeded(&huge, 1, TEXT("a <b>"), NULL, 0, &needed) == GIX_MAILMAP_OUT_OF_MEMORY && needed == 0);
 }

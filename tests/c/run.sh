@@ -85,7 +85,9 @@ for compiler in "$cc" clang; do
     refused 'out[0] = (char)gix_mailmap_write(map, out, 1, NULL);'
     refused 'out[0] = (char)gix_mailmap_add(read, "", 0);'
     refused 'gix_mailmap copy = *map;'
-    if "$compiler" -Q --help=warnings 2> "$work/said" | grep -q Wrestrict; then
+    # a file, since at the end of a pipe `grep -q` would end the compiler early
+    "$compiler" -Q --help=warnings > "$work/warnings" 2> "$work/said" || true
+    if grep -q Wrestrict "$work/warnings"; then
         refused 'out[0] = (char)gix_mailmap_compact(out, 8, out, 8, len);'
     fi
 done
