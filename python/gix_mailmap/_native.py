@@ -5,7 +5,9 @@ done. The library lets calls read a mailmap at the same time, but none may close
 thread may take again, since the garbage collector may run a `__del__` with calls of its own at any time. No such call
 can begin while the library is at work for the same thread.
 
-Forks: a fork waits until no other thread is in a call, and in the child each handle has a lock that is free.
+Forks: a fork waits until no other thread is in a call or opens something, and in the child each handle has a lock that
+is free. If an exception, such as that of an interrupt, ends the wait, the fork goes on, since Python only prints
+exceptions there. Then other threads may be in calls, and in the child all handles are closed.
 """
 
 from __future__ import annotations
@@ -144,12 +146,19 @@ def _is_short(status: int) -> bool:
 
 
 def _buffer(length: int) -> ctypes.Array[ctypes.c_char]:
-    """A buffer of this length."""
-    return create_string_buffer(length)
+    """A buffer of this length. Raises OutOfMemory."""
+    try:
+        return create_string_buffer(length)
+    except MemoryError:
+        raise OutOfMemory("out of memory") from None
 
 
 def _head(buffer: ctypes.Array[ctypes.c_char], length: int) -> bytes:
-    return memoryview(buffer)[:length].tobytes()
+    """The first bytes of a buffer. Raises OutOfMemory."""
+    try:
+        return memoryview(buffer)[:length].tobytes()
+    except MemoryError:
+        raise OutOfMemory("out of memory") from None
 
 
 def _filled(call: Callable[..., int], size: int, guess: int, *texts: bytes) -> bytes:
@@ -227,8 +236,9 @@ class _Buffers:
         return self.name.raw[: name.len], self.email.raw[: email.len], name.is_given, email.is_given
 
 
-# All that is held, for a fork.
+# All that is held, for a fork, and the lock of whoever adds to it.
 _alive: set[weakref.ref[_Held]] = set()
+_opening = threading.RLock()
 
 
 class _Held:
@@ -242,7 +252,9 @@ class _Held:
         at = c_void_p()
         _is_short(opening(byref(at), text, len(text)))
         self._owned = {"at": at.value}
-        _alive.add(weakref.ref(self, _alive.discard))
+        reference = weakref.ref(self, _alive.discard)
+        with _opening:
+            _alive.add(reference)
 
     def called(self, call: Callable[..., Any], *arguments: object) -> Any:
         """What a call of the library with what is held returns."""
@@ -267,11 +279,27 @@ class _Held:
             # No other call gets what is taken out here.
             self._closing(self._owned.pop("at", None))
 
+    def in_child(self, is_usable: bool) -> None:
+        """In a forked process. What isn't usable is closed, but not freed: another thread may have been at it."""
+        self.lock = threading.RLock()
+        if not is_usable:
+            self.closed = True
+            self._owned.clear()
+
 
 class _Forking(threading.local):
-    """The locks that a thread holds while it forks."""
+    """The locks that a thread holds while it forks, and whether these are all."""
 
-    locks = ExitStack()
+    def __init__(self) -> None:
+        self.locks = ExitStack()
+        self.has_all = False
+
+    def take(self, lock: Any, patience: float) -> bool:
+        """Takes a lock, and says whether it could be had in so many seconds."""
+        if lock.acquire(timeout=patience):
+            self.locks.callback(lock.release)
+            return True
+        return False
 
 
 _forking = _Forking()
@@ -284,17 +312,13 @@ def _all_held() -> list[_Held]:
 def _before_fork() -> None:
     """Takes all locks, so that no other thread is in a call. One that has a lock may wait for another, in a `__del__`:
     so after some time without a lock all are given back, and the next try has more time."""
-    patience = 0.1
-    while True:
-        with ExitStack() as locks:
-            for held in _all_held():
-                if not held.lock.acquire(timeout=patience):
-                    break
-                locks.callback(held.lock.release)
-            else:
-                _forking.locks = locks.pop_all()
-                return
+    take, patience = _forking.take, 0.1
+    _forking.has_all = False
+    # Nothing is opened any more once the first lock is taken, so the others are all.
+    while not (take(_opening, patience) and all(take(held.lock, patience) for held in _all_held())):
+        _forking.locks.close()
         patience *= 2
+    _forking.has_all = True
 
 
 def _after_fork_in_parent() -> None:
@@ -302,8 +326,11 @@ def _after_fork_in_parent() -> None:
 
 
 def _after_fork_in_child() -> None:
+    global _opening
+    _opening = threading.RLock()
+    _forking.locks.pop_all()
     for held in _all_held():
-        held.lock = threading.RLock()
+        held.in_child(_forking.has_all)
 
 
 os.register_at_fork(

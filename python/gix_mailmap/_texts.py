@@ -19,15 +19,16 @@ Text = Union[str, Buffer]
 
 def as_bytes(text: Text) -> bytes:
     """The bytes of a text: a copy if they could change. Raises NotAText."""
-    if isinstance(text, bytes):
+    if type(text) is bytes:
         return text
+    # Not by the methods of a subclass: its length has to be that of what the library reads.
     if isinstance(text, str):
         try:
-            return text.encode("utf-8", "surrogateescape")
+            return str.encode(text, "utf-8", "surrogateescape")
         except UnicodeEncodeError as error:
             raise NotAText(*error.args) from None
-    if isinstance(text, (bytearray, memoryview)):
-        return bytes(text)
+    if isinstance(text, (bytes, bytearray, memoryview)):
+        return bytes(memoryview(text))
     raise TypeError(f"str or bytes wanted, not {type(text).__name__}")
 
 

@@ -1,13 +1,14 @@
 """Mailmaps in a forked process, whose parent has threads that use them."""
 import os
 import signal
+import sys
 import threading
 import time
 import traceback
 import unittest
 import warnings
 
-from gix_mailmap import Mailmap
+from gix_mailmap import Closed, Mailmap
 from gix_mailmap._native import Handle
 from threads import JANE, MANY, MAP, Ending
 
@@ -76,6 +77,58 @@ class Forks(Ending):
         self.busy(add)
         for _ in range(10):
             self.assertEqual(status_of(use), 0)
+
+    def test_mailmaps_that_other_threads_open(self):
+        """The child knows each as it was before an `add` or after it."""
+        self.addCleanup(sys.setswitchinterval, sys.getswitchinterval())
+        sys.setswitchinterval(1e-5)
+        opened = [Mailmap(MAP) for _ in range(3)]
+
+        def open_one(index):
+            opened[index] = Mailmap(MAP)
+            opened[index].add("".join(f"<m{number}@x> <o{number}@y>\n" for number in range(200)))
+
+        def use():
+            for mailmap in opened:
+                self.assertIn(len(mailmap.entries()), (1, 201))
+                self.assertEqual(mailmap.lookup("jd", "jd@y"), JANE)
+
+        self.busy(*[lambda index=index: open_one(index) for index in range(3)])
+        for _ in range(60):
+            self.assertEqual(status_of(use), 0)
+
+    def test_an_exception_while_a_fork_waits(self):
+        """The fork goes on. One mailmap is in the middle of a call, so in the child all are closed."""
+        handles = [Handle(), Handle()]
+        begun, done = threading.Event(), threading.Event()
+
+        def call(_at):
+            begun.set()
+            done.wait()
+            return 0
+
+        def interrupt(_number, _frame):
+            raise KeyboardInterrupt
+
+        def use():
+            for handle in handles:
+                with self.assertRaises(Closed):
+                    handle.lengths()
+            self.assertEqual(Mailmap(MAP).lookup("jd", "jd@y"), JANE)
+
+        self.addCleanup(signal.signal, signal.SIGUSR1, signal.signal(signal.SIGUSR1, interrupt))
+        busy = threading.Thread(target=handles[0]._called, args=(call,))
+        busy.start()
+        begun.wait()
+        threading.Timer(0.2, os.kill, (os.getpid(), signal.SIGUSR1)).start()
+        self.assertEqual(status_of(use), 0)
+        done.set()
+        busy.join()
+        self.assertEqual(self.printed, ["KeyboardInterrupt()"])
+        self.printed.clear()
+        for handle in handles:
+            self.assertEqual(handle.lengths(), (0, 0))
+            self.assertEqual(status_of(handle.lengths), 0)
 
     def test_a_contact_that_another_thread_streams(self):
         mailmap = Mailmap(MAP)

@@ -12,6 +12,20 @@ TEXT = "Jörg Doe <j@x> <jd@y>\n"
 JOERG = b"J\xf6rg <j@x>\n"
 
 
+class LongerBytes(bytes):
+    """Bytes that say they are longer."""
+
+    def __len__(self):
+        return 10**9
+
+
+class LongerStr(str):
+    """A `str` that is encoded in a way of its own."""
+
+    def encode(self, *_):
+        return LongerBytes(b"x")
+
+
 class Kinds(unittest.TestCase):
     def test_lookup_answers_in_the_kind_of_the_contact(self):
         for text in (TEXT, TEXT.encode(), bytearray(TEXT.encode()), memoryview(TEXT.encode())):
@@ -50,6 +64,13 @@ class Kinds(unittest.TestCase):
         self.assertEqual(gix_mailmap.unneeded([("ä", TEXT)], "jö <ä>"), [Position(0, 1)])
         for kind in (bytes, bytearray, memoryview):
             self.assertEqual(gix_mailmap.unneeded([(kind(b"a"), kind(TEXT.encode()))], kind(b"j <jd@y>")), [])
+
+    def test_subclasses_are_taken_for_what_they_hold(self):
+        self.assertEqual(gix_mailmap.check(LongerBytes(b"N <b>"), LongerBytes(b"a <b>")), b"N <b>\n")
+        self.assertEqual(gix_mailmap.check(LongerStr("N <b>"), LongerStr("a <b>")), "N <b>\n")
+        with Mailmap(LongerBytes(b"N <b>")) as mailmap:
+            self.assertEqual(mailmap.lookup(LongerBytes(b"a"), LongerBytes(b"b")), Answer(b"N", b"b", True, False))
+            self.assertEqual(list(mailmap.map_contacts([LongerBytes(b"a <b>")])), [b"N <b>"])
 
     def test_what_is_not_utf_8(self):
         text = JOERG.decode(errors="surrogateescape")
@@ -107,6 +128,12 @@ class Errors(unittest.TestCase):
             (NotAText, UnicodeEncodeError), (OutOfMemory, MemoryError), (Unwritable, ValueError),
         ):
             self.assertTrue(issubclass(error, Error) and issubclass(error, usual))
+
+    def test_no_memory_for_a_buffer(self):
+        with Mailmap(TEXT) as mailmap, mock.patch.object(_native, "create_string_buffer", side_effect=MemoryError):
+            for call in (mailmap.write, mailmap.entries, lambda: mailmap[0], lambda: gix_mailmap.check(TEXT, "a <b>")):
+                with self.assertRaises(OutOfMemory):
+                    call()
 
     def test_kinds_of_a_later_library(self):
         with mock.patch.object(_native, "verify", lambda _text: [(1, 7, 2), (3, 10, 0)]):

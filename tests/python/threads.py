@@ -36,11 +36,16 @@ def together(*works):
 
 
 class Ending(unittest.TestCase):
-    """A call that waits for ever ends the tests."""
+    """A call that waits for ever ends the tests, and what a thread or a `__del__` raises makes a test fail."""
 
     def setUp(self):
         faulthandler.dump_traceback_later(120, exit=True)
         self.addCleanup(faulthandler.cancel_dump_traceback_later)
+        self.printed = []
+        self.addCleanup(setattr, sys, "unraisablehook", sys.unraisablehook)
+        self.addCleanup(setattr, threading, "excepthook", threading.excepthook)
+        sys.unraisablehook = threading.excepthook = lambda args: self.printed.append(repr(args.exc_value))
+        self.addCleanup(lambda: self.assertEqual(self.printed, []))
 
 
 class Threads(Ending):
