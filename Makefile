@@ -14,6 +14,13 @@ MANDIR ?= $(PREFIX)/share/man
 # the folder of the package for Python
 PYTHONDIR ?= $(PREFIX)/share/gix_mailmap/python
 
+# The shell and sed get the names of folders as they are. So a name may have no blank and nothing that those two read:
+# `make uninstall` with DESTDIR='/x/a b' would remove /x/a.
+READ = & | ; < > ( ) * ? [ { } ' " ` \ $$ \#
+refused = $(strip $(word 2,x$(1)x) $(filter ~%,$(1)) $(foreach character,$(READ),$(findstring $(character),$(1))))
+$(foreach name,DESTDIR PREFIX BINDIR INCLUDEDIR LIBDIR MANDIR PYTHONDIR DIST,$(if $(call refused,$($(name))),\
+    $(error $(name) has a blank or one of $(READ), or begins with ~: $($(name)))))
+
 # the version of all that is shipped
 VERSION := $(shell cat VERSION)
 # The number of the shared library's binary interface. A program runs with any library of the number that it was linked
@@ -72,11 +79,13 @@ $(PROVED): $(call sources,gix_mailmap_c)
 	touch $@
 
 # The static library: the proved calls, what they need of the toolchain, and the functions that wrap them, in one object
-# that shows only the calls of the header. CPPFLAGS, CFLAGS and LDFLAGS come after the flags that are set here.
+# that shows only the calls of the header. CPPFLAGS, CFLAGS and LDFLAGS come after the flags that are set here, but for
+# -fno-lto: with -flto, which distributions set, calls.o would have code for the linker's plugin beside its own. The
+# plugin would take that code and leave out the rest of the object, which is the proved calls.
 $(LIB)/c/libgix_mailmap.a: $(PROVED) $(wildcard c/*) include/gix_mailmap.h include/gix_mailmap.map
 	rm -rf $(LIB)/c && mkdir $(LIB)/c
-	$(CC) -std=c11 -O2 -fPIC -Wall -Wextra -Wpedantic -Werror -Iinclude $(CPPFLAGS) $(CFLAGS) -c c/gix_mailmap.c \
-	    -o $(LIB)/c/calls.o
+	$(CC) -std=c11 -O2 -fPIC -Wall -Wextra -Wpedantic -Werror -Iinclude $(CPPFLAGS) $(CFLAGS) -fno-lto \
+	    -c c/gix_mailmap.c -o $(LIB)/c/calls.o
 	$(LD) -r -o $(LIB)/c/gix_mailmap.o $(LIB)/c/calls.o $(PROVED) $(HEAP)
 	sed -n 's/^ *\(gix_mailmap_[a-z_]*\);$$/\1/p' include/gix_mailmap.map > $(LIB)/c/shown
 	objcopy --keep-global-symbols=$(LIB)/c/shown $(LIB)/c/gix_mailmap.o
@@ -87,7 +96,7 @@ $(LIB)/c/libgix_mailmap.a: $(PROVED) $(wildcard c/*) include/gix_mailmap.h inclu
 $(LIB)/c/$(SHARED): $(LIB)/c/libgix_mailmap.a include/gix_mailmap.map VERSION Makefile
 	rm -f $(LIB)/c/$(LINKED)*
 	$(CC) -shared -o $@ -Wl,-soname,$(SONAME) -Wl,--version-script,include/gix_mailmap.map \
-	    -Wl,--whole-archive $< -Wl,--no-whole-archive $(CFLAGS) $(LDFLAGS)
+	    -Wl,--whole-archive $< -Wl,--no-whole-archive $(CFLAGS) $(LDFLAGS) -fno-lto
 	ln $@ $(LIB)/c/$(SONAME)
 	ln $@ $(LIB)/c/$(LINKED)
 	ln -f $@ python/gix_mailmap/$(LINKED)
@@ -181,7 +190,9 @@ MAINTAINER ?= The maintainers of gix_mailmap <maintainers@gix-mailmap.invalid>
 # the oldest version of glibc that all of it runs with
 GLIBC = $(shell grep -aoh 'GLIBC_2\.[0-9]*' $(PROGRAM) $(VERIFIER) $(COUNTER) $(LIB)/c/$(SHARED) | sort -V \
     | tail -n 1 | cut -d _ -f 2)
-FILLED = sed -e 's|@VERSION@|$(VERSION)|' -e 's|@GLIBC@|$(GLIBC)|' -e 's|@MAINTAINER@|$(MAINTAINER)|'
+# the maintainer as it is given, escaped for sed and for the shell
+ESCAPED = $(subst ','\'',$(subst |,\|,$(subst &,\&,$(subst \,\\,$(value MAINTAINER)))))
+FILLED = sed -e 's|@VERSION@|$(VERSION)|' -e 's|@GLIBC@|$(GLIBC)|' -e 's|@MAINTAINER@|$(ESCAPED)|'
 
 dist: build lib
 	rm -rf $(DIST)/$(TARBALL)

@@ -19,8 +19,17 @@ case "$1" in
     '' | -*) usage ;;
     *) prefix="$(pwd)/${1%/}" ;;
 esac
-root="${DESTDIR-}$prefix"
+case "${DESTDIR-}" in
+    '' | /*) root="${DESTDIR-}$prefix" ;;
+    *) root="$(pwd)/$DESTDIR$prefix" ;;
+esac
 cd "$(dirname "$0")"
+
+# A file is removed before it is copied, so it can't be copied onto itself.
+if [ "$root/" -ef . ]; then
+    echo "install.sh: install.sh itself lies in $root, so that can't be the PREFIX" >&2
+    exit 1
+fi
 
 # what is to be installed: no file of this tarball has blanks in its name
 files="$(find bin include lib share ! -type d)"

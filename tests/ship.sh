@@ -9,6 +9,28 @@ trap 'rm -rf "$work"' EXIT
 version="$(cat "$top/VERSION")"
 so=libgix_mailmap.so
 
+# Programs have to link with libraries that are built with the flags of distributions, which optimize at link time. The
+# proved calls aren't built again, and what is built goes into a folder with links to what it is made from. `make lib`
+# takes a part of the toolchain, so this comes before that is hidden.
+lto="$work/lto"
+if [ -n "$(command -v rt)" ]; then
+    proved=crates/gix_mailmap_c/out/libgix_mailmap_c.a
+    flags=-flto
+    if "${CC:-cc}" -Werror -flto=auto -ffat-lto-objects -x c -c /dev/null -o "$work/empty.o" 2> "$work/said"; then
+        flags='-O2 -flto=auto -ffat-lto-objects'
+    fi
+    mkdir -p "$lto/out" "$lto/python/gix_mailmap"
+    ln -s "$top"/{Makefile,VERSION,c,crates,crates.txt,include,packaging} "$lto"
+    make --no-print-directory -s -C "$lto" -o "$proved" lib LIB=out PROVED="$proved" CFLAGS="$flags" LDFLAGS="$flags"
+    "$top/tests/c/page.py" "$top/docs/C.md" "$lto"
+    "${CC:-cc}" "-I$top/include" "$lto/example.c" "$lto/out/c/libgix_mailmap.a" -o "$lto/static"
+    same "the C program, static, with $flags," "$("$lto/static")" "$(cat "$lto/printed")"
+    "${CC:-cc}" "-I$top/include" "$lto/example.c" "-L$lto/out/c" -lgix_mailmap -o "$lto/shared"
+    same "the C program, shared, with $flags," "$(LD_LIBRARY_PATH="$lto/out/c" "$lto/shared")" "$(cat "$lto/printed")"
+else
+    echo 'ship: no toolchain here, so flags for optimization at link time are not tried'
+fi
+
 # PATH without the toolchain: a folder that has it is replaced by links to all else in it
 without_toolchain() {
     local path='' folder kept=0 folders
@@ -33,6 +55,17 @@ fi
 
 built() {
     make --no-print-directory -s -C "$top" "$@"
+}
+
+# refused WHAT STATUS TEXT COMMAND ..: wants that a command ends with this status and prints nothing but one line of an
+# error, with this text in it
+refused() {
+    local status=0 said
+    said="$("${@:4}" 2>&1 > "$work/printed")" || status=$?
+    if [[ $status != "$2" || -s $work/printed || $said == *$'\n'* || $said != *"$3"* ]]; then
+        printf '%s ends with %s, prints:\n%s\nand says:\n%s\n' "$1" "$status" "$(head -n 3 "$work/printed")" "$said" >&2
+        exit 1
+    fi
 }
 
 # Wants that nothing of a copy is left in a folder: no files, and no folders by its name
@@ -67,15 +100,27 @@ for named in "$so.$version" "$so.$(interface)\`" "gix_mailmap-$version-linux" "g
     fi
 done
 
+# Folders whose names the shell or sed would read are refused before anything is done. If not, -n does nothing either.
+named_so() {
+    refused "make with $1=$2" 2 "*** $1 has a blank or one of " built -n uninstall deb "$1=$2"
+}
+for folder in DESTDIR PREFIX BINDIR INCLUDEDIR LIBDIR MANDIR PYTHONDIR DIST; do
+    named_so "$folder" '/x/a b'
+done
+for name in '/x/a ' $'/x\ta' '~/x' /x/{'&','|',\;,'<','>','(',')','*','?','[','{','}',\',\",'`',\\,'$$','#'}; do
+    named_so DESTDIR "$name"
+done
+built -n uninstall DESTDIR='/x/0.1.0~rc1+b@c,d=e:f%g' > "$work/plan"
+
 # make install, twice, and make uninstall: once with all folders named, and once beside files of others
 folders=(PREFIX=/srv/own BINDIR=/srv/bin INCLUDEDIR=/srv/own/headers LIBDIR=/srv/own/lib64 MANDIR=/srv/pages
     PYTHONDIR=/srv/python)
 root="$work/root"
-listed() { find "$root" ! -type d -printf '%P %m %T@ %s %l\n' | sort; }
+listed() { find "$1" ! -type d -printf '%P %m %T@ %s %l\n' | sort; }
 built install DESTDIR="$root" "${folders[@]}"
-once="$(listed)"
+once="$(listed "$root")"
 built install DESTDIR="$root" "${folders[@]}"
-same 'make install, for the second time,' "$(listed)" "$once"
+same 'make install, for the second time,' "$(listed "$root")" "$once"
 wanted=(libgix_mailmap.a "$so" "$so.$(interface)" "$so.$version" pkgconfig/gix_mailmap.pc)
 same 'the programs' "$(ls "$root/srv/bin" | xargs)" 'mailmap_check mailmap_shortlog mailmap_verify'
 same 'the pages' "$(ls "$root/srv/pages/man1" | xargs)" 'mailmap_check.1 mailmap_shortlog.1 mailmap_verify.1'
@@ -108,7 +153,7 @@ for tool in sh cat chmod cp dirname find mkdir rm rmdir sed; do
     ln -s "$(command -v "$tool")" "$work/tools"
 done
 installed() {
-    env -i PATH="$work/tools" "$work/$name/install.sh" "$@"
+    env -i PATH="$work/tools" DESTDIR="${DESTDIR-}" "$work/$name/install.sh" "$@"
 }
 installed "$work/prefix"
 same 'what only its owner may read' "$(find "$work/prefix" ! -type l ! -perm -a=r)" ''
@@ -117,6 +162,33 @@ programs_answer "$work/prefix/bin"
 page_programs_answer tarball '' "$work/prefix/include" "$work/prefix/lib" "$work/prefix/share/gix_mailmap/python"
 installed --uninstall "$work/prefix"
 nothing_left "$work/prefix" 'install.sh --uninstall'
+# a DESTDIR that is relative to where it is called
+(cd "$work/prefix" && DESTDIR=dest installed /own)
+programs_answer "$work/prefix/dest/own/bin"
+(cd "$work/prefix" && DESTDIR=dest installed --uninstall /own)
+nothing_left "$work/prefix" 'install.sh --uninstall with a DESTDIR'
+# a folder with blanks, which pkg-config gives as a shell reads it
+installed "$work/two  blanks"
+if [ -n "$(command -v pkg-config)" ]; then
+    eval "words=($(PKG_CONFIG_LIBDIR="$work/two  blanks/lib/pkgconfig" pkg-config --cflags --libs gix_mailmap))"
+    "${CC:-cc}" "$work/page/example.c" "${words[@]}" -o "$work/page/shared"
+    found="$(LD_LIBRARY_PATH="$work/two  blanks/lib" "$work/page/shared")"
+    same 'the C program, with a folder with blanks,' "$found" "$(cat "$work/page/printed")"
+fi
+installed --uninstall "$work/two  blanks"
+nothing_left "$work/two  blanks" 'install.sh --uninstall of a folder with blanks'
+# its own folder, by any name
+ln -s "$name" "$work/link"
+own="$(listed "$work/$name")"
+refused_here() {
+    (cd "$work/$name" && refused "install.sh $*" 1 'install.sh: install.sh itself lies in ' installed "$@")
+}
+refused_here .
+refused_here --uninstall .
+refused_here "$work/link/"
+DESTDIR="$work" refused_here "/$name"
+DESTDIR=. refused_here /
+same 'the folder of install.sh' "$(listed "$work/$name")" "$own"
 if python3 -m venv "$work/venv" 2> "$work/said" && [ -x "$work/venv/bin/pip" ]; then
     "$work/venv/bin/python" -m pip --quiet --disable-pip-version-check install --no-index "$work/$name"/*.whl
     same 'the wheel' "$(cd "$work" && venv/bin/python page/example.py)" "$(cat "$work/page/printed")"
@@ -138,6 +210,10 @@ same 'make deb' "$(ls "$work/deb")" "$deb"
 same 'the package' "$(dpkg-deb -f "$work/deb/$deb" Package Version Architecture)" "Package: gix-mailmap
 Version: $version
 Architecture: amd64"
+for maintainer in 'Smith & Sons <x@y>' "Pat O'Brien <p@x>"; do
+    built deb DIST="$work/again" MAINTAINER="$maintainer"
+    same 'the maintainer' "$(dpkg-deb -f "$work/again/$deb" Maintainer)" "$maintainer"
+done
 root="$work/debian"
 dpkg-deb -x "$work/deb/$deb" "$root"
 dpkg-deb -e "$work/deb/$deb" "$work/control"
