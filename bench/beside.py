@@ -27,7 +27,9 @@ from pathlib import Path
 
 from compare import LAST, MERGE_SIZES, SIZES, cells, fields
 from make_families import merged_one_by_one, write
-from measuring import HERE, KINDS, MILLION, Failed, built, duration, put_in, rounds, run, scratch, table, versions
+from measuring import (
+    HERE, KINDS, MILLION, Failed, built, duration, put_in, rounds, run, scratch, succeeded, table, versions,
+)
 
 BENCH, CHECK, VERIFY = "mailmap_bench", "mailmap_check", "mailmap_verify"
 CONTACTS = [1_000, 100_000]
@@ -108,8 +110,7 @@ class Builds:
     def cost(self, program: Path, cell: Cell) -> Cost:
         """One run."""
         ended = run(self.measure, [str(program), *cell.words], cell.stdin, self.printed)
-        # mailmap_verify ends with 1 if it finds something
-        if ended.status not in (0, 1):
+        if not succeeded(program, ended):
             raise Failed(f"{program}: status {ended.status} {ended.complaints.strip()}")
         if cell.time == "processor":
             return Cost(ended.processor, ended.peak)

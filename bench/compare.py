@@ -119,8 +119,8 @@ def weighed(programs, maps, sizes, only):
         for kind in KINDS:
             for lines in sizes:
                 path = Path(maps) / f"{kind}-{lines}.mailmap"
-                length = path.stat().st_size
                 if only in f"peak memory {kind} {lines}":
+                    length = path.stat().st_size
                     peaks = [peak(measure, [program, "bench-build", str(path), "1"]) for program in programs]
                     original, port = [peak - start - length for peak, start in zip(peaks, starts)]
                     cell = dict(map=kind, lines=lines, file=length, aim=aim("peak", kind, lines))

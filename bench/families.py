@@ -12,8 +12,9 @@ mailmap_check does without and with --compact. Before it, `make build` builds ma
 It makes each family with 10,000, 100,000 and 1,000,000 lines, in a folder in memory that goes away again. All programs
 run in turn, three times and for S seconds a cell (1 if it is not given); what takes more than three seconds runs once.
 The time is that of the processor, for the program and for the system, and the least of all runs counts. The peak is the
-largest resident set. What a program takes over an empty mailmap is taken off both. Past 60 seconds of processor time or
-8 GiB of addresses a program is stopped, and doesn't get more lines of that family.
+largest resident set. What a program takes over an empty mailmap is taken off both, but not for the ratios of two
+programs. Past 60 seconds of processor time or 8 GiB of addresses a program is stopped, and doesn't get more lines of
+that family.
 
 With --quick, which takes some ten minutes, families with contacts get at most 100,000 lines, programs run twice, or once
 from two seconds on, and 20 seconds are the limit.
@@ -33,7 +34,7 @@ from pathlib import Path
 from typing import Any
 
 from make_families import FAMILIES, Family, Made, merged_one_by_one, write
-from measuring import HERE, Failed, built, duration, put_in, rounds, run, scratch, stored, table, versions
+from measuring import HERE, Failed, built, duration, put_in, rounds, run, scratch, stored, succeeded, table, versions
 
 DOCS = HERE.parent / "docs"
 FIGURES = DOCS / "families.json"
@@ -62,8 +63,6 @@ CHECK, ORIGINAL, COMPACT, ORIGINAL_COMPACT, VERIFY = PROGRAMS = [
     "original, compact",
     "mailmap_verify",
 ]
-# mailmap_verify ends with 1 if it finds something
-SUCCESSES = {0, 1}
 # a family may grow so much more than the random map, which grows by n log n and what the caches add
 MORE_GROWTH = 2
 # the peak is at most so often the files, and so many bytes for each entry
@@ -124,7 +123,7 @@ class Programs:
         ended = run(self.measure, words, contacts, seconds=self.limits.stop, cwd=self.folder)
         if ended.status == 128 + signal.SIGXCPU:
             return Cost(fault=f"> {self.limits.stop} s")
-        if ended.status not in SUCCESSES:
+        if not succeeded(words[0], ended):
             memory = "memory" in ended.complaints
             return Cost(fault="> 8 GiB" if memory else f"status {ended.status}")
         return Cost(ended.processor, ended.peak)
@@ -375,6 +374,8 @@ def families_table() -> str:
 
 def tables(figures: Figures) -> dict[str, str]:
     """The tables of docs/BENCHMARKS.md, by the names between which they are there."""
+    if not figures.cells:
+        return {"families merges": merges_table(figures)}
     sizes = sizes_of(figures)
     log = math.log(max(sizes), min(sizes))
     machine = "{processor}, {system}; measured in {minutes} minutes. ".format(**figures.machine)
@@ -404,6 +405,8 @@ def main() -> None:
     given = parser.parse_args()
     if given.again == bool(given.original):
         parser.error("either ORIGINAL or --again")
+    if given.original and not any(given.only in family.name for family in FAMILIES) and given.only not in MERGES:
+        parser.error(f"no family has {given.only!r} in its name")
     if given.json is None and (given.write or given.again or given.add):
         given.json = FIGURES
     figures = read(given.json) if given.again or given.add else Figures({}, {}, [], [])

@@ -16,11 +16,14 @@ import os
 import sys
 from pathlib import Path
 
-from measuring import HERE, Failed, built, duration, mebibytes, output, put_in, ratio, rounds, run, scratch, table
+from measuring import (
+    HERE, Failed, built, duration, mebibytes, output, put_in, ratio, rounds, run, scratch, succeeded, table,
+)
 from streams import histories
 
 CHECK, EXPLAIN, CONTACTS, SHORTLOG = "mailmap_check", "--explain", "--contacts -", "mailmap_shortlog -n -e"
 GIT, SORTED = "git shortlog -sne", "mailmap_check, sort and uniq -c"
+SORTING = '"$0" "$1" | LC_ALL=C sort | uniq -c | sort -rn'
 # what is set beside what, and at most what part of its time it may take
 ROWS = [(EXPLAIN, CHECK, 2), (CONTACTS, CHECK, 3), (SHORTLOG, GIT, 0.33), (SHORTLOG, SORTED, 0.33)]
 
@@ -44,7 +47,7 @@ def commands(given, folder):
         CONTACTS: ([verify, "--contacts", "-", mailmap], million),
         SHORTLOG: ([shortlog, "-n", "-e", mailmap], million),
         GIT: (git, str(as_logged(folder))),
-        SORTED: (["sh", "-c", '"$0" "$1" | LC_ALL=C sort | uniq -c | sort -rn', check, mailmap], million),
+        SORTED: (["bash", "-o", "pipefail", "-c", SORTING, check, mailmap], million),
     }
 
 
@@ -56,8 +59,7 @@ def measured(programs, folder, seconds):
     for _ in rounds(seconds):
         for name, (words, stdin) in programs.items():
             ended = run(measure, words, stdin, str(folder / "answers"), env=settings)
-            # mailmap_verify ends with status 1 if it finds something
-            if ended.status not in (0, 1):
+            if not succeeded(words[0], ended):
                 raise Failed(f"{name}: status {ended.status} {ended.complaints.strip()}")
             time, peak = found.get(name, (ended.processor, 0))
             found[name] = min(time, ended.processor), max(peak, ended.peak)

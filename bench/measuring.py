@@ -68,6 +68,11 @@ def run(
     return Run(nanos, kib * 1024, status, processor, ended.stderr)
 
 
+def succeeded(program: str | Path, ended: Run) -> bool:
+    """Whether a run did what it was to do: mailmap_verify ends with 1 if it finds something."""
+    return ended.status == 0 or (ended.status == 1 and Path(program).name == "mailmap_verify")
+
+
 def rounds(seconds: float, least: int = 2, most: int = 50) -> Iterator[int]:
     """Counts rounds until the time is used up."""
     start = time.monotonic()

@@ -133,10 +133,11 @@ def times_table(cells):
     rows = []
     for c in cells:
         found = c["peers"]
-        fastest = min((name for name in NAMES[1:] if "time" in found[name]), key=lambda name: found[name]["time"])
+        timed = (name for name in NAMES[1:] if "time" in found[name])
+        fastest = min(timed, key=lambda name: found[name]["time"], default="")
         aim = TIME_AIM if c["lines"] >= 1_000 else None
         row = [c["map"], f"{c['lines']:,}", f"{c['contacts']:,}", *times(found), fastest]
-        rows.append(row + ratio(found[PORT]["time"], found[fastest]["time"], aim))
+        rows.append(row + (ratio(found[PORT]["time"], found[fastest]["time"], aim) if fastest else ["", ""]))
     return table(head, rows)
 
 

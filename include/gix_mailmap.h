@@ -17,8 +17,8 @@
  * Texts are bytes with a length. They need not be UTF-8. They don't end with a NUL, and may hold one. No text is kept:
  * a mailmap has copies of its own.
  *
- * A text of length 0, and a buffer or an array of length 0, may be NULL. So a call that is given NULL and 0 for its
- * buffer says how much is needed. It returns GIX_MAILMAP_TOO_SHORT, or GIX_MAILMAP_OK if nothing is needed.
+ * A text of length 0, and a buffer or an array of length 0, may be NULL. So a call with `needed` that is given NULL and
+ * 0 for its buffer says how much is needed. It returns GIX_MAILMAP_TOO_SHORT, or GIX_MAILMAP_OK if nothing is needed.
  *
  *     size_t needed;
  *     if (gix_mailmap_compact(text, text_len, NULL, 0, &needed) == GIX_MAILMAP_OUT_OF_MEMORY)

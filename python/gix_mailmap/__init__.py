@@ -11,9 +11,9 @@ Texts are `str` or bytes, and what a call answers is of the same kind. Bytes may
 is encoded; in a `str`, bytes that aren't UTF-8 are lone surrogates (`surrogateescape`). A `bytearray` and a
 `memoryview` are taken as bytes. Any call that takes a `str` raises NotAText if it has a surrogate that is no byte.
 
-The errors of the module are of the class Error, and also of Python's own class for that case. Three are not: a
-TypeError for an argument of a wrong type, the ValueError that `index` and a slice raise as those of a list do, and the
-ImportError if no library is found.
+The errors of the module are of the class Error, and also of Python's own class for that case. Four are not: a
+TypeError for an argument of a wrong type, the ValueError that `index` and a slice raise as those of a list do, the
+ImportError if no library is found, and a plain MemoryError if Python has no memory for an object of its own.
 """
 
 from ._calls import check, compact, explain, prune, report, unneeded, verify

@@ -5,9 +5,10 @@ done. The library lets calls read a mailmap at the same time, but none may close
 thread may take again, since the garbage collector may run a `__del__` with calls of its own at any time. No such call
 can begin while the library is at work for the same thread.
 
-Forks: a fork waits until no other thread is in a call or opens something, and in the child each handle has a lock that
-is free. If an exception, such as that of an interrupt, ends the wait, the fork goes on, since Python only prints
-exceptions there. Then other threads may be in calls, and in the child all handles are closed.
+Forks: a fork waits until no other thread is in a call with a handle, and in the child each handle has a lock that is
+free. Calls that open a handle, or have none, need no wait: nothing in the child knows what they work on. If an
+exception, such as that of an interrupt, ends the wait, the fork goes on, since Python only prints exceptions there.
+Then other threads may be in calls, and in the child all handles are closed.
 """
 
 from __future__ import annotations
@@ -314,7 +315,7 @@ def _before_fork() -> None:
     so after some time without a lock all are given back, and the next try has more time."""
     take, patience = _forking.take, 0.1
     _forking.has_all = False
-    # Nothing is opened any more once the first lock is taken, so the others are all.
+    # No handle is added any more once the first lock is taken, so the others are all.
     while not (take(_opening, patience) and all(take(held.lock, patience) for held in _all_held())):
         _forking.locks.close()
         patience *= 2
