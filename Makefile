@@ -111,7 +111,7 @@ wheel: lib
 
 test:
 	tests/out_of_memory.sh
-	rt ci
+	tests/rt.sh ci
 	$(MAKE) build $(DUMP)
 	tests/original/compare.py $(PROGRAM) $(DUMP)
 	tests/verify/run.py $(VERIFIER)

@@ -55,9 +55,10 @@ def main():
     path = ":".join([*folders, os.environ["PATH"]])
     failed = count = 0
     for document in DOCUMENTS:
-        blocks = BLOCK.findall((Path(__file__).parent.parent / document).read_text())
-        if not blocks:
-            sys.exit(f"{document}: no example")
+        text = (Path(__file__).parent.parent / document).read_text()
+        blocks = BLOCK.findall(text)
+        if sum(len(steps(block)) for block in blocks) != len(re.findall(r"^\$ ", text, re.MULTILINE)) or not blocks:
+            sys.exit(f"{document}: a command outside of a block ```console, or none at all")
         for block in blocks:
             count += 1
             for difference in differences(block, path):

@@ -30,7 +30,8 @@ fails() {
     local line="$1" program="$2" status=0
     bash -c "${limit:-}${as_user:-}timeout 60 ./$program $3" < contacts > printed 2> said || status=$?
     printf %s "${answered:+$answered$'\n'}" > wanted
-    if [ "$status" != 2 ] || ! cmp -s printed wanted || [ "$(cat said)" != "$program: $line" ]; then
+    printf '%s\n' "$program: $line" > line
+    if [ "$status" != 2 ] || ! cmp -s printed wanted || ! cmp -s said line; then
         echo "failures: $program $3: status $status" >&2
         cat printed said >&2
         exit 1
@@ -49,6 +50,10 @@ fails 'cannot read file 1' mailmap_check 'folder missing'
 fails 'cannot read file 2' mailmap_check "mailmap $'name\\xff'"
 as_user="$as_other" fails 'cannot read file 2' mailmap_check 'mailmap unreadable'
 fails 'cannot read standard input' mailmap_check '< folder'
+# After a file an option is a file, too.
+for option in -h --help --version --compact; do
+    fails 'cannot read file 2' mailmap_check "mailmap $option"
+done
 # What is read has to fit as well as what is made of it: of too little memory that is the one or the other.
 limit='ulimit -v 20000; ' fails 'cannot read file 2' mailmap_check 'mailmap large'
 # mailmap_verify names the file and the cause, with control bytes shown.
@@ -143,6 +148,19 @@ fails "unknown option: --foo"$'\n'"$usage" mailmap_shortlog '--foo mailmap'
 fails "unknown option: -nx"$'\n'"$usage" mailmap_shortlog '-n -nx'
 fails "unknown option: -\\x1b"$'\n'"$usage" mailmap_shortlog "$'-\\x1b'"
 
+# If standard error fails as well, only the status reports it.
+for program in mailmap_check mailmap_verify mailmap_shortlog; do
+    for closed in '2> /dev/full' '2>&-'; do
+        status=0
+        bash -c "timeout 60 ./$program missing < contacts $closed" > printed || status=$?
+        if [ "$status" != 2 ] || [ -s printed ]; then
+            echo "failures: $program missing $closed: status $status" >&2
+            exit 1
+        fi
+        runs=$((runs + 1))
+    done
+done
+
 # prints TEXT STATUS PROGRAM ARGUMENTS: runs the program, which prints this text and nothing on standard error
 prints() {
     local text="$1" want="$2" program="$3" status=0
@@ -177,6 +195,7 @@ prints $'     1\tJane' 0 mailmap_shortlog "' a ' < contacts"
 # There is memory for 200,000 lines.
 prints "$(cat many)" 0 mailmap_check 'many < <(sed s/Joe/x/ many)'
 prints "$(sed 's/^/ /' many | LC_ALL=C sort)" 0 mailmap_check '--compact many'
+prints "$(sed 's/^/ /' many | LC_ALL=C sort)" 0 mailmap_check '--compact < many'
 prints '' 0 mailmap_verify 'many'
 prints "$(cat many)" 0 mailmap_verify '--prune many'
 prints "$(sed 's/^.*$/& is & by many:/' many | cat -n | sed 's/^ *\([0-9]*\)\t\(.*\)/\2\1/; s/^Joe/x/')" 0 \

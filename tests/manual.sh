@@ -3,6 +3,10 @@
 set -euo pipefail
 cd "$(dirname "$0")/../man"
 for page in *.1; do
+    if ! grep -qx '\.SH NAME' "$page"; then
+        echo "manual pages: $page has no name" >&2
+        exit 1
+    fi
     if [ -n "$(command -v mandoc)" ]; then
         said="$(mandoc -Tlint "$page" 2>&1 || true)"
     elif [ -n "$(command -v man)" ]; then

@@ -14,7 +14,7 @@ from pathlib import Path
 
 sys.dont_write_bytecode = True
 sys.path.append(str(Path(__file__).resolve().parent.parent / "bench"))
-from measuring import Failed, built, mebibytes, run, scratch
+from measuring import Failed, built, mebibytes, run, scratch, succeeded
 
 CHECK, COMPACT = "mailmap_check", "mailmap_check --compact"
 VERIFY, PRUNE = "mailmap_verify", "mailmap_verify --prune"
@@ -112,8 +112,7 @@ class Programs:
         ended = run(self.measure, [*self.words[program], *names], cwd=self.folder)
         for name in names:
             (self.folder / name).unlink()
-        # mailmap_verify ends with 1 if it finds something
-        if ended.status not in (0, 1) or ended.complaints:
+        if not succeeded(self.words[program][0], ended) or ended.complaints:
             raise Failed(f"{program}: status {ended.status} {ended.complaints.strip()}")
         return ended.peak
 

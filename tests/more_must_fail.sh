@@ -18,4 +18,4 @@ done
 # those with the most edits first, so that none is left alone at the end
 for gate in crates/*/must-fail; do
     echo "$(ls "$gate" | wc -l) $(basename "$(dirname "$gate")")"
-done | sort -rn | cut -d ' ' -f 2 | xargs -n 1 -P "$(nproc)" rt must-fail
+done | sort -rn | cut -d ' ' -f 2 | xargs -n 1 -P "$(nproc)" "$top/tests/rt.sh" must-fail

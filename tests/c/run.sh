@@ -65,13 +65,18 @@ void use(gix_mailmap *map, const gix_mailmap *read, char *out, size_t *len)
 END
     "$compiler" -std=c11 "${strict[@]}" -c "$work/use.c" -o "$work/use.o" 2> "$work/said"
 }
-# what the header has the compiler refuse
+# what the header has the compiler refuse, and a word of its reason
 refused() {
-    if takes "$1"; then
-        echo "$compiler takes: $1"
+    if takes "$1" || ! grep -qE "$2" "$work/said"; then
+        echo "$compiler takes, or refuses for another reason: $1"
         exit 1
     fi
 }
+statuses="$(grep -c '^gix_mailmap_status gix_mailmap_' "$header")"
+if [ "$(grep -c 'GIX_MAILMAP_MUST_CHECK;$' "$header")" != "$statuses" ]; then
+    echo 'the status of some call may be ignored: it has no GIX_MAILMAP_MUST_CHECK'
+    exit 1
+fi
 for compiler in "$cc" clang; do
     if [ -z "$(command -v "$compiler")" ]; then
         continue
@@ -80,15 +85,15 @@ for compiler in "$cc" clang; do
         cat "$work/said"
         exit 1
     fi
-    refused 'gix_mailmap_add(map, "", 0);'
-    refused 'out[0] = (char)gix_mailmap_write(NULL, out, 1, len);'
-    refused 'out[0] = (char)gix_mailmap_write(map, out, 1, NULL);'
-    refused 'out[0] = (char)gix_mailmap_add(read, "", 0);'
-    refused 'gix_mailmap copy = *map;'
+    refused 'gix_mailmap_add(map, "", 0);' unused-result
+    refused 'out[0] = (char)gix_mailmap_write(NULL, out, 1, len);' nonnull
+    refused 'out[0] = (char)gix_mailmap_write(map, out, 1, NULL);' nonnull
+    refused 'out[0] = (char)gix_mailmap_add(read, "", 0);' 'discards|discarded'
+    refused 'gix_mailmap copy = *map;' incomplete
     # a file, since at the end of a pipe `grep -q` would end the compiler early
     "$compiler" -Q --help=warnings > "$work/warnings" 2> "$work/said" || true
     if grep -q Wrestrict "$work/warnings"; then
-        refused 'out[0] = (char)gix_mailmap_compact(out, 8, out, 8, len);'
+        refused 'out[0] = (char)gix_mailmap_compact(out, 8, out, 8, len);' restrict
     fi
 done
 

@@ -54,7 +54,7 @@ def main():
                 print(f"case {number}, {case['mode']}: {done.stdout.hex()} and not {case['answer']}")
     counts = ", ".join(f"{count} of {mode}" for mode, count in agreed.items())
     print(f"beside the original: {agreed.total()} cases agree, {failed} differ ({counts})")
-    sys.exit(1 if failed or not agreed else 0)
+    sys.exit(1 if failed or not agreed or len(cases) != 600 else 0)
 
 
 main()

@@ -43,7 +43,7 @@ def stored(program):
         for name, file in zip(names, case["files"]):
             Path(name).write_bytes(bytes.fromhex(file))
         contacts = bytes.fromhex(case["contacts"])
-        for ways, printed in zip(ASKED, case["shortlog"]):
+        for ways, printed in zip(ASKED, case["shortlog"], strict=True):
             words = ways[number % len(ways)]
             wants(f"case {number} {words}", run(program, [*words, *names], contacts), 0, bytes.fromhex(printed))
     return len(cases)
@@ -143,8 +143,8 @@ def main(program):
         git = as_git(program)
         most = peaks(program)
         os.chdir("/")
-    if runs.failed:
-        sys.exit(f"mailmap_shortlog: {runs.failed} failed")
+    if runs.failed or count != 400:
+        sys.exit(f"mailmap_shortlog: {count} stored cases, and not 400; {runs.failed} failed")
     print(f"mailmap_shortlog: {count} stored cases, a million contacts take {most}"
           f"{', and git prints the same' if git else '; git is not here'}")
 

@@ -251,7 +251,7 @@ def main():
         f"findings: {count} stored mailmaps and {hostile_count} hostile ones, "
         f"contacts of {explained_count} histories, {runs.failed} runs differ"
     )
-    sys.exit(1 if runs.failed else 0)
+    sys.exit(1 if runs.failed or (count, explained_count) != (800, 400) else 0)
 
 
 main()
