@@ -1,11 +1,12 @@
-# make run: maps the sample contacts by the sample mailmap. make test: the gate. make edits: the wrong bodies that the
-# gate leaves out to save time. make build: the programs. make lib: the libraries for C. make wheel: the package for
-# Python, in dist. make install: the programs and their manual pages, the libraries, their header, what pkg-config reads
-# and the package for Python, under PREFIX. make uninstall: removes those. make dist and make deb: a tarball and a
-# Debian package of them, in dist, for machines without the toolchain.
+# make run: maps the sample contacts by the sample mailmap. make test: all tests. make gate: proves all crates with
+# their tests, and tries the mutants, but only what changed since the last gate on this machine and what is above it.
+# make cases: makes the stored cases of the tests anew. make build: the programs. make lib: the libraries for C.
+# make extension: the package for Python, in python. make wheel: a wheel of it, in dist. make install: the programs and
+# their manual pages, the libraries, their header, what pkg-config reads and the package for Python, under PREFIX.
+# make uninstall: removes those. make dist and make deb: a tarball and Debian packages of them, in dist, for machines
+# without the toolchain. make vendor DIR=..: copies the library's crates into another repository of crates.
 #
-# What is built is built again only after a change of what it is made from. `rt ci` builds each program that it proves,
-# so after it there is nothing left to build but the libraries for C.
+# What is built is built again only after a change of what it is made from. packaging/prove.py sees that for crates.
 PREFIX ?= /usr/local
 BINDIR ?= $(PREFIX)/bin
 INCLUDEDIR ?= $(PREFIX)/include
@@ -30,7 +31,6 @@ ABI = 1
 PROGRAM = crates/mailmap_check/out/mailmap_check
 VERIFIER = crates/mailmap_verify/out/mailmap_verify
 COUNTER = crates/mailmap_shortlog/out/mailmap_shortlog
-DUMP = crates/mailmap_dump/out/mailmap_dump
 # the libraries for C, and the part of the toolchain's that they depend on
 LIB = crates/gix_mailmap_c/out
 PROVED = $(LIB)/libgix_mailmap_c.a
@@ -40,43 +40,25 @@ SHARED = libgix_mailmap.so.$(VERSION)
 SONAME = libgix_mailmap.so.$(ABI)
 LINKED = libgix_mailmap.so
 
-# what the proof of a crate reads: its files, and those of the crates below it
-sources = crates.txt $(shell find $$(awk -v of=$(1) -f packaging/below.awk crates.txt) \
-    -name out -prune -o -type f \( -name '*.rt' -o -name '*.antt' \) -print)
+.PHONY: build run test gate cases proved vendor install install_lib uninstall lib extension which_python wheel dist \
+    deb always
+PROVE = packaging/prove.py
+build:
+	$(PROVE) mailmap_check mailmap_verify mailmap_shortlog
 
-.PHONY: build run test edits install install_lib uninstall lib wheel dist deb
-build: $(PROGRAM) $(VERIFIER) $(COUNTER)
+# all that the tests need, at once: the programs, also the one that prints in hex, and the proved calls for C
+proved:
+	$(PROVE) mailmap_check mailmap_verify mailmap_shortlog mailmap_dump gix_mailmap_c
 
-$(PROGRAM): $(call sources,mailmap_check)
-	@echo 'Proving and building mailmap_check, with all that it depends on. The first time this takes some minutes.'
-	cd crates/mailmap_check && rt run < stdin > /dev/null
-	touch $@
-
-$(VERIFIER): $(call sources,mailmap_verify)
-	@echo 'Proving and building mailmap_verify, with all that it depends on. The first time this takes some minutes.'
-	cd crates/mailmap_verify && rt run -- --help > /dev/null
-	touch $@
-
-$(COUNTER): $(call sources,mailmap_shortlog)
-	@echo 'Proving and building mailmap_shortlog, with all that it depends on. The first time this takes some minutes.'
-	cd crates/mailmap_shortlog && rt run -- --help > /dev/null
-	touch $@
-
-$(DUMP): $(call sources,mailmap_dump)
-	@echo 'Proving and building mailmap_dump.'
-	cd crates/mailmap_dump && rt run > /dev/null
-	touch $@
-
-run: $(PROGRAM)
+run:
+	$(PROVE) mailmap_check
 	$(PROGRAM) sample/mailmap < sample/contacts
 
 lib: $(LIB)/c/libgix_mailmap.a $(LIB)/c/$(SHARED)
 
 # the proved calls
-$(PROVED): $(call sources,gix_mailmap_c)
-	@echo 'Proving and building the libraries for C.'
-	cd crates/gix_mailmap_c && rt lib > /dev/null
-	touch $@
+$(PROVED): always
+	$(PROVE) gix_mailmap_c
 
 # The static library: the proved calls, what they need of the toolchain, and the functions that wrap them, in one object
 # that shows only the calls of the header. CPPFLAGS, CFLAGS and LDFLAGS come after the flags that are set here, but for
@@ -91,55 +73,59 @@ $(LIB)/c/libgix_mailmap.a: $(PROVED) $(wildcard c/*) include/gix_mailmap.h inclu
 	objcopy --keep-global-symbols=$(LIB)/c/shown $(LIB)/c/gix_mailmap.o
 	ar rcsD $@ $(LIB)/c/gix_mailmap.o
 
-# The shared one, made of it; the Makefile has its number. Its other names, and that beside the package for Python, are
-# hard links: rt stops at symbolic ones.
+# The shared one, made of it; the Makefile has its number. Its other names are hard links: rt stops at symbolic ones.
 $(LIB)/c/$(SHARED): $(LIB)/c/libgix_mailmap.a include/gix_mailmap.map VERSION Makefile
 	rm -f $(LIB)/c/$(LINKED)*
 	$(CC) -shared -o $@ -Wl,-soname,$(SONAME) -Wl,--version-script,include/gix_mailmap.map \
 	    -Wl,--whole-archive $< -Wl,--no-whole-archive $(CFLAGS) $(LDFLAGS) -fno-lto
 	ln $@ $(LIB)/c/$(SONAME)
 	ln $@ $(LIB)/c/$(LINKED)
-	ln -f $@ python/gix_mailmap/$(LINKED)
 
-# the package for Python, with the shared library in it: what pip builds, without pip
-WHEEL = GIX_MAILMAP_LIBRARY= PYTHONDONTWRITEBYTECODE=1 PYTHONPATH=python/build \
-    python3 -c 'import backend, sys; backend.build_wheel(sys.argv[1])'
+# The Python that builds the package: the first of these that has setuptools and wheel. Any later one runs it.
+PYTHON ?= $(firstword $(foreach python,python3 /usr/bin/python3,$(shell $(python) -c 'import setuptools, wheel' \
+    2> /dev/null && echo $(python))) python3)
+SETUP = GIX_MAILMAP_LIBRARY=$(LIB)/c/libgix_mailmap.a PYTHONPATH= PYTHONDONTWRITEBYTECODE= $(PYTHON)
+
+which_python:
+	@echo $(PYTHON)
+
+# the package for Python: its extension module, which has the static library in it
+EXTENSION = python/gix_mailmap/_native.abi3.so
+extension: $(EXTENSION)
+$(EXTENSION): python/gix_mailmap/_native.c setup.py include/gix_mailmap.h $(LIB)/c/libgix_mailmap.a
+	$(SETUP) setup.py --quiet build_ext --inplace --force
+
+# what `pip wheel` builds, without pip
+WHEEL = umask 022 && SOURCE_DATE_EPOCH=$(SOURCE_DATE_EPOCH) $(SETUP) -c \
+    'import sys; from setuptools import build_meta; build_meta.build_wheel(sys.argv[1])' > /dev/null
 
 wheel: lib
 	mkdir -p $(DIST)
 	$(WHEEL) $(DIST)
 
 test:
-	tests/out_of_memory.sh
-	tests/rt.sh ci
-	$(MAKE) build $(DUMP)
-	tests/original/compare.py $(PROGRAM) $(DUMP)
-	tests/verify/run.py $(VERIFIER)
-	tests/shortlog/run.py $(COUNTER)
-	tests/failures.sh $(PROGRAM) $(VERIFIER) $(COUNTER)
-	tests/memory.py $(PROGRAM) $(VERIFIER)
-	tests/streams.py $(PROGRAM) $(VERIFIER)
-	tests/examples.py $(PROGRAM) $(VERIFIER)
-	tests/manual.sh
-	$(MAKE) lib
-	tests/not_compiling/run.sh
-	tests/c/run.sh $(LIB)/c
-	tests/python/run.sh $(LIB)/c
-	tests/c/installed.sh
-	tests/ship.sh
+	tests/all.py
 
-edits:
-	tests/more_must_fail.sh
+gate:
+	tests/rt.sh ci
+
+SEED ?= 1
+cases:
+	tests/cases.sh $(SEED)
+
+# The name of the folder is taken from the environment, where make puts it as it was given.
+vendor:
+	@packaging/vendor.py "$$DIR"
 
 # A file that is already there with the same bytes isn't written again.
-install: build lib
+install: build lib extension
 	mkdir -p $(DESTDIR)$(BINDIR) $(DESTDIR)$(MANDIR)/man1
 	install -C -m 755 $(PROGRAM) $(VERIFIER) $(COUNTER) $(DESTDIR)$(BINDIR)
 	install -C -m 644 $(PAGES) $(DESTDIR)$(MANDIR)/man1
 	$(MAKE) install_lib
 
 PAGES = man/mailmap_check.1 man/mailmap_shortlog.1 man/mailmap_verify.1
-PACKAGE = python/gix_mailmap/py.typed $(wildcard python/gix_mailmap/*.py)
+PACKAGE = python/gix_mailmap/py.typed $(wildcard python/gix_mailmap/*.py python/gix_mailmap/*.pyi)
 # a folder as pkg-config has it: from the prefix on, if it is below that
 BELOW = $(patsubst $(PREFIX)/%,$${prefix}/%,$(1))
 
@@ -148,13 +134,11 @@ FOR_PKG_CONFIG = sed -e 's|@PREFIX@|$(PREFIX)|' -e 's|@INCLUDEDIR@|$(call BELOW,
     -e 's|@LIBDIR@|$(call BELOW,$(LIBDIR))|' -e 's|@VERSION@|$(VERSION)|' include/gix_mailmap.pc.in
 INFO = gix_mailmap-$(VERSION).dist-info
 METADATA = sed -e 's|@VERSION@|$(VERSION)|' packaging/METADATA.in
-# the shared library, as it is named from the package for Python
-FROM_PYTHON = $$(realpath -sm --relative-to=$(PYTHONDIR)/gix_mailmap $(LIBDIR))/$(SONAME)
 # installs what a command prints as a file; and a link, if it isn't there yet
 install_printed = made=$$(mktemp) && $(1) > $$made && install -C -m 644 $$made $(2) && rm $$made
 install_link = [ "$$(readlink $(2))" = "$(1)" ] || ln -sf $(1) $(2)
 
-# what `make lib` has built
+# what `make lib extension` has built
 install_lib:
 	mkdir -p $(DESTDIR)$(INCLUDEDIR) $(DESTDIR)$(LIBDIR)/pkgconfig
 	mkdir -p $(DESTDIR)$(PYTHONDIR)/gix_mailmap $(DESTDIR)$(PYTHONDIR)/$(INFO)
@@ -165,7 +149,7 @@ install_lib:
 	$(call install_link,$(SONAME),$(DESTDIR)$(LIBDIR)/$(LINKED))
 	$(call install_printed,$(FOR_PKG_CONFIG),$(DESTDIR)$(LIBDIR)/pkgconfig/gix_mailmap.pc)
 	install -C -m 644 $(PACKAGE) $(DESTDIR)$(PYTHONDIR)/gix_mailmap
-	$(call install_link,$(FROM_PYTHON),$(DESTDIR)$(PYTHONDIR)/gix_mailmap/$(LINKED))
+	install -C -m 755 $(EXTENSION) $(DESTDIR)$(PYTHONDIR)/gix_mailmap
 	$(call install_printed,$(METADATA),$(DESTDIR)$(PYTHONDIR)/$(INFO)/METADATA)
 
 # Folders that others may use, such as bin, stay.
@@ -174,7 +158,7 @@ uninstall:
 	rm -f $(addprefix $(DESTDIR)$(MANDIR)/man1/,$(notdir $(PAGES)))
 	rm -f $(DESTDIR)$(INCLUDEDIR)/gix_mailmap.h
 	rm -f $(addprefix $(DESTDIR)$(LIBDIR)/,libgix_mailmap.a $(SHARED) $(SONAME) $(LINKED) pkgconfig/gix_mailmap.pc)
-	rm -f $(addprefix $(DESTDIR)$(PYTHONDIR)/gix_mailmap/,$(notdir $(PACKAGE)) $(LINKED))
+	rm -f $(addprefix $(DESTDIR)$(PYTHONDIR)/gix_mailmap/,$(notdir $(PACKAGE) $(EXTENSION)))
 	rm -rf $(DESTDIR)$(PYTHONDIR)/gix_mailmap/__pycache__
 	rm -f $(DESTDIR)$(PYTHONDIR)/$(INFO)/METADATA
 	for folder in $(PYTHONDIR)/gix_mailmap $(PYTHONDIR)/$(INFO) $(PREFIX)/share/gix_mailmap/python \
@@ -185,16 +169,12 @@ uninstall:
 DIST ?= dist
 SOURCE_DATE_EPOCH ?= 315532800
 TARBALL = gix_mailmap-$(VERSION)-linux-x86_64
-DEBIAN = gix-mailmap_$(VERSION)_amd64
-MAINTAINER ?= The maintainers of gix_mailmap <maintainers@gix-mailmap.invalid>
 # the oldest version of glibc that all of it runs with
-GLIBC = $(shell grep -aoh 'GLIBC_2\.[0-9]*' $(PROGRAM) $(VERIFIER) $(COUNTER) $(LIB)/c/$(SHARED) | sort -V \
-    | tail -n 1 | cut -d _ -f 2)
-# the maintainer as it is given, escaped for sed and for the shell
-ESCAPED = $(subst ','\'',$(subst |,\|,$(subst &,\&,$(subst \,\\,$(value MAINTAINER)))))
-FILLED = sed -e 's|@VERSION@|$(VERSION)|' -e 's|@GLIBC@|$(GLIBC)|' -e 's|@MAINTAINER@|$(ESCAPED)|'
+GLIBC = $(shell grep -aoh 'GLIBC_2\.[0-9]*' $(PROGRAM) $(VERIFIER) $(COUNTER) $(LIB)/c/$(SHARED) $(EXTENSION) \
+    | sort -V | tail -n 1 | cut -d _ -f 2)
+FILLED = sed -e 's|@VERSION@|$(VERSION)|' -e 's|@GLIBC@|$(GLIBC)|'
 
-dist: build lib
+dist: build lib extension
 	rm -rf $(DIST)/$(TARBALL)
 	$(MAKE) install DESTDIR=$(DIST)/$(TARBALL) PREFIX= BINDIR=/bin INCLUDEDIR=/include LIBDIR=/lib MANDIR=/share/man \
 	    PYTHONDIR=/share/gix_mailmap/python
@@ -206,19 +186,20 @@ dist: build lib
 	    --mode=u=rwX,go=rX -I 'gzip -9n' -cf $(DIST)/$(TARBALL).tar.gz $(TARBALL)
 	rm -rf $(DIST)/$(TARBALL)
 
-deb: build lib
-	@[ -n "$$(command -v dpkg-deb)" ] || { echo 'make deb: there is no dpkg-deb here'; exit 1; }
-	rm -rf $(DIST)/$(DEBIAN)
-	$(MAKE) install DESTDIR=$(DIST)/$(DEBIAN) PREFIX=/usr BINDIR=/usr/bin INCLUDEDIR=/usr/include \
-	    LIBDIR=/usr/lib/x86_64-linux-gnu MANDIR=/usr/share/man PYTHONDIR=/usr/lib/python3/dist-packages
-	gzip -9n $(DIST)/$(DEBIAN)/usr/share/man/man1/*.1
-	install -D -m 644 LICENSE $(DIST)/$(DEBIAN)/usr/share/doc/gix-mailmap/copyright
-	echo debian > $(DIST)/$(DEBIAN)/usr/lib/python3/dist-packages/$(INFO)/INSTALLER
-	mkdir $(DIST)/$(DEBIAN)/DEBIAN
-	cd $(DIST)/$(DEBIAN) && find usr -type f | LC_ALL=C sort | xargs md5sum > DEBIAN/md5sums
-	$(FILLED) packaging/control.in > $(DIST)/$(DEBIAN)/DEBIAN/control
-	install -m 644 packaging/triggers $(DIST)/$(DEBIAN)/DEBIAN
-	install -m 755 packaging/prerm $(DIST)/$(DEBIAN)/DEBIAN
-	chmod -R u=rwX,go=rX $(DIST)/$(DEBIAN)
-	SOURCE_DATE_EPOCH=$(SOURCE_DATE_EPOCH) dpkg-deb --root-owner-group -Zgzip --build $(DIST)/$(DEBIAN) > /dev/null
-	rm -rf $(DIST)/$(DEBIAN)
+# dpkg-buildpackage writes beside the folder that it is called in. So that one is in DIST, with a copy of debian, whose
+# rules call make install. The maintainer may be another one than that of debian/control.
+DEBIAN = $(DIST)/gix-mailmap-$(VERSION)
+MAINTAINER ?=
+# as it is given, escaped for sed and for the shell
+ESCAPED = $(subst ','\'',$(subst |,\|,$(subst &,\&,$(subst \,\\,$(value MAINTAINER)))))
+
+deb: build lib extension
+	$(if $(shell command -v dh 2> /dev/null),,$(error make deb: no debhelper here: apt install debhelper dh-python))
+	$(if $(shell dpkg-checkbuilddeps debian/control 2>&1),$(error make deb: a build dependency is missing: apt build-dep .))
+	rm -rf $(DEBIAN)
+	mkdir -p $(DEBIAN)
+	cp -R debian $(DEBIAN)
+	[ -z '$(ESCAPED)' ] || sed -i -e 's|^Maintainer: .*|Maintainer: $(ESCAPED)|' -e 's|^ -- .*>  | -- $(ESCAPED)  |' \
+	    $(DEBIAN)/debian/control $(DEBIAN)/debian/changelog
+	top="$$(pwd)" && cd $(DEBIAN) && TOP="$$top" env -u MAKEFLAGS -u MFLAGS dpkg-buildpackage --build=binary --no-sign
+	rm -rf $(DEBIAN)

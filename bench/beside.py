@@ -4,17 +4,17 @@
     beside.py OLD NEW MAPS [--seconds S] [--without-million] [--only WORD] [--write] [--instructions]
 
 OLD and NEW are folders of the repository in which `make build` has built mailmap_check and mailmap_verify, and `rt run`
-in crates/mailmap_bench that program. MAPS is a folder that make_maps.py filled. The cells are those of
-docs/BENCHMARKS.md: single calls, merges one by one and in batches, and whole processes. What isn't built is left out.
+in crates/mailmap_bench that program. MAPS is a folder that make_maps.py filled. The cells are single calls, merges one
+by one and in batches, and whole processes. What isn't built is left out.
 
 The two builds run in turn, at least three times each and for S seconds a cell (1 if it is not given), and the shortest
 time counts. For a single call that is what mailmap_bench prints, for a whole process its processor time. If the two
 differ by more than a twentieth, they get four times as long, and then sixteen times, before a cell is marked. The peak is
 the largest resident set.
 
-It prints the ratios of new to old, and with --write puts them into docs/BENCHMARKS.md. As root, `nice -n -20` in front
-of it keeps other work away. With --instructions it counts those of one run for each cell that it marks, since other work
-doesn't change them; that takes valgrind, and fifty times as long.
+It prints the ratios of new to old, and with --write puts them into bench/results/beside.md. As root, `nice -n -20` in
+front of it keeps other work away. With --instructions it counts those of one run for each cell that it marks, since
+other work doesn't change them; that takes valgrind, and fifty times as long.
 """
 import argparse
 import itertools
@@ -28,12 +28,12 @@ from pathlib import Path
 from compare import LAST, MERGE_SIZES, SIZES, cells, fields
 from make_families import merged_one_by_one, write
 from measuring import (
-    HERE, KINDS, MILLION, Failed, built, duration, put_in, rounds, run, scratch, succeeded, table, versions,
+    KINDS, MILLION, RESULTS, Failed, built, duration, put_in, rounds, run, scratch, succeeded, table, versions,
 )
 
 BENCH, CHECK, VERIFY = "mailmap_bench", "mailmap_check", "mailmap_verify"
 CONTACTS = [1_000, 100_000]
-# how many entries are merged at once, into the snapshot of those before
+# how many entries are merged at once into the snapshot of the earlier ones
 BATCHES = [16, 17, 100, 1_000]
 BATCHED_LINES = 10_000
 # new to old
@@ -43,7 +43,7 @@ COUNTING = ["valgrind", "--tool=callgrind", "--callgrind-out-file=/dev/null"]
 
 @dataclass(frozen=True)
 class Cell:
-    """What is run: a program and its words, and its standard input. Of a call, what is printed of it is its time."""
+    """What to run: a program, its arguments and its standard input. For a call, the time is a field of its output."""
 
     what: str
     kind: str
@@ -59,7 +59,6 @@ class Cell:
 
 @dataclass
 class Cost:
-    """Nanoseconds and bytes."""
 
     time: int
     peak: int
@@ -78,7 +77,7 @@ def calls(maps: Path, sizes: list[int]) -> Iterator[Cell]:
 
 
 def names_merged(folder: str) -> Iterator[Cell]:
-    """Names of one email that are replaced one by one."""
+    """Names of one email, overridden one by one."""
     for names in MERGE_SIZES:
         path = Path(folder) / f"names-{names}.mailmap"
         write(path, merged_one_by_one(names))
@@ -86,7 +85,7 @@ def names_merged(folder: str) -> Iterator[Cell]:
 
 
 def processes(maps: Path, sizes: list[int]) -> Iterator[Cell]:
-    """Whole processes, and a build by itself."""
+    """Whole processes, and a build alone."""
     for kind, lines in [("empty", 0), *itertools.product(KINDS, sizes)]:
         mailmap = f"{maps}/{kind}-{lines}.mailmap"
         for count in CONTACTS:
@@ -97,7 +96,7 @@ def processes(maps: Path, sizes: list[int]) -> Iterator[Cell]:
 
 
 class Builds:
-    """The two folders, what measures, and a file for what is printed."""
+    """The two directories, the measuring program, and a file for output."""
 
     def __init__(self, old: Path, new: Path, folder: str) -> None:
         self.folders = [old, new]
@@ -108,7 +107,6 @@ class Builds:
         return [folder / "crates" / cell.program / "out" / cell.program for folder in self.folders]
 
     def cost(self, program: Path, cell: Cell) -> Cost:
-        """One run."""
         ended = run(self.measure, [str(program), *cell.words], cell.stdin, self.printed)
         if not succeeded(program, ended):
             raise Failed(f"{program}: status {ended.status} {ended.complaints.strip()}")
@@ -117,7 +115,7 @@ class Builds:
         return Cost(fields(Path(self.printed).read_text())[cell.time], ended.peak)
 
     def instructions(self, program: Path, cell: Cell) -> int:
-        """How many instructions a run takes."""
+        """The number of instructions of a run."""
         ended = run(self.measure, [*COUNTING, str(program), *cell.words], cell.stdin, self.printed)
         collected = re.search(r"Collected : (\d+)", ended.complaints)
         if not collected:
@@ -139,7 +137,7 @@ class Builds:
 
 @dataclass
 class Measured:
-    """A cell, what it costs, and for a marked one the ratio of the instructions, new to old, if they are counted."""
+    """A cell and what it costs; for a marked one, the ratio of instructions, new to old, if they are counted."""
 
     cell: Cell
     old: Cost
@@ -154,7 +152,7 @@ class Measured:
         return f"{self.cell}: {times}; {self.ratio('time')}, peak {self.ratio('peak')}"
 
     def ratio(self, quantity: str) -> str:
-        """The ratio of the times or of the peaks, with a mark if it is above the limit."""
+        """The ratio of the times or of the peaks, marked if it is above the limit."""
         old, new = getattr(self.old, quantity), getattr(self.new, quantity)
         counted = quantity == "time" and self.instructions is not None
         mark = " ✗" if new > LIMIT * old else ""
@@ -178,7 +176,7 @@ def measured(given: argparse.Namespace) -> list[Measured]:
 
 
 def ratios_table(found: list[Measured], quantity: str) -> str:
-    """The ratios of times or peaks: a row for each kind of cell and of map, and a column for each size."""
+    """The ratios of times or peaks: a row for each kind of cell and map, and a column for each size."""
     sizes = sorted({m.cell.lines for m in found})
     rows: dict[tuple[str, str], dict[int, str]] = {}
     for m in found:
@@ -189,7 +187,7 @@ def ratios_table(found: list[Measured], quantity: str) -> str:
 
 
 def tables(found: list[Measured], minutes: float) -> dict[str, str]:
-    """The tables of docs/BENCHMARKS.md, by the names between which they are there."""
+    """The tables of bench/results/beside.md, by the names of their marks there."""
     whole = [m for m in found if m.cell.time == "processor"]
     machine = "{processor}, {system}".format(**versions())
     return {
@@ -214,7 +212,7 @@ def main() -> None:
     found = measured(given)
     texts = tables(found, (time.monotonic() - begin) / 60)
     if given.write:
-        put_in(HERE.parent / "docs" / "BENCHMARKS.md", texts)
+        put_in(RESULTS / "beside.md", texts)
     else:
         print("\n\n".join(texts.values()))
 

@@ -24,12 +24,12 @@ LOOKS = {
     "git": ("#15803d", "^", 1.4),
     "libgit2": ("#6b7280", "D", 1.4),
 }
-# where the empty map is
+# the position of the empty map
 EMPTY = 100
 
 
 def points(cells, kind, contacts, program, key):
-    """The lines of the maps of a kind, and the program's figure for each."""
+    """The numbers of lines of the maps of a kind, and the program's figure for each."""
     chosen = [c for c in cells if c["map"] in (kind, "empty") and c["contacts"] == contacts]
     found = [(c["lines"] or EMPTY, c["peers"][program][key]) for c in chosen if key in c["peers"][program]]
     return zip(*sorted(found))
@@ -66,7 +66,7 @@ def panel(axes, cells, kind, contacts, key, text):
 
 
 def drawn(path, cells, key, title, text):
-    """A row of panels for each number of contacts, a panel for each kind of map."""
+    """A row of panels for each number of contacts, with a panel for each kind of map."""
     rows = sorted({c["contacts"] for c in cells})
     size = (10.5, 3 * len(rows) + 0.7)
     figure, grid = pyplot.subplots(len(rows), len(KINDS), figsize=size, sharex=True, sharey=True, squeeze=False)
@@ -86,8 +86,8 @@ def drawn(path, cells, key, title, text):
 
 
 def charts(figures, folder):
-    """Writes both charts, and gives their paths."""
-    # the same figures give the same bytes; text stays text
+    """Writes both charts and returns their paths."""
+    # equal figures give equal bytes; text stays text
     matplotlib.rcParams.update({"svg.hashsalt": "mailmap_check", "svg.fonttype": "none"})
     cells = figures["processes"]
     times, peaks = Path(folder) / "benchmarks.svg", Path(folder) / "benchmarks-memory.svg"

@@ -3,15 +3,15 @@
 
     compare.py ORIGINAL PORT MAPS [--seconds S] [--without-million] [--only WORD]
 
-ORIGINAL and PORT are programs that know the bench- modes, and MAPS is a folder that make_maps.py filled. For each cell
-the two programs run in turn, at least twice each and for S seconds (4 if it is not given). A time is the shortest of
-all runs, since other work on the machine only ever adds to it. `port / original` is the port's time divided by the
-original's: 0.5 is twice as fast. A cell's target follows it, if it has one.
+ORIGINAL is the program whose path tests/original/oracle.sh prints, PORT is mailmap_bench, and MAPS is a folder that
+make_maps.py filled. For each cell the two programs run in turn, at least twice each and for S seconds (4 if it is not
+given). A time is the shortest of all runs, since other work on the machine only ever adds to it. `port / original` is
+the port's time divided by the original's: 0.5 is twice as fast. A cell's target follows it, if it has one.
 
 Peak memory is the largest resident set of one building run. `beyond the file` leaves out what the same program takes
 for a walk over an empty file, and the length of the map's file, which both hold in memory.
 
-figures.py runs this, too, and puts the tables into docs/BENCHMARKS.md.
+figures.py runs this, too, and puts the tables into bench/results/calls.md, and a part of them into docs/BENCHMARKS.md.
 """
 import itertools
 import math
@@ -20,7 +20,7 @@ import sys
 from pathlib import Path
 
 from measuring import (
-    KINDS, MILLION, Failed, built, duration, mebibytes, options, output,
+    KINDS, MILLION, Failed, built, duration, marked_ratio, mebibytes, options, output,
     ratio, rounds, run, scratch, table,
 )
 
@@ -40,7 +40,7 @@ AIMS = {
 
 
 def aim(what, kind, lines):
-    if what == "walk":
+    if what == "parse":
         return 0.6
     if what.startswith("lookups"):
         return 0.35
@@ -50,11 +50,11 @@ def aim(what, kind, lines):
 
 
 def cells(maps, sizes):
-    """What is timed, each as what it is, the kind of map, its lines and the words that the programs take."""
+    """The cells: what is timed, the kind of map, its number of lines, and the programs' arguments."""
     for kind in KINDS:
         for lines in sizes:
             stem, repeats = f"{maps}/{kind}-{lines}", str(REPEATS[lines])
-            yield "walk", kind, lines, ["bench-parse", f"{stem}.mailmap", repeats]
+            yield "parse", kind, lines, ["bench-parse", f"{stem}.mailmap", repeats]
             yield "build", kind, lines, ["bench-build", f"{stem}.mailmap", repeats]
             for contacts in ["hits", "misses"]:
                 words = ["bench-lookup", f"{stem}.mailmap", f"{stem}.{contacts}", repeats]
@@ -71,7 +71,7 @@ def fields(line):
 
 
 def times(programs, words, seconds):
-    """The shortest time of each program; both have to find the same number of items, entries, hits or merges."""
+    """The shortest time of each program. Both must report the same numbers of items, entries, hits or merges."""
     best, seen = [math.inf, math.inf], [None, None]
     for _ in rounds(seconds):
         for place, program in enumerate(programs):
@@ -95,7 +95,7 @@ def timed(programs, maps, sizes, seconds, only):
 
 
 def small_merges(port, maps, sizes, seconds, only):
-    """The port's time for the middle one of the merges that put a map's last entries into the snapshot of the others."""
+    """The port's median time for merging one of a map's last entries into the snapshot of the others."""
     for kind in KINDS:
         for lines in sizes:
             if only in f"a merge of one entry {kind} {lines}":
@@ -112,7 +112,7 @@ def peak(measure, words):
 
 
 def weighed(programs, maps, sizes, only):
-    """The peak memory of building, beyond the file and the program's start."""
+    """The peak memory of building, without the file and the program's start."""
     with scratch() as folder:
         measure = built("measure", folder, "-static")
         starts = [peak(measure, [program, "bench-parse", "/dev/null", "1"]) for program in programs]
@@ -144,6 +144,21 @@ def times_table(calls):
     return table(head, rows)
 
 
+def summary_table(figures):
+    """The port at WHOLE_SIZE lines, and port to original: a row for each call, a column for each kind of map."""
+    rows = {}
+    for c in figures["calls"]:
+        if c["lines"] == WHOLE_SIZE:
+            shown = f"{duration(c['port'])}, {marked_ratio(c['port'], c['original'], c['aim'])}"
+            rows.setdefault(c["what"], {})[c["map"]] = shown
+    for c in figures["building"]:
+        if c["lines"] == WHOLE_SIZE:
+            shown = f"{mebibytes(c['port'])}, {marked_ratio(c['port'], c['original'], c['aim'])}"
+            rows.setdefault("peak memory of building", {})[c["map"]] = shown
+    head = [f"{WHOLE_SIZE:,} lines", *[f" {kind}" for kind in KINDS]]
+    return table(head, [[what, *[cells.get(kind, "") for kind in KINDS]] for what, cells in rows.items()])
+
+
 def memory_table(building):
     beyond = [" original beyond it", " port beyond it"]
     head = ["peak memory of building", " lines", " file", *beyond, " port / original", " aim"]
@@ -155,7 +170,8 @@ def memory_table(building):
 
 
 def grown(named, kind, ports, originals, bound):
-    """A row: the port's time for one as the map grows, and how often that of the smallest map it gets, for both."""
+    """A row: the port's times per item as the map grows, and the factor from the smallest map to the largest, for both.
+    """
     fewest, most = min(ports), max(ports)
     at_most = most / fewest if bound == "n" else math.log(most, fewest)
     factors = [f"{times[most] / times[fewest]:.1f}" if times else "" for times in (originals, ports)]
@@ -163,7 +179,7 @@ def grown(named, kind, ports, originals, bound):
 
 
 def growth_table(figures):
-    """How the time for one line, lookup or merge grows with the map."""
+    """How the time per line, lookup or merge grows with the map."""
     rows = []
     for (what, named), kind in itertools.product([("build", "build, a line"), ("lookups, hits", "a lookup")], KINDS):
         cells = [c for c in figures["calls"] if (c["what"], c["map"]) == (what, kind)]

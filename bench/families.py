@@ -5,9 +5,10 @@
                 [--programs NAME ..]
     families.py --again [--write] [--json FILE]    the tables of what was measured before
 
-ORIGINAL is a program over the original crate: `ORIGINAL check MAP.. < contacts` and `ORIGINAL compact MAP..` print what
-mailmap_check does without and with --compact. Before it, `make build` builds mailmap_check and mailmap_verify, and
-`rt run` in crates/mailmap_bench what merges entries one by one. What isn't built is left out.
+ORIGINAL is the program over the original crate whose path tests/original/oracle.sh prints: `ORIGINAL check MAP..` and
+`ORIGINAL compact MAP..` do what mailmap_check does without and with --compact. Before it, `make build` builds
+mailmap_check and mailmap_verify, and `rt run` in crates/mailmap_bench what merges entries one by one. What isn't built
+is left out.
 
 It makes each family with 10,000, 100,000 and 1,000,000 lines, in a folder in memory that goes away again. All programs
 run in turn, three times and for S seconds a cell (1 if it is not given); what takes more than three seconds runs once.
@@ -19,8 +20,9 @@ that family.
 With --quick, which takes some ten minutes, families with contacts get at most 100,000 lines, programs run twice, or once
 from two seconds on, and 20 seconds are the limit.
 
-It prints the tables. With --write it puts them into docs/BENCHMARKS.md. The figures are kept after each cell in the file
-that --json names, or with --write in docs/families.json. With --add they are added to those that are in that file.
+It prints the tables. With --write it puts them into bench/results/families.md. The figures are kept after each cell in
+the file that --json names, or with --write in bench/results/families.json. With --add they are added to those that are
+in that file.
 """
 import argparse
 import json
@@ -34,10 +36,11 @@ from pathlib import Path
 from typing import Any
 
 from make_families import FAMILIES, Family, Made, merged_one_by_one, write
-from measuring import HERE, Failed, built, duration, put_in, rounds, run, scratch, stored, succeeded, table, versions
+from measuring import (
+    HERE, RESULTS, Failed, built, duration, put_in, rounds, run, scratch, stored, succeeded, table, versions,
+)
 
-DOCS = HERE.parent / "docs"
-FIGURES = DOCS / "families.json"
+FIGURES = RESULTS / "families.json"
 CRATES = HERE.parent / "crates"
 SIZES = [10_000, 100_000, 1_000_000]
 NAMES_MERGED = [1_000, 10_000, 32_000]
@@ -47,7 +50,8 @@ ADDRESSES = 8 << 30
 
 @dataclass(frozen=True)
 class Limits:
-    """Seconds after which a program is stopped, and from which on it runs only once; fewest runs; most contacts."""
+    """Seconds after which a program is stopped, and above which it runs only once; the fewest runs; the most contacts.
+    """
 
     stop: int
     once: int
@@ -63,9 +67,9 @@ CHECK, ORIGINAL, COMPACT, ORIGINAL_COMPACT, VERIFY = PROGRAMS = [
     "original, compact",
     "mailmap_verify",
 ]
-# a family may grow so much more than the random map, which grows by n log n and what the caches add
+# a family may grow this much faster than the random map, which grows with n log n and cache misses
 MORE_GROWTH = 2
-# the peak is at most so often the files, and so many bytes for each entry
+# the allowed peak: this many times the files, and this many bytes per entry
 FILE_SHARE, ENTRY_SHARE = 2, 200
 # port to original, and mailmap_verify to mailmap_check
 ORIGINAL_AIM, VERIFY_AIM = 1.0, 2.0
@@ -82,7 +86,7 @@ class Cost:
 
 @dataclass
 class Cell:
-    """A family with so many lines: its bytes, its entries, and what each program took."""
+    """A family with a number of lines: its bytes, its entries, and the cost of each program."""
 
     family: str
     lines: int
@@ -100,7 +104,7 @@ class Figures:
 
 
 class Programs:
-    """The programs, what measures them, and a folder for what they read."""
+    """The programs, the measuring program, and a directory for their input."""
 
     def __init__(self, original: str, wanted: list[str], limits: Limits, folder: str) -> None:
         self.folder, self.limits = Path(folder), limits
@@ -119,7 +123,7 @@ class Programs:
         self.merging = {CHECK: [str(self.bench), "bench-merge1"], ORIGINAL: [original, "bench-merge1"]}
 
     def cost(self, words: list[str], contacts: str = "/dev/null") -> Cost:
-        """One run. The folder is the current one, since the names of very many files have to be short."""
+        """One run, inside the directory: the names of very many files have to be short."""
         ended = run(self.measure, words, contacts, seconds=self.limits.stop, cwd=self.folder)
         if ended.status == 128 + signal.SIGXCPU:
             return Cost(fault=f"> {self.limits.stop} s")
@@ -129,7 +133,7 @@ class Programs:
         return Cost(ended.processor, ended.peak)
 
     def costs(self, words: dict[str, list[str]], contacts: str, seconds: float, runs: int = 0) -> dict[str, Cost]:
-        """What each command line takes, all in turn: the least time and the largest peak."""
+        """The least time and the largest peak of each command line. They run in turn."""
         found: dict[str, Cost] = {}
         for _ in rounds(seconds, runs or self.limits.runs):
             for name, line in words.items():
@@ -144,7 +148,7 @@ class Programs:
 
 
 def made_files(programs: Programs, made: Made) -> tuple[list[str], str, int]:
-    """Writes what a family has: the names of the mailmaps, that of the contacts, and how many bytes all have."""
+    """Writes a family's files. Returns the names of the mailmaps and of the contacts, and the number of bytes."""
     names, size = [], 0
     for number, text in enumerate(made.mailmaps):
         names.append(str(number))
@@ -170,7 +174,7 @@ def measured_cell(programs: Programs, family: Family, lines: int, faults: dict[s
 
 
 def kept(figures: Figures, cell: Cell, path: Path | None) -> None:
-    """Puts a cell among the figures, if it adds to one that is there, and the figures into their file."""
+    """Stores a cell among the figures, merging it with an existing one, and writes them to their file."""
     costs = [f"{name} {cost.fault or duration(cost.time)}" for name, cost in cell.costs.items()]
     print(f"{cell.family}, {cell.lines:,}: {', '.join(costs)}", file=sys.stderr, flush=True)
     cells = figures.merges if cell.family == MERGES else figures.cells
@@ -197,7 +201,7 @@ def measured_families(programs: Programs, figures: Figures, given: argparse.Name
 
 
 def measured_merges(programs: Programs, figures: Figures, given: argparse.Namespace) -> None:
-    """Names of one email that are replaced one by one, each by a merge of its own."""
+    """Names of one email, overridden one by one, each with a merge of its own."""
     faults: dict[str, Cost] = {}
     for names in NAMES_MERGED if programs.bench.exists() and given.only in MERGES else []:
         size = write(programs.folder / "0", merged_one_by_one(names))
@@ -208,7 +212,7 @@ def measured_merges(programs: Programs, figures: Figures, given: argparse.Namesp
 
 
 def measured(figures: Figures, given: argparse.Namespace) -> None:
-    """Adds to the figures what is measured now."""
+    """Measures, and adds the results to the figures."""
     begin = time.monotonic()
     resource.setrlimit(resource.RLIMIT_AS, (ADDRESSES, ADDRESSES))
     with scratch() as folder:
@@ -223,7 +227,7 @@ def measured(figures: Figures, given: argparse.Namespace) -> None:
 
 
 def read(path: Path) -> Figures:
-    """What was measured before."""
+    """Figures that were measured before."""
 
     def costs(found: dict[str, Any]) -> dict[str, Cost]:
         return {name: Cost(**cost) for name, cost in found.items()}
@@ -236,7 +240,7 @@ def read(path: Path) -> Figures:
 
 
 class Growth:
-    """What one program takes a byte in one family, by the number of lines."""
+    """The cost per byte of one program in one family, by the number of lines."""
 
     def __init__(self, figures: Figures, family: str, program: str, what: str) -> None:
         self.start: int = getattr(figures.starts.get(program, Cost()), what)
@@ -245,7 +249,7 @@ class Growth:
         self.what = what
 
     def net(self, lines: int) -> int:
-        """Beyond what the program takes over an empty mailmap."""
+        """The cost beyond that for an empty mailmap."""
         taken: int = getattr(self.costs[lines], self.what)
         return max(taken - self.start, 0)
 
@@ -253,11 +257,11 @@ class Growth:
         return {lines: self.net(lines) / self.cells[lines].size for lines, cost in self.costs.items() if not cost.fault}
 
     def least(self) -> int | None:
-        """The smallest number of lines with something to measure: a fifth of what the program takes for nothing."""
+        """The smallest number of lines with a cost worth measuring: at least a fifth of that for an empty mailmap."""
         return min((lines for lines in self.rates() if 5 * self.net(lines) >= self.start), default=None)
 
     def growth(self) -> float | None:
-        """How often the rate of the smallest is that of the largest."""
+        """The factor between the rate at the largest number of lines and that at the smallest."""
         rates, least = self.rates(), self.least()
         if least is None or max(rates) == least:
             return None
@@ -281,7 +285,7 @@ class Growth:
 
 
 def digits(number: float) -> str:
-    """Three digits, and none after the point from a hundred on."""
+    """Three digits, without decimals from 100 on."""
     return f"{number:.0f}" if number >= 100 else f"{number:.3g}"
 
 
@@ -290,7 +294,7 @@ def marked(number: float, aim: float) -> str:
 
 
 def largest_ratio(cells: list[Cell], program: str, beside: str, sizes: list[int], aim: float) -> str:
-    """The larger of the ratios of two programs with the two larger numbers of lines."""
+    """The larger of the ratios of two programs at the two largest numbers of lines."""
     ratios = []
     for cell in cells:
         one, other = cell.costs.get(program), cell.costs.get(beside)
@@ -306,7 +310,7 @@ def sizes_of(figures: Figures) -> list[int]:
 
 
 def names_of(figures: Figures, program: str) -> list[str]:
-    """The families that a program ran over, in their order."""
+    """The families that a program ran on, in their order."""
     return list(dict.fromkeys(cell.family for cell in figures.cells if program in cell.costs))
 
 
@@ -328,7 +332,7 @@ def time_table(figures: Figures, program: str, beside: str, aim: float) -> str:
 
 
 def memory_column(figures: Figures, cell: Cell, program: str) -> list[str]:
-    """The peak a byte with the most lines, and its share of what is allowed."""
+    """The peak per byte at the largest number of lines, and its share of what is allowed."""
     cost = cell.costs.get(program)
     if cost is None:
         return ["", ""]
@@ -339,7 +343,7 @@ def memory_column(figures: Figures, cell: Cell, program: str) -> list[str]:
 
 
 def memory_table(figures: Figures) -> str:
-    """The peaks with the most lines of each family."""
+    """The peaks of each family at its largest number of lines."""
     shown = {CHECK: "check", ORIGINAL: "original", COMPACT: "compact", VERIFY: "verify"}
     head = ["bytes a byte of", " bytes", " entries"]
     for name in shown.values():
@@ -358,7 +362,7 @@ def memory_table(figures: Figures) -> str:
 
 
 def merges_table(figures: Figures) -> str:
-    """The time of a merge, as names of one email are replaced one by one."""
+    """The time per merge when names of one email are overridden one by one."""
     rows = []
     for cell in figures.merges:
         port, original = cell.costs[CHECK], cell.costs[ORIGINAL]
@@ -373,15 +377,15 @@ def families_table() -> str:
 
 
 def tables(figures: Figures) -> dict[str, str]:
-    """The tables of docs/BENCHMARKS.md, by the names between which they are there."""
+    """The tables of bench/results/families.md, by the names of their marks there."""
     if not figures.cells:
         return {"families merges": merges_table(figures)}
     sizes = sizes_of(figures)
     log = math.log(max(sizes), min(sizes))
-    machine = "{processor}, {system}; measured in {minutes} minutes. ".format(**figures.machine)
+    machine = "{processor}, {system}; measured in {minutes} minutes.".format(**figures.machine)
     return {
         "families": families_table(),
-        "families machine": f"{machine}From {min(sizes):,} to {max(sizes):,} lines log n grows by {log:.2f}.",
+        "families machine": f"{machine}\nFrom {min(sizes):,} to {max(sizes):,} lines log n grows by {log:.2f}.",
         "families check": time_table(figures, CHECK, ORIGINAL, ORIGINAL_AIM),
         "families compact": time_table(figures, COMPACT, ORIGINAL_COMPACT, ORIGINAL_AIM),
         "families verify": time_table(figures, VERIFY, CHECK, VERIFY_AIM),
@@ -415,7 +419,7 @@ def main() -> None:
     if given.json:
         stored(given.json, asdict(figures))
     if given.write:
-        put_in(DOCS / "BENCHMARKS.md", tables(figures))
+        put_in(RESULTS / "families.md", tables(figures))
     else:
         print("\n\n".join(tables(figures).values()))
 

@@ -1,11 +1,11 @@
 #!/usr/bin/python3
-"""Measures calls and whole processes for docs/BENCHMARKS.md, puts their tables in and draws the charts. It takes some
-ten minutes.
+"""Measures calls and whole processes, puts their tables into docs/BENCHMARKS.md and into bench/results/processes.md and
+calls.md, and draws the charts. It takes some ten minutes.
 
     bench/figures.py ORIGINAL [--without-million] [--seconds S] [--maps FOLDER]
-    bench/figures.py --again          puts in and draws what was measured before, in docs/benchmarks.json
+    bench/figures.py --again          puts in and draws what was measured before, in bench/results/benchmarks.json
 
-ORIGINAL is a program over the original crate; compare.py and peers.py say how it is called. Before it, `rt run` builds
+ORIGINAL is the program over the original crate whose path tests/original/oracle.sh prints. Before it, `rt run` builds
 crates/mailmap_bench and `make build` mailmap_check. The maps are made if they aren't there yet (bench/out/maps, some
 330 MB with the million lines). `--seconds` is what each cell may take, 4 if it is not given; each program runs twice
 at least. It needs `cc`, git, Debian's libgit2-dev and python3-matplotlib, and nothing else running on the machine.
@@ -19,15 +19,14 @@ from pathlib import Path
 import chart
 import compare
 import peers
-from measuring import HERE, MILLION, Failed, output, put_in, stored, versions
+from measuring import HERE, MILLION, PAGE, RESULTS, Failed, output, put_in, stored, versions
 
-DOCS = HERE.parent / "docs"
-FIGURES = DOCS / "benchmarks.json"
+FIGURES = RESULTS / "benchmarks.json"
 CRATES = HERE.parent / "crates"
 
 
 def measured(original, maps, sizes, seconds):
-    """All figures, measured now."""
+    """Measures all figures."""
     missing = [lines for lines in sizes if not (maps / f"hundred-{lines}.100000.contacts").exists()]
     if missing:
         output([sys.executable, HERE / "make_maps.py", maps, *map(str, missing)])
@@ -40,17 +39,24 @@ def measured(original, maps, sizes, seconds):
 
 
 def tables(figures):
-    """The tables of docs/BENCHMARKS.md, by the names between which they are there."""
+    """The tables of each document, by the names of their marks there."""
     m, processes = figures["machine"], figures["processes"]
-    return {
+    page = {
         "machine": "{processor}, {system}; git {git}, libgit2 {libgit2}; measured in {minutes} minutes.".format(**m),
+        "processes": peers.summary_table(processes),
+        "calls": compare.summary_table(figures),
+    }
+    of_processes = {
         "processes": peers.times_table(processes),
         "process memory": peers.memory_table(processes),
         "answers": peers.answers_table(processes),
+    }
+    of_calls = {
         "calls": compare.times_table(figures["calls"]),
         "building memory": compare.memory_table(figures["building"]),
         "growth": compare.growth_table(figures),
     }
+    return {PAGE: page, RESULTS / "processes.md": of_processes, RESULTS / "calls.md": of_calls}
 
 
 def main():
@@ -67,8 +73,9 @@ def main():
         sizes = [lines for lines in compare.SIZES if lines < MILLION or not given.without_million]
         stored(FIGURES, measured(given.original, given.maps, sizes, given.seconds))
     figures = json.loads(FIGURES.read_text(encoding="utf-8"))
-    put_in(DOCS / "BENCHMARKS.md", tables(figures))
-    chart.charts(figures, DOCS)
+    for path, texts in tables(figures).items():
+        put_in(path, texts)
+    chart.charts(figures, RESULTS)
 
 
 if __name__ == "__main__":

@@ -17,26 +17,26 @@ import sys
 from pathlib import Path
 
 from measuring import (
-    HERE, Failed, built, duration, mebibytes, output, put_in, ratio, rounds, run, scratch, succeeded, table,
+    PAGE, Failed, built, duration, mebibytes, output, put_in, ratio, rounds, run, scratch, succeeded, table,
 )
 from streams import histories
 
 CHECK, EXPLAIN, CONTACTS, SHORTLOG = "mailmap_check", "--explain", "--contacts -", "mailmap_shortlog -n -e"
 GIT, SORTED = "git shortlog -sne", "mailmap_check, sort and uniq -c"
 SORTING = '"$0" "$1" | LC_ALL=C sort | uniq -c | sort -rn'
-# what is set beside what, and at most what part of its time it may take
+# which program is compared with which, and the largest allowed ratio of their times
 ROWS = [(EXPLAIN, CHECK, 2), (CONTACTS, CHECK, 3), (SHORTLOG, GIT, 0.33), (SHORTLOG, SORTED, 0.33)]
 
 
 def as_logged(folder):
-    """Writes the contacts as git log prints authors, and gives the path."""
+    """Writes the contacts as authors in the output of git log, and returns the path."""
     with open(folder / "million", encoding="utf-8") as contacts, open(folder / "log", "w", encoding="utf-8") as log:
         log.writelines(f"Author: {contact}\n    subject\n" for contact in contacts)
     return folder / "log"
 
 
 def commands(given, folder):
-    """The words and the standard input of each."""
+    """The command line and the standard input of each program."""
     mailmap, million = str(histories(folder)), str(folder / "million")
     check, verify, shortlog = (os.path.abspath(path) for path in (given.check, given.verify, given.shortlog))
     git = ["git", "-C", f"{folder}/repository", "-c", f"mailmap.file={mailmap}", "shortlog", "-sne"]
@@ -86,7 +86,7 @@ def main():
     text = table(head, [row(found, *cells) for cells in ROWS])
     print(text)
     if given.write:
-        put_in(HERE.parent / "docs" / "BENCHMARKS.md", {"histories": text})
+        put_in(PAGE, {"histories": text})
 
 
 if __name__ == "__main__":

@@ -16,17 +16,17 @@ from pathlib import Path
 # a text in parts
 Text = Iterable[bytes]
 
-# the families that are one line have as many bytes for each line that they stand for
+# families of a single line have this many bytes for each line that they stand for
 LINE = 40
-# how long a long name is: the report of a name that grows with the map would grow with its square
+# the length of a long name, fixed because the report of a name that grew with the map would grow with its square
 LONG = 1 << 16
-# what the port collects before it looks for repeats, and how much of that it looks at
+# how many lines a program may collect before it looks for repeats, and how many of them it may look at
 PORTION, SAMPLE = 16_384, 4_096
 SIXTEEN = b"robot-of-the-ci-"
 THIRTY_TWO = SIXTEEN + b"and-of-releases-"
-# white space that is three bytes long
+# white space of three bytes
 IDEOGRAPHIC = "\u3000".encode()
-# a history of one email whose redundant lines are found by four passes: three that find one each, and the last
+# lines for one email that take four passes to prune: three that find one redundant line each, and the last
 FOUR_PASSES = [
     b"Q <p@x> <a%d@x>\n",
     b"P <p@x> j <a%d@X>\n",
@@ -38,7 +38,7 @@ FOUR_PASSES = [
 
 @dataclass(frozen=True)
 class Made:
-    """The mailmaps of a family, how many entries they have, and the contacts, if it has any."""
+    """The mailmaps of a family, the number of their entries, and contacts, if it has any."""
 
     mailmaps: Iterable[Text]
     entries: int
@@ -47,7 +47,7 @@ class Made:
 
 @dataclass(frozen=True)
 class Family:
-    """Its name, what it is in a few words, and how it is made for a number of lines."""
+    """The name of a family, a short description, and how it is made for a number of lines."""
 
     name: str
     what: str
@@ -55,14 +55,14 @@ class Family:
 
 
 def joined(lines: Iterable[bytes]) -> Text:
-    """Short texts joined into parts."""
+    """Joins short texts into parts."""
     left = iter(lines)
     while part := b"".join(islice(left, 8_192)):
         yield part
 
 
 def repeated(text: bytes, size: int) -> Text:
-    """A text as often as it fits into so many bytes."""
+    """A text, repeated as often as it fits into `size` bytes."""
     count = size // len(text)
     at_once = max(1, (1 << 16) // len(text))
     for _ in range(count // at_once):
@@ -71,11 +71,11 @@ def repeated(text: bytes, size: int) -> Text:
 
 
 def shuffled(count: int) -> Iterator[int]:
-    """The numbers below `count`, each once, in an order that looks like chance. No list of them is held."""
+    """The numbers below `count`, each once, in an order that looks random. They are not stored."""
     bits = max(count - 1, 1).bit_length()
     mask, shift = (1 << bits) - 1, bits // 2 + 1
     for number in range(1 << bits):
-        # each of these steps has an inverse
+        # each of these steps can be inverted
         mixed = (number * 0x9E3779B1 + 0x7F4A7C15) & mask
         mixed ^= mixed >> shift
         mixed = mixed * 0x85EBCA6B & mask
@@ -106,7 +106,7 @@ def organ_pipe(count: int) -> Iterator[int]:
 
 
 def sawtooth(count: int) -> Iterator[int]:
-    """Teeth of a hundred numbers each, and each tooth is spread over all numbers."""
+    """Runs of a hundred ascending numbers, each spread over the whole range."""
     step = max(1, count // 100)
     for first in range(step):
         yield from range(first, count, step)
@@ -122,7 +122,9 @@ def repeats_after_the_sample(count: int) -> Iterator[int]:
 
 
 def growing_portions(count: int) -> Iterator[int]:
-    """In each portion the part that is looked at is repeats, and the rest is new keys: each is longer than the last."""
+    """Each batch starts with repeats, where a program looks for them, and goes on with new keys. Each is longer than
+    the last.
+    """
     keys, left = 1, count
     while left > 0:
         length = min(max(PORTION, 4 * keys), left)
@@ -132,7 +134,7 @@ def growing_portions(count: int) -> Iterator[int]:
 
 
 def full_portions(count: int) -> Iterator[int]:
-    """As many keys as a portion can have without the next one getting longer, all of them in each portion."""
+    """As many keys as a batch can have without making the next one longer, all of them in each batch."""
     keys = PORTION // 4
     for index in range(count):
         yield 0 if index % PORTION < SAMPLE else index * 1_663 % keys
@@ -143,7 +145,7 @@ def numbered(form: bytes, numbers: Iterable[int]) -> Text:
 
 
 def files(count: int, length: int) -> Iterable[Text]:
-    """The lines of a random map in files of so many."""
+    """The lines of a random map, in files of `length` lines."""
     numbers = shuffled(count)
     for _ in range(0, count, length):
         yield [b"".join(map(entry, islice(numbers, length)))]
@@ -158,14 +160,14 @@ def long_answers(count: int) -> Made:
 
 
 def long_texts(count: int) -> Made:
-    """Ten long names, and after them lines of one short key."""
+    """Ten long names, and then lines for one short key."""
     size = LINE * count // 10
     names = (chain([b"T%d " % number], repeated(b"t", size), [b" <t%d>\n" % number]) for number in range(10))
     return Made([chain(chain.from_iterable(names), repeated(b"a<b>\n", 5 * count))], count + 10)
 
 
 def crowd(beginning: bytes) -> Callable[[int], Made]:
-    """Many names of one email, and in their middle one line of another email that begins in the same way."""
+    """Many names of one email, and among them a line for another email with the same prefix."""
 
     def make(count: int) -> Made:
         form = b"<j@x> n%07d <" + beginning + b"1@x>\n"
@@ -193,7 +195,7 @@ def alike_answers(count: int) -> Made:
 
 
 def padded(blank: bytes) -> Callable[[int], Made]:
-    """Each text has white space on both sides, of some 125 bytes."""
+    """Texts with some 125 bytes of white space on both sides."""
     gap = blank * (125 // len(blank))
     form = gap.join([b"", b"Jane", b"<", b"j@x", b">", b"jd", b"<", b"j%07d@x", b">", b"\n"])
 
@@ -237,7 +239,7 @@ def some_answers(count: int, contacts: Text) -> Made:
 
 
 def half_hits(count: int) -> Made:
-    """Contacts of twice as many emails as the map has."""
+    """Contacts with twice as many emails as the map has."""
     return some_answers(count, joined(map(contact, islice(shuffled(count), count // 2))))
 
 
@@ -255,7 +257,7 @@ SYMBOLS = [
 
 FAMILIES = [
     Family("random", "a line an email, in random order", lambda n: one_map(shuffled(n), n)),
-    # what fell short first
+    # first those that once fell short
     Family("long name", "a line with a name of 64 KiB, and short lines that map to it", long_name),
     Family("long answers", "a line with a name of 64 KiB, and short contacts that it maps", long_answers),
     Family("blank lines", "an entry, and blank lines", lambda n: Made([chain([entry(0)], repeated(b"\n", n))], 1)),
@@ -270,7 +272,7 @@ FAMILIES = [
     Family("crowd, thirty-two equal", "the same with thirty-two bytes", crowd(THIRTY_TWO)),
     Family("blanks around texts", "each text between blanks", padded(b" ")),
     Family("U+3000 around texts", "each text between ideographic spaces", padded(IDEOGRAPHIC)),
-    # what held
+    # those that never did
     Family("ascending", "ascending emails", lambda n: one_map(range(n), n)),
     Family("descending", "descending emails", lambda n: one_map(reversed(range(n)), n)),
     Family("organ pipe", "emails that ascend and then descend", lambda n: one_map(organ_pipe(n), n)),
@@ -297,13 +299,13 @@ FAMILIES = [
 
 
 def merged_one_by_one(names: int) -> Text:
-    """As many names of one email, and then another line for each of them."""
+    """Many names of one email, and then another line for each of them."""
     yield from numbered(b"Jane <j@x> n%07d <a@x>\n", shuffled(names))
     yield from numbered(b"Joan <k@x> n%07d <a@x>\n", (names - 1 - number for number in shuffled(names)))
 
 
 def write(path: Path, text: Text) -> int:
-    """Writes a text, and gives its length."""
+    """Writes a text, and returns its length."""
     with path.open("wb") as file:
         return sum(file.write(part) for part in text)
 

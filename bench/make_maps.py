@@ -71,7 +71,7 @@ class Person:
 
 
 def entry(rng, person, spelling, name):
-    """A line for an old email, and for an old name if there is one; a fifth of the lines without one has two names."""
+    """A line for an old email, and for an old name if there is one. A fifth of the lines without one have two names."""
     if name is not None:
         proper = f"{person.name()} " if rng.random() < 0.7 else ""
         return f"{proper}<{person.proper_email()}> {name} <{spelling}>"
@@ -84,7 +84,7 @@ def entry(rng, person, spelling, name):
 
 
 def dressed(rng, line):
-    """The line as some people write it: with a comment after it, or with more white space."""
+    """The line as some people write it: followed by a comment, or with more white space."""
     form = rng.random()
     if form < 0.02:
         return f"{line} # was wrong"
@@ -102,13 +102,13 @@ def other_line(rng):
 
 
 def people(rng):
-    """One person after another, without end."""
+    """An endless sequence of people."""
     for number in itertools.count(1):
         yield Person(rng, number)
 
 
 def mixed(rng, lines):
-    """Entries as (old email, old name, line), one to three an email, and their people."""
+    """Entries as (old email, old name, line), one to three per email, and their people."""
     made = []
     for person in people(rng):
         email = person.email()
@@ -121,7 +121,7 @@ def mixed(rng, lines):
 
 
 def hundred(rng, lines):
-    """Entries of which a hundred are for each email."""
+    """Entries with a hundred names per email."""
     made = []
     for person in people(rng):
         email = person.email()
@@ -133,7 +133,7 @@ def hundred(rng, lines):
 
 
 def written(rng, path, entries, others):
-    """Writes the lines, and among them `others` that map nothing."""
+    """Writes the lines, and among them `others` lines that map nothing."""
     places = sorted(rng.randrange(len(entries)) for _ in range(others))
     text, done = [], 0
     for place in places:

@@ -1,4 +1,4 @@
-"""What the benchmarks and some tests share: programs that are built and run, rounds in alternation, and tables."""
+"""Shared by the benchmarks and some tests: building and running programs, alternating rounds, and tables."""
 import argparse
 import json
 import os
@@ -12,28 +12,31 @@ from pathlib import Path
 from typing import Any
 
 HERE = Path(__file__).resolve().parent
+# the page for readers, and what scripts write: figures as JSON, charts, and the tables that are too long for the page
+PAGE = HERE.parent / "docs" / "BENCHMARKS.md"
+RESULTS = HERE / "results"
 KINDS = ["mixed", "sorted", "hundred"]
 MILLION = 1_000_000
 
 
 class Failed(Exception):
-    """What is reported in one line in place of a traceback."""
+    """An error that is reported in one line, without a traceback."""
 
 
 def scratch() -> "tempfile.TemporaryDirectory[str]":
-    """A folder that goes away again, in memory if the system has such: what is written isn't to wait for a disk."""
+    """A temporary directory, in memory if the system has one there, so that writes don't wait for a disk."""
     return tempfile.TemporaryDirectory(dir="/dev/shm" if Path("/dev/shm").is_dir() else None)
 
 
 def built(name: str, folder: str | Path, *flags: str) -> str:
-    """Builds a C program of this folder into another, and gives its path."""
+    """Builds a C program of this directory into another, and returns its path."""
     program = Path(folder) / name
     subprocess.run(["cc", "-O2", "-o", program, HERE / f"{name}.c", *flags], check=True)
     return str(program)
 
 
 def output(words: Sequence[str | Path], **more: Any) -> str:
-    """What a program prints."""
+    """The output of a program."""
     done = subprocess.run(words, stdin=subprocess.DEVNULL, capture_output=True, text=True, **more)
     if done.returncode != 0:
         raise Failed(f"{' '.join(map(str, words))}: {done.stderr.strip()}")
@@ -42,7 +45,8 @@ def output(words: Sequence[str | Path], **more: Any) -> str:
 
 @dataclass
 class Run:
-    """A run of a program: its time, its peak memory in bytes, how it ended, its processor time, and its complaints."""
+    """A run of a program: its time, its peak memory in bytes, its status, its processor time, and its standard error.
+    """
 
     nanos: int
     peak: int
@@ -59,7 +63,7 @@ def run(
     seconds: float = 600,
     **more: Any,
 ) -> Run:
-    """Runs a program once, from its start to its end, by measure.c."""
+    """Runs a program once, from start to end, with measure.c."""
     line = [measure, str(seconds), stdin, stdout, *words]
     ended = subprocess.run(line, capture_output=True, text=True, errors="replace", **more)
     if ended.returncode != 0:
@@ -69,7 +73,7 @@ def run(
 
 
 def succeeded(program: str | Path, ended: Run) -> bool:
-    """Whether a run did what it was to do: mailmap_verify ends with 1 if it finds something."""
+    """Whether a run succeeded. mailmap_verify ends with 1 if it has findings."""
     return ended.status == 0 or (ended.status == 1 and Path(program).name == "mailmap_verify")
 
 
@@ -93,7 +97,7 @@ def mebibytes(count: int) -> str:
 
 
 def ratio(port: float, peer: float, aim: float | None = None) -> list[str]:
-    """Port to peer, and the aim with a mark if it is reached, as the two last columns of a row."""
+    """The ratio of the port to its peer, and the aim, marked if it is reached, as the last two columns of a row."""
     found = port / peer
     text = f"{found:.3f}" if found < 0.1 else f"{found:.2f}"
     if aim is None:
@@ -101,8 +105,14 @@ def ratio(port: float, peer: float, aim: float | None = None) -> list[str]:
     return [text, f"{aim:g} {'✓' if found <= aim else '✗'}"]
 
 
+def marked_ratio(port: float, peer: float, aim: float | None = None) -> str:
+    """Port to peer in one column, with a mark if there is an aim."""
+    text, reached = ratio(port, peer, aim)
+    return f"{text} {reached[-1:]}".strip()
+
+
 def table(head: list[str], rows: list[list[str]]) -> str:
-    """A table in Markdown; the columns whose head begins with a blank hold numbers."""
+    """A table in Markdown. Columns whose head starts with a space hold numbers."""
     lines = [head, ["--:" if name.startswith(" ") else "---" for name in head], *rows]
     return "\n".join("| " + " | ".join(text.strip() for text in line) + " |" for line in lines)
 
@@ -131,7 +141,7 @@ def stored(path: str | Path, figures: object) -> None:
 
 
 def options(description: str, sizes: Sequence[int]) -> tuple[argparse.Namespace, list[int]]:
-    """The arguments of a script that measures the port beside the original, and the numbers of lines to measure."""
+    """The arguments of a script that compares the port with the original, and the numbers of lines to measure."""
     parser = argparse.ArgumentParser(description=description, formatter_class=argparse.RawDescriptionHelpFormatter)
     parser.add_argument("original")
     parser.add_argument("port")

@@ -3,8 +3,8 @@
 
     streams.py ORIGINAL PORT [--before PROGRAM] [--seconds S] [--write]
 
-PORT is mailmap_check, and ORIGINAL a program over the original crate, called as peers.py says. PROGRAM is another
-mailmap_check, such as one of an earlier version. `--write` puts the tables into docs/BENCHMARKS.md.
+PORT is mailmap_check, and ORIGINAL the program over the original crate whose path tests/original/oracle.sh prints.
+PROGRAM is another mailmap_check, such as one of an earlier version. `--write` puts the tables into docs/BENCHMARKS.md.
 
 libgit2 is the program libgit2_check.c, which needs Debian's libgit2-dev. The map is mixed-1000 of make_maps.py. The
 histories have a million or ten million contacts, of which 4,000 differ: the second one in the order of frequency comes
@@ -25,14 +25,16 @@ from pathlib import Path
 
 from make_maps import main as make_maps
 from make_maps import missed
-from measuring import HERE, MILLION, Failed, built, duration, mebibytes, output, put_in, ratio, rounds, run, scratch, table
+from measuring import (
+    MILLION, PAGE, Failed, built, duration, mebibytes, output, put_in, ratio, rounds, run, scratch, table,
+)
 
 LINES = 1_000
 DIFFERENT = 4_000
 UNREPEATED = 100_000
 PORT, BEFORE, ORIGINAL, GIT, LIBGIT2 = "mailmap_check", "before", "original", "git", "libgit2"
 PEERS = (ORIGINAL, GIT, LIBGIT2)
-# of the port's time to that of a peer at a million contacts, and to the version before at contacts that all differ
+# the port's time to a peer's at a million contacts, and to the earlier version's at distinct contacts
 TIME_AIMS = {ORIGINAL: 0.5, GIT: 0.25}
 DIFFER_AIM = 1.0
 PEAK_AIM = 4 * 2**20
@@ -40,7 +42,7 @@ GROWTH_AIM = 10
 
 
 def histories(folder):
-    """Writes the map and the contacts, and gives the path of the map."""
+    """Writes the map and the contacts, and returns the path of the map."""
     sys.argv = [sys.argv[0], str(folder), str(LINES)]
     make_maps()
     rng = random.Random(LINES)
@@ -65,7 +67,7 @@ class Programs:
     def __init__(self, given, folder):
         self.folder, self.mailmap = folder, histories(folder)
         self.measure = built("measure", folder, "-static")
-        # git wants a repository, and nobody's settings
+        # git needs a repository, and must not read anyone's settings
         self.settings = {**os.environ, "GIT_CONFIG_NOSYSTEM": "1", "GIT_CONFIG_GLOBAL": "/dev/null"}
         output(["git", "init", "-q", f"{folder}/repository"], env=self.settings)
         git = ["git", "-C", f"{folder}/repository", "-c", f"mailmap.file={self.mailmap}", "check-mailmap", "--stdin"]
@@ -106,14 +108,14 @@ def compared(what, found, peer, aim):
 
 def times_table(found):
     head = ["contacts", " mailmap_check", "beside", " its time", " port / it", " aim"]
-    rows = [compared("a million, 4,000 differ", found["million"], peer, TIME_AIMS.get(peer)) for peer in PEERS]
+    rows = [compared("a million, 4,000 distinct", found["million"], peer, TIME_AIMS.get(peer)) for peer in PEERS]
     if BEFORE in found["million"]:
-        rows.append(compared("a million, 4,000 differ", found["million"], BEFORE, None))
-        rows.append(compared("100,000, all differ", found["differ"], BEFORE, DIFFER_AIM))
-    rows += [compared("100,000, all differ", found["differ"], peer, None) for peer in PEERS]
+        rows.append(compared("a million, 4,000 distinct", found["million"], BEFORE, None))
+        rows.append(compared("100,000, all distinct", found["differ"], BEFORE, DIFFER_AIM))
+    rows += [compared("100,000, all distinct", found["differ"], peer, None) for peer in PEERS]
     ten, million = found["ten"][PORT], found["million"][PORT]
     grown = ratio(ten["time"], million["time"], GROWTH_AIM)
-    rows.append(["ten million, 4,000 differ", duration(ten["time"]), "a million", duration(million["time"]), *grown])
+    rows.append(["ten million, 4,000 distinct", duration(ten["time"]), "a million", duration(million["time"]), *grown])
     return table(head, rows)
 
 
@@ -121,7 +123,7 @@ def memory_table(found):
     names = [name for name in (PORT, BEFORE, *PEERS) if name in found["million"]]
     head = ["peak memory for", *[f" {name}" for name in names], " aim"]
     rows = []
-    for contacts, what in [("differ", "100,000, all differ"), ("million", "a million"), ("ten", "ten million")]:
+    for contacts, what in [("differ", "100,000, all distinct"), ("million", "a million"), ("ten", "ten million")]:
         peaks = [mebibytes(found[contacts][name]["peak"]) if name in found[contacts] else "" for name in names]
         reached = "✓" if found[contacts][PORT]["peak"] <= PEAK_AIM else "✗"
         rows.append([what, *peaks, f"{mebibytes(PEAK_AIM)} {reached}"])
@@ -144,7 +146,7 @@ def main():
     texts = {"streams": times_table(found), "stream memory": memory_table(found)}
     print("\n\n".join(texts.values()))
     if given.write:
-        put_in(HERE.parent / "docs" / "BENCHMARKS.md", texts)
+        put_in(PAGE, texts)
 
 
 if __name__ == "__main__":

@@ -1,12 +1,12 @@
-/* The proved calls, as crates/gix_mailmap_c exports them. No pointer may be NULL, and no call may have a handle that
- * another has at that time. A call that returns a number returns one of gix_mailmap_status, 6 for a handle that is
- * closed, or 7 for one that is open already. gix_mailmap.c never causes the last two. */
+/* The proved calls that crates/gix_mailmap_c exports. No pointer may be NULL, and no two calls may use one handle at
+ * the same time. A returned number is one of gix_mailmap_status, 6 if the handle is closed, or 7 if it is open already.
+ * gix_mailmap.c never causes the last two. */
 #ifndef EXPORTS_H
 #define EXPORTS_H
 
 #include "gix_mailmap.h"
 
-/* Handles. One is closed if it is all zeros. */
+/* Handles. All zeros means closed. */
 struct gix_mailmap {
     void *at;
     bool is_open;
@@ -43,7 +43,7 @@ uint32_t gix_mailmap_text_check(const void *mailmap, size_t mailmap_len, const v
                                 void *out, size_t out_len, size_t *needed);
 uint32_t gix_mailmap_text_compact(const void *mailmap, size_t mailmap_len, void *out, size_t out_len, size_t *needed);
 uint32_t gix_mailmap_text_prune(const void *mailmap, size_t mailmap_len, void *out, size_t out_len, size_t *needed);
-/* how long the name and the text of a mailmap are, which are in two buffers with those of the others */
+/* The lengths of a mailmap's name and text. The names of all mailmaps are in one buffer, and their texts in another. */
 typedef struct lengths {
     size_t name;
     size_t text;

@@ -1,7 +1,7 @@
-/* The calls of gix_mailmap.h. Each calls a proved function of the same name with `handle` or `text` in it, but for the
- * version and the texts of statuses. Four things are done here, since a proved function can't do them. The memory of a
- * handle is asked for and freed. NULL is allowed where a length is 0. A call that reads takes a `const` handle, so that
- * several threads may read it at a time. And texts that an array points to are put together. */
+/* The calls of gix_mailmap.h. Except for the version and the texts of statuses, each calls a proved function, whose
+ * name has `handle` or `text` added. Four things are done here because a proved function can't do them: allocating and
+ * freeing handles, accepting NULL where a length is 0, taking a `const` handle in calls that only read, so that several
+ * threads can read at the same time, and concatenating the texts that an array points to. */
 #include "exports.h"
 #include "layout.h"
 #include <stdlib.h>
@@ -13,7 +13,7 @@
 #define LIKELY(condition) (condition)
 #endif
 
-/* the address that is given in place of NULL, aligned for all elements; nothing reads or writes it */
+/* Its address replaces NULL. It is aligned for all element types, and never read or written. */
 static uint64_t nothing;
 
 static const void *text_at(const char *at)
@@ -26,8 +26,8 @@ static void *room_at(void *at)
     return LIKELY(at != NULL) ? at : &nothing;
 }
 
-/* The handle of a call that only reads. All exported functions take a handle that isn't `const`, but those that are
- * called with this one change neither it nor its mailmap. */
+/* For calls that only read. No exported function takes a `const` handle, but those called with this one change neither
+ * the handle nor its mailmap. */
 static gix_mailmap *read_only(const gix_mailmap *map)
 {
     return (gix_mailmap *)map;
@@ -186,20 +186,20 @@ gix_mailmap_status gix_mailmap_prune(const char *mailmap, size_t mailmap_len, ch
     return gix_mailmap_text_prune(text_at(mailmap), mailmap_len, room_at(out), out_len, needed);
 }
 
-/* The sum, or the largest length if it is too large. */
+/* Saturates at SIZE_MAX. */
 static size_t sum(size_t a, size_t b)
 {
     return b <= SIZE_MAX - a ? a + b : SIZE_MAX;
 }
 
-/* Puts a text at an address, and gives the one after it. */
+/* Returns the address after the copy. */
 static char *append(char *to, const char *text, size_t len)
 {
     memcpy(to, text_at(text), len);
     return to + len;
 }
 
-/* The names and the texts of some mailmaps in one block of memory: all lengths, then all names, and then all texts. */
+/* The names and texts of several mailmaps in one block: first all lengths, then all names, then all texts. */
 typedef struct block {
     lengths *each;
     lengths total;
@@ -207,8 +207,8 @@ typedef struct block {
     char *texts;
 } block;
 
-/* Makes a block, which is to be freed by its `each`. That is NULL if there is no memory for it. Without names, those of
- * the mailmaps may be anything, and each has the length 0. */
+/* Allocates a block. Free its `each`, which is NULL if there is no memory. Without `with_names`, names are ignored and
+ * their lengths are 0. */
 static block block_of(const gix_mailmap_named *mailmaps, size_t count, bool with_names)
 {
     lengths total = {0, 0};
@@ -217,7 +217,7 @@ static block block_of(const gix_mailmap_named *mailmaps, size_t count, bool with
             total.name = sum(total.name, mailmaps[i].name_len);
         total.text = sum(total.text, mailmaps[i].text_len);
     }
-    /* The product fits, since the caller's array is longer. With 1 more, malloc isn't asked for nothing. */
+    /* The product fits, because the caller's array is longer. The 1 avoids malloc(0), which can return NULL. */
     size_t size = sum(count * sizeof(lengths) + 1, sum(total.name, total.text));
     lengths *each = size < SIZE_MAX ? malloc(size) : NULL;
     if (each == NULL)

@@ -1,5 +1,5 @@
-/* The sizes of the structs and the offsets of their members, which programs that are linked and the proved calls rely
- * on. */
+/* Checks the sizes of the structs and the offsets of their members, on which linked programs and the proved calls
+ * rely. */
 #ifndef LAYOUT_H
 #define LAYOUT_H
 
@@ -37,7 +37,7 @@ SIZE(gix_mailmap_position, 16);
 OFFSET(gix_mailmap_position, mailmap, 0);
 OFFSET(gix_mailmap_position, line, 8);
 
-/* those of the proved calls */
+/* structs of the proved calls */
 SIZE(struct gix_mailmap, 16);
 OFFSET(struct gix_mailmap, at, 0);
 OFFSET(struct gix_mailmap, is_open, 8);

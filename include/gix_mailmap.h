@@ -19,6 +19,8 @@
  *
  * A text of length 0, and a buffer or an array of length 0, may be NULL. So a call with `needed` that is given NULL and
  * 0 for its buffer says how much is needed. It returns GIX_MAILMAP_TOO_SHORT, or GIX_MAILMAP_OK if nothing is needed.
+ * Only at these two statuses does `needed` say how much: at GIX_MAILMAP_OUT_OF_MEMORY it is 0, and at
+ * GIX_MAILMAP_UNWRITABLE, which gix_mailmap_write returns, an index.
  *
  *     size_t needed;
  *     if (gix_mailmap_compact(text, text_len, NULL, 0, &needed) == GIX_MAILMAP_OUT_OF_MEMORY)
@@ -112,7 +114,7 @@ typedef enum gix_mailmap_kind {
     GIX_MAILMAP_NOTHING_TO_MAP = 4,          /* there is only an email */
     GIX_MAILMAP_UNCLOSED_SECOND = 5,         /* the second `<` has no `>` after it */
     GIX_MAILMAP_IGNORED_TEXT = 6,            /* text after the last email is ignored */
-    GIX_MAILMAP_NO_EFFECT = 7,               /* removing the line changes no mapping */
+    GIX_MAILMAP_NO_EFFECT = 7,               /* later lines override it, or an earlier one says the same */
     GIX_MAILMAP_ITSELF_MAPPED = 8,           /* it maps to a contact that the mailmap maps to another */
     GIX_MAILMAP_GIT_READS = 9                /* git reads the line otherwise */
 } gix_mailmap_kind;
@@ -187,9 +189,9 @@ void gix_mailmap_len(const gix_mailmap *map, size_t *GIX_MAILMAP_RESTRICT entrie
     GIX_MAILMAP_NONNULL(1, 2, 3);
 
 /* Lists the mailmap: one entry for each old email that is mapped whatever the name, and one for each old name of it.
- * They come in ascending order of old emails, and for each of these of old names, whatever the case of ASCII letters;
- * the entry without an old name comes first. Entry i is in entries[i], and its texts are in `texts` from its `start`
- * on. `entries_len` counts entries, `texts_len` bytes; gix_mailmap_len gives how many are needed.
+ * They are sorted by old email, then by old name, without regard to the case of ASCII letters; an entry without an old
+ * name comes first. Entry i is in entries[i], and its texts are in `texts` from its `start` on. `entries_len` counts
+ * entries, `texts_len` bytes; gix_mailmap_len gives how many are needed.
  * OK; TOO_SHORT: `entries` or `texts` is too short, and both are as they were. */
 gix_mailmap_status gix_mailmap_list(const gix_mailmap *map, gix_mailmap_listed *GIX_MAILMAP_RESTRICT entries,
                                     size_t entries_len, char *GIX_MAILMAP_RESTRICT texts, size_t texts_len)
@@ -220,8 +222,9 @@ gix_mailmap_status gix_mailmap_check(const char *mailmap, size_t mailmap_len, co
                                      size_t *GIX_MAILMAP_RESTRICT needed)
     GIX_MAILMAP_NONNULL(7) GIX_MAILMAP_MUST_CHECK;
 
-/* Writes the mailmap anew, without what later lines replaced; it maps as before. `needed` is its length, and 0 at
- * OUT_OF_MEMORY.
+/* Writes the mailmap anew, sorted by old email, without comments, faulty lines and what later lines override. The
+ * library answers by it as before. If verify finds GIX_MAILMAP_GIT_READS, git may answer otherwise. To keep the text as
+ * it is but for the lines that have no effect, use gix_mailmap_prune. `needed` is the length, and 0 at OUT_OF_MEMORY.
  * OK; TOO_SHORT; OUT_OF_MEMORY. */
 gix_mailmap_status gix_mailmap_compact(const char *mailmap, size_t mailmap_len, char *GIX_MAILMAP_RESTRICT out,
                                        size_t out_len, size_t *GIX_MAILMAP_RESTRICT needed)
@@ -236,8 +239,8 @@ gix_mailmap_status gix_mailmap_prune(const char *mailmap, size_t mailmap_len, ch
     GIX_MAILMAP_NONNULL(5) GIX_MAILMAP_MUST_CHECK;
 
 /* Writes what is wrong with the lines of a mailmap, in their order. A line has at most three findings. All lines of no
- * effect can be removed at once: gix_mailmap_prune does that. `out_len` counts findings. `needed` is the number of
- * all findings, and 0 at OUT_OF_MEMORY.
+ * effect can be removed together, as gix_mailmap_prune does; to remove only some may change how an email is spelled.
+ * `out_len` counts findings. `needed` is the number of all findings, and 0 at OUT_OF_MEMORY.
  * OK; TOO_SHORT; OUT_OF_MEMORY. */
 gix_mailmap_status gix_mailmap_verify(const char *mailmap, size_t mailmap_len,
                                       gix_mailmap_finding *GIX_MAILMAP_RESTRICT out, size_t out_len,
@@ -246,7 +249,8 @@ gix_mailmap_status gix_mailmap_verify(const char *mailmap, size_t mailmap_len,
 
 /* Writes what is wrong with some mailmaps as text, as mailmap_verify prints it: a line for each finding, such as
  * `NAME:3: warning: no effect beside OTHER:7`. The mailmaps are read one after another, as if they were one: a line may
- * have no effect beside a later one of another mailmap. Control bytes are shown as `\x1b`. `count` is the number of
+ * have no effect beside a later one of another mailmap. Control bytes are shown as `\x1b`, and other control characters
+ * and those that turn the direction of text as `\u202e`. Texts of more than 256 bytes are cut. `count` is the number of
  * mailmaps. `needed` is the length of the text, and 0 at OUT_OF_MEMORY.
  * OK; TOO_SHORT; OUT_OF_MEMORY. */
 gix_mailmap_status gix_mailmap_report(const gix_mailmap_named *mailmaps, size_t count, char *GIX_MAILMAP_RESTRICT out,
@@ -261,7 +265,8 @@ gix_mailmap_status gix_mailmap_report(const gix_mailmap_named *mailmaps, size_t 
  *     plain is no contact
  *
  * and none for a blank line. At most two lines give one contact its fields: one the name, and one the email. Mailmaps
- * are as for gix_mailmap_report, and so are control bytes. `needed` is the length of the text, and 0 at OUT_OF_MEMORY.
+ * are as for gix_mailmap_report, and so are escapes. No text is cut. `needed` is the length of the text, and 0 at
+ * OUT_OF_MEMORY.
  * OK; TOO_SHORT; OUT_OF_MEMORY. */
 gix_mailmap_status gix_mailmap_explain(const gix_mailmap_named *mailmaps, size_t count, const char *contacts,
                                        size_t contacts_len, char *GIX_MAILMAP_RESTRICT out, size_t out_len,
@@ -271,9 +276,10 @@ gix_mailmap_status gix_mailmap_explain(const gix_mailmap_named *mailmaps, size_t
 /* Lists the lines of some mailmaps that have an effect and that no contact needs, in their order. `contacts` has a
  * contact on each line, such as all those of a history; lines that are no contacts need nothing. A contact needs the
  * line that gives its new name, and the one that gives its new email. If no line gives an email, it needs the first
- * line for its old email, which says how that is spelled. Without the lines that are listed, and without those of no
- * effect, all these contacts are answered as before. Mailmaps are as for gix_mailmap_report; their names are not read.
- * `out_len` counts positions. `needed` is the number of all lines that are listed, and 0 at OUT_OF_MEMORY.
+ * line for its old email, which says how that is spelled. Without all lines that are listed and all those of no effect,
+ * the library answers each of these contacts as before. If git reads the mailmaps too, mend the lines of
+ * GIX_MAILMAP_GIT_READS first. Mailmaps are as for gix_mailmap_report; their names are not read. `out_len` counts
+ * positions. `needed` is the number of all lines that are listed, and 0 at OUT_OF_MEMORY.
  * OK; TOO_SHORT; OUT_OF_MEMORY. */
 gix_mailmap_status gix_mailmap_unneeded(const gix_mailmap_named *mailmaps, size_t count, const char *contacts,
                                         size_t contacts_len, gix_mailmap_position *GIX_MAILMAP_RESTRICT out,

@@ -1,38 +1,37 @@
-#!/usr/bin/env python3
-"""Measures the package: many contacts at once beside lookups and beside the program, and the lock of a handle.
+#!/usr/bin/python3
+"""Measures the package: lookups beside pygit2 and dulwich, and many contacts beside the program.
 
     measure.py [PROGRAM [ROUNDS]]
 
-PROGRAM is mailmap_check. Contacts are measured by processor time: each time is the shortest of 20 rounds, or of ROUNDS,
-in which the ways take turns. For files it begins with the reading of the mailmap. In parentheses it is divided by the
-program's, for which all of its process counts. Lookups and the lock are measured by the clock, and the shortest of five
-counts.
+PROGRAM is mailmap_check. All is measured by processor time: each time is the shortest of 20 rounds, or of ROUNDS, in
+which the ways take turns. In parentheses it is divided by that of pygit2, or by that of the program, for which all of
+its process counts. Lookups are those of the maps of bench/make_maps.py whose emails come in random order, `mixed`, and
+in their own, `sorted`. Debian's python3-pygit2 and python3-dulwich are what others have; without them their cells are
+empty. For files the time begins with the reading of the mailmap.
 """
-import ctypes
 import random
 import resource
 import subprocess
 import sys
 import tempfile
-import threading
-import time
 from collections import deque
 from functools import partial
 from pathlib import Path
 
-from gix_mailmap import Mailmap, _native
+from gix_mailmap import Mailmap
+
+try:
+    import pygit2
+except ImportError:
+    pygit2 = None
+try:
+    from dulwich.mailmap import Mailmap as Dulwich
+except ImportError:
+    Dulwich = None
 
 CONTACTS = 1_000_000
 LOOKUPS = 100_000
-
-
-def shortest(work, times=5):
-    taken = []
-    for _ in range(times):
-        start = time.perf_counter()
-        work()
-        taken.append(time.perf_counter() - start)
-    return min(taken)
+MAKE_MAPS = Path(__file__).resolve().parents[1] / "bench" / "make_maps.py"
 
 
 def processor_time():
@@ -42,18 +41,57 @@ def processor_time():
 
 
 def in_turn(ways, rounds):
-    """The least processor time of each way."""
+    """The least processor time of each way that there is."""
     least = [float("inf")] * len(ways)
     for _ in range(rounds):
         for number, way in enumerate(ways):
-            start = processor_time()
-            way()
-            least[number] = min(least[number], processor_time() - start)
+            if way is not None:
+                start = processor_time()
+                way()
+                least[number] = min(least[number], processor_time() - start)
     return least
 
 
 def mailmap_of(entries):
     return b"".join(b"New Name %d <n%d@example.com> <o%d@example.org>\n" % (n, n, n) for n in range(entries))
+
+
+def dulwich_of(path):
+    """By its entries: it takes no file with a faulty line."""
+    read = Dulwich()
+    for new_name, new_email, old_name, old_email in Mailmap(path.read_bytes()):
+        read.add_entry((new_name, new_email), (old_name, old_email))
+    return read
+
+
+def each(call, contacts):
+    for name, email in contacts:
+        call(name, email)
+
+
+def each_pair(call, contacts):
+    for contact in contacts:
+        call(contact)
+
+
+def lookups(path, kind, rounds):
+    """A row: lookups of contacts that a map has, or of such that it hasn't."""
+    listed = path.with_suffix(f".{kind}").read_text(encoding="utf-8").splitlines()
+    texts = [tuple(contact[:-1].split(" <")) for contact in listed]
+    texts = (texts * (LOOKUPS // len(texts) + 1))[:LOOKUPS]
+    contacts = [(name.encode(), email.encode()) for name, email in texts]
+    mailmap = Mailmap.from_path(path)
+    ways = [partial(each, mailmap.lookup, texts), partial(each, mailmap.lookup, contacts), None, None]
+    if pygit2 is not None:
+        ways[2] = partial(each, pygit2.Mailmap.from_buffer(path.read_text(encoding="utf-8")).resolve, texts)
+    if Dulwich is not None:
+        ways[3] = partial(each_pair, dulwich_of(path).lookup, contacts)
+    times = [taken / LOOKUPS * 1e9 for taken in in_turn(ways, rounds)]
+    cells = [f"{taken:.0f} ns" if way else "" for way, taken in zip(ways, times)]
+    if pygit2 is not None:
+        cells[:2] = [f"{cell} ({taken / times[2]:.2f})" for cell, taken in zip(cells, times[:2])]
+    name, lines = path.stem.split("-")
+    print(f"| {name} | {int(lines):,} | {kind} | {' | '.join(cells)} |", flush=True)
 
 
 def stream(folder, entries, different, program, rounds):
@@ -64,13 +102,8 @@ def stream(folder, entries, different, program, rounds):
     map_file, contacts = folder / "map", folder / "contacts"
     map_file.write_bytes(text)
     contacts.write_bytes(b"".join(lines))
-    pairs = [tuple(line.rstrip(b">\n").split(b" <")) for line in lines[:LOOKUPS]]
 
-    def one_by_one():
-        for name, email in pairs:
-            mailmap.lookup(name, email)
-
-    def of_list():
+    def of_list(lines):
         deque(mailmap.map_contacts(lines), maxlen=0)
 
     def of_file(mode, **encoding):
@@ -82,96 +115,29 @@ def stream(folder, entries, different, program, rounds):
             subprocess.run([program, map_file], stdin=file, stdout=subprocess.DEVNULL, check=True)
 
     of_str = partial(of_file, "r", encoding="utf-8", errors="surrogateescape")
-    ways = [of_list, partial(of_file, "rb"), of_str, *([run] if program else [])]
+    texts = [line.decode() for line in lines]
+    ways = [partial(of_list, lines), partial(of_list, texts), partial(of_file, "rb"), of_str]
+    ways += [run] if program else []
     with Mailmap(text) as mailmap:
-        times = [shortest(one_by_one) * CONTACTS / LOOKUPS, *in_turn(ways, rounds)]
-    cells = [f"{taken:.2f} s ({taken / times[-1]:.1f})" if program else f"{taken:.2f} s" for taken in times]
+        times = in_turn(ways, rounds)
+    cells = [f"{taken:.3f} s ({taken / times[-1]:.2f})" if program else f"{taken:.3f} s" for taken in times]
     print(f"| {entries:,} | {different:,} | {' | '.join(cells)} |", flush=True)
-
-
-def lookups(kind, lock):
-    """Functions that look one contact up many times, each by a mailmap of its own."""
-    library = kind(_native._library._name)
-    call = library.gix_mailmap_lookup
-    call.argtypes = _native._library.gix_mailmap_lookup.argtypes
-
-    def one():
-        handle = _native.Handle()
-        handle.add(mailmap_of(10_000))
-        at, buffers, held = handle._held._owned["at"], _native._Buffers(256), threading.RLock()
-        arguments = at, b"jd", 2, b"o77@example.org", 15, *buffers.arguments
-
-        def with_lock():
-            for _ in range(LOOKUPS):
-                with held:
-                    call(*arguments)
-
-        def without_lock():
-            for _ in range(LOOKUPS):
-                call(*arguments)
-
-        work = with_lock if lock else without_lock
-        work.handle = handle
-        return work
-
-    return one
-
-
-def lock(label, kind, has_lock):
-    """A row: lookups by one thread, and by four with a mailmap each."""
-    one = lookups(kind, has_lock)
-    works = [one() for _ in range(4)]
-
-    def side_by_side():
-        threads = [threading.Thread(target=work) for work in works]
-        for thread in threads:
-            thread.start()
-        for thread in threads:
-            thread.join()
-
-    alone, four = shortest(works[0]), shortest(side_by_side)
-    print(f"| {label} | {alone / LOOKUPS * 1e9:.0f} ns | {four / LOOKUPS / 4 * 1e9:.0f} ns |", flush=True)
-
-
-def pause(label, kind):
-    """A row: how long another thread waits at most while a mailmap of a million lines is read."""
-    library, text = kind(_native._library._name), mailmap_of(1_000_000)
-    call = library.gix_mailmap_add
-    call.argtypes = _native._library.gix_mailmap_add.argtypes
-    handle, longest, done = _native.Handle(), 0.0, threading.Event()
-
-    def add():
-        call(handle._held._owned["at"], text, len(text))
-        done.set()
-
-    thread = threading.Thread(target=add)
-    last = time.perf_counter()
-    thread.start()
-    while not done.is_set():
-        now = time.perf_counter()
-        longest, last = max(longest, now - last), now
-    longest = max(longest, time.perf_counter() - last)
-    thread.join()
-    print(f"| {label} | {longest * 1e3:.1f} ms |", flush=True)
 
 
 def main():
     program = sys.argv[1] if sys.argv[1:] else None
     rounds = int(sys.argv[2]) if sys.argv[2:] else 20
-    columns = ["entries", "different", "lookups", "a list", "a file of bytes", "a file of str"]
-    print(f"| {' | '.join(columns + ['the program'] * bool(program))} |")
-    with tempfile.TemporaryDirectory() as folder:
+    with tempfile.TemporaryDirectory() as name:
+        folder = Path(name)
+        subprocess.run([sys.executable, MAKE_MAPS, folder, "1000", "100000"], stdout=subprocess.DEVNULL, check=True)
+        print("| map | lines | contacts | lookup of `str` | lookup of bytes | pygit2 | dulwich |")
+        for name in ("mixed-1000", "sorted-1000", "mixed-100000", "sorted-100000"):
+            for kind in ("hits", "misses"):
+                lookups(folder / f"{name}.mailmap", kind, rounds)
+        columns = ["entries", "different", "a list of bytes", "a list of `str`", "a file of bytes", "a file of `str`"]
+        print(f"\n| {' | '.join(columns + ['the program'] * bool(program))} |")
         for entries, different in ((10_000, 3_000), (100_000, 3_000), (10_000, CONTACTS)):
-            stream(Path(folder), entries, different, program, rounds)
-    print("\n| a lookup | one thread | four threads |")
-    for label, kind, has_lock in (
-        ("CDLL", ctypes.CDLL, False), ("CDLL, lock", ctypes.CDLL, True),
-        ("PyDLL", ctypes.PyDLL, False), ("PyDLL, lock", ctypes.PyDLL, True),
-    ):
-        lock(label, kind, has_lock)
-    print("\n| a million lines read | others wait |")
-    pause("CDLL", ctypes.CDLL)
-    pause("PyDLL", ctypes.PyDLL)
+            stream(folder, entries, different, program, rounds)
 
 
 main()

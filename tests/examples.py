@@ -1,11 +1,11 @@
 #!/usr/bin/env python3
-"""Runs the examples of the documents, and wants what they show.
+"""Runs the examples of the documents, and compares the output with what they show.
 
     examples.py PROGRAM..
 
-The programs are called by their names in the examples. An example is a block ```console of a document. Its lines
-`$ COMMAND` are run one after another in a folder of its own, and the lines after each are what it prints. `$ cat FILE`
-of a file that isn't there yet writes it: what is shown of it is what it holds.
+The examples call the programs by name. An example is a ```console block of a document. Its `$ COMMAND` lines are run
+one after another in a directory of its own, and the lines after each command are its expected output. `$ cat FILE` of a
+missing file creates it, with the content shown.
 """
 import os
 import re
@@ -19,13 +19,13 @@ BLOCK = re.compile(r"^```console\n(.*?)^```$", re.MULTILINE | re.DOTALL)
 
 
 def steps(block):
-    """The commands, each with the text after it."""
+    """The commands of an example, each with its expected output."""
     parts = re.split(r"^\$ (.*)\n", block, flags=re.MULTILINE)
     return list(zip(parts[1::2], parts[2::2]))
 
 
 def run(command, status, folder, path):
-    """What a command prints and its status, after one that ended with `status`."""
+    """Returns a command's output and status; `status` is that of the command before it."""
     done = subprocess.run(
         ["bash", "-c", f"(exit {status}); {command}"],
         cwd=folder,
@@ -53,7 +53,7 @@ def differences(block, path):
 def main():
     folders = [str(Path(program).resolve().parent) for program in sys.argv[1:]]
     path = ":".join([*folders, os.environ["PATH"]])
-    failed = count = 0
+    failed = count = commands = 0
     for document in DOCUMENTS:
         text = (Path(__file__).parent.parent / document).read_text()
         blocks = BLOCK.findall(text)
@@ -61,10 +61,12 @@ def main():
             sys.exit(f"{document}: a command outside of a block ```console, or none at all")
         for block in blocks:
             count += 1
+            commands += len(steps(block))
             for difference in differences(block, path):
                 failed += 1
                 print(f"{document}: {difference}")
-    print(f"examples: {count} blocks of {len(DOCUMENTS)} documents, {failed} commands print something else")
+    print(f"{count} blocks of {len(DOCUMENTS)} documents")
+    print(f"examples: {commands - failed} passed, {failed} failed")
     sys.exit(1 if failed else 0)
 
 

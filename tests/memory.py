@@ -1,10 +1,10 @@
 #!/usr/bin/env python3
-"""Runs the programs on mailmaps that are traps, and beside each on a plain mailmap of the same size.
+"""Compares the programs' memory for hostile mailmaps with that for plain mailmaps of the same size.
 
-    memory.py MAILMAP_CHECK MAILMAP_VERIFY
+    memory.py MAILMAP_CHECK MAILMAP_VERIFY MAILMAP_SHORTLOG
 
-The peak of the one over the peak of the other has to stay below a bound. A peak is the largest resident set of the
-process, as bench/measure.c counts it, so what else runs on the machine doesn't matter.
+The ratio of the peaks has to stay below a bound. A peak is the largest resident set of the process, as bench/measure.c
+measures it, so other work on the machine doesn't matter.
 """
 import resource
 import sys
@@ -18,24 +18,28 @@ from measuring import Failed, built, mebibytes, run, scratch, succeeded
 
 CHECK, COMPACT = "mailmap_check", "mailmap_check --compact"
 VERIFY, PRUNE = "mailmap_verify", "mailmap_verify --prune"
-# what fails is to fail by this, and not by the memory of the machine
+NAMES, EMAILS = "mailmap_shortlog -n", "mailmap_shortlog -e"
+# fail at this limit, not at the memory of the machine
 ADDRESSES = 4 << 30
 MEGABYTE = 1_000_000
 
 
 @dataclass(frozen=True)
 class Trap:
-    """The files of the trap and of the plain mailmap, for which programs, and how many times the plain peak is allowed."""
+    """Hostile files, plain ones to compare them with, the programs to run, and the allowed ratio of the peaks. All
+    programs read the contacts from standard input.
+    """
 
     name: str
     files: list[bytes]
     plain: list[bytes]
     programs: list[str]
     bound: float
+    contacts: bytes = b""
 
 
 def comment(size: int) -> bytes:
-    """One line that says nothing: what reading so many bytes takes."""
+    """A comment line. It shows what reading this many bytes takes."""
     return b"#" * (size - 1) + b"\n"
 
 
@@ -49,7 +53,7 @@ def mapped_to_a(long_line: bytes) -> bytes:
 
 
 def entries_in_files(count: int, length: int) -> list[bytes]:
-    """So many files of so many lines, the emails in no order. The number of lines must not be divisible by 7919."""
+    """Files of many lines, with the emails in mixed order. The number of lines must not be divisible by 7919."""
     lines = count * length
     emails = [number * 7_919 % lines for number in range(lines)]
     entries = [b"Jane %07d <j%07d@example.com>\n" % (email, email) for email in emails]
@@ -57,13 +61,22 @@ def entries_in_files(count: int, length: int) -> list[bytes]:
 
 
 def long_texts() -> bytes:
-    """Ten names of 800 KB."""
-    return b"".join(b"%d%s <%d@x>\n" % (number, b"t" * (800_000), number) for number in range(10))
+    """Ten names of 4 MB, which is more than the entries of a batch take."""
+    return b"".join(b"%d%s <%d@x>\n" % (number, b"t" * 4_000_000, number) for number in range(10))
+
+
+def long_text_traps() -> Iterator[Trap]:
+    """Contacts that one line maps to a long name or email. With the long email, the output has it for each contact."""
+    text = b"L" * 64_000
+    contacts = b"".join(b"%d <a>\n" % number for number in range(10_000))
+    for what, line in [("name", text + b" <a>\n"), ("email", b"<" + text + b"> <a>\n")]:
+        yield Trap(f"a long {what} of many contacts", [line], [comment(len(line))], [NAMES, EMAILS], 1.1, contacts)
 
 
 def traps() -> Iterator[Trap]:
-    # A finding shows the long name again, so the whole report has 300 MB. It isn't held: only the bytes of the mailmap
-    # and some hundred for each line are. In the plain mailmap no line maps to the long name.
+    yield from long_text_traps()
+    # Each finding repeats the long name, so the whole report has 300 MB. It isn't held in memory: only the mailmap is,
+    # and a few hundred bytes per line. In the plain mailmap no line maps to the long name.
     name = b"L" * 60_000
     yield Trap(
         "a long name that many lines map to",
@@ -72,20 +85,20 @@ def traps() -> Iterator[Trap]:
         [VERIFY],
         1.5,
     )
-    # Twice the files: a comment of the same size takes its file once, and with --prune twice. No line is held by itself,
-    # nor is the finding of a faulty one, which has 40 bytes.
+    # Twice the size of the file: a comment of the same size takes the file once, and with --prune twice. No line is
+    # stored separately, and neither is the finding for a faulty one, which has 40 bytes.
     for what, line in [("blank lines", b"\n"), ("faulty lines", b"x\n")]:
         text = short_lines(line)
         plain = comment(len(text))
         yield Trap(what, [text], [plain], [CHECK, COMPACT, VERIFY], 2)
         yield Trap(what, [text], [plain], [PRUNE], 1.25)
-    # Each file is a buffer of its own, and the name of each is on the command line.
+    # Each file is a buffer of its own, and its name is on the command line.
     for length in [16, 17]:
         files = entries_in_files(8_000, length)
         yield Trap(f"8,000 files of {length} lines", files, [b"".join(files)], [CHECK, COMPACT], 1.3)
-    # The plain mailmap has the texts in the file and in the snapshot. A portion of the repeats is joined aside: one copy
-    # of the texts more, and the entries of the portion.
-    repeats = short_lines(b"a<b>\n", MEGABYTE)
+    # The plain mailmap has its texts in the file and in the snapshot. A batch of the repeats is merged separately,
+    # which takes one more copy of the texts, and the entries of the batch.
+    repeats = short_lines(b"a<b>\n", 3 * MEGABYTE)
     yield Trap(
         "long texts, then repeats",
         [long_texts() + repeats],
@@ -96,20 +109,29 @@ def traps() -> Iterator[Trap]:
 
 
 class Programs:
-    """The programs, what measures them, and a folder for the mailmaps."""
+    """The programs, the measuring program, and a directory for the mailmaps and the contacts."""
 
-    def __init__(self, check: str, verify: str, folder: str) -> None:
-        check, verify = str(Path(check).resolve()), str(Path(verify).resolve())
-        self.words = {CHECK: [check], COMPACT: [check, "--compact"], VERIFY: [verify], PRUNE: [verify, "--prune"]}
+    def __init__(self, check: str, verify: str, shortlog: str, folder: str) -> None:
+        check, verify, shortlog = (str(Path(program).resolve()) for program in (check, verify, shortlog))
+        self.words = {
+            CHECK: [check],
+            COMPACT: [check, "--compact"],
+            VERIFY: [verify],
+            PRUNE: [verify, "--prune"],
+            NAMES: [shortlog, "-n"],
+            EMAILS: [shortlog, "-e"],
+        }
         self.folder = Path(folder)
         self.measure = built("measure", folder, "-static")
 
-    def peak(self, program: str, files: list[bytes]) -> int:
-        """The names of the files are short, since there are thousands of them on one command line."""
+    def peak(self, program: str, files: list[bytes], contacts: bytes) -> int:
+        """File names are short, because thousands of them are on one command line."""
         names = [str(number) for number in range(len(files))]
         for name, text in zip(names, files):
             (self.folder / name).write_bytes(text)
-        ended = run(self.measure, [*self.words[program], *names], cwd=self.folder)
+        given = self.folder / "contacts"
+        given.write_bytes(contacts)
+        ended = run(self.measure, [*self.words[program], *names], str(given), cwd=self.folder)
         for name in names:
             (self.folder / name).unlink()
         if not succeeded(self.words[program][0], ended) or ended.complaints:
@@ -124,12 +146,12 @@ def main() -> None:
         programs = Programs(*sys.argv[1:], folder)
         for trap in traps():
             for program in trap.programs:
-                plain, peak = programs.peak(program, trap.plain), programs.peak(program, trap.files)
+                plain, peak = (programs.peak(program, files, trap.contacts) for files in (trap.plain, trap.files))
                 runs += 1
                 if peak > trap.bound * plain:
                     failed += 1
                     print(f"{trap.name}, {program}: {mebibytes(peak)}, and not {trap.bound} times {mebibytes(plain)}")
-    print(f"memory: {runs} runs over traps, {failed} take too much")
+    print(f"memory: {runs - failed} passed, {failed} failed")
     sys.exit(1 if failed else 0)
 
 

@@ -1,4 +1,4 @@
-"""A repository whose commits have authors that are drawn from few: what git answers for them, ours are to answer, too."""
+"""A repository for tests. Few authors make its many commits, and our answers for them have to be git's."""
 import os
 import random
 import shutil
@@ -6,14 +6,14 @@ import subprocess
 from pathlib import Path
 
 NAMES = ["Jane", "jane", "JD", "Joe", "Joe R. Developer", "J\u00f6rg", "x y"]
-# no capital letters: git keeps the contact's own spelling of an email, and ours has that of the mailmap
+# without capital letters, because git keeps the contact's spelling of an email, and we use the mailmap's
 EMAILS = ["jane@x", "jd@old", "joe@x", "b@y.org"]
 MAILMAP = "Jane Doe <jane@x>\nJane Doe <jane@x> <jd@old>\nJoe <joe@new> x y <joe@x>\n<b@z.org> <b@y.org>\n"
 QUIET = {**os.environ, "GIT_CONFIG_GLOBAL": os.devnull, "GIT_CONFIG_SYSTEM": os.devnull}
 
 
 class Repository:
-    """A repository in a folder that isn't there yet; its mailmap is the file .mailmap in it."""
+    """A repository in a new directory. Its mailmap is the file .mailmap there."""
 
     def __init__(self, folder: Path) -> None:
         self.folder = folder
@@ -28,7 +28,7 @@ class Repository:
         self.mailmap.write_text(MAILMAP, encoding="utf-8")
 
     def git(self, words: list[str], stdin: bytes = b"") -> bytes:
-        """What a command of git prints, with the repository's mailmap."""
+        """The output of a git command that uses the repository's mailmap."""
         return subprocess.run(["git", "-C", self.folder, "-c", "mailmap.file=.mailmap", *words], input=stdin,
                               capture_output=True, check=True, env=QUIET).stdout
 

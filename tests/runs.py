@@ -1,7 +1,7 @@
-"""Runs of a program, of which each byte that it prints is wanted, and its status."""
+"""Runs a program and compares its status and every byte of its output with what is expected."""
 import subprocess
 
-failed = 0
+passed = failed = 0
 
 
 def run(program, words, stdin=b""):
@@ -10,7 +10,9 @@ def run(program, words, stdin=b""):
 
 
 def wants(what, done, status, printed, said=b""):
-    global failed
-    if done != (status, printed, said):
+    global passed, failed
+    if done == (status, printed, said):
+        passed += 1
+    else:
         failed += 1
         print(f"{what}: {done[0]} {done[1][:400]} {done[2][:400]}\n    and not {status} {printed[:400]} {said[:400]}")

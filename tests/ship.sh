@@ -1,6 +1,6 @@
 #!/usr/bin/env bash
-# Tries what is shipped, without the toolchain: `make install` and `make uninstall`, the tarball, the Debian package.
-# Each copy has to answer, and nothing of it may stay after it is removed. What is shipped has to be built already.
+# Tests what is shipped, without the toolchain: `make install` and `make uninstall`, and the tarball. Each copy must
+# work, and removing it must leave nothing. What is shipped has to be built before.
 set -euo pipefail
 top="$(cd "$(dirname "$0")/.." && pwd)"
 work="$(mktemp -d)"
@@ -9,9 +9,9 @@ trap 'rm -rf "$work"' EXIT
 version="$(cat "$top/VERSION")"
 so=libgix_mailmap.so
 
-# Programs have to link with libraries that are built with the flags of distributions, which optimize at link time. The
-# proved calls aren't built again, and what is built goes into a folder with links to what it is made from. `make lib`
-# takes a part of the toolchain, so this comes before that is hidden.
+# Programs have to link with libraries built with the flags of distributions, which optimize at link time. The proved
+# calls aren't rebuilt, and the build goes to a directory with links to the sources. `make lib` needs a part of the
+# toolchain, so this comes before the toolchain is hidden.
 lto="$work/lto"
 if [ -n "$(command -v rt)" ]; then
     proved=crates/gix_mailmap_c/out/libgix_mailmap_c.a
@@ -19,7 +19,7 @@ if [ -n "$(command -v rt)" ]; then
     if "${CC:-cc}" -Werror -flto=auto -ffat-lto-objects -x c -c /dev/null -o "$work/empty.o" 2> "$work/said"; then
         flags='-O2 -flto=auto -ffat-lto-objects'
     fi
-    mkdir -p "$lto/out" "$lto/python/gix_mailmap"
+    mkdir -p "$lto/out"
     ln -s "$top"/{Makefile,VERSION,c,crates,crates.txt,include,packaging} "$lto"
     make --no-print-directory -s -C "$lto" -o "$proved" lib LIB=out PROVED="$proved" CFLAGS="$flags" LDFLAGS="$flags"
     "$top/tests/c/page.py" "$top/docs/C.md" "$lto"
@@ -27,80 +27,34 @@ if [ -n "$(command -v rt)" ]; then
     same "the C program, static, with $flags," "$("$lto/static")" "$(cat "$lto/printed")"
     "${CC:-cc}" "-I$top/include" "$lto/example.c" "-L$lto/out/c" -lgix_mailmap -o "$lto/shared"
     same "the C program, shared, with $flags," "$(LD_LIBRARY_PATH="$lto/out/c" "$lto/shared")" "$(cat "$lto/printed")"
+    (cd "$top" && CFLAGS="$flags" LDFLAGS="$flags" GIX_MAILMAP_LIBRARY="$lto/out/c/libgix_mailmap.a" \
+        PYTHONDONTWRITEBYTECODE='' "$(make -s which_python)" setup.py --quiet build --build-lib "$lto/package")
+    same "the Python program, with $flags," "$(PYTHONPATH="$lto/package" python3 "$lto/example.py")" \
+        "$(cat "$lto/printed")"
 else
     echo 'ship: no toolchain here, so flags for optimization at link time are not tried'
 fi
 
-# PATH without the toolchain: a folder that has it is replaced by links to all else in it
-without_toolchain() {
-    local path='' folder kept=0 folders
-    IFS=: read -r -a folders <<< "$PATH"
-    for folder in "${folders[@]}"; do
-        if [ -e "$folder/rt" ]; then
-            kept=$((kept + 1))
-            mkdir -p "$work/path/$kept"
-            find "$folder" -mindepth 1 -maxdepth 1 ! -name rt -exec ln -s -t "$work/path/$kept" {} +
-            folder="$work/path/$kept"
-        fi
-        path="$path:$folder"
-    done
-    PATH="${path#:}"
-}
 without_toolchain
-hash -r
-if [ -n "$(command -v rt)" ]; then
-    echo 'ship: the toolchain is still there'
-    exit 1
-fi
 
-built() {
-    make --no-print-directory -s -C "$top" "$@"
-}
-
-# refused WHAT STATUS TEXT COMMAND ..: wants that a command ends with this status and prints nothing but one line of an
-# error, with this text in it
-refused() {
-    local status=0 said
-    said="$("${@:4}" 2>&1 > "$work/printed")" || status=$?
-    if [[ $status != "$2" || -s $work/printed || $said == *$'\n'* || $said != *"$3"* ]]; then
-        printf '%s ends with %s, prints:\n%s\nand says:\n%s\n' "$1" "$status" "$(head -n 3 "$work/printed")" "$said" >&2
-        exit 1
-    fi
-}
-
-# Wants that nothing of a copy is left in a folder: no files, and no folders by its name
-nothing_left() {
-    local left
-    left="$(find "$1" ! -type d -print -o -name '*mailmap*' -print)"
-    same "$2: what is left" "$left" ''
-}
-
-# what `make build lib` would do after an edit of a file; that there is no toolchain is of no matter
+# what `make build lib extension` would do after a file was edited; a missing toolchain doesn't matter
 planned() {
-    built -n -W "$@" build lib 2> "$work/said"
+    built -n -W "$@" build lib extension 2> "$work/said"
 }
-# what it would prove, in the order of the Makefile
-proved_again() {
-    planned "$1" | sed -n 's/^echo .Proving and building \(the \)\?\([a-z_]*\).*/\2/p' | xargs
-}
-every=$(proved_again crates/mailmap_entries/src/lib.rt)
-same 'an edit of mailmap_entries' "$every" 'mailmap_check mailmap_verify mailmap_shortlog libraries'
-same 'an edit of mailmap_shortlogs' "$(proved_again crates/mailmap_shortlogs/src/lib.rt)" mailmap_shortlog
-same 'an edit of mailmap_reports' "$(proved_again crates/mailmap_reports/src/lib.rt)" 'mailmap_verify libraries'
-
-# the caller's flags, both where it compiles and where it links
+# the caller's flags for compiling and for linking
 planned c/gix_mailmap.c CPPFLAGS=-DOWN CFLAGS=-g3 LDFLAGS=-Wl,-O1 > "$work/plan"
 same 'make lib with flags' "$(grep -o -e '-DOWN -g3' -e '-g3 -Wl,-O1' "$work/plan")" $'-DOWN -g3\n-g3 -Wl,-O1'
 
-# what docs/C.md names has to be of this version
-for named in "$so.$version" "$so.$(interface)\`" "gix_mailmap-$version-linux" "gix-mailmap_${version}_amd64.deb"; do
+# docs/C.md names files of this version
+for named in "$so.$version" "$so.$(interface)\`" "gix_mailmap-$version-linux"; do
     if ! grep -qF "$named" "$top/docs/C.md"; then
         echo "ship: docs/C.md doesn't name $named"
         exit 1
     fi
 done
 
-# Folders whose names the shell or sed would read are refused before anything is done. If not, -n does nothing either.
+# Directories whose names the shell or sed would interpret are refused before anything is done. If they weren't, -n
+# would still do nothing.
 named_so() {
     refused "make with $1=$2" 2 "*** $1 has a blank or one of " built -n uninstall deb "$1=$2"
 }
@@ -112,7 +66,7 @@ for name in '/x/a ' $'/x\ta' '~/x' /x/{'&','|',\;,'<','>','(',')','*','?','[','{
 done
 built -n uninstall DESTDIR='/x/0.1.0~rc1+b@c,d=e:f%g' > "$work/plan"
 
-# make install, twice, and make uninstall: once with all folders named, and once beside files of others
+# make install, twice, and make uninstall: once with all directories named, and once among files of others
 folders=(PREFIX=/srv/own BINDIR=/srv/bin INCLUDEDIR=/srv/own/headers LIBDIR=/srv/own/lib64 MANDIR=/srv/pages
     PYTHONDIR=/srv/python)
 root="$work/root"
@@ -140,14 +94,14 @@ built uninstall DESTDIR="$work/usual"
 nothing_left "$work/usual" 'make uninstall beside others'
 echo 'ship: make install and make uninstall passed'
 
-# the tarball, the same each time
+# the tarball, which is reproducible
 name="gix_mailmap-$version-linux-x86_64"
 built dist DIST="$work/dist"
 (umask 077 && built dist DIST="$work/again")
 cmp "$work/dist/$name.tar.gz" "$work/again/$name.tar.gz"
 same 'make dist' "$(ls "$work/dist")" "$name.tar.gz"
 (umask 077 && tar -C "$work" -xzf "$work/dist/$name.tar.gz")
-# all that it needs to be installed
+# everything that installing it needs
 mkdir "$work/tools"
 for tool in sh cat chmod cp dirname find mkdir rm rmdir sed; do
     ln -s "$(command -v "$tool")" "$work/tools"
@@ -162,12 +116,12 @@ programs_answer "$work/prefix/bin"
 page_programs_answer tarball '' "$work/prefix/include" "$work/prefix/lib" "$work/prefix/share/gix_mailmap/python"
 installed --uninstall "$work/prefix"
 nothing_left "$work/prefix" 'install.sh --uninstall'
-# a DESTDIR that is relative to where it is called
+# a DESTDIR relative to the caller's directory
 (cd "$work/prefix" && DESTDIR=dest installed /own)
 programs_answer "$work/prefix/dest/own/bin"
 (cd "$work/prefix" && DESTDIR=dest installed --uninstall /own)
 nothing_left "$work/prefix" 'install.sh --uninstall with a DESTDIR'
-# a folder with blanks, which pkg-config gives as a shell reads it
+# a directory with spaces, which pkg-config quotes for the shell
 installed "$work/two  blanks"
 if [ -n "$(command -v pkg-config)" ]; then
     eval "words=($(PKG_CONFIG_LIBDIR="$work/two  blanks/lib/pkgconfig" pkg-config --cflags --libs gix_mailmap))"
@@ -177,7 +131,7 @@ if [ -n "$(command -v pkg-config)" ]; then
 fi
 installed --uninstall "$work/two  blanks"
 nothing_left "$work/two  blanks" 'install.sh --uninstall of a folder with blanks'
-# its own folder, by any name
+# its own directory, by any name
 ln -s "$name" "$work/link"
 own="$(listed "$work/$name")"
 refused_here() {
@@ -196,28 +150,3 @@ else
     echo 'ship: no pip here, so the wheel is not tried'
 fi
 echo "ship: $name.tar.gz passed"
-
-# the Debian package
-if [ -z "$(command -v dpkg-deb)" ]; then
-    echo 'ship: no dpkg-deb here, so no Debian package is built'
-    exit 0
-fi
-deb="gix-mailmap_${version}_amd64.deb"
-built deb DIST="$work/deb"
-(umask 077 && built deb DIST="$work/again")
-cmp "$work/deb/$deb" "$work/again/$deb"
-same 'make deb' "$(ls "$work/deb")" "$deb"
-same 'the package' "$(dpkg-deb -f "$work/deb/$deb" Package Version Architecture)" "Package: gix-mailmap
-Version: $version
-Architecture: amd64"
-for maintainer in 'Smith & Sons <x@y>' "Pat O'Brien <p@x>"; do
-    built deb DIST="$work/again" MAINTAINER="$maintainer"
-    same 'the maintainer' "$(dpkg-deb -f "$work/again/$deb" Maintainer)" "$maintainer"
-done
-root="$work/debian"
-dpkg-deb -x "$work/deb/$deb" "$root"
-dpkg-deb -e "$work/deb/$deb" "$work/control"
-(cd "$root" && md5sum --quiet -c "$work/control/md5sums")
-programs_answer "$root/usr/bin"
-page_programs_answer 'the Debian package' "$root" /usr/include /usr/lib/x86_64-linux-gnu /usr/lib/python3/dist-packages
-echo "ship: $deb passed"

@@ -1,10 +1,10 @@
-# What tests of installed copies share. `top` is the folder of the repository, and `work` one for what they write.
+# Shared by tests of installed copies. `top` is the repository, and `work` a directory for their output.
 # shellcheck shell=bash
 
-# variables of a `make test` around it, and of its caller, which would change what is installed where
+# variables of an outer `make test` or of its caller, which would change what is installed where
 unset MAKEFLAGS MFLAGS MAKEOVERRIDES DESTDIR PREFIX BINDIR INCLUDEDIR LIBDIR MANDIR PYTHONDIR DIST SOURCE_DATE_EPOCH
 unset MAINTAINER PYTHONPATH GIX_MAILMAP_LIBRARY
-# Python writes what it compiles, and that has to be removed, too
+# Python writes compiled files, which have to be removed, too
 unset PYTHONDONTWRITEBYTECODE PYTHONPYCACHEPREFIX
 
 # same WHAT PRINTED WANTED
@@ -15,12 +15,57 @@ same() {
     fi
 }
 
-# the number of the shared library's binary interface
+# Takes the toolchain out of PATH: a directory with rt is replaced by links to everything else in it.
+without_toolchain() {
+    local path='' folder kept=0 folders
+    IFS=: read -r -a folders <<< "$PATH"
+    for folder in "${folders[@]}"; do
+        if [ -e "$folder/rt" ]; then
+            kept=$((kept + 1))
+            mkdir -p "$work/path/$kept"
+            find "$folder" -mindepth 1 -maxdepth 1 ! -name rt -exec ln -s -t "$work/path/$kept" {} +
+            folder="$work/path/$kept"
+        fi
+        path="$path:$folder"
+    done
+    PATH="${path#:}"
+    hash -r
+    if [ -n "$(command -v rt)" ]; then
+        echo 'the toolchain is still there' >&2
+        exit 1
+    fi
+}
+
+# built TARGET ..: make, in this repository
+built() {
+    make --no-print-directory -s -C "$top" "$@"
+}
+
+# refused WHAT STATUS TEXT COMMAND ..: expects that the command fails with this status, and prints nothing but one error
+# line that contains TEXT
+refused() {
+    local status=0 said
+    said="$("${@:4}" 2>&1 > "$work/printed")" || status=$?
+    if [[ $status != "$2" || -s $work/printed || $said == *$'\n'* || $said != *"$3"* ]]; then
+        printf '%s ends with %s, prints:\n%s\nand says:\n%s\n' "$1" "$status" "$(head -n 3 "$work/printed")" "$said" >&2
+        exit 1
+    fi
+}
+
+# nothing_left FOLDER WHAT: expects that nothing of a copy is left, neither files nor directories with its name
+nothing_left() {
+    local left
+    left="$(find "$1" ! -type d -print -o -name '*mailmap*' -print)"
+    same "$2: what is left" "$left" ''
+}
+
+# the version number of the shared library's binary interface
 interface() {
     sed -n 's/^ABI = //p' "$top/Makefile"
 }
 
-# Wants what mailmap_check and mailmap_shortlog in a folder say of the sample, and mailmap_verify of a line.
+# programs_answer FOLDER: checks the output of mailmap_check and mailmap_shortlog for the sample, and of mailmap_verify
+# for one line.
 programs_answer() {
     local found wanted='Joe R. Developer <joe@example.com>
 Joe R. Developer <joe@example.com>
@@ -35,9 +80,9 @@ not a contact'
     same mailmap_shortlog "$found" $'     2\tJane Doe\n     2\tJoe R. Developer\n     1\tEve'
 }
 
-# page_programs_answer WHAT ROOT INCLUDEDIR LIBDIR PYTHONDIR: builds the C program of docs/C.md against what is under
-# ROOT, with the shared and with the static library, runs its Python program over it, and wants what the page says that
-# they print. The folders are named as if ROOT were the whole system.
+# page_programs_answer WHAT ROOT INCLUDEDIR LIBDIR PYTHONDIR: builds the C program of docs/C.md against the copy under
+# ROOT, with the shared and with the static library, runs its Python program, and checks that they print what the page
+# shows. The directories are named as if ROOT were the whole system.
 page_programs_answer() {
     local what="$1" root="$2" include="$2$3" libdir="$2$4" python="$2$5"
     local cc="${CC:-cc}" page="$work/page" wanted built found
@@ -56,7 +101,7 @@ page_programs_answer() {
     fi
     "$cc" "${flags[@]}" "$page/example.c" "${built[@]}" -o "$page/shared"
     same "$what: the C program, shared," "$(LD_LIBRARY_PATH="$libdir" "$page/shared")" "$wanted"
-    # to run, it needs no name of the library but the one with the number of the interface
+    # to run, it needs only the library's name with the interface number
     ln -sf "$libdir/libgix_mailmap.so.$(interface)" "$page/loaded"
     same "$what: the C program, by the number," "$(LD_LIBRARY_PATH="$page/loaded" "$page/shared")" "$wanted"
     "$cc" "${flags[@]}" "-I$include" "$page/example.c" "$libdir/libgix_mailmap.a" -o "$page/static"

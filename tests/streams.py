@@ -1,11 +1,11 @@
 #!/usr/bin/env python3
-"""Runs mailmap_check, mailmap_verify --explain and mailmap_verify --contacts with contacts that come as a stream.
+"""Runs mailmap_check, mailmap_verify --explain and mailmap_verify --contacts with streamed contacts.
 
     streams.py MAILMAP_CHECK MAILMAP_VERIFY
 
-By the first two each line has to be answered before the next one is written. Lines may have any length and come again,
-and the peak of a long history has to stay below a bound, by itself and over that of a short one. A peak is the largest
-resident set, as bench/measure.c counts it.
+The first two must answer each line before the next one is written. Lines can have any length and recur. The peak for
+many contacts must stay below a bound, and below a multiple of the peak for few. A peak is the largest resident set, as
+bench/measure.c measures it.
 """
 import os
 import subprocess
@@ -19,7 +19,7 @@ from measuring import Failed, built, mebibytes, run, scratch
 from repository import Repository, has_git  # the file beside this one
 
 MAILMAP = b"Jane Doe <jane@x>\n"
-# contacts with their answers: those of mailmap_check, and those of mailmap_verify --explain
+# contacts with the answers of mailmap_check and of mailmap_verify --explain
 LINES = [
     (b"jane <JANE@x>\n", b"Jane Doe <jane@x>\n", b"jane <JANE@x> is Jane Doe <jane@x> by mailmap:1\n"),
     (b"joe <q@z>\r\n", b"joe <q@z>\n", b"joe <q@z> is not mapped\n"),
@@ -31,10 +31,10 @@ JANE = b"Jane Doe <jane@x>\n"
 EXPLAINED_JANE = b"jane <jane@X> is Jane Doe <jane@x> by mailmap:1\n"
 LONG = 10_000_000
 HISTORY = 1_000_000
-# how many contacts differ, which are more than the program keeps, and how many a short history has
+# the number of distinct contacts, more than the programs cache, and the length of a short input
 DIFFERENT = 5_000
 SHORT = 2 * DIFFERENT
-# how many times the peak of a short history a million contacts may take, and how many bytes at most
+# the allowed ratio of the peak for a million contacts to that for a short input, and the allowed peak in bytes
 BOUND = 1.25
 MOST = 4 * 2**20
 
@@ -46,19 +46,19 @@ def wants(what: str, found: object, want: object) -> None:
 
 @dataclass(frozen=True)
 class Asked:
-    """A program with its arguments, and what it answers: to the lines, to the contact `jane <jane@X>`, to a text that is
-    no contact, and to LONG zero bytes. It says of an input that can't be read what is last."""
+    """A program with its arguments, and its answers: to the lines, to the contact `jane <jane@X>`, to a text that is no
+    contact, and to LONG zero bytes.
+    """
 
     command: list[str]
     lines: list[tuple[bytes, bytes]]
     jane: bytes
     no_contact: bytes
     zeros: bytes
-    unreadable: bytes
 
 
 def answered_in_turn(asked: Asked) -> None:
-    """Each answer is read before the next line is written; the last line has no line feed, and is answered at the end."""
+    """Reads each answer before writing the next line. The last line has no line feed, and is answered at the end."""
     limited = ["timeout", "60", *asked.command]
     with subprocess.Popen(limited, stdin=subprocess.PIPE, stdout=subprocess.PIPE, bufsize=0) as program:
         for line, answer in asked.lines:
@@ -71,7 +71,7 @@ def answered_in_turn(asked: Asked) -> None:
 
 
 def answered_at_once(asked: Asked) -> None:
-    """Inputs of no line, of one line without a line feed, of lines longer than what is read at a time."""
+    """Inputs without a line, with one line and no line feed, and with lines longer than one read."""
     long = b"x" * LONG
     a, answer = b"a" + asked.no_contact, long + asked.no_contact
     for contacts, answers in [
@@ -86,14 +86,8 @@ def answered_at_once(asked: Asked) -> None:
         wants(f"{len(contacts)} bytes", (ended.returncode, ended.stdout, ended.stderr), (0, answers, b""))
 
 
-def closed(asked: Asked) -> None:
-    """Standard input that is closed can't be read."""
-    ended = subprocess.run(["sh", "-c", 'exec "$@" <&-', "sh", *asked.command], capture_output=True)
-    wants("a closed input", (ended.returncode, ended.stdout, ended.stderr), (2, b"", asked.unreadable))
-
-
 def answered_again(check: str) -> None:
-    """Lines that come again, alike but for a carriage return, and more of them than are kept, each twice in a row."""
+    """Lines that recur: alike except for carriage returns, and more than are cached, each twice in a row."""
     for contacts, answers in [
         (b"a\na\r\na\r\r\njane <jane@x>\r\n\n" * 50_000, b"a\na\na\r\nJane Doe <jane@x>\n\n" * 50_000),
         (b"".join(b"line %d\n" % (number // 2 % 7_000) for number in range(70_000)),) * 2,
@@ -103,7 +97,7 @@ def answered_again(check: str) -> None:
 
 
 def as_git(check: str) -> bool:
-    """The contacts of a repository, answered as git answers them: those of `git log`, and by `git check-mailmap`."""
+    """Compares the answers for a repository's contacts with those of `git log` and of `git check-mailmap`."""
     if not has_git():
         return False
     repository = Repository(Path("repository"))
@@ -115,7 +109,7 @@ def as_git(check: str) -> bool:
 
 
 def peak(command: list[str], count: int) -> int:
-    """The peak for so many contacts, of which each comes twice in a row, so that it is kept."""
+    """The peak for this many contacts. Each occurs twice in a row, so that it is cached."""
     contacts = Path("contacts")
     some = (number // 2 % DIFFERENT for number in range(count))
     contacts.write_bytes(b"".join(b"Jane %d <j%d@x>\n" % (number, number) for number in some))
@@ -134,7 +128,6 @@ def main() -> None:
             JANE,
             b"\n",
             b"\0" * LONG + b"\n",
-            b"mailmap_check: cannot read standard input\n",
         ),
         Asked(
             [verify, "--explain", "mailmap"],
@@ -142,7 +135,6 @@ def main() -> None:
             EXPLAINED_JANE,
             b" is no contact\n",
             rb"\x00" * LONG + b" is no contact\n",
-            b"mailmap_verify: standard input: cannot be read\n",
         ),
     ]
     peaks = []
@@ -152,12 +144,11 @@ def main() -> None:
         for asked in both:
             answered_in_turn(asked)
             answered_at_once(asked)
-            closed(asked)
             few, many = peak(asked.command, SHORT), peak(asked.command, HISTORY)
             if many > min(BOUND * few, MOST):
                 raise Failed(f"a million contacts take {mebibytes(many)}, and {SHORT} take {mebibytes(few)}")
             peaks.append(mebibytes(many))
-        # The answers that differ are kept, and no mailmap has a line that isn't needed.
+        # The distinct answers are stored. No mailmap has an unneeded line.
         beside = [verify, "--contacts", "-"]
         few, many = peak(beside, SHORT), peak(beside, HISTORY)
         if many > BOUND * few:

@@ -7,41 +7,22 @@ A mailmap says which names and emails to show in place of others:
 ...     mailmap.lookup("jd", "JD@y")
 Answer(name='Jane Doe', email='jane@x', is_name_given=True, is_email_given=True)
 
-Texts are `str` or bytes, and what a call answers is of the same kind. Bytes may be any, as nothing says how a mailmap
-is encoded; in a `str`, bytes that aren't UTF-8 are lone surrogates (`surrogateescape`). A `bytearray` and a
-`memoryview` are taken as bytes. Any call that takes a `str` raises NotAText if it has a surrogate that is no byte.
+Texts are `str` or bytes, or open files of these, and what a call answers is of the same kind. Bytes may be any, as
+nothing says how a mailmap is encoded; in a `str`, bytes that aren't UTF-8 are lone surrogates (`surrogateescape`). What
+has the buffer protocol, such as a `bytearray`, is taken as bytes. Any call that takes a `str` raises NotAText if it has
+a surrogate that is no byte, and OutOfMemory if there is no memory.
 
-The errors of the module are of the class Error, and also of Python's own class for that case. Four are not: a
-TypeError for an argument of a wrong type, the ValueError that `index` and a slice raise as those of a list do, the
-ImportError if no library is found, and a plain MemoryError if Python has no memory for an object of its own.
+The errors of the module are of the class Error, and also of Python's own class for that case. Two are not: a TypeError
+for an argument of a wrong type, and the ValueError that `index` and a slice raise as those of a list do.
 """
 
-from ._calls import check, compact, explain, prune, report, unneeded, verify
-from ._errors import Closed, Error, NoEntry, NotALine, NotAnEntry, NotAText, OutOfMemory, Unwritable
-from ._mailmap import Mailmap
-from ._results import Answer, Entry, Finding, Kind, Position
-from ._version import __version__ as __version__
+from ._mailmap import Mailmap, check, compact, explain, prune, report, unneeded, verify
+from ._native import version as __version__
+from ._results import Answer, Closed, Entry, Error, Finding, Kind, NoEntry, NotALine, NotAnEntry, NotAText, OutOfMemory
+from ._results import Position, Unwritable
 
 __all__ = [
-    "Answer",
-    "Closed",
-    "Entry",
-    "Error",
-    "Finding",
-    "Kind",
-    "Mailmap",
-    "NoEntry",
-    "NotALine",
-    "NotAText",
-    "NotAnEntry",
-    "OutOfMemory",
-    "Position",
-    "Unwritable",
-    "check",
-    "compact",
-    "explain",
-    "prune",
-    "report",
-    "unneeded",
-    "verify",
+    "Answer", "Closed", "Entry", "Error", "Finding", "Kind", "Mailmap", "NoEntry", "NotALine", "NotAText", "NotAnEntry",
+    "OutOfMemory", "Position", "Unwritable", "__version__", "check", "compact", "explain", "prune", "report",
+    "unneeded", "verify",
 ]

@@ -1,4 +1,4 @@
-"""What the calls answer."""
+"""What the calls answer and raise."""
 
 from __future__ import annotations
 
@@ -7,15 +7,8 @@ from typing import AnyStr, Generic, NamedTuple, Optional
 
 
 class Answer(NamedTuple, Generic[AnyStr]):
-    """The proper name and email of a contact, and whether the mailmap gives them.
-
-    What the mailmap doesn't give is as it was asked for:
-
-    >>> from gix_mailmap import Mailmap
-    >>> with Mailmap("Joe <joe@x>") as mailmap:
-    ...     mailmap.lookup("jd", "joe@x")
-    Answer(name='Joe', email='joe@x', is_name_given=True, is_email_given=False)
-    """
+    """The proper name and email of a contact, and whether the mailmap gives them. What it doesn't give is as it was
+    asked for."""
 
     name: AnyStr
     email: AnyStr
@@ -24,15 +17,8 @@ class Answer(NamedTuple, Generic[AnyStr]):
 
 
 class Entry(NamedTuple, Generic[AnyStr]):
-    """An entry of a mailmap: the name and the email that replace an old email, or an old name with that email.
-
-    What an entry doesn't have is None:
-
-    >>> from gix_mailmap import Mailmap
-    >>> with Mailmap("Joe <joe@x>") as mailmap:
-    ...     mailmap[0]
-    Entry(new_name='Joe', new_email=None, old_name=None, old_email='joe@x')
-    """
+    """An entry of a mailmap: the name and the email that replace an old email, or an old name with that email. What it
+    doesn't have is None."""
 
     new_name: Optional[AnyStr]
     new_email: Optional[AnyStr]
@@ -52,24 +38,15 @@ class Kind(IntEnum):
     <Kind.NUMBER_100: 100>
     """
 
-    #: There is no `<`.
-    NO_EMAIL = 1
-    #: The first `<` has no `>` after it.
-    MISSING_CLOSING_BRACKET = 2
-    #: The first email is empty or white space.
-    EMPTY_EMAIL = 3
-    #: There is only an email.
-    NOTHING_TO_MAP = 4
-    #: The second `<` has no `>` after it.
-    UNCLOSED_SECOND = 5
-    #: Text after the last email is ignored.
-    IGNORED_TEXT = 6
-    #: Removing the line changes no mapping.
-    NO_EFFECT = 7
-    #: The line maps to a contact that the mailmap maps to another.
-    ITSELF_MAPPED = 8
-    #: git reads the line otherwise.
-    GIT_READS = 9
+    NO_EMAIL = 1  #: There is no `<`.
+    MISSING_CLOSING_BRACKET = 2  #: The first `<` has no `>` after it.
+    EMPTY_EMAIL = 3  #: The first email is empty or white space.
+    NOTHING_TO_MAP = 4  #: There is only an email.
+    UNCLOSED_SECOND = 5  #: The second `<` has no `>` after it.
+    IGNORED_TEXT = 6  #: Text after the last email is ignored.
+    NO_EFFECT = 7  #: Removing the line changes no mapping.
+    ITSELF_MAPPED = 8  #: The line maps to a contact that the mailmap maps to another.
+    GIT_READS = 9  #: git reads the line otherwise.
 
     @classmethod
     def _missing_(cls, value: object) -> Optional[Kind]:
@@ -80,16 +57,37 @@ class Kind(IntEnum):
         return kind
 
 
+# The words before what a finding refers to.
+_BEFORE = {Kind.IGNORED_TEXT: "ignored text: ", Kind.ITSELF_MAPPED: " is itself mapped, to ",
+           Kind.GIT_READS: "git reads "}
+
+
 class Finding(NamedTuple):
-    """What is wrong with a line: its number, counted from 1, and the kind.
+    """What is wrong with a line: its number, counted from 1, the kind, and the words of `mailmap_verify`, which `str`
+    gives.
 
     For a line of no effect, `beside` is the number of the last line that stays and is for the same old email and old
-    name. For all other kinds it is None.
+    name. For all other kinds it is None. `text` is what is ignored, to which contact the new one is itself mapped, or
+    what git reads, as `mailmap_verify` shows it, and None for all other kinds.
     """
 
     line: int
     kind: Kind
     beside: Optional[int]
+    text: Optional[str]
+    words: str
+
+    @classmethod
+    def of(cls, line: int, number: int, other: int, words: str) -> Finding:
+        """A finding of the library, with the words of a report of a mailmap without a name."""
+        kind = Kind(number)
+        if kind == Kind.NO_EFFECT:
+            return cls(line, kind, other, None, words.replace("beside :", "beside line "))
+        before = _BEFORE.get(kind)
+        return cls(line, kind, None, words.partition(before)[2] if before else None, words)
+
+    def __str__(self) -> str:
+        return self.words
 
 
 class Position(NamedTuple):
@@ -97,3 +95,47 @@ class Position(NamedTuple):
 
     mailmap: int
     line: int
+
+
+class Error(Exception):
+    """The base class of the errors of this module."""
+
+
+class Closed(Error, ValueError):
+    """The mailmap is closed."""
+
+
+class OutOfMemory(Error, MemoryError):
+    """There is not enough memory. The mailmap is as it was before the call."""
+
+
+class NoEntry(Error, IndexError):
+    """The mailmap has no entry at this index."""
+
+
+class NotAnEntry(Error, ValueError):
+    """Texts that make no entry: they give no new name and no new email, or an old name without a new email."""
+
+
+class NotALine(Error, ValueError):
+    """A line for `map_contacts` has a line feed before its end."""
+
+
+class NotAText(Error, UnicodeEncodeError):
+    """A `str` that can't be encoded: it has a surrogate that is no byte."""
+
+
+class Unwritable(Error, ValueError):
+    """No line can hold some entry of the mailmap, which `add_entry` has added."""
+
+
+def encoded(text: str) -> bytes:
+    """The bytes of a `str`, in which some may be lone surrogates. Raises NotAText."""
+    try:
+        return str.encode(text, "utf-8", "surrogateescape")
+    except UnicodeEncodeError as error:
+        raise NotAText(*error.args) from None
+
+
+# What the extension module takes, which has numbers for them.
+FOR_NATIVE = (Closed, NotALine, OutOfMemory, NoEntry, NotAnEntry, Unwritable, encoded, Answer, Entry)

@@ -707,7 +707,7 @@ static int stream_once(void)
 }
 
 /* Requests that failed, and were then made again for less: those of the vector of findings, which grows three times
- * for the nine of them, and one for each of the three lists of positions that gix_mailmap_unneeded makes. If a vector
+ * for the nine of them, and one for each of the two lists of positions that gix_mailmap_unneeded makes. If a vector
  * can't have all the room at once, it asks for less. */
 static int made_again;
 
@@ -735,7 +735,7 @@ int main(void)
     long number = 0;
     while (fails(number))
         number++;
-    WANT(number > 0 && made_again == 6);
+    WANT(number > 0 && made_again == 5);
     printf("calls from C: %s, %ld requests for memory failed in turn\n", failures ? "failed" : "passed", number);
     return failures ? 1 : 0;
 }

@@ -1,6 +1,7 @@
 #!/usr/bin/env python3
-"""Prints a C file that has a function for each part of a program that a page shows: those of README.md, of docs/C.md and
-of the comments of the header. What they use and don't declare is declared before them."""
+"""Prints a C file with a function for each code fragment in README.md, docs/C.md and the comments of the header. What a
+fragment uses but doesn't declare is declared before it.
+"""
 import re
 from pathlib import Path
 
@@ -22,7 +23,7 @@ static char name[256], email[256], out[65536];
 
 
 def fragments(name):
-    """The blocks of C that are no whole program, and the indented paragraphs that end as C does."""
+    """The C blocks that aren't whole programs, and indented paragraphs that end as C code does."""
     text = (TOP / name).read_text(encoding="utf-8")
     if name.endswith(".h"):
         text = re.sub(r"^(?: \* ?)?", "", re.sub(r"^(?! \*).*", "", text, flags=re.M), flags=re.M)

@@ -1,5 +1,5 @@
 #!/usr/bin/env python3
-"""Writes the C program, the Python program and what both print, as a page has them, into a folder.
+"""Extracts the C program, the Python program and their expected output from a page into a directory.
 
     page.py PAGE FOLDER
 """

@@ -1,14 +1,14 @@
 #!/usr/bin/env python3
-"""Runs mailmap_check and mailmap_dump on buffers, hostile ones among them, and wants the answers of the Rust original.
+"""Compares mailmap_check and mailmap_dump with the Rust original, on hostile and realistic buffers.
 
     compare.py MAILMAP_CHECK MAILMAP_DUMP [MODE ..]
 
-With modes, it runs only the cases of these.
+With modes, runs only their cases.
 
-A line of cases.jsonl is one case: its mode, the buffers, the standard input, and the status and the output of the
-original; the texts are in hex. The buffers were made by a seeded generator, hostile and realistic ones. The answers are
-those of a program over the unchanged Rust crate, which prints dumps as mailmap_dump does; in the text of a fault it
-puts the number of the line where the original has `{line_number}`.
+A line of cases.jsonl is a case: its mode, the buffers, the standard input, and the original's status and output; texts
+are in hex. cases.py made the buffers from a seed. The answers come from the program in the directory oracle, which uses
+the unchanged Rust crate and prints dumps as mailmap_dump does. It takes a fault's line from the buffer, and replaces
+the original's `{line_number}` in the fault's text by the number.
 """
 import json
 import subprocess
@@ -53,7 +53,8 @@ def main():
                 failed += 1
                 print(f"case {number}, {case['mode']}: {done.stdout.hex()} and not {case['answer']}")
     counts = ", ".join(f"{count} of {mode}" for mode, count in agreed.items())
-    print(f"beside the original: {agreed.total()} cases agree, {failed} differ ({counts})")
+    print(f"beside the original: {counts}")
+    print(f"original: {agreed.total()} passed, {failed} failed")
     sys.exit(1 if failed or not agreed or len(cases) != 600 else 0)
 
 

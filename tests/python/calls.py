@@ -1,8 +1,11 @@
-"""The calls of the package gix_mailmap, and what they raise."""
+"""The calls of the package gix_mailmap, and the exceptions they raise."""
 import copy
 import gc
+import io
 import pickle
+import tempfile
 import unittest
+from pathlib import Path
 
 import gix_mailmap
 from gix_mailmap import Answer, Closed, Entry, Finding, Kind, Mailmap, NotAnEntry, Position, Unwritable
@@ -30,23 +33,33 @@ class Texts(unittest.TestCase):
         self.assertEqual(gix_mailmap.prune(b"N <a@x>\n# why\nM <a@x>\nplain"), b"# why\nM <a@x>\nplain")
 
     def test_verify(self):
-        """One mailmap for each kind."""
+        """One mailmap for each kind: what is found in it, and the words of mailmap_verify."""
         cases = [
-            (b"plain", [Finding(1, Kind.NO_EMAIL, None)]),
-            (b"Jane <a@x", [Finding(1, Kind.MISSING_CLOSING_BRACKET, None)]),
-            (b"Jane < > <b@x>", [Finding(1, Kind.EMPTY_EMAIL, None), Finding(1, Kind.GIT_READS, None)]),
-            (b"<a@x>", [Finding(1, Kind.NOTHING_TO_MAP, None)]),
-            (b"Jo <c@x> <d", [Finding(1, Kind.UNCLOSED_SECOND, None)]),
-            (b"Joe <joe@x> joe", [Finding(1, Kind.IGNORED_TEXT, None)]),
-            (b"N <e@x>\n\nM <e@x>", [Finding(1, Kind.NO_EFFECT, 3)]),
-            (b"Eve <eve@w> <eve@o>\n<eve@e> <eve@w>", [Finding(1, Kind.ITSELF_MAPPED, None)]),
-            (b"Joe < joe@x >", [Finding(1, Kind.GIT_READS, None)]),
+            (b"plain", [(1, Kind.NO_EMAIL, None, None, "error: no email in brackets")]),
+            (b"Jane <a@x", [(1, Kind.MISSING_CLOSING_BRACKET, None, None, "error: the first '<' has no '>'")]),
+            (b"Jane < > <b@x>", [
+                (1, Kind.EMPTY_EMAIL, None, None, "error: the first email is empty"),
+                (1, Kind.GIT_READS, None, "it as Jane < > <b@x>", "warning: git reads it as Jane < > <b@x>"),
+            ]),
+            (b"<a@x>", [(1, Kind.NOTHING_TO_MAP, None, None, "error: an email alone maps nothing")]),
+            (b"Jo <c@x> <d", [(1, Kind.UNCLOSED_SECOND, None, None, "error: the second '<' has no '>'")]),
+            (b"Joe <joe@x> joe\x1b\xff", [
+                (1, Kind.IGNORED_TEXT, None, "joe\\x1b\udcff", "warning: ignored text: joe\\x1b\udcff"),
+            ]),
+            (b"N <e@x>\n\nM <e@x>", [(1, Kind.NO_EFFECT, 3, None, "warning: no effect beside line 3")]),
+            (b"Eve <eve@w> <eve@o>\n<eve@e> <eve@w>", [
+                (1, Kind.ITSELF_MAPPED, None, "Eve <eve@e>", "warning: Eve <eve@w> is itself mapped, to Eve <eve@e>"),
+            ]),
+            (b"J\0e <joe@x>", [(1, Kind.GIT_READS, None, "nothing here", "warning: git reads nothing here")]),
             (MAP, []),
             (b"", []),
         ]
         for mailmap, found in cases:
-            with self.subTest(mailmap=mailmap):
-                self.assertEqual(gix_mailmap.verify(mailmap), found)
+            for text in (mailmap, mailmap.decode(errors="surrogateescape")):
+                with self.subTest(mailmap=text):
+                    findings = gix_mailmap.verify(text)
+                    self.assertEqual(findings, [Finding(*one) for one in found])
+                    self.assertEqual([str(finding) for finding in findings], [one[-1] for one in found])
 
     def test_report(self):
         both = [(b"team", b"N <e@x>\nplain\n"), (b"own", b"M <e@x>\nI <i@x> \x1b")]
@@ -108,17 +121,110 @@ class Texts(unittest.TestCase):
         self.assertEqual(gix_mailmap.unneeded([(b"many", MANY)], b"plain"), every)
 
     def test_more_findings_than_the_first_array_holds(self):
-        found = [Finding(line, Kind.NO_EMAIL, None) for line in range(1, 1001)]
+        found = [Finding(line, Kind.NO_EMAIL, None, None, "error: no email in brackets") for line in range(1, 1001)]
         self.assertEqual(gix_mailmap.verify(b"plain\n" * 1000), found)
 
     def test_many_lines(self):
-        """200,000 lines, and there is memory for them."""
+        """200,000 lines fit into memory."""
         lines = MANY.replace(b"\n ", b"\n")[1:]
         self.assertEqual(gix_mailmap.check(MANY, MANY), lines)
         self.assertEqual(gix_mailmap.compact(lines), MANY)
         self.assertEqual(gix_mailmap.prune(MANY), MANY)
         self.assertEqual(gix_mailmap.verify(MANY), [])
         self.assertEqual(len(gix_mailmap.verify(b"plain\n" * COUNT)), COUNT)
+
+    def test_what_is_no_list_of_mailmaps(self):
+        calls = [gix_mailmap.report, lambda mailmaps: gix_mailmap.explain(mailmaps, ""),
+                 lambda mailmaps: gix_mailmap.unneeded(mailmaps, "")]
+        for call in calls:
+            for wrong, words in (
+                ("..", "each mailmap has to be a pair of its name and its text, and not '.'"),
+                (b"ab", "each mailmap has to be a pair of its name and its text, and not 97"),
+                (["ab"], "each mailmap has to be a pair of its name and its text, and not 'ab'"),
+                ([("a", "b", "c")], "each mailmap has to be a pair of .*, and not \\('a', 'b', 'c'\\)"),
+                ([("a", None)], "str or bytes wanted, not <class 'NoneType'>"),
+                (None, "not iterable"),
+            ):
+                with self.assertRaisesRegex(TypeError, words):
+                    call(wrong)
+
+
+class Files(unittest.TestCase):
+    """Texts as open files, and mailmaps by their paths."""
+
+    def setUp(self):
+        folder = tempfile.TemporaryDirectory()
+        self.addCleanup(folder.cleanup)
+        self.folder = Path(folder.name)
+        self.path = self.folder / "map"
+        self.path.write_bytes(b"J\xf6rg <jane@x> <jd@y>\r\nJoe <joe@x>\n")
+
+    def test_calls_of_files(self):
+        text = self.path.read_bytes()
+        for first, second in ((io.BytesIO, io.BytesIO), (io.BytesIO, bytes)):
+            self.assertEqual(gix_mailmap.check(first(text), second(b"jd <jd@y>")), b"J\xf6rg <jane@x>\n")
+            said = gix_mailmap.explain([(b"a", first(text))], second(b"x <joe@x>"))
+            self.assertEqual(said, b"x <joe@x> is Joe <joe@x> by a:2\n")
+            self.assertEqual(gix_mailmap.unneeded([(b"a", first(text))], second(b"x <joe@x>")), [Position(0, 1)])
+        for call in (gix_mailmap.compact, gix_mailmap.prune, gix_mailmap.verify):
+            with self.path.open("rb") as file:
+                self.assertEqual(call(file), call(text))
+        self.assertEqual(gix_mailmap.report([("a", io.StringIO("x"))]), "a:1: error: no email in brackets\n")
+        with self.path.open("rb") as file, Mailmap(file, b"Joseph <joe@x>") as mailmap:
+            mailmap.add(io.BytesIO(b"Jane <jd@y>"))
+            self.assertEqual(mailmap.write(), b" Jane <jane@x> <jd@y>\n Joseph <joe@x>\n")
+            with self.assertRaisesRegex(TypeError, "can't be mixed"):
+                mailmap.add(io.StringIO(""))
+
+    def test_errors_of_files_pass(self):
+        class Broken:
+            def read(self):
+                raise OSError("broken")
+
+        class Numbers:
+            def read(self):
+                return 1
+
+        with Mailmap(MAP) as mailmap:
+            for call in (Mailmap, mailmap.add, gix_mailmap.compact, gix_mailmap.verify):
+                with self.assertRaisesRegex(OSError, "broken"):
+                    call(Broken())
+                with self.assertRaisesRegex(TypeError, "str or bytes wanted, not <class 'int'>"):
+                    call(Numbers())
+            self.assertEqual(list(mailmap), [JANE, JOE])
+
+    def test_a_file_that_closes_the_mailmap(self):
+        class Closing:
+            def read(self):
+                mailmap.close()
+                return b"N <a@x>"
+
+        mailmap = Mailmap(MAP)
+        with self.assertRaises(Closed):
+            mailmap.add(Closing())
+
+    def test_from_path(self):
+        for path in (self.path, str(self.path)):
+            with Mailmap.from_path(path) as mailmap:
+                self.assertEqual(mailmap[0], Entry("J\udcf6rg", "jane@x", None, "jd@y"))
+                self.assertEqual(mailmap.lookup(b"jd", b"jd@y").name, b"J\xf6rg")
+        with self.assertRaises(FileNotFoundError):
+            Mailmap.from_path(self.folder / "none")
+
+    def test_of_repository(self):
+        below = self.folder / "a" / "b"
+        below.mkdir(parents=True)
+        with self.assertRaises(FileNotFoundError) as raised:
+            Mailmap.of_repository(below)
+        self.assertEqual(raised.exception.filename, str(below))
+        (self.folder / ".git").mkdir()
+        self.assertEqual(Mailmap.of_repository(below).write(), "")
+        (self.folder / ".mailmap").symlink_to(self.path)
+        self.assertEqual(Mailmap.of_repository(below).write(), "")
+        self.path.rename(self.folder / ".mailmap")
+        for path in (self.folder, below, str(below)):
+            with Mailmap.of_repository(path) as mailmap:
+                self.assertEqual(mailmap.lookup("x", "joe@x").name, "Joe")
 
 
 class Handles(unittest.TestCase):
@@ -175,7 +281,7 @@ class Handles(unittest.TestCase):
             self.assertEqual(mailmap[0], Entry(name, None, None, b"n@x"))
 
     def test_many_entries(self):
-        """200,000 of them, and there is memory for them."""
+        """200,000 entries fit into memory."""
         with Mailmap(MANY) as mailmap:
             mailmap.add(MANY)
             self.assertEqual((len(mailmap), len(mailmap.entries()), mailmap.write()), (COUNT, COUNT, MANY))
@@ -189,7 +295,6 @@ class Handles(unittest.TestCase):
             self.assertFalse(mailmap.closed)
             list(mailmap.map_contacts([b"a"]))
         self.assertTrue(mailmap.closed)
-        self.assertIsNone(mailmap._written[1])
         mailmap.close()
         calls = [
             lambda: mailmap.lookup(b"jd", b"jd@y"),
@@ -202,7 +307,9 @@ class Handles(unittest.TestCase):
             lambda: list(mailmap),
             lambda: mailmap[:],
             lambda: mailmap.map_contacts([]),
+            lambda: gix_mailmap._native.Stream(mailmap, []),
             mailmap.__enter__,
+            Mailmap.__new__(Mailmap).entries,
         ]
         for call in calls:
             with self.assertRaises(Closed):
@@ -211,9 +318,43 @@ class Handles(unittest.TestCase):
     def test_no_copies(self):
         with Mailmap(MAP) as mailmap:
             for call in (copy.copy, copy.deepcopy, pickle.dumps):
-                for whole in (mailmap, mailmap._handle, gix_mailmap._native.Stream(MAP)):
-                    with self.assertRaisesRegex(TypeError, "can't be copied or pickled"):
-                        call(whole)
+                with self.assertRaisesRegex(TypeError, "can't be copied or pickled"):
+                    call(mailmap)
+                with self.assertRaisesRegex(TypeError, "cannot pickle"):
+                    call(mailmap.map_contacts([]))
+
+    def test_what_does_not_change_is_the_object_that_was_given(self):
+        with Mailmap(b"Jane Doe <jane@x> <jd@y>\nJoe <joe@x>\n") as mailmap:
+            for name, email in (("Jane\udcff", "q\u00e4@z"), (b"J\xff", b"q@z"), ("Joe", "joe@x"), (b"Joe", b"joe@x")):
+                found = mailmap.lookup(name, email)
+                self.assertTrue(found.name is name and found.email is email)
+            lines = ["plain", "a <b>", b"plain", b"a <b>"]
+            for line in lines:
+                self.assertIs(next(mailmap.map_contacts([line])), line)
+            own = bytearray(b"joe")
+            self.assertIs(type(mailmap.lookup(own, own).name), bytes)
+
+    def test_arguments_by_name(self):
+        with Mailmap(MAP) as mailmap:
+            jane = mailmap.lookup(b"jd", b"jd@y")
+            self.assertEqual(mailmap.lookup(b"jd", email=b"jd@y"), jane)
+            self.assertEqual(mailmap.lookup(name=b"jd", email=b"jd@y"), jane)
+            self.assertEqual(mailmap.lookup(email=b"jd@y", name=b"jd"), jane)
+            for given, named in (
+                ((), {}), ((b"a",), {}), ((b"a", b"b", b"c"), {}), ((b"a",), {"name": b"b"}), ((), {"email": b"b"}),
+                ((b"a", b"b"), {"email": b"b"}), ((), {"name": b"a", "mail": b"b"}),
+            ):
+                with self.assertRaisesRegex(TypeError, "lookup takes a name and an email"):
+                    mailmap.lookup(*given, **named)
+        with self.assertRaisesRegex(TypeError, "unexpected keyword"):
+            Mailmap(text=MAP)
+
+    def test_entries_of_other_lengths(self):
+        """A subclass of a tuple may have any."""
+        with Mailmap(MAP) as mailmap:
+            for items in ((), (b"a",), (b"a",) * 5):
+                with self.assertRaisesRegex(TypeError, "an Entry is wanted"):
+                    mailmap.add_entry(tuple.__new__(Entry, items))
 
     def test_dropped_mailmaps_are_collected(self):
         for _ in range(100):

@@ -1,23 +1,22 @@
-"""Mailmaps in a forked process, whose parent has threads that use them."""
+"""Mailmaps in a forked process whose parent has threads that use them."""
 import os
 import signal
 import sys
 import threading
-import time
 import traceback
 import unittest
 import warnings
 
-from gix_mailmap import Closed, Mailmap
-from gix_mailmap._native import Handle
+import gix_mailmap
+from gix_mailmap import Mailmap
 from threads import JANE, MANY, MAP, Ending
 
-# that threads and forks don't go together, as later versions of Python say
+# newer versions of Python warn about forks with threads
 warnings.simplefilter("ignore", DeprecationWarning)
 
 
 def status_of(work):
-    """The status of a forked process that does some work. One that waits for ever ends by a signal."""
+    """The status of a forked process that runs `work`. If it hangs, a signal ends it."""
     child = os.fork()
     if child:
         return os.waitstatus_to_exitcode(os.waitpid(child, 0)[1])
@@ -33,7 +32,7 @@ def status_of(work):
 
 class Forks(Ending):
     def busy(self, *works):
-        """Has a thread do each of some works again and again, until the end of the test."""
+        """Starts a thread for each function, which calls it again and again until the end of the test."""
         done = threading.Event()
 
         def again(work):
@@ -62,7 +61,7 @@ class Forks(Ending):
             self.assertEqual(status_of(use), 0)
 
     def test_what_another_thread_changes(self):
-        """The child has it as it was before an `add` or after it."""
+        """The child has the mailmap as it was before or after an `add`."""
         mailmap = Mailmap(MAP)
 
         def add():
@@ -79,7 +78,7 @@ class Forks(Ending):
             self.assertEqual(status_of(use), 0)
 
     def test_mailmaps_that_other_threads_open(self):
-        """The child knows each as it was before an `add` or after it."""
+        """The child has each mailmap as it was before or after an `add`."""
         self.addCleanup(sys.setswitchinterval, sys.getswitchinterval())
         sys.setswitchinterval(1e-5)
         opened = [Mailmap(MAP) for _ in range(3)]
@@ -97,39 +96,6 @@ class Forks(Ending):
         for _ in range(60):
             self.assertEqual(status_of(use), 0)
 
-    def test_an_exception_while_a_fork_waits(self):
-        """The fork goes on. One mailmap is in the middle of a call, so in the child all are closed."""
-        handles = [Handle(), Handle()]
-        begun, done = threading.Event(), threading.Event()
-
-        def call(_at):
-            begun.set()
-            done.wait()
-            return 0
-
-        def interrupt(_number, _frame):
-            raise KeyboardInterrupt
-
-        def use():
-            for handle in handles:
-                with self.assertRaises(Closed):
-                    handle.lengths()
-            self.assertEqual(Mailmap(MAP).lookup("jd", "jd@y"), JANE)
-
-        self.addCleanup(signal.signal, signal.SIGUSR1, signal.signal(signal.SIGUSR1, interrupt))
-        busy = threading.Thread(target=handles[0]._called, args=(call,))
-        busy.start()
-        begun.wait()
-        threading.Timer(0.2, os.kill, (os.getpid(), signal.SIGUSR1)).start()
-        self.assertEqual(status_of(use), 0)
-        done.set()
-        busy.join()
-        self.assertEqual(self.printed, ["KeyboardInterrupt()"])
-        self.printed.clear()
-        for handle in handles:
-            self.assertEqual(handle.lengths(), (0, 0))
-            self.assertEqual(status_of(handle.lengths), 0)
-
     def test_a_contact_that_another_thread_streams(self):
         mailmap = Mailmap(MAP)
         answers = mailmap.map_contacts(iter(lambda: "jd <jd@y>", None))
@@ -138,32 +104,26 @@ class Forks(Ending):
         for _ in range(10):
             self.assertEqual(status_of(use), 0)
 
-    def test_a_fork_while_a_call_waits_for_another_mailmap(self):
-        """As a `__del__` in the middle of a call does."""
-        for order in (1, -1):
-            handles = [Handle(), Handle()][::order]
-            statuses = []
-            fork = threading.Thread(target=lambda: statuses.append(status_of(handles[0].lengths)))
-
-            def call(_at):
-                fork.start()
-                time.sleep(0.05)
-                handles[1].lengths()
-                return 0
-
-            handles[0]._called(call)
-            fork.join()
-            self.assertEqual(statuses, [0])
+    def test_calls_of_texts_by_another_thread(self):
+        """One of them may be under way when the child begins."""
+        contacts = "".join(f"a <o{number}@y>\n" for number in range(20_000))
+        wanted = gix_mailmap.check(MANY, contacts)
+        self.busy(*[lambda: gix_mailmap.check(MANY, contacts)] * 2)
+        for _ in range(10):
+            self.assertEqual(status_of(lambda: self.assertEqual(gix_mailmap.check(MANY, contacts), wanted)), 0)
 
     def test_a_fork_in_a_call(self):
-        handle = Handle()
+        class Forking:
+            def read(self):
+                statuses.append(status_of(lambda: use(mailmap.add("JD <jd@y>"))))
+                return "JD <jd@y>"
 
-        def call(_at):
-            self.assertEqual(status_of(lambda: handle.lookup(b"a", b"b")), 0)
-            return 0
+        def use(_added):
+            self.assertEqual(mailmap.lookup("jd", "jd@y").name, "JD")
 
-        handle._called(call)
-        self.assertEqual(handle.lengths(), (0, 0))
+        mailmap, statuses = Mailmap(MAP), []
+        use(mailmap.add(Forking()))
+        self.assertEqual(statuses, [0])
 
     def test_many_forks_at_a_time(self):
         mailmap = Mailmap(MAP)

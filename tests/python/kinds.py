@@ -1,4 +1,5 @@
-"""`str` and bytes in, the same kind out; and the errors."""
+"""`str` in, `str` out; bytes in, bytes out; and the errors."""
+import array
 import unittest
 from unittest import mock
 
@@ -13,14 +14,14 @@ JOERG = b"J\xf6rg <j@x>\n"
 
 
 class LongerBytes(bytes):
-    """Bytes that say they are longer."""
+    """Bytes that report a greater length."""
 
     def __len__(self):
         return 10**9
 
 
 class LongerStr(str):
-    """A `str` that is encoded in a way of its own."""
+    """A `str` with an encoding of its own."""
 
     def encode(self, *_):
         return LongerBytes(b"x")
@@ -56,7 +57,8 @@ class Kinds(unittest.TestCase):
         self.assertEqual(gix_mailmap.check(TEXT, "jd <jd@y>"), "Jörg Doe <j@x>\n")
         self.assertEqual(gix_mailmap.check(memoryview(TEXT.encode()), bytearray(b"-")), b"-\n")
         for kind in (bytes, bytearray, memoryview):
-            self.assertEqual(gix_mailmap.verify(kind(b"plain")), [Finding(1, Kind.NO_EMAIL, None)])
+            found = [Finding(1, Kind.NO_EMAIL, None, None, "error: no email in brackets")]
+            self.assertEqual(gix_mailmap.verify(kind(b"plain")), found)
         self.assertEqual(gix_mailmap.verify("plain"), gix_mailmap.verify(b"plain"))
         self.assertEqual(gix_mailmap.report([("ä", "x")]), "ä:1: error: no email in brackets\n")
         for kind in (bytes, bytearray, memoryview):
@@ -108,6 +110,7 @@ class Kinds(unittest.TestCase):
                     call()
 
     def test_what_is_no_text(self):
+        self.assertEqual(gix_mailmap.compact(array.array("b", b"N <a@x>")), b" N <a@x>\n")
         for wrong in (None, 1, [b"N <a@x>"], (b"",)):
             for call in (Mailmap, Mailmap().add, gix_mailmap.compact, gix_mailmap.prune, gix_mailmap.verify):
                 with self.assertRaises(TypeError):
@@ -129,28 +132,16 @@ class Errors(unittest.TestCase):
         ):
             self.assertTrue(issubclass(error, Error) and issubclass(error, usual))
 
-    def test_no_memory_for_a_buffer(self):
-        with Mailmap(TEXT) as mailmap, mock.patch.object(_native, "create_string_buffer", side_effect=MemoryError):
-            for call in (mailmap.write, mailmap.entries, lambda: mailmap[0], lambda: gix_mailmap.check(TEXT, "a <b>")):
-                with self.assertRaises(OutOfMemory):
-                    call()
-
     def test_kinds_of_a_later_library(self):
-        with mock.patch.object(_native, "verify", lambda _text: [(1, 7, 2), (3, 10, 0)]):
+        said = ":1: warning: no effect beside :2\n:3: warning: odd\n"
+        with mock.patch.object(_native, "verify", lambda _text: ([(1, 7, 2), (3, 10, 0)], said)):
             known, later = gix_mailmap.verify("")
-        self.assertEqual((known, later), (Finding(1, Kind.NO_EFFECT, 2), Finding(3, Kind(10), None)))
+        self.assertEqual(known, Finding(1, Kind.NO_EFFECT, 2, None, "warning: no effect beside line 2"))
+        self.assertEqual(later, Finding(3, Kind(10), None, None, "warning: odd"))
         self.assertEqual((later.kind, later.kind.name, str(later.kind)), (10, "NUMBER_10", "10"))
         for wrong in (0, -1, "10"):
             with self.assertRaises(ValueError):
                 Kind(wrong)
-
-    def test_what_a_status_raises(self):
-        self.assertEqual([_native._is_short(status) for status in (0, 1)], [False, True])
-        for status, error in (
-            (2, OutOfMemory), (3, NoEntry), (4, NotAnEntry), (5, Unwritable), (6, Error), (99, Error),
-        ):
-            with self.assertRaises(error):
-                _native._is_short(status)
 
 
 if __name__ == "__main__":

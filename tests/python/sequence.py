@@ -1,4 +1,4 @@
-"""A mailmap is a sequence of its entries, as a list of them is."""
+"""A mailmap is a sequence of its entries, like a list of them."""
 import unittest
 from collections.abc import Sequence
 

@@ -1,8 +1,8 @@
-"""The stored answers of the original, by the package gix_mailmap.
+"""The original's stored answers, compared with the package gix_mailmap.
 
     stored.py CASES
 
-Those to walks over lines are left out: no call reports single lines.
+Leaves out cases that parse lines one by one, because no call reports single lines.
 """
 import json
 import sys
@@ -17,7 +17,7 @@ def shown(text):
 
 
 def line(entry):
-    """An entry as a line of a mailmap."""
+    """An entry as a mailmap line."""
     new_email = b"" if entry.new_email is None else b" <" + entry.new_email + b"> "
     return b" " + (entry.new_name or b"") + new_email + (entry.old_name or b"") + b" <" + entry.old_email + b">\n"
 
@@ -49,7 +49,7 @@ def answer(mode, mailmap, text):
 
 
 def checked(mailmap, whole, contacts):
-    """By `check`, and by `map_contacts` of bytes and of `str`."""
+    """Compares `check` with `map_contacts` of bytes and of `str`."""
     answers = gix_mailmap.check(whole, contacts)
     *ended, last = contacts.split(b"\n")
     lines = [line + b"\n" for line in ended] + [last] * bool(last)
@@ -73,7 +73,8 @@ def main():
             failed += 1
             print(f"case {number}, {mode}: {given.hex()} and not {case['answer']}")
     modes = ", ".join(f"{count} of {mode}" for mode, count in agreed.items())
-    print(f"beside the original, by Python: {agreed.total()} cases agree, {failed} differ ({modes})")
+    print(f"beside the original, by Python: {modes}")
+    print(f"stored: {agreed.total()} passed, {failed} failed")
     sys.exit(1 if failed or not agreed else 0)
 
 

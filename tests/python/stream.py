@@ -1,4 +1,4 @@
-"""`map_contacts`, beside `check`."""
+"""`map_contacts`, compared with `check`."""
 import io
 import itertools
 import os
@@ -8,10 +8,9 @@ import tempfile
 import tracemalloc
 import unittest
 from pathlib import Path
-from unittest import mock
 
 import gix_mailmap
-from gix_mailmap import Closed, Entry, Mailmap, NotALine, _stream
+from gix_mailmap import Closed, Entry, Mailmap, NotALine, NotAText
 
 MAP = "Jane Doe <jane@x> <jd@y>\nJoe <joe@x> joe <j@x>\n # <joe@x>\n <new@x> <old@x>\nX <x1@x> y <x@x>\n"
 LINES = [
@@ -47,25 +46,28 @@ class Stream(unittest.TestCase):
             self.assertEqual(list(mailmap.map_contacts([])), [])
 
     def test_lines_that_may_change(self):
-        """Also after an equal line whose answer is kept. Only some of them have a hash."""
-        with Mailmap(MAP) as mailmap, mock.patch.multiple(_stream, _LINES=2, _PAUSE=0):
+        """Mutable lines, also after an equal line whose answer is kept. Only some of them can be hashed."""
+        with Mailmap(MAP) as mailmap:
             for kind in (bytearray, memoryview, lambda text: memoryview(bytearray(text))):
                 lines = [b"jd <jd@y>", kind(b"jd <jd@y>")] * 3
                 self.assertEqual(list(mailmap.map_contacts(lines)), [b"Jane Doe <jane@x>"] * 6)
 
-    def test_many_parts(self):
-        """Lines that come again and lines that don't, in parts of all lengths, with few answers kept and with many."""
+    def test_many_lines(self):
+        """Lines that recur and lines that don't: twice more than are kept. Before the first time many recur, so answers
+        are kept after it, and before the second time few, so none are."""
         rng = random.Random(7)
+        lines = []
+        for names in (3, 30, 1000, 5000, 10**6, 10**6, 30, 10**6, 10**6, 5000, 3):
+            lines += [f"{rng.randrange(names)} <{rng.choice(LINES)}@y>" for _ in range(40_000)]
+        answers = gix_mailmap.check(MAP, "".join(f"{line}\r\n" for line in lines)).split("\n")[:-1]
         with Mailmap(MAP) as mailmap:
-            for _ in range(200):
-                names = rng.choice([3, 30, 1000])
-                lines = [f"{rng.randrange(names)} <{rng.choice(LINES)}@y>" for _ in range(rng.randrange(200))]
-                kept, pause = rng.choice([0, 5, 1000]), rng.choice([0, 1, 7])
-                with mock.patch.multiple(_stream, _LINES=rng.randrange(1, 40), _KEPT=kept, _PAUSE=pause):
-                    self.assertEqual(list(mailmap.map_contacts(lines)), by_check(lines))
+            self.assertEqual(list(mailmap.map_contacts(lines)), answers)
+            texts = [line.encode(errors="surrogateescape") for line in lines]
+            found = [answer.decode(errors="surrogateescape") for answer in mailmap.map_contacts(texts)]
+            self.assertEqual(found, answers)
 
     def test_files_are_answered_as_their_lines_are(self):
-        """Opened in each way, with all kinds of line ends, in parts of all lengths."""
+        """Files opened in each way, with all kinds of line ends."""
         rng = random.Random(5)
         text = {"encoding": "utf-8", "errors": "surrogateescape"}
         ways = [{"mode": "rb"}, *({**text, "newline": end} for end in (None, "", "\n", "\r", "\r\n"))]
@@ -78,9 +80,7 @@ class Stream(unittest.TestCase):
                 for way in ways:
                     with path.open(**way) as file:
                         wanted = answers_or_error(mailmap, list(file))
-                    with path.open(**way) as file, mock.patch.multiple(_stream, _BLOCK=rng.randrange(1, 40)):
-                        if isinstance(file, io.TextIOWrapper):
-                            file._CHUNK_SIZE = rng.randrange(1, 40)  # how much of the file it decodes at a time
+                    with path.open(**way) as file:
                         self.assertEqual(answers_or_error(mailmap, file), wanted)
 
     def test_a_subclass_of_a_file_keeps_its_own_lines(self):
@@ -93,43 +93,84 @@ class Stream(unittest.TestCase):
             self.assertEqual(list(mailmap.map_contacts(Upper(b"a <b>\nc"))), [b"A <B>", b"C"])
 
     def test_what_has_arrived_in_a_pipe_is_answered(self):
-        """Before the other end writes more, or closes it. If this waits, the alarm ends it."""
-        read, write = os.pipe()
+        """Answers come before the other end writes more or closes the pipe. If this hangs, the alarm ends it."""
         signal.alarm(60)
-        with open(read, "rb") as file, open(write, "wb", buffering=0) as pipe, Mailmap(MAP) as mailmap:
-            answers = mailmap.map_contacts(file)
-            for _ in range(3):
-                pipe.write(b"jd <jd@y>\n")
-                self.assertEqual(next(answers), b"Jane Doe <jane@x>")
+        for way in ({"mode": "rb"}, {"encoding": "utf-8"}):
+            read, write = os.pipe()
+            with open(read, **way) as file, open(write, "wb", buffering=0) as pipe, Mailmap(MAP) as mailmap:
+                answers = mailmap.map_contacts(file)
+                for _ in range(3):
+                    pipe.write(b"jd <jd@y>\n")
+                    self.assertIn(next(answers), ("Jane Doe <jane@x>", b"Jane Doe <jane@x>"))
         signal.alarm(0)
 
     def test_lines_are_taken_as_answers_are_wanted(self):
         with Mailmap(MAP) as mailmap:
             answers = mailmap.map_contacts(itertools.repeat(b"jd <jd@y>\n"))
             self.assertEqual(set(itertools.islice(answers, 1_000_000)), {b"Jane Doe <jane@x>"})
+            lines = iter(["a", "b", "c"])
+            self.assertEqual(next(mailmap.map_contacts(lines)), "a")
+            self.assertEqual(list(lines), ["b", "c"])
+
+    def test_errors_of_the_lines_pass(self):
+        """After the answers to those before."""
+        def lines():
+            yield "jd <jd@y>"
+            raise LookupError
+
+        with Mailmap(MAP) as mailmap:
+            answers = mailmap.map_contacts(lines())
+            self.assertEqual(next(answers), "Jane Doe <jane@x>")
+            self.assertRaises(LookupError, next, answers)
+            self.assertRaises(StopIteration, next, answers)
+
+    def test_an_error_leaves_the_stream_usable(self):
+        with Mailmap(MAP) as mailmap:
+            answers = mailmap.map_contacts(["a", "b\nc", b"d", "\ud800", None, "jd <jd@y>"])
+            self.assertEqual(next(answers), "a")
+            for error in (NotALine, TypeError, NotAText, TypeError):
+                self.assertRaises(error, next, answers)
+            self.assertEqual(list(answers), ["Jane Doe <jane@x>"])
+
+    def test_lines_that_take_answers_themselves(self):
+        class Lines:
+            count = 0
+
+            def __iter__(self):
+                return self
+
+            def __next__(self):
+                self.count += 1
+                if self.count == 2:
+                    taken.append(next(answers))
+                if self.count > 4:
+                    raise StopIteration
+                return f"{self.count} <old@x>"
+
+        taken = []
+        with Mailmap(MAP) as mailmap:
+            answers = mailmap.map_contacts(Lines())
+            self.assertEqual(list(answers), ["1 <new@x>", "3 <new@x>", "4 <new@x>"])
+        self.assertEqual(taken, ["3 <new@x>"])
 
     def test_a_changed_mailmap(self):
-        with Mailmap(MAP) as mailmap, mock.patch.multiple(_stream, _LINES=1):
-            answers = mailmap.map_contacts(itertools.repeat("jd <jd@y>"))
-            self.assertEqual(next(answers), "Jane Doe <jane@x>")
-            mailmap.add("JD <jd@y>")
-            self.assertEqual(next(answers), "JD <jane@x>")
-            mailmap.close()
-            with self.assertRaises(Closed):
-                next(answers)
-
-    def test_a_mailmap_changed_in_the_middle_of_a_file(self):
-        with Mailmap(MAP) as mailmap, mock.patch.multiple(_stream, _BLOCK=10):
-            answers = mailmap.map_contacts(io.BytesIO(b"jd <jd@y>\n" * 3))
-            self.assertEqual(next(answers), b"Jane Doe <jane@x>")
-            mailmap.add("JD <jd@y>")
-            self.assertEqual(next(answers), b"JD <jane@x>")
-            mailmap.close()
-            with self.assertRaises(Closed):
-                next(answers)
+        """From the next line on. A file is no other case."""
+        for lines in (itertools.repeat("jd <jd@y>"), io.StringIO("jd <jd@y>\n" * 9)):
+            with Mailmap(MAP) as mailmap:
+                answers = mailmap.map_contacts(lines)
+                self.assertEqual(next(answers), "Jane Doe <jane@x>")
+                mailmap.add("JD <jd@y>")
+                self.assertEqual(next(answers), "JD <jane@x>")
+                mailmap.add_entry(Entry("J", None, None, "jd@y"))
+                self.assertEqual(next(answers), "J <jane@x>")
+                mailmap.close()
+                with self.assertRaises(Closed):
+                    next(answers)
+                mailmap.__init__("Jo <jd@y>")
+                self.assertEqual(next(answers), "Jo <jd@y>")
 
     def test_long_answers(self):
-        """One longer than what is read of a stream at a time, also between short ones."""
+        """An answer longer than one read of a stream, also between short ones."""
         name = "n" * 400_000
         with Mailmap(f"{name} <a@x>") as mailmap:
             lines = ["a <a@x>", "b <b@x>", "c <a@x>", "", "d"]
@@ -138,7 +179,7 @@ class Stream(unittest.TestCase):
             self.assertEqual(list(mailmap.map_contacts(lines * 20)), wanted * 20)
 
     def test_long_answers_to_a_file_do_not_pile_up(self):
-        """Those to one part of it have 200 MB together."""
+        """The answers to one part of the file have 200 MB together."""
         with Mailmap(f"{'n' * 65_536} <a@x>") as mailmap:
             tracemalloc.start()
             answers = mailmap.map_contacts(io.BytesIO(b"<a@x>\n" * 3000))
@@ -148,7 +189,7 @@ class Stream(unittest.TestCase):
         self.assertLess(peak, 20_000_000)
 
     def test_lines_of_both_kinds(self):
-        with Mailmap(MAP) as mailmap, mock.patch.multiple(_stream, _LINES=2):
+        with Mailmap(MAP) as mailmap:
             for lines in (["a", b"a"], ["a", "b", b"a"], [b"a", b"a", b"a", "a"], ["a", "a", bytearray(b"a")]):
                 with self.assertRaisesRegex(TypeError, "can't be mixed"):
                     list(mailmap.map_contacts(lines))
@@ -163,29 +204,30 @@ class Stream(unittest.TestCase):
                     mailmap.map_contacts(text)
 
     def test_an_entry_that_no_line_can_hold(self):
-        """It is in no text for a stream, so each line is looked up."""
+        """The mailmap can't be written as text for a stream, so each line is looked up."""
         with Mailmap(MAP) as mailmap:
             mailmap.add_entry(Entry("<\n", None, None, "odd@x\n"))
             self.assertEqual(list(mailmap.map_contacts(LINES)), by_check(LINES))
             lines = [line.encode(errors="surrogateescape") for line in LINES]
             answers = [answer.decode(errors="surrogateescape") for answer in mailmap.map_contacts(lines)]
             self.assertEqual(answers, by_check(LINES))
-            with mock.patch.multiple(_stream, _LINES=1):
-                answers = mailmap.map_contacts(itertools.repeat("jd <odd@x>"))
-                self.assertEqual(next(answers), "jd <odd@x>")
-                mailmap.add_entry(Entry("<\n", None, None, "odd@x"))
-                self.assertEqual(next(answers), "<\n <odd@x>")
+            answers = mailmap.map_contacts(itertools.repeat("jd <odd@x>"))
+            self.assertEqual(next(answers), "jd <odd@x>")
+            mailmap.add_entry(Entry("<\n", None, None, "odd@x"))
+            self.assertEqual(next(answers), "<\n <odd@x>")
             file = io.BytesIO(b"jd <odd@x>\nplain")
             self.assertEqual(list(mailmap.map_contacts(file)), [b"<\n <odd@x>", b"plain"])
 
     def test_long_lines_are_not_kept(self):
-        with Mailmap(f"{'n' * 400} <a@x>") as mailmap:
-            answered = _stream._Answers(mailmap.write().encode(), mailmap._handle.lookup, set())
-            for lines in (["a", "b" * 400, "a <a@x>", "c"], ["a", "b" * 400, "d", "c"]):
-                answers = [f"{'n' * 400} <a@x>" if line == "a <a@x>" else line for line in lines]
-                self.assertEqual(answered.of(lines), answers)
-                answered._pause = 0
-            self.assertEqual(set(answered._known), {"a", "c", "d"})
+        lines = [f"{number}{'n' * 100_000}" for number in range(500)]
+        with Mailmap(MAP) as mailmap:
+            answers = mailmap.map_contacts(f"{line} <a@b>" for line in lines * 2)
+            next(answers)
+            tracemalloc.start()
+            self.assertEqual(sum(map(len, answers)), sum(len(line) + 6 for line in lines * 2) - len(lines[0]) - 6)
+            _, peak = tracemalloc.get_traced_memory()
+            tracemalloc.stop()
+        self.assertLess(peak, 1_000_000)
 
     def test_a_line_feed_inside(self):
         with Mailmap(MAP) as mailmap:

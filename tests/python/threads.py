@@ -1,4 +1,4 @@
-"""Mailmaps shared by threads, and the garbage collector in the middle of a call."""
+"""Mailmaps shared by threads, and the garbage collector at any time."""
 import faulthandler
 import gc
 import itertools
@@ -7,9 +7,11 @@ import threading
 import time
 import tracemalloc
 import unittest
+import weakref
+from collections import Counter, deque
 
+import gix_mailmap
 from gix_mailmap import Answer, Closed, Mailmap
-from gix_mailmap._native import Handle
 
 MAP = "Jane Doe <jane@x> <jd@y>\n"
 JANE = Answer("Jane Doe", "jane@x", True, True)
@@ -17,7 +19,7 @@ MANY = "".join(f"N{number} <n{number}@x> <o{number}@y>\n" for number in range(20
 
 
 def together(*works):
-    """Runs functions side by side, and raises what one of them raised."""
+    """Runs functions in parallel, and raises an exception if one of them did."""
     errors = []
 
     def run(work):
@@ -36,7 +38,7 @@ def together(*works):
 
 
 class Ending(unittest.TestCase):
-    """A call that waits for ever ends the tests, and what a thread or a `__del__` raises makes a test fail."""
+    """A call that hangs ends the tests. What a thread or a `__del__` raises makes a test fail."""
 
     def setUp(self):
         faulthandler.dump_traceback_later(120, exit=True)
@@ -48,25 +50,66 @@ class Ending(unittest.TestCase):
         self.addCleanup(lambda: self.assertEqual(self.printed, []))
 
 
+class Lock(Ending):
+    """Whether other threads run during a call. They never interrupt one another here: each runs until it waits, or
+    until a call lets others run."""
+
+    def setUp(self):
+        super().setUp()
+        self.addCleanup(sys.setswitchinterval, sys.getswitchinterval())
+        sys.setswitchinterval(10_000)
+
+    def others_run(self, call, meanwhile=lambda: None):
+        """Whether this thread runs while another one makes a call."""
+        begun, done, answers = threading.Event(), [], []
+
+        def run():
+            begun.set()
+            answers.append(call())
+            done.append(True)
+
+        thread = threading.Thread(target=run)
+        thread.start()
+        begun.wait()
+        is_beside = not done
+        meanwhile()
+        thread.join()
+        return is_beside, answers[0]
+
+    def test_calls_of_texts_let_others_run(self):
+        """What a buffer was at first is what counts, whatever others do with it."""
+        text, contacts = MANY.encode() * 5, b"".join(b"a <o%d@y>\n" % number for number in range(50_000))
+        calls = [
+            lambda map: gix_mailmap.check(map, contacts), gix_mailmap.compact, gix_mailmap.prune, gix_mailmap.verify,
+            lambda map: gix_mailmap.report([(b"", map)]), lambda map: gix_mailmap.explain([(b"", map)], contacts),
+            lambda map: gix_mailmap.unneeded([(b"", map)], contacts), lambda map: Mailmap(map).entries(),
+        ]
+        for call in calls:
+            wanted, beside = call(text), False
+            for _ in range(100):
+                buffer = bytearray(text)
+                beside, answer = self.others_run(lambda: call(buffer), buffer.clear)
+                # Another thread may have been at it before the call had begun.
+                if beside and answer == wanted:
+                    break
+            self.assertTrue(beside)
+            self.assertEqual(answer, wanted)
+
+    def test_calls_of_mailmaps_do_not(self):
+        mailmap = Mailmap(MANY)
+        calls = [
+            lambda: mailmap.add(MANY), mailmap.entries, mailmap.write, lambda: len(mailmap),
+            lambda: deque(mailmap.map_contacts(["a <o1@y>"] * 1000), maxlen=0),
+        ]
+        for call in calls:
+            self.assertEqual([self.others_run(call)[0] for _ in range(3)], [False] * 3)
+
+
 class Threads(Ending):
     def setUp(self):
         super().setUp()
         self.addCleanup(sys.setswitchinterval, sys.getswitchinterval())
         sys.setswitchinterval(1e-6)
-
-    def test_close_waits_for_a_call(self):
-        handle = Handle()
-        closer = threading.Thread(target=handle.close)
-
-        def call(_at):
-            closer.start()
-            time.sleep(0.2)
-            self.assertTrue(closer.is_alive() and not handle.closed)
-            return 0
-
-        handle._called(call)
-        closer.join()
-        self.assertTrue(handle.closed)
 
     def test_a_mailmap_that_another_thread_closes(self):
         for _ in range(100):
@@ -105,7 +148,7 @@ class Threads(Ending):
             together(add, close)
 
     def test_entries_while_others_are_added(self):
-        """Each answer is one of before or after an `add`."""
+        """Each answer is one from before or after an `add`."""
         mailmap, done = Mailmap(""), [threading.Event(), threading.Event()]
 
         def add():
@@ -130,7 +173,7 @@ class Threads(Ending):
         together(add, *(lambda event=event: use(event) for event in done))
 
     def test_answers_of_all_lengths(self):
-        """Buffers are those of one call only."""
+        """A buffer is used by only one call at a time."""
         mailmap = Mailmap(MAP)
 
         def use(letter):
@@ -147,20 +190,29 @@ class Threads(Ending):
         wanted = [f"N{n} <n{n}@x>" if n < 20_000 else f"a <o{n}@y>" for n in numbers]
         together(*[lambda: self.assertEqual(list(mailmap.map_contacts(lines)), wanted)] * 3)
 
+    def test_a_stream_by_several_threads(self):
+        """Each answer goes to one of them."""
+        mailmap = Mailmap(MANY)
+        lines = [f"a <o{number % 30_000}@y>\n" for number in range(100_000)]
+        wanted = Counter(mailmap.map_contacts(lines))
+        answers, found = mailmap.map_contacts(lines), []
+        together(*[lambda: found.append(Counter(answers))] * 4)
+        self.assertEqual(sum(found, Counter()), wanted)
+
 
 class Cycles(Ending):
-    """A `__del__` that calls a mailmap, wherever the collector can be made to run."""
+    """A `__del__` that calls a mailmap, wherever the collector can run."""
 
     def setUp(self):
         super().setUp()
         self.addCleanup(gc.set_threshold, *gc.get_threshold())
 
     def collect_after(self, allocations):
-        """Has the collector run as soon as so many objects are new."""
+        """Makes the collector run after this many allocations."""
         gc.set_threshold(allocations, 1_000_000, 1_000_000)
 
     def cycle(self, at_end, *kept):
-        """Garbage for the collector, which calls a function."""
+        """Makes garbage that calls a function when it is collected."""
 
         class Node:
             def __del__(self):
@@ -169,31 +221,24 @@ class Cycles(Ending):
         node = Node()
         node.itself, node.kept = node, kept
 
-    def test_a_call_of_the_thread_that_is_in_a_call(self):
-        handle = Handle()
+    def test_a_text_that_makes_calls_as_it_is_read(self):
+        """The call comes after what they do."""
+        class Text:
+            def __init__(self, call):
+                self.call = call
 
-        def call(_at):
-            self.assertEqual(handle.lookup(b"a", b"b"), (b"a", b"b", False, False))
-            handle.close()
-            return 0
+            def read(self):
+                self.call()
+                return "N <a@x>"
 
-        handle._called(call)
-        self.assertTrue(handle.closed)
-
-    def test_a_lookup_in_the_middle_of_a_lookup(self):
-        """Between the call of the library and the answer."""
-        handle = Handle()
-        handle.lookup(b"", b"")
-        called = handle._called
-
-        def interrupted(*arguments):
-            is_short = called(*arguments)
-            handle._called = called
-            self.assertEqual(handle.lookup(b"c", b"d"), (b"c", b"d", False, False))
-            return is_short
-
-        handle._called = interrupted
-        self.assertEqual(handle.lookup(b"a", b"b"), (b"a", b"b", False, False))
+        mailmap = Mailmap(MAP)
+        mailmap.add(Text(lambda: mailmap.add("M <a@x>")))
+        mailmap.add(Text(lambda: self.assertEqual(mailmap.lookup("jd", "jd@y"), JANE)))
+        self.assertEqual(mailmap.lookup("", "a@x").name, "N")
+        with self.assertRaises(Closed):
+            mailmap.add(Text(mailmap.close))
+        mailmap.__init__(MAP, Text(mailmap.close))
+        self.assertEqual(mailmap.lookup("jd", "jd@y"), JANE)
 
     def test_calls_in_the_middle_of_calls(self):
         mailmap, calls = Mailmap(MAP, "".join(f"N <{number}@x>\n" for number in range(100))), itertools.count()
@@ -233,15 +278,33 @@ class Cycles(Ending):
         maps = []
         for _ in range(100):
             mailmap = Mailmap(MAP)
-            maps.append(mailmap._handle._held)
+            maps.append(weakref.ref(mailmap))
             self.cycle(mailmap.close, mailmap)
             self.cycle(lambda mailmap=mailmap: mailmap.closed or mailmap.lookup("jd", "jd@y"), mailmap)
         del mailmap
         gc.collect()
-        self.assertFalse(any(held._owned for held in maps))
+        self.assertFalse(any(reference() for reference in maps))
+
+    def test_a_stream_in_a_cycle_is_freed(self):
+        class Lines:
+            def __iter__(self):
+                return self
+
+            def __next__(self):
+                return "a"
+
+        references = []
+        for _ in range(100):
+            lines = Lines()
+            lines.answers = Mailmap(MAP).map_contacts(lines)
+            next(lines.answers)
+            references.append(weakref.ref(lines))
+        del lines
+        gc.collect()
+        self.assertFalse(any(reference() for reference in references))
 
     def test_a_mailmap_that_a_del_brings_back(self):
-        """What a `__del__` keeps is closed or answers, and nothing else."""
+        """A mailmap that a `__del__` keeps alive either is closed or answers."""
         back = []
         mailmap = Mailmap(MAP)
         self.cycle(lambda mailmap=mailmap: back.append(mailmap), mailmap)

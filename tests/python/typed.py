@@ -1,4 +1,4 @@
-"""What type checkers have to know of the calls. mypy reads this, and nothing runs it."""
+"""What type checkers have to know about the calls. mypy reads this; nothing runs it."""
 from typing import Iterator, Sequence, assert_type
 
 import gix_mailmap
@@ -47,7 +47,7 @@ with Mailmap("") as of_str, Mailmap(b"", buffer, memoryview(buffer)) as of_bytes
     gix_mailmap.compact(1)  # type: ignore[call-overload]
     gix_mailmap.report([("", b"")])  # type: ignore[list-item]
     gix_mailmap.explain([("", "")], b"")  # type: ignore[list-item]
-    gix_mailmap.unneeded([("", "")], b"")  # type: ignore[list-item]
+    gix_mailmap.unneeded([("", "")], b"")  # type: ignore[type-var]
 
 assert_type(gix_mailmap.check("", ""), str)
 assert_type(gix_mailmap.compact(buffer), bytes)

@@ -1,12 +1,12 @@
 #!/usr/bin/env python3
-"""Runs mailmap_shortlog on contacts, and wants each byte that it prints, and its status.
+"""Runs mailmap_shortlog on contacts, and compares its status and every byte of its output.
 
     run.py MAILMAP_SHORTLOG
 
-A line of cases.jsonl is one case: its mailmaps, which are the files m1, m2 and so on, the contacts, and what is printed
-of them without an option, with -e, with -n, and with both. The texts are in hex. The answers are those of a model that was
-written from the definitions only. If git is there, `git shortlog` has to print the same of a repository whose commits
-have such authors.
+A line of cases.jsonl is a case: its mailmaps, which become the files m1, m2 and so on, the contacts, and the output
+without options, with -e, with -n, and with both. Texts are in hex. `make cases` makes the file with tests/model: a seed
+determines the mailmaps and contacts, and the answers are those of a model written from the definitions alone. If git is
+installed, `git shortlog` has to print the same for a repository whose commits have such authors.
 """
 import json
 import os
@@ -23,7 +23,7 @@ import runs
 from repository import Repository, has_git
 from runs import run, wants
 
-# how many contacts of a history differ, and how many times the peak of a short one a million contacts may take
+# the number of distinct contacts, and the allowed ratio of the peak for a million contacts to that for few
 DIFFERENT = 5_000
 BOUND = 1.25
 # The four kinds of output, and ways to ask for each.
@@ -50,7 +50,7 @@ def stored(program):
 
 
 def hostile(size=10_000_000):
-    """Contacts of any length and of any bytes, of which the last has no line feed, and what is printed of them."""
+    """Contacts of any length and any bytes, the last without a line feed, and the expected output."""
     long = b"x" * size
     yield "a long name", long + b" <j@x>", b"     1\t" + long + b" <j@x>\n"
     yield "a long email", b"J <" + long + b">", b"     1\tJ <" + long + b">\n"
@@ -61,7 +61,7 @@ def hostile(size=10_000_000):
 
 
 def options(program):
-    """Options and paths, and what can't be done."""
+    """Options and paths, and wrong ones."""
     Path("m1").write_bytes(b"Jane Doe <jane@x>\n")
     Path("-n").write_bytes(b"Joe <jane@x>\n")
     contacts = b"a <b@x>\njd <jane@x>\nno contact\njd <JANE@x>"
@@ -106,7 +106,7 @@ def options(program):
 
 
 def as_git(program):
-    """What git prints of a repository."""
+    """Compares the output with that of `git shortlog` for a repository."""
     if not has_git():
         return False
     repository = Repository(Path("repository"))
@@ -117,7 +117,7 @@ def as_git(program):
 
 
 def peak(program, count):
-    """The largest resident set of a run on so many contacts, of which few differ."""
+    """The largest resident set of a run on this many contacts, of which few are distinct."""
     some = (number % DIFFERENT for number in range(count))
     Path("history").write_bytes(b"".join(b"Jane %d <j%d@x>\n" % (number, number) for number in some))
     ended = measuring.run(measuring.built("measure", os.getcwd(), "-static"), [program, "-ne", "m1"], stdin="history")
@@ -127,7 +127,7 @@ def peak(program, count):
 
 
 def peaks(program):
-    """Memory is that of the contacts that differ."""
+    """Memory grows with the distinct contacts only."""
     few, many = peak(program, 2 * DIFFERENT), peak(program, 1_000_000)
     if many > BOUND * few:
         sys.exit(f"mailmap_shortlog: a million contacts take {many} bytes, and {2 * DIFFERENT} take {few}")
@@ -145,8 +145,8 @@ def main(program):
         os.chdir("/")
     if runs.failed or count != 400:
         sys.exit(f"mailmap_shortlog: {count} stored cases, and not 400; {runs.failed} failed")
-    print(f"mailmap_shortlog: {count} stored cases, a million contacts take {most}"
-          f"{', and git prints the same' if git else '; git is not here'}")
+    print(f"a million contacts take {most}{'' if git else '; git is not here'}")
+    print(f"shortlog: {runs.passed} passed, {runs.failed} failed")
 
 
 if __name__ == "__main__":

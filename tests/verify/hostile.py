@@ -1,13 +1,15 @@
-"""Mailmaps that are large or lopsided, with what is found in each.
+"""Large and lopsided mailmaps, with their findings.
 
-What is found follows from what the findings mean, for any number of lines: the comment at each says why. Where the
-numbers are small, the model that answered cases.jsonl says the same.
+The findings follow from their definitions, for any number of lines; a comment at each mailmap tells why. For small
+numbers, the model that answered cases.jsonl has the same.
 """
 
 MEGABYTE = 1 << 20
 MANY = 100_000
+# the longest text that a finding shows whole
+LIMIT = 256
 
-# What is printed of a mailmap that isn't pruned, since git reads its first line otherwise.
+# The output of `--prune` if git reads the first line in another way.
 REFUSED = None
 
 
@@ -23,51 +25,55 @@ def no_effect(line, beside):
     return b"m1:%d: warning: no effect beside m1:%d\n" % (line, beside)
 
 
+def shortened(text):
+    """An ASCII text as a finding shows it."""
+    return text if len(text) <= LIMIT else text[:LIMIT] + b".."
+
+
 def itself_mapped(line, contact, to):
     return b"m1:%d: warning: %s is itself mapped, to %s\n" % (line, contact, to)
 
 
 def long_lines(size):
-    """One line, and no line feed but where one is written."""
+    """One line, without a line feed unless one is written."""
     long = b"x" * size
     yield "a long line without an email", long, error(1, b"no email in brackets"), long
     yield "a long line that opens brackets", b"<" * size, error(1, b"the first '<' has no '>'"), b"<" * size
     yield "a long line of blanks", b" " * size, b"", b" " * size
     yield "a long comment", b"#" + long, b"", b"#" + long
-    # git reads parts of 1,023 bytes, the last of which begins with what is left of the name. The parts before it have
-    # no email.
+    # git reads parts of 1,023 bytes. The last one starts with the rest of the name, and those before it have no email.
     name = long + b" <a@x>"
-    yield "a long name", name, git_reads(1, b"it as " + name[len(name) // 1023 * 1023:]), REFUSED
-    # The first part has an entry, and its second email isn't closed.
+    rest = long[len(name) // 1023 * 1023:]
+    yield "a long name", name, git_reads(1, b"it as " + shortened(rest) + b" <a@x>"), REFUSED
+    # The first part has an entry, whose second email isn't closed.
     email = b"N <a@x> <" + long + b">\n"
     yield "a long email", email, git_reads(1, b"it as N <a@x>"), REFUSED
-    # Each part has an entry. Here the line has two emails, and ignores the rest.
+    # Each part has an entry. Here the line has two emails, and the rest is ignored.
     part = b"N <a@x>" + b"y" * (1023 - 7)
     parts = part * (size // 1023)
-    found = b"m1:1: warning: ignored text: " + parts[1023 + 7:] + b"\n"
+    found = b"m1:1: warning: ignored text: " + shortened(parts[1023 + 7:]) + b"\n"
     found += git_reads(1, b"it as %d lines" % (size // 1023))
     yield "an entry in each part of a long line", parts, found, REFUSED
     after = b"N <a@x> " + long + b"  "
-    yield "much after an email", after, b"m1:1: warning: ignored text: " + long + b"\n", after
+    yield "much after an email", after, b"m1:1: warning: ignored text: " + shortened(long) + b"\n", after
     open_second = b"N <a@x> <" + long
     yield "a long second email without an end", open_second, error(1, b"the second '<' has no '>'"), open_second
 
 
 def many_lines(count):
-    """Each of them is about one email."""
     def lines(text):
         return [text % number for number in range(1, count + 1)]
 
-    # Of equal lines any one will do, so each goes but for the last.
+    # Any one of equal lines is enough, so all but the last are dropped.
     equal = b"Jane Doe <jane@x> <jd@x>\n"
     yield "equal lines", equal * count, b"".join(no_effect(k, count) for k in range(1, count)), equal
 
-    # Each line replaces the name that the one before it gave.
+    # Each line overrides the name of the one before it.
     names = lines(b"N%d <a@x>\n")
     yield "one email, different names", b"".join(names), b"".join(no_effect(k, count) for k in range(1, count)), names[-1]
 
-    # The first line has the spelling of the email, so it stays; its own name is replaced. The last one's email is spelled
-    # otherwise.
+    # The first line decides the spelling of the email, so it is kept, although its name is overridden. The last line
+    # spells the email in another way.
     names[0] = b"N1 <A@X>\n"
     last = b"N%d" % count
     found = itself_mapped(1, b"N1 <A@X>", last + b" <A@X>")
@@ -75,18 +81,24 @@ def many_lines(count):
     found += itself_mapped(count, last + b" <a@x>", last + b" <A@X>")
     yield "one email, different names and spellings", b"".join(names), found, names[0] + names[-1]
 
-    # Each line is for another old name.
+    # Each line has another old name.
     old_names = b"".join(lines(b"Jane <jane@x> J%d <jd@x>\n"))
     yield "one email, different old names", old_names, b"", old_names
 
-    # A comment, a blank line or a fault between lines that go stays where it is.
+    # A comment, a blank line or a fault between dropped lines is kept.
     between = b"# c\n" + equal + b"\r\nplain\n"
     found = b"".join(no_effect(4 * k + 2, 4 * count - 2) + error(4 * k + 4, b"no email in brackets") for k in range(count - 1))
     found += error(4 * count, b"no email in brackets")
     pruned = b"# c\n\r\nplain\n" * (count - 1) + between
     yield "equal lines between others", between * count, found, pruned
 
-    # Each contact is mapped on by the line after it, and the last one's not.
+    # The last line maps the email that all others map to. Its new email is cut in each finding.
+    long = b"x" * 1000
+    to_one = b"".join(lines(b"N <one@x> <e%d@x>\n")) + b"<%b> <one@x>\n" % long
+    found = b"".join(itself_mapped(k, b"N <one@x>", b"N <%b>" % shortened(long)) for k in range(1, count + 1))
+    yield "a long email in each finding", to_one, found, to_one
+
+    # Each contact is mapped to another one by the next line, except the last.
     chain = lines(b"N <e%d@x> <e")
     chain = b"".join(text + b"%d@x>\n" % (k - 1) for k, text in enumerate(chain, 1))
     found = b"".join(itself_mapped(k, b"N <e%d@x>" % k, b"N <e%d@x>" % (k + 1)) for k in range(1, count))
@@ -94,14 +106,14 @@ def many_lines(count):
 
 
 def small_ones():
-    # What is not UTF-8 is shown as it is.
+    # Bytes that aren't UTF-8 are shown as they are.
     mailmap = b"\xff <a@x> \xfe\xfd\nJ\xe4ne <\xe9@x> <b@x>\nK <\xe9@x>\n"
     found = b"m1:1: warning: ignored text: \xfe\xfd\n" + itself_mapped(2, b"J\xe4ne <\xe9@x>", b"K <\xe9@x>")
     yield "texts that are not UTF-8", mailmap, found, mailmap
     yield "nothing", b"", b"", b""
     yield "only a line feed", b"\n", b"", b"\n"
     yield "a zero byte", b"\0", error(1, b"no email in brackets"), b"\0"
-    # The last line has no line feed, and it is the first that goes.
+    # The last line has no line feed. The first one is dropped.
     yield "no line feed at the end", b"N <a@x>\nN <a@x>", no_effect(1, 2), b"N <a@x>"
 
 

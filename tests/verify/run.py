@@ -1,17 +1,19 @@
 #!/usr/bin/env python3
-"""Runs mailmap_verify on mailmaps, hostile ones among them, and wants each byte that it prints, and its status.
+"""Runs mailmap_verify on hostile and other mailmaps, and compares its status and every byte of its output.
 
     run.py MAILMAP_VERIFY
 
-A line of cases.jsonl and of git.jsonl is one case: its mailmaps, which are the files m1, m2 and so on, and the status
-and what is printed of them; if there is one file, also the status, what `--prune` prints of it, and what it says on
-standard error. The texts are in hex. The mailmaps were made by generators with a seed, of few names and emails, so that
-lines meet; git reads many lines of git.jsonl otherwise. The answers are those of a model that was written from the
-definitions only, and asks each question of whole histories: a line has no effect if the history without it has the
-same list of mappings, tried line by line.
+A line of cases.jsonl and of git.jsonl is a case: its mailmaps, which become the files m1, m2 and so on, and the status
+and the output; with one file, also the status, the output and the text on standard error of `--prune`. Texts are in
+hex. Some lines of git.jsonl are so long that git reads them in parts.
 
-A line of explained.jsonl has mailmaps, contacts, and by the same model what `--explain` prints of them, and the status
-and what is printed with `--contacts`, if the contacts are the file c.
+A line of explained.jsonl has mailmaps, contacts, the output of `--explain`, and the status and the output of
+`--contacts` with the contacts in the file c.
+
+`make cases` makes these files with tests/model. A seed determines the mailmaps and contacts, which use few names and
+emails, so that lines match; git reads many of the lines in another way. The answers are those of a model written from
+the definitions alone, which looks at the whole list of entries each time: a line has no effect if the list without it
+has the same normal list, tried line by line.
 """
 import json
 import os
@@ -24,19 +26,19 @@ sys.dont_write_bytecode = True
 sys.path.append(str(Path(__file__).resolve().parent.parent))
 import runs
 from runs import run, wants
-from hostile import REFUSED, hostile  # the file beside this one
+from hostile import LIMIT, REFUSED, hostile  # the file beside this one
 
 VERSION = (Path(__file__).resolve().parents[2] / "VERSION").read_bytes().strip()
 
 
 def as_standard_input(printed):
-    """What is printed of the one file m1, if standard input has it."""
+    """The output for the file m1 if it is standard input."""
     begun = re.sub(rb"^m1:", b"<stdin>:", printed, flags=re.MULTILINE)
     return re.sub(rb"(: warning: no effect beside )m1:(?=[0-9]+$)", rb"\1<stdin>:", begun, flags=re.MULTILINE)
 
 
 def wants_case(program, what, files, status, printed, pruning):
-    """The files as they are named; and if there is one, it as standard input, pruned, and pruned again."""
+    """Checks the named files; a single file also as standard input, pruned, and pruned again."""
     names = [f"m{number}" for number in range(1, len(files) + 1)]
     for name, file in zip(names, files):
         Path(name).write_bytes(file)
@@ -77,7 +79,7 @@ def explained(program):
 
 
 def wants_beside(program, what, names, contacts, status, printed):
-    """What is printed of mailmaps and contacts: of a file, and of standard input."""
+    """Checks the output for mailmaps and contacts in a file, and with contacts on standard input."""
     printed = bytes.fromhex(printed)
     Path("c").write_bytes(contacts)
     wants(f"{what} beside mailmaps", run(program, ["--contacts", "c", *names]), status, printed)
@@ -87,7 +89,7 @@ def wants_beside(program, what, names, contacts, status, printed):
 
 
 def explanations(program):
-    """Each line that gives a field is named; control bytes are shown; `-` is a file."""
+    """Each line behind a field is named. Control bytes are escaped. `-` is a file."""
     Path("team").write_bytes(b"Jane Doe <jane@x> <jd@old>\n<j@y> <jd@old>\n")
     Path("\x1b").write_bytes(b"\nJoe \x1b[1m <joe@x>\n")
     contacts = b"jd <JD@old>\njoe <JOE@x>\n\x7f\n \t\r\n\n <jd@old> end\nbob\x00 <bob@x>"
@@ -106,7 +108,7 @@ def explanations(program):
 
 
 def beside(program):
-    """The mailmap may be standard input, or there may be none; control bytes are shown; lines may be long and many."""
+    """The mailmap can be standard input, or missing. Control bytes are escaped. Lines can be long and many."""
     Path("team").write_bytes(b"Jane Doe <jane@x> <jd@old>\nJoe <joe@x>\n")
     Path("\x1b").write_bytes(b"jd <JD@old>\njane\x1b <JANE@x>\r\n\n \t\nplain\nJane Doe <q@x>\njd <JD@old>\n")
     unneeded = b"team:2: warning: no contact needs it\n"
@@ -136,13 +138,13 @@ def beside(program):
 
 
 def many_beside(program, size=1 << 20):
-    """Contacts that come again say nothing more, however many; each may be long."""
-    long = b"x" * size
+    """Recurring contacts add no findings, however many there are. Each can be long."""
+    long, short = b"x" * size, b"x" * LIMIT + b".."
     contacts = b"Joe <joe@x>\n" * 100_000 + long + b" <joe@x>\n" + long + b"\n" + long + b" <joe@x>"
     Path("team").write_bytes(b"Joe <joe@x> <joe@y>\n")
     printed = (
         b"team:1: warning: no contact needs it\n"
-        b"<stdin>:100001: warning: " + long + b" <joe@x> has the email of Joe <joe@x>, <stdin>:1\n"
+        b"<stdin>:100001: warning: " + short + b" <joe@x> has the email of Joe <joe@x>, <stdin>:1\n"
         b"<stdin>:100002: error: no contact\n"
     )
     wants("long contacts", run(program, ["--contacts", "-", "team"], contacts), 1, printed)
@@ -157,7 +159,7 @@ def many_beside(program, size=1 << 20):
 
 
 def hostile_beside(program, size=10_000_000):
-    """Lines of contacts may be of any length and of any bytes, and the last one needs no line feed."""
+    """Lines of contacts can have any length and any bytes, and the last one needs no line feed."""
     long = b"x" * size
     no_contact = b"<stdin>:1: error: no contact\n"
     zeros = b"<stdin>:2: warning: j\\x00 <J@X\\x00> has the email of J\\x00 <j@x\\x00>, <stdin>:1\n"
@@ -177,7 +179,7 @@ def hostile_beside(program, size=10_000_000):
 
 
 def file_names(program):
-    """Files are shown by the bytes of the arguments, as often as they are given."""
+    """Files are named by the bytes of their arguments, as often as they are given."""
     names = ["a b:c", "./ä", "--help", "a b:c"]
     for name in names:
         Path(name).write_bytes(b"plain\n")
@@ -194,7 +196,7 @@ USAGE_LINE = (
 
 
 def options(program):
-    """Options are read from left to right, up to the first file or `--`."""
+    """Options are parsed from left to right, up to the first file or `--`."""
     status, printed, said = run(program, ["--help"])
     wants("help", (status, printed[:22], said), 0, b"usage: mailmap_verify ")
     for words in ["-h"], ["--help", "missing"], ["--prune", "--help"], ["-h", "--version"], ["--explain", "-h", "missing"]:
@@ -247,10 +249,8 @@ def main():
         file_names(program)
         options(program)
         os.chdir("/")
-    print(
-        f"findings: {count} stored mailmaps and {hostile_count} hostile ones, "
-        f"contacts of {explained_count} histories, {runs.failed} runs differ"
-    )
+    print(f"{count} stored mailmaps and {hostile_count} hostile ones, contacts of {explained_count} histories")
+    print(f"verify: {runs.passed} passed, {runs.failed} failed")
     sys.exit(1 if runs.failed or (count, explained_count) != (800, 400) else 0)
 
 

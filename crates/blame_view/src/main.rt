@@ -1,10 +1,10 @@
 //! Shows who wrote the lines of a file, as a blame view does.
 //!
-//! Standard input has a mailmap, a line `--`, and the author of each line of the file, as in
-//! `Jane <bugs@example.com> 1711398853 +0800`.
+//! Standard input has a mailmap, a line `--`, and the author of each line of the file, as in `Jane <bugs@example.com>
+//! 1711398853 +0800`.
 //!
-//! The three calls that resolve a signature differ in what they copy. Here each does what it suits: `resolve_cow` shows
-//! authors, `resolve` keeps one for later, and `try_resolve` says whom the mailmap changes.
+//! The three calls that resolve a signature differ in what they copy, and each does here what it is best for:
+//! `resolve_cow` shows the authors, `resolve` keeps one for later, and `try_resolve` shows whom the mailmap changes.
 #![tactic(auto)]
 
 use anyhow::{Context, Result};
@@ -23,13 +23,11 @@ fn main(rt: HostRuntime) -> Result<()> {
     view(&rt, mailmap, lines)
 }
 
-// Shows the authors of the lines.
 fn view<R: Print + AllocGlobal>(rt: &R, mailmap: &[u8], lines: &[u8]) -> Result<()> {
     let mailmap = Snapshot::from_bytes(rt.alloc(), mailmap)?;
     show_authors(rt, &mailmap, &authors(rt.alloc(), lines)?)
 }
 
-// The author of each line.
 fn authors(alloc: Global, lines: &[u8]) -> Result<Vec<SignatureRef<'_>>> {
     let mut authors = Vec::new(alloc);
     for line in lines.lines() {
@@ -38,7 +36,7 @@ fn authors(alloc: Global, lines: &[u8]) -> Result<Vec<SignatureRef<'_>>> {
     Ok(authors)
 }
 
-// The author of a line, as it was recorded.
+// Parses the author of a line, as it was recorded.
 fn author(line: &[u8]) -> Option<SignatureRef<'_>> {
     let (name, rest) = line.split_once_str(b" <")?;
     let (email, time) = rest.split_once_str(b"> ")?;
@@ -59,7 +57,7 @@ fn show_authors<R: Print + AllocGlobal>(
     show_changed(rt, mailmap, authors)
 }
 
-// Shows each author. `resolve_cow` copies what the mailmap changes, and borrows the rest of what was recorded.
+// Shows each author. `resolve_cow` copies only what the mailmap changes, and borrows the rest.
 fn show_all<R: Print + AllocGlobal>(
     rt: &R,
     mailmap: &Snapshot,
@@ -79,7 +77,7 @@ fn show(rt: &impl Print, author: &snapshot::Signature<'_>) -> Result<()> {
     Ok(())
 }
 
-// An author as the view shows it. Without memory for a copy the line is shown all the same, as it was recorded.
+// An author as the view shows it. Without memory for a copy, it is shown as it was recorded.
 fn shown<'a>(
     alloc: Global,
     mailmap: &Snapshot,
@@ -98,7 +96,7 @@ fn origin(text: &CowSlice<'_, u8>) -> &'static str {
     }
 }
 
-// Shows the author of the newest line. `resolve` copies both texts, so the answer may outlive all that it came from.
+// Shows the author of the newest line. `resolve` copies both texts, so the answer can outlive what it was made from.
 fn show_newest<R: Print + AllocGlobal>(
     rt: &R,
     mailmap: &Snapshot,
@@ -112,7 +110,6 @@ fn show_newest<R: Print + AllocGlobal>(
     Ok(())
 }
 
-// The author of the newest line.
 fn newest<'a>(authors: &[SignatureRef<'a>]) -> Option<SignatureRef<'a>> {
     let mut newest = *authors.first()?;
     for author in authors {
@@ -123,7 +120,7 @@ fn newest<'a>(authors: &[SignatureRef<'a>]) -> Option<SignatureRef<'a>> {
     Some(newest)
 }
 
-// Shows the authors that the mailmap changes. `try_resolve` is `None` for the others, and copies nothing then.
+// Shows the authors that the mailmap changes. For the others, `try_resolve` is `None` and copies nothing.
 fn show_changed<R: Print + AllocGlobal>(
     rt: &R,
     mailmap: &Snapshot,

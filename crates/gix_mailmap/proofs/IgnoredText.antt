@@ -1,16 +1,16 @@
--- A line without the text that is ignored reads the same.
+-- A line means the same without its ignored text.
 use Rattle.std.proofs.Common.{◌≡◌, ℕ, true, false, true≢false, cond, Option, Some, None, Ok, List, [], ◌∷◌, ◌++◌, append-nil, append_assoc, refl, sym, ap, subst, ◌∙◌, arith}
 use Rattle.std.specs.Char.{encode_utf8}
 use Rattle.std.specs.Str.{encode_utf8_all}
 use Rattle.mailmap_entries.specs.Entries.{Mapping}
 use Rattle.mailmap_entries.specs.Folding.{Text}
-use Rattle.mailmap_grammar.specs.Lines.{Absent, Closed, IsCut, Kind, ParsedContact, Reading, Unclosed, empty_email, fault, missing_closing_bracket, no_email, nothing_to_map, unclosed_second, after_second, cut, first_contact, is_comment, strict_contacts, strict_line_reading, strict_reading, trailing_text, trimmed_contact, unless_blank}
+use Rattle.mailmap_grammar.specs.Lines.{Absent, Closed, IsCut, FaultKind, ParsedContact, Reading, Unclosed, empty_email, fault, missing_closing_bracket, no_email, nothing_to_map, unclosed_second, after_second, cut, first_contact, is_comment, strict_contacts, strict_line_reading, strict_reading, trailing_text, trimmed_contact, unless_blank}
 use Rattle.mailmap_grammar.specs.Trimming.{AreWhite, EndsWhite, trim}
 use Rattle.mailmap_grammar.proofs.Cut.{absent_kind, closed_kind, cut-absent, cut-closed, kind, unclosed_kind}
 use Rattle.mailmap_grammar.proofs.Trimmed.{trim-white_end, trim-white_start, trimmed-made}
 use Rattle.mailmap_findings.specs.Findings.{ignored}
 use Rattle.gix_mailmap.specs.IgnoredText.{ReadsWithoutIgnored}
-use Rattle.gix_mailmap.proofs.WhiteEnds.{BeginsWhite-trimmed, EndsWhite-ascii, trim-nil, trim-stays, trim-trim}
+use Rattle.mailmap_snapshot.proofs.WhiteEnds.{BeginsWhite-trimmed, EndsWhite-ascii, trim-nil, trim-stays, trim-trim}
 
 -- ---- white space at both ends
 
@@ -23,14 +23,13 @@ white_end [] s all = ap trim (append-nil s)
 white_end (c ∷ cs) s all =
     ap trim (sym (append_assoc s (encode_utf8 c) (encode_utf8_all cs))) ∙ white_end cs (s ++ encode_utf8 c) all.1 ∙ trim-white_end c s all.0
 
--- ---- a line by what is trimmed, and of that by what counts and the rest
+-- ---- a line split into what counts and the rest
 
--- the same first byte
 same_comment : (p q x y : Text) (b : ℕ) → is_comment ((p ++ b ∷ q) ++ x) ≡ is_comment ((p ++ b ∷ q) ++ y)
 same_comment [] q x y b = refl
 same_comment (z ∷ p) q x y b = refl
 
--- the line without the trimmed rest, of which what counts is left
+-- the line without the rest, which leaves what counts
 record Without (line counts rest : Text) : Type 0 where
   front : Text
   back : Text
@@ -39,7 +38,7 @@ record Without (line counts rest : Text) : Type 0 where
   comment : is_comment (front ++ back) ≡ is_comment line
   left : trim (front ++ back) ≡ counts
 
--- what counts begins with no white space if the line doesn't, and ends with `>`
+-- what counts doesn't begin with white space if the line doesn't, and ends with `>`
 stays : (line a u k rest : Text) → trim line ≡ (a ++ 60 ∷ u) ++ rest → a ++ 60 ∷ u ≡ k ++ 62 ∷ [] → trim (a ++ 60 ∷ u) ≡ a ++ 60 ∷ u
 stays line a u k rest parts closed =
     trim-stays (a ++ 60 ∷ u)
@@ -92,16 +91,16 @@ without line a u k rest parts closed =
     side : (w x y z : Text) → (w ++ x) ++ (y ++ z) ≡ w ++ ((x ++ y) ++ z)
     side w x y z = simp append_assoc
 
--- ---- what it says
+-- ---- what the line says
 
--- nothing and a fault are no entry
+-- neither nothing nor a fault is an entry
 says_nothing : (o : Option Reading) (e : Mapping) → o ≡ None → o ≡ Some (Ok e) → ⊥
 says_nothing o e none is = cc
 
-says_fault : (k : Kind) (n : ℕ) (t : Text) (e : Mapping) → fault k n t ≡ Ok e → ⊥
+says_fault : (k : FaultKind) (n : ℕ) (t : Text) (e : Mapping) → fault k n t ≡ Ok e → ⊥
 says_fault k n t e is = cc
 
--- what a trimmed line t says whose first contact is this one
+-- what a trimmed line t with this first contact says
 abbrev said : ℕ → Text → Text → Text → Text → Reading
 said n t name email rest = first_contact (λ name email rest. strict_contacts n t name email rest (trimmed_contact (cut rest))) n t (Closed name email rest)
 
@@ -111,7 +110,7 @@ first_said n t h is = ap (λ g. first_contact (λ name email rest. strict_contac
 closed_said : (n : ℕ) (t a b rest : Text) → cut t ≡ Closed a b rest → strict_line_reading n t ≡ said n t (trim a) (trim b) rest
 closed_said n t a b rest is = first_said n t (Closed a b rest) is
 
--- with one contact, whatever comes after it
+-- with one contact, whatever follows it
 one_contact : (n : ℕ) (t k name email rest : Text) (e : Mapping) → cut rest ≡ Absent → said n t name email rest ≡ Ok e → said n k name email [] ≡ Ok e
 one_contact n t k name [] rest e none is = absurd (says_fault empty_email n t e is)
 one_contact n t k [] (x ∷ email) rest e none is =
@@ -120,7 +119,7 @@ one_contact n t k (y ∷ name) (x ∷ email) rest e none is =
     let f : strict_contacts n t (y ∷ name) (x ∷ email) rest Absent ≡ Ok e = ap (λ h. strict_contacts n t (y ∷ name) (x ∷ email) rest (trimmed_contact h)) (sym none) ∙ is in
     ap (λ h. strict_contacts n k (y ∷ name) (x ∷ email) [] (trimmed_contact h)) (cut-absent [] tt) ∙ f
 
--- with two
+-- with two contacts
 two_contacts_alike : (n : ℕ) (t k name email rest other a b c d : Text) (e : Mapping) → cut rest ≡ Closed a b c → cut other ≡ Closed a b d → said n t name email rest ≡ Ok e → said n k name email other ≡ Ok e
 two_contacts_alike n t k name [] rest other a b c d e first second is = absurd (says_fault empty_email n t e is)
 two_contacts_alike n t k [] (x ∷ email) rest other a b c d e first second is =
@@ -132,13 +131,13 @@ two_contacts_alike n t k (y ∷ name) (x ∷ email) rest other a b c d e first s
     ∙ ap (λ h. strict_contacts n t (y ∷ name) (x ∷ email) rest (trimmed_contact h)) (sym first)
     ∙ is
 
--- a second contact that isn't closed is a fault
+-- a second contact without `>` is a fault
 not_open : (n : ℕ) (t name email rest : Text) (e : Mapping) → cut rest ≡ Unclosed → said n t name email rest ≡ Ok e → ⊥
 not_open n t name [] rest e unclosed is = says_fault empty_email n t e is
 not_open n t name (x ∷ email) rest e unclosed is =
     says_fault unclosed_second n rest e (ap (λ h. strict_contacts n t name (x ∷ email) rest (trimmed_contact h)) (sym unclosed) ∙ is)
 
--- ---- the line without it
+-- ---- the line without the ignored text
 
 some : (says : ℕ → Text → Reading) (n : ℕ) (p q : Text) (b : ℕ) → unless_blank says n (p ++ b ∷ q) ≡ Some (says n (p ++ b ∷ q))
 some says n [] q b = refl
@@ -194,7 +193,6 @@ module _ (n : ℕ) (line : Text) (e : Mapping) (no_comment : is_comment line ≡
       close : (a b c d : Text) → a ++ 60 ∷ (b ++ 62 ∷ (c ++ 60 ∷ (d ++ 62 ∷ []))) ≡ (a ++ 60 ∷ (b ++ 62 ∷ (c ++ 60 ∷ d))) ++ 62 ∷ []
       close a b c d = simp append_assoc
 
-  -- a trimmed line that isn't empty
   by_contacts : strict_line_reading n (trim line) ≡ Ok e → ReadsWithoutIgnored n line e
   by_contacts is =
       elim (kind (trim line)) [

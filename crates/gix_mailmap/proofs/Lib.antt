@@ -1,11 +1,1 @@
-pub mod WhiteEnds
-pub mod WritableLines
-pub mod WritableValues
-pub mod WrittenExamples
 pub mod IgnoredText
-pub mod WrittenLine
-pub mod WrittenText
-pub mod Contacts
-pub mod Dividers
-pub mod ContactLines
-pub mod Streams

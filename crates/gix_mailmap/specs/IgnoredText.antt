@@ -1,4 +1,4 @@
--- What it means that text of a line is ignored.
+-- What it means that a part of a line is ignored.
 use Rattle.std.specs.Prelude.{◌≡◌, ◌++◌, ℕ, Some, Ok, []}
 use Rattle.mailmap_entries.specs.Entries.{Mapping}
 use Rattle.mailmap_entries.specs.Folding.{Text}
@@ -6,7 +6,7 @@ use Rattle.mailmap_grammar.specs.Lines.{strict_reading}
 use Rattle.mailmap_grammar.specs.Trimming.{trim}
 use Rattle.mailmap_findings.specs.Findings.{ignored}
 
--- the line is a front, the ignored text, and white space; without that text it gives the same entry, and nothing of it
+-- the line is a front, the ignored text, and white space; without the ignored text it gives the same entry, and no text
 -- is ignored
 pub record ReadsWithoutIgnored (n : ℕ) (line : Text) (e : Mapping) : Type 0 where
   pub front : Text

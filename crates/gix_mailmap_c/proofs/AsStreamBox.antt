@@ -1,4 +1,4 @@
--- A box of contacts, as the steps of boxes take it.
+-- A box of contacts, in the form that the steps for boxes need.
 use mir.Syntax.{impl, tnil, dnil}
 use mathlib.Core.List.{[]}
 use Rattle.std_alloc.proofs.BoxSteps.Form.{Bx}

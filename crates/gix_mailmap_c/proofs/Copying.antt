@@ -1,4 +1,4 @@
--- Lists that are put into a buffer, one after another.
+-- Writing lists into a buffer, one after another.
 use Rattle.std.proofs.Common.{◌≡◌, ℕ, Option, zero, suc, ◌+◌, ◌<◌, ◌≤◌, List, [], ◌∷◌, ◌++◌, length, take, drop, None, refl, sym, ap, subst, ◌∙◌, append_assoc, append-nil, arith, length-append}
 use Rattle.std.specs.List.{slice_get}
 use Rattle.std.proofs.Math.ListN.{set}
@@ -8,14 +8,13 @@ use Rattle.mailmap_entries.specs.Folding.{Text}
 use Rattle.gix_mailmap_c.specs.Listed.{IsAfter, all_listed, entry_text, given}
 
 module _ {X : Type 0} where
-  -- a part of `all` is at the front of the buffer, up to the index, and the others are left; after the index the buffer
-  -- is as it was
+  -- the part of `all` before `left` is at the front of the buffer, up to `end`; from there on the buffer is unchanged
   pub record Copied (left all : List X) (end : ℕ) (now old : List X) : Type 0 where
     pub until : end + length left ≡ length all
     pub front : take end now ++ left ≡ all
     pub rest : drop end now ≡ drop end old
 
-  -- what is the same from an index on is so from a later one on
+  -- unchanged from an index on, so also from a later one on
   later : (n k e : ℕ) (xs ys : List X) → e ≡ n + k → drop n xs ≡ drop n ys → drop e xs ≡ drop e ys
   later n k e xs ys at same =
       ap (λ p. drop p xs) at ∙ sym (drop-drop k n xs) ∙ ap (drop k) same ∙ drop-drop k n ys ∙ ap (λ p. drop p ys) (sym at)
@@ -35,7 +34,7 @@ module _ {X : Type 0} where
       ∙ ap (λ l. l ++ drop end now) (sym (append-nil (take end now)) ∙ c.front)
       ∙ ap (λ l. all ++ l) (c.rest ∙ ap (λ p. drop p old) whole)
 
-  -- one list after another
+  -- two lists, one after the other
   pub after_both : (s t a m b : List X) (start mid end : ℕ) → IsAfter s start a m mid → IsAfter t mid m b end → IsAfter (s ++ t) start a b end
   after_both s t a m b start mid end p q =
       record {
@@ -44,7 +43,7 @@ module _ {X : Type 0} where
         rest = q.rest ∙ later mid (length t) end m a q.until p.rest;
       }
 
-  -- an element that is set
+  -- a single element
   pub after_set : (xs : List X) (index : ℕ) (x : X) → index < length xs → IsAfter (x ∷ []) index xs (set xs index x) (index + 1)
   after_set xs index x lt =
       record {
@@ -53,24 +52,23 @@ module _ {X : Type 0} where
         rest = drop-set-lt (index + 1) xs index x (omega arith);
       }
 
-  -- if nothing is left after an index, no later index has anything
+  -- past the end, there is no element
   pub nothing_at : (n k : ℕ) (xs : List X) → drop n xs ≡ [] → n ≤ k → slice_get xs k ≡ None
   nothing_at n k [] e le = refl
   nothing_at zero k (x ∷ xs) e le = cc
   nothing_at (suc n) zero (x ∷ xs) e le = absurd (omega arith)
   nothing_at (suc n) (suc k) (x ∷ xs) e le = nothing_at n k xs e (omega arith)
 
--- as many are listed as there are
 pub length-all_listed : (start : ℕ) (ms : List Mapping) → length (all_listed start ms) ≡ length ms
 length-all_listed start [] = refl
 length-all_listed start (m ∷ ms) = ap suc (length-all_listed (start + length (entry_text m)) ms)
 
--- there is room for one more
+-- one more entry fits
 pub listed_room : (start index n : ℕ) (left rest all : List Mapping) (m : Mapping) → left ≡ m ∷ rest → index + length (all_listed start left) ≡ length (all_listed 0 all) → length all ≤ n → index < n
 listed_room start index n left rest all m e until room =
     omega (arith, length-all_listed start left, length-all_listed 0 all, ap length e, until, room)
 
--- the four texts of an entry, one after another
+-- the four texts of an entry
 pub after_entry : (m : Mapping) (name email old : Option Text) (last : Text) → name ≡ m.new_name → email ≡ m.new_email → old ≡ m.old_name → last ≡ m.old_email
     → (o p q r s : Text) (a b c d e : ℕ) → IsAfter (given name) a o p b → IsAfter (given email) b p q c → IsAfter (given old) c q r d → IsAfter last d r s e
     → IsAfter (entry_text m) a o s e

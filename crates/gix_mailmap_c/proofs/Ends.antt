@@ -1,4 +1,4 @@
--- The first elements and the last, put one after the other.
+-- Copying a list by its first and last elements.
 use Rattle.std.proofs.Common.{◌≡◌, ℕ, ◌+◌, ◌-◌, ◌≤◌, List, ◌++◌, length, take, drop, refl, sym, ap, ◌∙◌, append_assoc, append-nil, arith, length-append}
 use Rattle.std.proofs.lemmas.List.{drop-drop, drop_all, length-drop, length-take-le, take-append-drop, take-append-le, take-take, take_rest}
 use Rattle.std.proofs.lemmas.Simd.{length-chunk, length-put_chunk, put_chunk_is}
@@ -8,7 +8,7 @@ use borrow.Rule.Slice.PartMut.{put_mid}
 use lib.Lanes.{chunk, put_chunk}
 
 module _ {X : Type 0} where
-  -- the first n elements are at the front; with those from m on after the first m, the whole list does
+  -- a copy of the first n elements, followed by one of those from m on, is a copy of the list
   pub whole_by_ends : (s b first back : List X) (n m k : ℕ) → n ≤ length s → m ≤ n → m + k ≡ length s
       → first ≡ take n s ++ drop n b → back ≡ drop m s → take m first ++ (back ++ drop k (drop m first)) ≡ s ++ drop (length s) b
   whole_by_ends s b first back n m k covers meet end first_is back_is =
@@ -23,7 +23,7 @@ module _ {X : Type 0} where
       ∙ sym (append_assoc (take m s) (drop m s) (drop (length s) b))
       ∙ ap (λ (l : List X). l ++ drop (length s) b) (take-append-drop m s)
 
-  -- the first n elements and the last n, which overlap or meet
+  -- the first n elements and the last n, which overlap or meet, cover the list
   pub put_ends : (s b : List X) (n : ℕ) → length s ≤ length b → n ≤ length s → length s ≤ n + n
       → put_chunk (length s - n) (put_chunk 0 b (chunk 0 n s)) (chunk (length s - n) n s) ≡ s ++ drop (length s) b
   put_ends s b n room covers meet =
@@ -39,7 +39,7 @@ module _ {X : Type 0} where
       put_chunk_is last first back (omega (arith, back_len, length-put_chunk 0 b front))
       ∙ whole_by_ends s b first back n last (length back) covers (omega arith) (omega (arith, back_len)) first_is back_is
 
-  -- all from a on is put
+  -- overwriting everything from a on
   put_end : (xs ys : List X) (a : ℕ) → a ≤ length xs → length ys ≡ length xs - a → put_mid a (length xs - a) xs ys ≡ take a xs ++ ys
   put_end xs ys a within long =
       let n = length xs in
@@ -49,7 +49,7 @@ module _ {X : Type 0} where
       ∙ ap (λ (l : List X). (take a xs ++ ys) ++ l) (drop-put_mid a (n - a) xs ys n (omega arith) within long ∙ drop_all n xs (omega arith))
       ∙ append-nil (take a xs ++ ys)
 
-  -- the first n elements and the last n are written, which overlap or meet
+  -- the same, as `copy_ends` does it
   pub ends_written : (s b first part : List X) (n : ℕ) → length s ≤ length b → n ≤ length s → length s ≤ n + n
       → IsWritten (take n s) b first → IsWritten (drop (length s - n) s) (drop (length s - n) first) part
       → IsWritten s b (put_mid (length s - n) (length first - (length s - n)) first part)

@@ -1,3 +1,4 @@
+-- Names for the hand-written proofs about boxes.
 pub use Rattle.std.proofs.Common.{◌≡◌, ℕ, ◌≤◌, List, [], ◌∷◌, refl, sym, ap, ◌∙◌, lit<, nltb→le, w8, MutBor, arith}
 pub use Rattle.std.proofs.raw_atomic.Walks.{proved}
 pub use base.Fraction.{full_share}

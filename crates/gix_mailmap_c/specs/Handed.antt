@@ -1,35 +1,35 @@
--- What a call writes into the caller's buffers: bytes of texts, findings, or positions.
+-- What a call writes into the caller's buffers: texts, findings, or positions.
 use Rattle.std.specs.Prelude.{◌≡◌, ◌<◌, ◌≤◌, ◌++◌, ◌⊎◌, ℕ, List, length, drop}
 
--- the text is at the front of the buffer, and the rest of the buffer is as it was
+-- the text is at the front of the buffer, and the rest of the buffer is unchanged
 pub record IsWritten {X : Type 0} (text before after : List X) : Type 0 where
   pub fits : length text ≤ length before
   pub written : after ≡ text ++ drop (length text) before
 
--- status 0: the text is written; 1: the buffer is too short for it, and is as it was
+-- status 0: the text is written; 1: the buffer is too short, and unchanged
 abbrev pub IsWrittenOrShort : {X : Type 0} → List X → List X → List X → ℕ → Type 0
 IsWrittenOrShort text before after status =
     ((status ≡ 0) × IsWritten text before after)
     ⊎ ((status ≡ 1) × (length before < length text) × (after ≡ before))
 
--- a text is put into a buffer, if it fits, and its length is given
+-- the text is written if it fits, and `needed` is its length
 pub record IsPut {X : Type 0} (text before after : List X) (needed status : ℕ) : Type 0 where
   pub counted : needed ≡ length text
   pub put : IsWrittenOrShort text before after status
 
--- status 2: out of memory, and the buffer is as it was
+-- status 2: out of memory, and the buffer is unchanged
 pub record IsOutOfMemory {X : Type 0} (before after : List X) (needed status : ℕ) : Type 0 where
   pub says : status ≡ 2
   pub none : needed ≡ 0
   pub kept : after ≡ before
 
--- a text of which P holds is put into a buffer, or out of memory
+-- a text with the property P is written if it fits; or memory ran out
 abbrev pub IsHanded : {X : Type 0} → (List X → Type 0) → List X → List X → ℕ → ℕ → Type 0
 IsHanded {X} P before after needed status =
     ((text : List X) × P text × IsPut text before after needed status)
     ⊎ IsOutOfMemory before after needed status
 
--- status 0: each of two texts is written into its buffer; 1: one of the buffers is too short, and both are as they were
+-- status 0: each of two texts is written into its buffer; 1: one of the buffers is too short, and both are unchanged
 abbrev pub ArePut : List ℕ → List ℕ → List ℕ → List ℕ → List ℕ → List ℕ → ℕ → Type 0
 ArePut s s_before s_after t t_before t_after status =
     ((status ≡ 0) × IsWritten s s_before s_after × IsWritten t t_before t_after)

@@ -1,32 +1,32 @@
--- What the calls on a handle do.
+-- The calls on a handle.
 use Rattle.std.specs.Prelude.{◌≡◌, ◌≢◌, ◌⊎◌, ℕ, Bool, true, false, List, [], Option, Some, None}
 use Rattle.mailmap_entries.specs.Entries.{Mapping}
-use Rattle.mailmap_histories.specs.Building.{IsMerged}
-use Rattle.mailmap_histories.specs.Histories.{IsNormal, accepted}
+use Rattle.mailmap_entries.specs.Building.{IsMerged}
+use Rattle.mailmap_entries.specs.Semantics.{IsNormal, accepted}
 use Rattle.gix_mailmap_c.specs.declared.held.Mailmap.{Mailmap}
 
--- what an open handle holds
+-- the content of an open handle
 abbrev pub if_open : {X : Type 0} → Bool → X → Option X
 if_open true held = Some held
 if_open false held = None
 
--- the listing of the snapshot that a handle holds, while it is open
+-- the listing of the snapshot in an open handle
 abbrev pub contents : Mailmap → Option (List Mapping)
 contents m = if_open m.is_open m.entries
 
--- a call that gives this status and leaves the handle as it was
+-- the call returns this status and leaves the handle unchanged
 abbrev pub Leaves : {X : Type 0} → ℕ → Option X → Option X → ℕ → Type 0
 Leaves code old new status = (status ≡ code) × (new ≡ old)
 
--- status 0: a closed handle holds what a text says; 2: out of memory; 7: it was open, and is as it was
+-- status 0: the closed handle is opened with a text's entries; 2: out of memory; 7: it was open, and is unchanged
 abbrev pub Opens : List Mapping → Option (List Mapping) → Option (List Mapping) → ℕ → Type 0
 Opens said (Some n) new status = Leaves 7 (Some n) new status
 Opens said None new status =
     ((status ≡ 0) × ((n : List Mapping) × (new ≡ Some n) × IsNormal said n))
     ⊎ Leaves 2 None new status
 
--- status 0: what a text says is merged after what the handle held; 2: out of memory, and the text says an entry that
--- is accepted; 6: the handle is closed
+-- status 0: a text's entries are merged after those of the handle; 2: out of memory, and the text has an accepted
+-- entry; 6: the handle is closed
 abbrev pub Adds : List Mapping → Option (List Mapping) → Option (List Mapping) → ℕ → Type 0
 Adds said (Some n) new status =
     ((status ≡ 0) × ((m : List Mapping) × (new ≡ Some m) × IsMerged n said m))

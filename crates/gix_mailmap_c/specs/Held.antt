@@ -1,4 +1,4 @@
--- What a handle owns: while it is open the snapshot that it points to, as a box does.
+-- The ownership of a handle: while it is open, it owns the snapshot that it points to, as a box does.
 use Rattle.std.specs.Prelude.{Bool, true, false, List}
 use Rattle.mailmap_entries.specs.Entries.{Mapping}
 use base.Fml.{Fml, ftrue}

@@ -1,4 +1,4 @@
--- How the entries of a listing are listed, and how their texts are written.
+-- Listing entries, and copying their texts.
 use Rattle.std.specs.Prelude.{◌≡◌, ◌+◌, ◌<◌, ◌⊎◌, ◌++◌, ℕ, Option, Some, None, List, [], ◌∷◌, length, take, drop, is_some, unwrap_or}
 use Rattle.std.specs.List.{flat_map}
 use Rattle.mailmap_entries.specs.Entries.{Mapping}
@@ -7,7 +7,7 @@ use Rattle.gix_mailmap_c.specs.Handed.{IsWrittenOrShort}
 use Rattle.gix_mailmap_c.specs.declared.field.Field.{Field}
 use Rattle.gix_mailmap_c.specs.declared.listing.Listed.{Listed}
 
--- a text that may be missing
+-- a missing text is empty
 abbrev pub given : Option Text → Text
 given t = unwrap_or t []
 
@@ -15,15 +15,14 @@ given t = unwrap_or t []
 abbrev pub entry_text : Mapping → Text
 entry_text m = given m.new_name ++ given m.new_email ++ given m.old_name ++ m.old_email
 
--- those of all entries
 abbrev pub all_text : List Mapping → Text
 all_text ms = flat_map entry_text ms
 
--- how long a text is, and whether there is one
+-- the length of a text, and whether it is there
 abbrev pub field_of : Option Text → Field
 field_of t = record { len = length (given t); is_given = is_some t }
 
--- an entry whose texts begin at an offset
+-- an entry whose texts start at this offset
 abbrev pub listed_at : ℕ → Mapping → Listed
 listed_at start m = record {
   start = start;
@@ -33,34 +32,32 @@ listed_at start m = record {
   old_email = field_of (Some m.old_email);
 }
 
--- entries whose texts are one after another, the first at an offset
+-- entries whose texts follow one another from this offset on
 abbrev pub all_listed : ℕ → List Mapping → List Listed
 all_listed start [] = []
 all_listed start (m ∷ ms) = listed_at start m ∷ all_listed (start + length (entry_text m)) ms
 
--- a list is put after an index: what is before it stays, and so does what is after its end
+-- a list is written at an index; what is before it and after its end is unchanged
 pub record IsAfter {X : Type 0} (s : List X) (start : ℕ) (before after : List X) (end : ℕ) : Type 0 where
   pub until : end ≡ start + length s
   pub front : take end after ≡ take start before ++ s
   pub rest : drop end after ≡ drop end before
 
--- each entry is listed at its index, and what is after them is as it was
+-- each entry is listed at its index, and the rest is unchanged
 pub record AreListed (ms : List Mapping) (before after : List Listed) : Type 0 where
   pub listed : after ≡ all_listed 0 ms ++ drop (length ms) before
 
 pub record IsAllWritten (ms : List Mapping) (before after : Text) : Type 0 where
   pub written : after ≡ all_text ms ++ drop (length (all_text ms)) before
 
--- status 0: all entries are listed, and their texts written; 1: there is too little room for the entries or for their
--- texts, and all is as it was
+-- status 0: all entries are listed, and their texts copied; 1: one of the buffers is too short, and both are unchanged
 abbrev pub Lists : List Mapping → List Listed → List Listed → Text → Text → ℕ → Type 0
 Lists ms e_before e_after t_before t_after status =
     ((status ≡ 0) × AreListed ms e_before e_after × IsAllWritten ms t_before t_after)
     ⊎ ((status ≡ 1) × ((length e_before < length ms) ⊎ (length t_before < length (all_text ms)))
     × (e_after ≡ e_before) × (t_after ≡ t_before))
 
--- the entry at an index is listed, and its texts are written if there is room for them; status 3: there is no such
--- entry, and all is as it was
+-- the entry is listed, and its texts are copied if they fit; status 3: there is no such entry, and both are unchanged
 abbrev pub ListsOne : Option Mapping → Listed → Listed → Text → Text → ℕ → Type 0
 ListsOne None e_before e_after t_before t_after status =
     (status ≡ 3) × (e_after ≡ e_before) × (t_after ≡ t_before)

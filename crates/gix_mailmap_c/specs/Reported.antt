@@ -1,15 +1,15 @@
--- The report on several mailmaps, whose names and texts come one after another.
+-- The report on several mailmaps, whose names and texts are in two buffers.
 use Rattle.std.specs.Prelude.{◌≡◌, ℕ, List, [], ◌∷◌, take, drop}
 use Rattle.mailmap_entries.specs.Folding.{Text}
 use Rattle.mailmap_findings.specs.Findings.{AreFindings, Finding}
-use Rattle.mailmap_reports.specs.Report.{report}
+use Rattle.verify_command.specs.Report.{report}
 
--- texts that follow one another, by their lengths: the last ones are short or empty if there are too few bytes
+-- splits a buffer by lengths; the last parts are short or empty if there are too few bytes
 abbrev pub cut_by : List ℕ → Text → List Text
 cut_by [] bytes = []
 cut_by (length ∷ lengths) bytes = take length bytes ∷ cut_by lengths (drop length bytes)
 
--- the text has a line for each finding in the mailmaps of these names, in their order, and no other
+-- the report has a line for each finding in the mailmaps, in order, and no other line
 pub record IsReportOf (names mailmaps : List Text) (text : Text) : Type 0 where
   pub found : List Finding
   pub whole : AreFindings mailmaps found

@@ -1,34 +1,34 @@
--- What the calls on the handle of a stream do.
+-- The calls on a stream's handle.
 use Rattle.std.specs.Prelude.{◌≡◌, ◌⊎◌, ℕ, Option, Some, None}
 use Rattle.mailmap_entries.specs.Folding.{Text}
 use Rattle.gix_mailmap_c.specs.Handles.{if_open, Leaves}
 use Rattle.gix_mailmap_c.specs.Streamed.{Pending, IsNew, HasTakenOf, AreRead, ended}
 use Rattle.gix_mailmap_c.specs.declared.stream.held.Stream.{Stream}
 
--- what is pending in the stream that a handle holds, while it is open
+-- the state of the stream in an open handle
 abbrev pub pending : Stream → Option Pending
 pending s = if_open s.is_open s.pending
 
--- status 0: a closed handle holds a stream for a mailmap; 2: out of memory; 7: it was open, and is as it was
+-- status 0: the closed handle is opened with a stream for a mailmap; 2: out of memory; 7: it was open, and is unchanged
 abbrev pub OpensStream : Text → Option Pending → Option Pending → ℕ → Type 0
 OpensStream mailmap (Some p) new status = Leaves 7 (Some p) new status
 OpensStream mailmap None new status =
     ((status ≡ 0) × ((p : Pending) × (new ≡ Some p) × IsNew mailmap p))
     ⊎ Leaves 2 None new status
 
--- status 0: bytes from the front of the part are taken; 2: out of memory, and none is; 6: the handle is closed
+-- status 0: bytes are taken from the front of the part; 2: out of memory, and none are; 6: the handle is closed
 abbrev pub Pushes : Text → Option Pending → Option Pending → ℕ → ℕ → ℕ → Type 0
 Pushes part (Some p) new before taken status =
     ((status ≡ 0) × ((q : Pending) × (new ≡ Some q) × HasTakenOf part taken p q))
     ⊎ ((taken ≡ 0) × Leaves 2 (Some p) new status)
 Pushes part None new before taken status = (taken ≡ before) × Leaves 6 None new status
 
--- status 0: what is kept is answered as a line; 2: out of memory; 6: the handle is closed
+-- status 0: the kept bytes are answered as a line; 2: out of memory; 6: the handle is closed
 abbrev pub Finishes : Option Pending → Option Pending → ℕ → Type 0
 Finishes (Some p) new status = ((status ≡ 0) × (new ≡ Some (ended p))) ⊎ Leaves 2 (Some p) new status
 Finishes None new status = Leaves 6 None new status
 
--- status 0: unread answers are put into the buffer; 6: the handle is closed, and the buffer is as it was
+-- status 0: unread answers are moved to the buffer; 6: the handle is closed, and the buffer is unchanged
 abbrev pub Reads : Option Pending → Option Pending → Text → Text → ℕ → ℕ → ℕ → Type 0
 Reads (Some p) new out_before out before count status =
     (status ≡ 0) × ((q : Pending) × (new ≡ Some q) × AreRead p q out_before out count)

@@ -1,4 +1,4 @@
--- What the handle of a stream owns: while it is open the contacts that it points to, as a box does.
+-- The ownership of a stream's handle: while it is open, it owns the contacts that it points to, as a box does.
 use Rattle.std.specs.Prelude.{Bool, true, false}
 use base.Fml.{Fml, ftrue}
 use denote.RawPtr.{Ptr}

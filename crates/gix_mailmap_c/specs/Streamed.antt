@@ -1,12 +1,12 @@
--- What the calls on a stream of contacts do.
+-- The calls on a stream of contacts.
 use Rattle.std.specs.Prelude.{◌≡◌, ◌<◌, ◌≤◌, ◌++◌, ◌⊎◌, ◌∷◌, ℕ, List, [], length, take, drop}
 use Rattle.mailmap_entries.specs.Entries.{Mapping}
 use Rattle.mailmap_entries.specs.Folding.{Text}
 use Rattle.mailmap_grammar.specs.Lines.{HoldsNo}
-use Rattle.gix_mailmap.specs.Contacts.{answers, answers_by}
-use Rattle.gix_mailmap.specs.Streams.{AnswersFront}
+use Rattle.mailmap_snapshot.specs.Contacts.{answers, answers_by}
+use Rattle.mailmap_snapshot.specs.Streams.{AnswersFront}
 
--- what a stream maps by, the beginning of a line that hasn't ended yet, and the answers that haven't been read yet
+-- the mappings of a stream, the start of a line that hasn't ended yet, and the answers that haven't been read yet
 pub record Pending : Type 0 where
   pub mappings : List Mapping
   pub kept : Text
@@ -15,13 +15,13 @@ pub record Pending : Type 0 where
 abbrev pub nothing_pending : Pending
 nothing_pending = record { mappings = []; kept = []; unread = [] }
 
--- a stream that has no contacts yet, which are answered by what the mailmap says
+-- a stream without contacts yet, which answers as the mailmap does
 pub record IsNew (mailmap : Text) (new : Pending) : Type 0 where
   pub kept : new.kept ≡ []
   pub unread : new.unread ≡ []
   pub same : (contacts : Text) → answers new.mappings contacts ≡ answers_by (mailmap ∷ []) contacts
 
--- the stream has taken these bytes: the lines that end in them are answered, and what is after these is kept
+-- the stream has taken these bytes: the lines that ended are answered, and the rest is kept
 pub record HasTaken (bytes : Text) (old new : Pending) : Type 0 where
   pub made : Text
   pub mappings : new.mappings ≡ old.mappings
@@ -29,21 +29,21 @@ pub record HasTaken (bytes : Text) (old new : Pending) : Type 0 where
   pub front : AnswersFront old.mappings (old.kept ++ bytes) made new.kept
   pub kept : HoldsNo 10 old.kept → HoldsNo 10 new.kept
 
--- so many bytes are taken from the front of the part, one at least if there is one
+-- bytes are taken from the front of the part, at least one if there is one
 pub record HasTakenOf (part : Text) (taken : ℕ) (old new : Pending) : Type 0 where
   pub within : taken ≤ length part
   pub some : 0 < length part → 0 < taken
   pub has : HasTaken (take taken part) old new
 
--- what is kept is answered as a line
+-- the kept bytes are answered as a line
 abbrev pub ended : Pending → Pending
 ended p = record { mappings = p.mappings; kept = []; unread = p.unread ++ answers p.mappings p.kept }
 
--- the first so many of the unread answers are read
+-- the first `count` bytes of the unread answers are read
 abbrev pub past : ℕ → Pending → Pending
 past count p = record p { unread = drop count p.unread }
 
--- as many of the unread answers as there are, or as fit, are at the front of the buffer; the rest of it is as it was
+-- all unread answers, or as many bytes as fit, are at the front of the buffer, and the rest of it is unchanged
 pub record AreRead (old new : Pending) (before after : Text) (count : ℕ) : Type 0 where
   pub unread : count ≤ length old.unread
   pub fits : count ≤ length before

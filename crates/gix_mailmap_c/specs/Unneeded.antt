@@ -1,7 +1,7 @@
--- How the lines that no contact needs are listed.
+-- The lines that no contact needs, as C sees them.
 use Rattle.std.specs.Prelude.{◌≡◌, List, map}
 use Rattle.mailmap_entries.specs.Folding.{Text}
-use Rattle.mailmap_needs.specs.Needs.{AreUnneeded}
+use Rattle.mailmap_findings.specs.Needs.{AreUnneeded}
 use Rattle.mailmap_redundancy.specs.declared.located.Position as library
 use Rattle.gix_mailmap_c.specs.declared.unneeded.Position.{Position}
 
@@ -11,7 +11,7 @@ one_position p = record { buffer = p.buffer; line = p.line }
 abbrev pub all_positions : List library.Position → List Position
 all_positions ps = map one_position ps
 
--- the lines of these mailmaps that have an effect and that no contact needs are listed, in their order
+-- the lines of these mailmaps that have an effect but that no contact needs, in their order
 pub record AreUnneededOf (mailmaps : List Text) (contacts : Text) (listed : List Position) : Type 0 where
   pub found : List library.Position
   pub whole : AreUnneeded mailmaps contacts found

@@ -1,22 +1,23 @@
-//! One entry added to the mailmap of a handle, by its four texts.
+//! Adds a single entry to a handle's mailmap.
 ghost use Rattle.std.specs.Prelude.{◌≡◌, ◌∷◌, [], option_map, OnOk, OnErr};
 ghost use Rattle.mailmap_entries.specs.Entries.{mapping_of};
-ghost use Rattle.mailmap_histories.specs.Building.{IsMerged};
+ghost use Rattle.mailmap_entries.specs.Building.{IsMerged};
 ghost use Rattle.gix_mailmap_c.specs.Handles.{contents};
 ghost use Rattle.gix_mailmap_c.specs.Adding.{entry_given, AddsGiven};
 
 use crate::held::lent::snapshot;
 use crate::held::{Mailmap, is_open};
 use crate::status::{CLOSED, NOT_AN_ENTRY, OK, OUT_OF_MEMORY};
-use gix_mailmap::{Entry, Snapshot};
+use mailmap_entries::Entry;
+use mailmap_snapshot::Snapshot;
 use std::alloc::AllocError;
 use std::iter;
 
-/// Adds an entry after those that the mailmap has. Its texts are taken as they are, and none is read as a line. A new
-/// name, a new email or an old name that is empty isn't there.
+/// Adds an entry, given by its four texts, after those that the mailmap has. The texts aren't parsed. An empty new
+/// name, new email or old name counts as missing.
 ///
-/// At `OK` the mailmap has the entry, at any other status it stays as it was. `OUT_OF_MEMORY`; `NOT_AN_ENTRY`: there is
-/// neither a new name nor a new email, or an old name without a new email; `CLOSED`.
+/// Returns `OK`; `OUT_OF_MEMORY`; `NOT_AN_ENTRY` if both the new name and the new email are missing, or if there is an
+/// old name but no new email; or `CLOSED`. Unless it is `OK`, the mailmap is unchanged.
 #[unsafe(no_mangle)]
 pub extern "C" fn gix_mailmap_handle_add_entry(
     m: &mut Mailmap,
@@ -40,7 +41,7 @@ pub extern "C" fn gix_mailmap_handle_add_entry(
     }
 }
 
-// The entry of four texts, if they make one.
+// The entry of four texts, `None` if they make none.
 fn entry_of<'a>(
     new_name: &'a [u8],
     new_email: &'a [u8],
@@ -65,7 +66,6 @@ fn entry_of<'a>(
     })
 }
 
-// Merges one entry.
 fn add(snapshot: &mut Snapshot, entry: Entry<'_>) -> Result<(), AllocError>
     ensures ok { OnOk result (IsMerged snapshot.old (mapping_of entry.entry ∷ []) snapshot.new) }
     ensures err { OnErr result (snapshot.new ≡ snapshot.old) }

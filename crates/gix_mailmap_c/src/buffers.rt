@@ -1,4 +1,4 @@
-//! Texts put into the caller's buffers.
+//! Copies results into the caller's buffers.
 ghost use Rattle.std.specs.Prelude.{◌≡◌, IfOk, OnErr};
 ghost use Rattle.gix_mailmap_c.specs.Handed.{ArePut, IsOutOfMemory, IsPut};
 
@@ -6,7 +6,7 @@ use crate::copies::copy;
 use crate::status::{OK, OUT_OF_MEMORY, TOO_SHORT};
 use std::alloc::AllocError;
 
-/// Copies a text to the front of `out`, if it fits, and gives its length.
+/// Copies a text to the front of `out`, if it fits, and sets `needed` to its length.
 pub(crate) fn put(text: &[u8], out: &mut [u8], needed: &mut usize) -> u32
     ensures { IsPut text.now out.old out.new needed.new result }
 {
@@ -19,7 +19,7 @@ pub(crate) fn put(text: &[u8], out: &mut [u8], needed: &mut usize) -> u32
     OK
 }
 
-/// Puts the text that a call has made at the front of `out`, if it fits, and its length.
+/// Hands the text that a call made to its caller, as [`put`] does.
 pub(crate) fn hand(made: Result<Vec<u8>, AllocError>, out: &mut [u8], needed: &mut usize) -> u32
     ensures ok { IfOk made (λ text. IsPut text.items out.old out.new needed.new result) }
     ensures err { OnErr made (IsOutOfMemory out.old out.new needed.new result) }
@@ -30,7 +30,7 @@ pub(crate) fn hand(made: Result<Vec<u8>, AllocError>, out: &mut [u8], needed: &m
     }
 }
 
-/// There is no text, since memory ran out.
+/// Reports that there is no text, because memory ran out.
 pub(crate) fn out_of_memory(needed: &mut usize) -> u32
     ensures { (needed.new ≡ 0) × (result ≡ 2) }
 {

@@ -1,11 +1,11 @@
-//! A text copied to the front of a buffer.
+//! Copies short texts fast.
 ghost use Rattle.std.specs.Prelude.{◌≤◌, ◌+◌, length};
 ghost use Rattle.gix_mailmap_c.specs.Handed.{IsWritten};
 
 use std::simd::Simd;
 
-/// Copies a text to the front of `out`. One of the usual lengths is copied here, which takes less time than the call
-/// that a copy of any length is.
+/// Copies a text to the front of `out`. Common lengths are copied inline, which is faster than calling the general
+/// copy.
 #[inline(always)]
 pub(crate) fn copy(text: &[u8], out: &mut [u8])
     requires { length text.now ≤ length out.old }
@@ -21,7 +21,7 @@ pub(crate) fn copy(text: &[u8], out: &mut [u8])
     }
 }
 
-// Copies the first half and the last by their ends. No branch asks for the length.
+// Copies both halves by their ends, without branching on the length.
 #[inline(always)]
 fn copy_by_16(text: &[u8], out: &mut [u8])
     requires fits { length text.now ≤ length out.old }
@@ -34,7 +34,7 @@ fn copy_by_16(text: &[u8], out: &mut [u8])
     copy_ends::<16>(&text[rest..], &mut out[rest..]);
 }
 
-// Copies the first N bytes and the last N, which overlap or meet.
+// Copies the first N bytes and the last N. They overlap or meet.
 #[inline(always)]
 fn copy_ends<const N: usize>(text: &[u8], out: &mut [u8])
     requires fits { length text.now ≤ length out.old }

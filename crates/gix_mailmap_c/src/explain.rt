@@ -1,23 +1,23 @@
-//! Which lines of mailmaps give contacts their new fields, as `mailmap_verify --explain` prints it.
+//! Explains which lines of mailmaps map contacts, as `mailmap_verify --explain` does.
 ghost use Rattle.std.specs.Prelude.{◌≡◌, IfOk, Some, map};
-ghost use Rattle.mailmap_reports.specs.Explained.{ExplainsAll, each_line, explained_line};
+ghost use Rattle.verify_command.specs.Explained.{ExplainsAll, each_line, explained_line};
 ghost use Rattle.gix_mailmap_c.specs.Handed.{IsHanded};
 ghost use Rattle.gix_mailmap_c.specs.Reported.{cut_by};
 
 use crate::buffers::hand;
 use crate::named::{Lengths, names_of, texts_of};
 use bstr::ByteSlice;
-use gix_mailmap::verify::Mailmaps;
-use mailmap_reports::explanation::Explainer;
+use mailmap_findings::verify::Mailmaps;
 use std::alloc::{AllocError, Global};
+use verify_command::explanation::Explainer;
 
-/// Explains each line of `contacts` by some mailmaps, as [`Explainer::explained_line`] does.
+/// Explains each line of `contacts` using several mailmaps, as [`Explainer::explained_line`] does.
 ///
-/// `names` has the names of all mailmaps, one after another, and `texts` their texts. If these have fewer bytes than
-/// `lengths` says, the last of them are short or empty.
+/// `names` has the mailmaps' names, one after another, and `texts` their texts. If either has fewer bytes than
+/// `lengths` adds up to, the last ones are short or empty.
 ///
-/// `OK`: the text is at the front of `out`, and `needed` is its length. `TOO_SHORT`: `out` is too short for it, and
-/// `needed` is its length. `OUT_OF_MEMORY`: `needed` is 0. The rest of `out` stays as it was.
+/// Returns `OK`: the text is at the front of `out`, and `needed` is its length. `TOO_SHORT`: `out` is too short, and
+/// `needed` is the length. `OUT_OF_MEMORY`: `needed` is 0. The rest of `out` is unchanged.
 #[unsafe(no_mangle)]
 pub extern "C" fn gix_mailmap_text_explain(
     alloc: Global,
@@ -39,7 +39,6 @@ pub extern "C" fn gix_mailmap_text_explain(
     )
 }
 
-// What is said of all lines.
 fn explained(
     alloc: Global,
     lengths: &[Lengths],
@@ -57,7 +56,6 @@ fn explained(
     explained_by(alloc, &explainer, contacts)
 }
 
-// What an explainer says of all lines.
 fn explained_by(
     alloc: Global,
     explainer: &Explainer<'_, '_, '_>,

@@ -1,9 +1,9 @@
-//! What is said of a text beside its bytes.
+//! Describes a text of an answer or of an entry.
 ghost use Rattle.std.specs.Prelude.{◌≡◌, length, unwrap_or, is_some};
 ghost use Rattle.std.specs.Option.{option_copied};
 ghost use Rattle.gix_mailmap_c.specs.Listed.{field_of};
 
-/// How long a text is, and whether the mailmap gives it.
+/// The length of a text, and whether the mailmap sets it.
 #[repr(C)]
 #[derive(Clone, Copy)]
 pub struct Field {
@@ -12,8 +12,8 @@ pub struct Field {
 }
 
 impl Field {
-    /// Describes a text that the mailmap may give, or the one that is used if it doesn't. Field by field, so that
-    /// what lies between the fields isn't written.
+    /// Describes a text that the mailmap may set, or `other`, which is used if it doesn't. Assigns field by field, so
+    /// that the padding between the fields isn't written.
     #[inline(always)]
     pub(crate) fn describe(&mut self, given: Option<&[u8]>, other: &[u8])
         ensures len { self.new.len ≡ length (unwrap_or (option_copied given.entry) other.now) }
@@ -22,7 +22,7 @@ impl Field {
         self.len = given.unwrap_or(other).len();
         self.is_given = given.is_some();
     }
-    /// Of a text that may be missing.
+
     pub(crate) fn of_optional(text: Option<&[u8]>) -> Field
         ensures { result ≡ field_of (option_copied text.entry) }
     {

@@ -1,4 +1,4 @@
-//! What is wrong with a mailmap, line by line.
+//! Verifies a mailmap.
 ghost use Rattle.std.specs.Prelude.{◌≡◌, ◌≤◌, length, map};
 ghost use Rattle.mailmap_grammar.specs.Lines.{fault_of};
 ghost use Rattle.mailmap_findings.specs.Findings.{finding_of, reported_of};
@@ -7,16 +7,16 @@ ghost use Rattle.gix_mailmap_c.specs.Handed.{IsHanded, IsPut, IsWritten};
 
 use crate::buffers::out_of_memory;
 use crate::status::{OK, TOO_SHORT};
-use gix_mailmap::lines::Error;
-use gix_mailmap::verify;
-use gix_mailmap::verify::Kind;
+use mailmap_findings::verify;
+use mailmap_findings::verify::FindingKind;
+use mailmap_grammar::lines::Error;
 use std::alloc::Global;
 
-/// What is reported of a line: its number, counted from 1, what is wrong with it, and for a line of no effect the
-/// number of the line that it has none beside; `beside` is 0 for all others.
+/// A finding. `line` counts from 1. If the line has no effect, `beside` is the line that it has none beside; otherwise
+/// it is 0.
 ///
 /// `kind` is 1 to 5 for the faults, in the order of [`Error`], 6 for ignored text, 7 for no effect, 8 for a contact
-/// that is itself mapped, and 9 for a line that git reads otherwise.
+/// that is itself mapped, and 9 for a line that git reads in another way.
 #[repr(C)]
 #[derive(Clone, Copy)]
 pub struct Finding {
@@ -26,7 +26,6 @@ pub struct Finding {
 }
 
 impl Finding {
-    /// Of what the library reports.
     fn of(found: &verify::Finding<'_>) -> Finding
         ensures { result ≡ one_reported (finding_of found.now) }
     {
@@ -38,11 +37,11 @@ impl Finding {
     }
 }
 
-/// Reports what is wrong with the lines of a mailmap, in their order, as [`verify`](gix_mailmap::verify::verify())
+/// Reports what is wrong with the lines of a mailmap, in their order, as [`verify`](mailmap_findings::verify::verify())
 /// does.
 ///
-/// `OK`: the findings are at the front of `out`, and `needed` is their number. `TOO_SHORT`: `out` has too little room
-/// for them, and `needed` is their number. `OUT_OF_MEMORY`: `needed` is 0. The rest of `out` stays as it was.
+/// Returns `OK`: the findings are at the front of `out`, and `needed` is their number. `TOO_SHORT`: `out` is too short,
+/// and `needed` is the number. `OUT_OF_MEMORY`: `needed` is 0. The rest of `out` is unchanged.
 #[unsafe(no_mangle)]
 pub extern "C" fn gix_mailmap_text_verify(
     alloc: Global,
@@ -58,7 +57,7 @@ pub extern "C" fn gix_mailmap_text_verify(
     }
 }
 
-// Puts findings at the front of `out`, if they fit, and their number.
+// Copies findings to the front of `out`, if they fit, and sets `needed` to their number.
 fn put(found: &[verify::Finding<'_>], out: &mut [Finding], needed: &mut usize) -> u32
     ensures { IsPut (all_reported (map finding_of found.now)) out.old out.new needed.new result }
 {
@@ -70,7 +69,6 @@ fn put(found: &[verify::Finding<'_>], out: &mut [Finding], needed: &mut usize) -
     OK
 }
 
-// Puts each finding at its index.
 fn report(found: &[verify::Finding<'_>], out: &mut [Finding])
     requires { length found.now ≤ length out.old }
     ensures { IsWritten (all_reported (map finding_of found.now)) out.old out.new }
@@ -83,20 +81,18 @@ fn report(found: &[verify::Finding<'_>], out: &mut [Finding])
     }
 }
 
-// The number of what is reported.
-fn number_of(kind: &Kind<'_>) -> u32
+fn number_of(kind: &FindingKind<'_>) -> u32
     ensures { result ≡ number (reported_of kind.now) }
 {
     match kind {
-        Kind::Fault(fault) => number_of_fault(fault),
-        Kind::IgnoredText(_) => 6,
-        Kind::NoEffect { .. } => 7,
-        Kind::ItselfMapped { .. } => 8,
-        Kind::GitReads(_) => 9,
+        FindingKind::Fault(fault) => number_of_fault(fault),
+        FindingKind::IgnoredText(_) => 6,
+        FindingKind::NoEffect { .. } => 7,
+        FindingKind::ItselfMapped { .. } => 8,
+        FindingKind::GitReads(_) => 9,
     }
 }
 
-// That of a fault.
 fn number_of_fault(fault: &Error<'_>) -> u32
     ensures { result ≡ fault_number (fault_of fault.now).kind }
 {
@@ -109,12 +105,14 @@ fn number_of_fault(fault: &Error<'_>) -> u32
     }
 }
 
-// The number of the line beside which there is no effect, or 0.
-fn beside_of(kind: &Kind<'_>) -> usize
+fn beside_of(kind: &FindingKind<'_>) -> usize
     ensures { result ≡ beside_line (reported_of kind.now) }
 {
     match kind {
-        Kind::NoEffect { beside } => beside.line,
-        Kind::Fault(_) | Kind::IgnoredText(_) | Kind::GitReads(_) | Kind::ItselfMapped { .. } => 0,
+        FindingKind::NoEffect { beside } => beside.line,
+        FindingKind::Fault(_)
+        | FindingKind::IgnoredText(_)
+        | FindingKind::GitReads(_)
+        | FindingKind::ItselfMapped { .. } => 0,
     }
 }

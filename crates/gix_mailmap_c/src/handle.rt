@@ -1,22 +1,23 @@
-//! A mailmap that C holds: opened from a text, grown by more, looked up, listed, closed.
+//! A handle: a mailmap that C opens, extends, looks up in, lists and closes.
 ghost use Rattle.std.specs.Prelude.{◌≡◌, ◌≢◌, [], Some, None, option_map, IfOk, OnOk, OnErr};
-ghost use Rattle.mailmap_grammar.specs.Lines.{good};
-ghost use Rattle.mailmap_histories.specs.Building.{IsMerged};
-ghost use Rattle.mailmap_histories.specs.Histories.{IsNormal, accepted};
+ghost use Rattle.mailmap_grammar.specs.Lines.{mappings_of};
+ghost use Rattle.mailmap_entries.specs.Building.{IsMerged};
+ghost use Rattle.mailmap_entries.specs.Semantics.{IsNormal, accepted};
 ghost use Rattle.gix_mailmap_c.specs.Handles.{contents, Opens, Adds};
 
 use crate::held::lent::snapshot;
 use crate::held::{Mailmap, Parts, closed, discard_closed, into_parts, is_open, opened};
 use crate::status::{CLOSED, OK, OPEN, OUT_OF_MEMORY};
-use gix_mailmap::{Snapshot, parse_ignore_errors};
+use mailmap_grammar::parse_ignore_errors;
+use mailmap_snapshot::Snapshot;
 use std::alloc::{AllocError, Global};
 
-/// Opens a closed handle on the entries of `text`, lines that can't be read left out.
+/// Opens a closed handle with the entries of `text`. Lines that can't be parsed are skipped.
 ///
-/// `OK`, `OUT_OF_MEMORY`, or `OPEN`: the handle is open already. Unless the status is `OK`, it stays as it was.
+/// Returns `OK`; `OUT_OF_MEMORY`; or `OPEN` if the handle is open already. Unless it is `OK`, the handle is unchanged.
 #[unsafe(no_mangle)]
 pub extern "C" fn gix_mailmap_handle_open(alloc: Global, m: &mut Mailmap, text: &[u8]) -> u32
-    ensures { Opens (good text.now) (contents m.old) (contents m.new) result }
+    ensures { Opens (mappings_of text.now) (contents m.old) (contents m.new) result }
 {
     if is_open(m) {
         return OPEN;
@@ -32,10 +33,10 @@ pub extern "C" fn gix_mailmap_handle_open(alloc: Global, m: &mut Mailmap, text: 
 
 /// Adds the entries of `text` after those that the mailmap has.
 ///
-/// `OK`, `OUT_OF_MEMORY`: the mailmap is as it was, or `CLOSED`.
+/// Returns `OK`; `OUT_OF_MEMORY`, and the mailmap is unchanged; or `CLOSED`.
 #[unsafe(no_mangle)]
 pub extern "C" fn gix_mailmap_handle_add(m: &mut Mailmap, text: &[u8]) -> u32
-    ensures { Adds (good text.now) (contents m.old) (contents m.new) result }
+    ensures { Adds (mappings_of text.now) (contents m.old) (contents m.new) result }
 {
     if !is_open(m) {
         return CLOSED;
@@ -46,7 +47,7 @@ pub extern "C" fn gix_mailmap_handle_add(m: &mut Mailmap, text: &[u8]) -> u32
     }
 }
 
-/// Closes a handle, and gives its memory back. A closed one stays closed.
+/// Closes a handle and frees its memory. A closed handle stays closed.
 #[unsafe(no_mangle)]
 pub extern "C" fn gix_mailmap_handle_close(alloc: Global, m: &mut Mailmap)
     ensures { contents m.new ≡ None }
@@ -54,24 +55,22 @@ pub extern "C" fn gix_mailmap_handle_close(alloc: Global, m: &mut Mailmap)
     drop(take(alloc, m));
 }
 
-// The snapshot of a text, in a box.
 fn opened_box(alloc: Global, text: &[u8]) -> Result<Box<Snapshot>, AllocError>
-    ensures { IfOk result (λ b. IsNormal (good text.now) b.value) }
+    ensures { IfOk result (λ b. IsNormal (mappings_of text.now) b.value) }
 {
     let snapshot = Snapshot::from_bytes(alloc, text)?;
     Ok(Box::new(alloc, snapshot)?)
 }
 
-// Merges what a text says.
 fn add(snapshot: &mut Snapshot, text: &[u8]) -> Result<(), AllocError>
-    ensures ok { OnOk result (IsMerged snapshot.old (good text.now) snapshot.new) }
+    ensures ok { OnOk result (IsMerged snapshot.old (mappings_of text.now) snapshot.new) }
     ensures err { OnErr result (snapshot.new ≡ snapshot.old) }
-    ensures out_of_memory { OnErr result (accepted (good text.now) ≢ []) }
+    ensures out_of_memory { OnErr result (accepted (mappings_of text.now) ≢ []) }
 {
     snapshot.merge(parse_ignore_errors(text))
 }
 
-// Takes the snapshot out of a handle, if it is open, and leaves it closed.
+// Takes the snapshot out of an open handle. The handle is closed afterwards.
 fn take(alloc: Global, m: &mut Mailmap) -> Option<Box<Snapshot>>
     ensures taken { option_map (λ b. b.value) result ≡ contents m.old }
     ensures closed { contents m.new ≡ None }
@@ -85,7 +84,6 @@ fn take(alloc: Global, m: &mut Mailmap) -> Option<Box<Snapshot>>
     }
 }
 
-// Puts a snapshot into a closed handle.
 fn put_back(m: &mut Mailmap, snapshot: Box<Snapshot>)
     requires { contents m.old ≡ None }
     ensures { contents m.new ≡ Some snapshot.value }

@@ -1,4 +1,4 @@
-//! A mailmap that C holds, and the five steps between it and the box that it owns.
+//! The struct behind a handle, and the only functions that look inside: they convert it from and to the box it owns.
 ghost use Rattle.std.specs.Prelude.{◌≡◌, List, true, false};
 ghost use Rattle.mailmap_entries.specs.Entries.{Mapping};
 ghost use Rattle.gix_mailmap_c.specs.Held.{held};
@@ -6,15 +6,15 @@ ghost use Rattle.gix_mailmap_c.specs.Held.{held};
 pub(crate) mod lent;
 mod parts;
 
-use gix_mailmap::Snapshot;
+use mailmap_snapshot::Snapshot;
 pub(crate) use parts::Parts;
 use std::alloc::Global;
 use std::marker::{Model, Send};
 
-/// A mailmap that C holds, open or closed. C makes one as zeros, which is a closed one.
+/// A mailmap that C holds, open or closed. C initializes it with zeros, which means closed.
 ///
-/// It owns the boxed snapshot that it points to while it is open. Exported functions take it by `&mut` even if they
-/// change nothing, since a struct that shares what it owns can't cross to C.
+/// While it is open, it owns the boxed snapshot that it points to. Exported functions take it by `&mut` even if they
+/// don't change it, because a struct with shared ownership can't be passed to C.
 #[repr(C)]
 pub struct Mailmap {
     at: *mut u8,
@@ -27,7 +27,7 @@ impl Model for Mailmap {
     ghost also_owns = { λ m. held m.alloc m.is_open m.at m.entries };
 }
 
-// It may go to another thread, since the snapshot may.
+// Sound, because a handle alone owns its snapshot, which is `Send`.
 unsafe impl Send for Mailmap {}
 
 pub(crate) fn is_open(m: &mut Mailmap) -> bool

@@ -1,7 +1,7 @@
-//! What C and other languages call: the answers of the crate `gix_mailmap`, written into the caller's buffers.
+//! The functions behind the C library: they write the answers of the crate `gix_mailmap` into the caller's buffers.
 //!
-//! `c/gix_mailmap.c` has the functions that C programs call, a few lines each, which call these. Each call returns a
-//! status: those of [`status`].
+//! C programs call the functions in `c/gix_mailmap.c`, which call these in a few lines each. Each call returns one of
+//! the codes in [`status`].
 #![tactic(auto)]
 
 pub mod adding;

@@ -1,4 +1,4 @@
-//! What the mailmap of a handle lists.
+//! Lists the entries of a handle's mailmap.
 ghost use Rattle.std.specs.Prelude.{◌≡◌, ◌≤◌, ◌^◌, length, min, option_map, slice_get, IfSome, IfNone, MatchOption};
 ghost use Rattle.mailmap_entries.specs.Entries.{mapping_of};
 ghost use Rattle.gix_mailmap_c.specs.Handles.{contents};
@@ -11,10 +11,11 @@ use crate::held::lent::snapshot;
 use crate::held::{Mailmap, is_open};
 use crate::listing::copying::{copy_entry, copy_texts, describe, len_with_texts};
 use crate::status::{CLOSED, NO_ENTRY, OK, TOO_SHORT};
-use gix_mailmap::{Entry, Snapshot};
+use mailmap_entries::Entry;
+use mailmap_snapshot::Snapshot;
 
-/// An entry as it is listed: where its texts begin among those that are written, and of each how long it is and whether
-/// there is one. They are one after another in this order; an old email is always there.
+/// A listed entry: the offset of its texts, and for each text its length and whether it is there. The texts are stored
+/// one after another, in this order. The old email is always there.
 #[repr(C)]
 #[derive(Clone, Copy)]
 pub struct Listed {
@@ -26,7 +27,6 @@ pub struct Listed {
 }
 
 impl Listed {
-    /// Of an entry whose texts begin at `start`.
     pub(crate) fn of(start: usize, entry: &Entry<'_>) -> Listed
         ensures { result ≡ listed_at start (mapping_of entry.now) }
     {
@@ -40,10 +40,10 @@ impl Listed {
     }
 }
 
-/// Gives how many entries the mailmap lists, and how long all their texts are: the largest number if they are longer
-/// than that.
+/// Sets the number of entries that the mailmap lists, and the length of all their texts together, or `usize::MAX` if it
+/// is larger.
 ///
-/// `OK`, or `CLOSED`: nothing is given. It goes over all entries.
+/// Returns `OK`; or `CLOSED`, and sets nothing. Iterates over all entries.
 #[unsafe(no_mangle)]
 pub extern "C" fn gix_mailmap_handle_len(
     m: &mut Mailmap,
@@ -65,10 +65,10 @@ pub extern "C" fn gix_mailmap_handle_len(
     OK
 }
 
-/// Lists all entries, in the order of [`Snapshot::iter`], and writes their texts, one entry's after another's.
+/// Lists all entries, in the order of [`Snapshot::iter`], and copies their texts, entry by entry.
 ///
-/// `OK`; `TOO_SHORT`: there is too little room for the entries or for their texts, and both stay as they were;
-/// `CLOSED`: nothing is written. What is after the last entry, and after the last text, stays as it was.
+/// Returns `OK`; `TOO_SHORT` if one of the buffers is too short, and both are unchanged; or `CLOSED`, and nothing is
+/// written. The rest of each buffer is unchanged.
 #[unsafe(no_mangle)]
 pub extern "C" fn gix_mailmap_handle_list(
     m: &mut Mailmap,
@@ -85,10 +85,10 @@ pub extern "C" fn gix_mailmap_handle_list(
     list(snapshot(m), entries, texts)
 }
 
-/// Lists the entry at an index of the listing, counted from 0, and writes its texts. It goes over those before it.
+/// Lists the entry at an index, counted from 0, and copies its texts. Iterates over the entries before it.
 ///
-/// `OK`; `TOO_SHORT`: there is too little room for the texts, which stay as they were, and the entry is given;
-/// `NO_ENTRY`: the mailmap lists no more than `index` entries, and nothing is written; `CLOSED`: nothing is written.
+/// Returns `OK`; `TOO_SHORT` if `texts` is too short, which is unchanged then, while the entry is set; `NO_ENTRY` if
+/// the mailmap lists no more than `index` entries, and nothing is written; or `CLOSED`, and nothing is written.
 #[unsafe(no_mangle)]
 pub extern "C" fn gix_mailmap_handle_entry(
     m: &mut Mailmap,
@@ -107,7 +107,7 @@ pub extern "C" fn gix_mailmap_handle_entry(
     list_one(snapshot(m), index, entry, texts)
 }
 
-// How long the texts of all entries are, if a length can be that large.
+// The length of the texts of all entries, `None` if it exceeds `usize::MAX`.
 fn texts_len_of(snapshot: &Snapshot) -> Option<usize>
     ensures { let len = length (all_text snapshot.now) in MatchOption result (2 ^ 64 ≤ len) (λ n. n ≡ len) }
 {
@@ -118,7 +118,6 @@ fn texts_len_of(snapshot: &Snapshot) -> Option<usize>
     Some(len)
 }
 
-// Lists a snapshot.
 fn list(snapshot: &Snapshot, entries: &mut [Listed], texts: &mut [u8]) -> u32
     ensures { Lists snapshot.now entries.old entries.new texts.old texts.new result }
 {
@@ -135,7 +134,6 @@ fn list(snapshot: &Snapshot, entries: &mut [Listed], texts: &mut [u8]) -> u32
     }
 }
 
-// Lists one entry of a snapshot.
 fn list_one(snapshot: &Snapshot, index: usize, listed: &mut Listed, texts: &mut [u8]) -> u32
     ensures { ListsOne (slice_get snapshot.now index) listed.old listed.new texts.old texts.new result }
 {
@@ -152,7 +150,6 @@ fn list_one(snapshot: &Snapshot, index: usize, listed: &mut Listed, texts: &mut 
     }
 }
 
-// The entry at an index of the listing.
 fn entry_at(snapshot: &Snapshot, index: usize) -> Option<Entry<'_>>
     ensures { option_map mapping_of result ≡ slice_get snapshot.now index }
 {

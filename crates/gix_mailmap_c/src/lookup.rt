@@ -1,7 +1,7 @@
-//! What the mailmap of a handle makes of a name and an email.
+//! Looks up a name and an email in a handle's mailmap.
 ghost use Rattle.std.specs.Prelude.{◌≡◌, IfSome, IfNone};
 ghost use Rattle.std.specs.Option.{option_copied};
-ghost use Rattle.mailmap_histories.specs.Histories.{fields_for};
+ghost use Rattle.mailmap_entries.specs.Semantics.{fields_for};
 ghost use Rattle.gix_mailmap_c.specs.Handles.{contents};
 ghost use Rattle.gix_mailmap_c.specs.Fields.{IsAnswered, IsDescribed};
 
@@ -10,14 +10,14 @@ use crate::field::Field;
 use crate::held::lent::snapshot;
 use crate::held::{Mailmap, is_open};
 use crate::status::CLOSED;
-use gix_mailmap::Snapshot;
+use mailmap_snapshot::Snapshot;
 
-/// Looks a name and an email up: those that the mailmap gives, or else the caller's own, are copied into `name_out` and
-/// `email_out`. `name_field` and `email_field` say how long each is, and whether the mailmap gave it. The handle stays
-/// as it is.
+/// Looks up a name and an email, and copies what the mailmap maps them to into `name_out` and `email_out`; a field that
+/// it doesn't set is the caller's own. `name_field` and `email_field` tell the length of each, and whether the mailmap
+/// set it. The handle is unchanged.
 ///
-/// `OK`; `TOO_SHORT`: one of the buffers is too short, both stay as they were, and the lengths are given; `CLOSED`:
-/// nothing is written. What is after an answer in its buffer stays as it was.
+/// Returns `OK`; `TOO_SHORT` if one of the buffers is too short: then both are unchanged, but the lengths are set; or
+/// `CLOSED`, and nothing is written. The rest of each buffer is unchanged.
 #[unsafe(no_mangle)]
 pub extern "C" fn gix_mailmap_handle_lookup(
     m: &mut Mailmap,
@@ -52,7 +52,6 @@ pub extern "C" fn gix_mailmap_handle_lookup(
     )
 }
 
-// Answers by a snapshot.
 #[inline(always)]
 fn answer(
     snapshot: &Snapshot,
@@ -79,7 +78,7 @@ fn answer(
     )
 }
 
-// The name and the email that a snapshot gives.
+// The new name and the new email, as the snapshot sets them.
 #[inline(always)]
 fn found<'a>(
     snapshot: &'a Snapshot,

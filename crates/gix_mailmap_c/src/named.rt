@@ -1,10 +1,10 @@
-//! Several mailmaps with their names, in two buffers.
+//! Splits two buffers into the names and texts of several mailmaps.
 ghost use Rattle.std.specs.Prelude.{◌≡◌, IfOk, map};
 ghost use Rattle.gix_mailmap_c.specs.Reported.{cut_by};
 
 use std::alloc::{AllocError, Global};
 
-/// How long the name and the text of a mailmap are.
+/// The lengths of a mailmap's name and text.
 #[repr(C)]
 #[derive(Clone, Copy)]
 pub struct Lengths {
@@ -12,7 +12,6 @@ pub struct Lengths {
     pub text: usize,
 }
 
-/// The name of each mailmap.
 pub(crate) fn names_of(
     alloc: Global,
     lengths: &[Lengths],
@@ -31,7 +30,6 @@ pub(crate) fn names_of(
     Ok(each)
 }
 
-/// The text of each mailmap.
 pub(crate) fn texts_of<'a>(
     alloc: Global,
     lengths: &[Lengths],

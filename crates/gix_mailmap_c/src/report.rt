@@ -1,21 +1,21 @@
-//! The report on several mailmaps, as `mailmap_verify` prints it.
+//! Reports on several mailmaps, as `mailmap_verify` does.
 ghost use Rattle.std.specs.Prelude.{◌≡◌, IfOk, map};
 ghost use Rattle.gix_mailmap_c.specs.Handed.{IsHanded};
 ghost use Rattle.gix_mailmap_c.specs.Reported.{IsReportOf, cut_by};
 
 use crate::buffers::hand;
 use crate::named::{Lengths, names_of, texts_of};
-use gix_mailmap::verify::{Mailmaps, Verification};
-use mailmap_reports::report::print_findings;
+use mailmap_findings::verify::{Mailmaps, Verification};
 use std::alloc::{AllocError, Global};
+use verify_command::report::print_findings;
 
-/// Writes the line of each finding in some mailmaps, as [`print_findings`] prints them.
+/// Writes a line for each finding in several mailmaps, as [`print_findings`] does.
 ///
-/// `names` has the names of all mailmaps, one after another, and `texts` their texts. If these have fewer bytes than
-/// `lengths` says, the last of them are short or empty.
+/// `names` has the mailmaps' names, one after another, and `texts` their texts. If either has fewer bytes than
+/// `lengths` adds up to, the last ones are short or empty.
 ///
-/// `OK`: the report is at the front of `out`, and `needed` is its length. `TOO_SHORT`: `out` is too short for it, and
-/// `needed` is its length. `OUT_OF_MEMORY`: `needed` is 0. The rest of `out` stays as it was.
+/// Returns `OK`: the report is at the front of `out`, and `needed` is its length. `TOO_SHORT`: `out` is too short, and
+/// `needed` is the length. `OUT_OF_MEMORY`: `needed` is 0. The rest of `out` is unchanged.
 #[unsafe(no_mangle)]
 pub extern "C" fn gix_mailmap_text_report(
     alloc: Global,
@@ -31,7 +31,6 @@ pub extern "C" fn gix_mailmap_text_report(
     hand(report(alloc, lengths, names, texts), out, needed)
 }
 
-// The report.
 fn report(
     alloc: Global,
     lengths: &[Lengths],
@@ -46,7 +45,6 @@ fn report(
     report_on(alloc, names.as_slice(), buffers.as_slice())
 }
 
-// The report on mailmaps that are apart.
 fn report_on(alloc: Global, names: &[Vec<u8>], buffers: &[&[u8]]) -> Result<Vec<u8>, AllocError>
     ensures { IfOk result
         (λ text. IsReportOf (map (λ n. n.items) names.now) (map (λ b. b.now) buffers.now) text.items) }

@@ -1,4 +1,4 @@
-//! A stream of contacts that C holds: opened for a mailmap, given contacts in parts, read for the answers, closed.
+//! A stream of contacts that C opens, feeds with contacts in parts, reads answers from, and closes.
 ghost use Rattle.std.specs.Prelude.{◌≡◌, Some, None, option_map, IfOk};
 ghost use Rattle.gix_mailmap_c.specs.Streamed.{IsNew};
 ghost use Rattle.gix_mailmap_c.specs.StreamCalls.{pending, OpensStream, Pushes, Finishes, Reads};
@@ -12,9 +12,9 @@ use contacts::Contacts;
 use held::{Stream, closed, discard_closed, into_parts, is_open, lent, opened};
 use std::alloc::{AllocError, Global};
 
-/// Opens a closed handle on a stream whose contacts are answered by what `mailmap` maps.
+/// Opens a closed handle with a stream whose contacts are answered using `mailmap`.
 ///
-/// `OK`, `OUT_OF_MEMORY`, or `OPEN`: the handle is open already. Unless the status is `OK`, it stays as it was.
+/// Returns `OK`; `OUT_OF_MEMORY`; or `OPEN` if the handle is open already. Unless it is `OK`, the handle is unchanged.
 #[unsafe(no_mangle)]
 pub extern "C" fn gix_mailmap_stream_handle_open(
     alloc: Global,
@@ -35,9 +35,11 @@ pub extern "C" fn gix_mailmap_stream_handle_open(
     }
 }
 
-/// Takes contacts from the front of `part`, as [`ContactStream::push`](gix_mailmap::check::ContactStream::push) does.
+/// Takes contacts from the front of `part`, as [`ContactStream::push`](mailmap_snapshot::check::ContactStream::push)
+/// does.
 ///
-/// `OK`: `taken` is how many bytes it took. `OUT_OF_MEMORY`: `taken` is 0, and the stream is as it was. `CLOSED`.
+/// Returns `OK`, and `taken` is how many bytes were taken; `OUT_OF_MEMORY`, with `taken` 0 and the stream unchanged; or
+/// `CLOSED`.
 #[unsafe(no_mangle)]
 pub extern "C" fn gix_mailmap_stream_handle_push(
     s: &mut Stream,
@@ -63,7 +65,7 @@ pub extern "C" fn gix_mailmap_stream_handle_push(
 
 /// Answers the last line, which no line feed ended.
 ///
-/// `OK`; `OUT_OF_MEMORY`: the stream is as it was; `CLOSED`.
+/// Returns `OK`; `OUT_OF_MEMORY`, and the stream is unchanged; or `CLOSED`.
 #[unsafe(no_mangle)]
 pub extern "C" fn gix_mailmap_stream_handle_finish(s: &mut Stream) -> u32
     ensures { Finishes (pending s.old) (pending s.new) result }
@@ -77,9 +79,9 @@ pub extern "C" fn gix_mailmap_stream_handle_finish(s: &mut Stream) -> u32
     }
 }
 
-/// Copies answers that haven't been read yet to the front of `out`, as many bytes as fit; `count` is how many.
+/// Moves unread answers to the front of `out`, as many bytes as fit, and sets `count` to their number.
 ///
-/// `OK` or `CLOSED`. The rest of `out` stays as it was.
+/// Returns `OK` or `CLOSED`. The rest of `out` is unchanged.
 #[unsafe(no_mangle)]
 pub extern "C" fn gix_mailmap_stream_handle_read(
     s: &mut Stream,
@@ -95,7 +97,7 @@ pub extern "C" fn gix_mailmap_stream_handle_read(
     OK
 }
 
-/// Closes a handle, and gives its memory back. A closed one stays closed.
+/// Closes a handle and frees its memory. A closed handle stays closed.
 #[unsafe(no_mangle)]
 pub extern "C" fn gix_mailmap_stream_handle_close(alloc: Global, s: &mut Stream)
     ensures { pending s.new ≡ None }
@@ -103,7 +105,6 @@ pub extern "C" fn gix_mailmap_stream_handle_close(alloc: Global, s: &mut Stream)
     drop(take(alloc, s));
 }
 
-// A stream of contacts, in a box.
 fn opened_box(alloc: Global, mailmap: &[u8]) -> Result<Box<Contacts>, AllocError>
     ensures { IfOk result (λ b. IsNew mailmap.now b.value) }
 {
@@ -111,7 +112,7 @@ fn opened_box(alloc: Global, mailmap: &[u8]) -> Result<Box<Contacts>, AllocError
     Ok(Box::new(alloc, contacts)?)
 }
 
-// Takes the contacts out of a handle, if it is open, and leaves it closed.
+// Takes the contacts out of an open handle. The handle is closed afterwards.
 fn take(alloc: Global, s: &mut Stream) -> Option<Box<Contacts>>
     ensures taken { option_map (λ b. b.value) result ≡ pending s.old }
     ensures closed { pending s.new ≡ None }
@@ -125,7 +126,6 @@ fn take(alloc: Global, s: &mut Stream) -> Option<Box<Contacts>>
     }
 }
 
-// Puts contacts into a closed handle.
 fn put_back(s: &mut Stream, contacts: Box<Contacts>)
     requires { pending s.old ≡ None }
     ensures { pending s.new ≡ Some contacts.value }

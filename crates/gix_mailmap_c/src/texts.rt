@@ -1,18 +1,19 @@
-//! Calls that take a mailmap as text, and keep nothing.
+//! Calls that take a mailmap as text and keep nothing.
 ghost use Rattle.std.specs.Prelude.{◌≡◌, ◌∷◌, []};
-ghost use Rattle.gix_mailmap.specs.Contacts.{answers_by};
+ghost use Rattle.mailmap_snapshot.specs.Contacts.{answers_by};
 ghost use Rattle.mailmap_findings.specs.Findings.{IsPruned};
 ghost use Rattle.mailmap_snapshot.specs.Writing.{IsCompacted};
 ghost use Rattle.gix_mailmap_c.specs.Handed.{IsHanded};
 
 use crate::buffers::hand;
-use gix_mailmap::{check, verify};
+use mailmap_findings::verify;
+use mailmap_snapshot::check;
 use std::alloc::Global;
 
-/// Answers each line of `contacts` by what `mailmap` maps, as [`check`](gix_mailmap::check::check()) does.
+/// Answers each line of `contacts` using `mailmap`, as [`check`](mailmap_snapshot::check::check()) does.
 ///
-/// `OK`: the answers are at the front of `out`, and `needed` is their length. `TOO_SHORT`: `out` is too short for them,
-/// and `needed` is their length. `OUT_OF_MEMORY`: `needed` is 0. The rest of `out` stays as it was.
+/// Returns `OK`: the answers are at the front of `out`, and `needed` is their length. `TOO_SHORT`: `out` is too short,
+/// and `needed` is the length. `OUT_OF_MEMORY`: `needed` is 0. The rest of `out` is unchanged.
 #[unsafe(no_mangle)]
 pub extern "C" fn gix_mailmap_text_check(
     alloc: Global,
@@ -26,8 +27,8 @@ pub extern "C" fn gix_mailmap_text_check(
     hand(check::check(alloc, &[mailmap], contacts), out, needed)
 }
 
-/// Writes the mailmap that maps as `mailmap` does, as [`compact`](gix_mailmap::check::compact()) does. The status is as
-/// that of [`gix_mailmap_text_check`].
+/// Writes a mailmap in compact form, as [`compact`](mailmap_snapshot::check::compact()) does. Returns what
+/// [`gix_mailmap_text_check`] does.
 #[unsafe(no_mangle)]
 pub extern "C" fn gix_mailmap_text_compact(
     alloc: Global,
@@ -40,8 +41,8 @@ pub extern "C" fn gix_mailmap_text_compact(
     hand(check::compact(alloc, &[mailmap]), out, needed)
 }
 
-/// Writes the mailmap without its lines whose entries have no effect, as [`prune`](gix_mailmap::verify::prune()) does.
-/// The status is as that of [`gix_mailmap_text_check`].
+/// Writes a mailmap without the lines whose entries have no effect, as [`prune`](mailmap_findings::verify::prune())
+/// does. Returns what [`gix_mailmap_text_check`] does.
 #[unsafe(no_mangle)]
 pub extern "C" fn gix_mailmap_text_prune(
     alloc: Global,

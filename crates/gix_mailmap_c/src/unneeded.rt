@@ -1,6 +1,6 @@
-//! The lines of mailmaps that no contact of a history needs.
+//! Lists the lines of mailmaps that no contact needs.
 ghost use Rattle.std.specs.Prelude.{◌≡◌, ◌≤◌, IfOk, length, map};
-ghost use Rattle.mailmap_needs.specs.Needs.{AreUnneeded};
+ghost use Rattle.mailmap_findings.specs.Needs.{AreUnneeded};
 ghost use Rattle.gix_mailmap_c.specs.Handed.{IsHanded, IsPut, IsWritten};
 ghost use Rattle.gix_mailmap_c.specs.Reported.{cut_by};
 ghost use Rattle.gix_mailmap_c.specs.Unneeded.{all_positions, one_position, AreUnneededOf};
@@ -8,10 +8,10 @@ ghost use Rattle.gix_mailmap_c.specs.Unneeded.{all_positions, one_position, AreU
 use crate::buffers::out_of_memory;
 use crate::named::{Lengths, texts_of};
 use crate::status::{OK, TOO_SHORT};
-use gix_mailmap::{needs, verify};
+use mailmap_findings::{needs, verify};
 use std::alloc::{AllocError, Global};
 
-/// Where a line is: the index of its mailmap, counted from 0, and its number in that mailmap, counted from 1.
+/// The position of a line: the index of its mailmap, from 0, and its line number there, from 1.
 #[repr(C)]
 #[derive(Clone, Copy)]
 pub struct Position {
@@ -20,7 +20,6 @@ pub struct Position {
 }
 
 impl Position {
-    /// Of what the library lists.
     fn of(found: &verify::Position) -> Position
         ensures { result ≡ one_position found.now }
     {
@@ -31,14 +30,14 @@ impl Position {
     }
 }
 
-/// Lists the lines of some mailmaps that have an effect and that no contact needs, in their order, as
+/// Lists the lines of several mailmaps that have an effect but that no contact needs, in their order, as
 /// [`unneeded`](needs::unneeded()) does.
 ///
-/// `texts` has the texts of all mailmaps, one after another. If it has fewer bytes than `lengths` says, the last of
-/// them are short or empty. The lengths of their names don't count.
+/// `texts` has the mailmaps' texts, one after another. If it has fewer bytes than `lengths` adds up to, the last ones
+/// are short or empty. The lengths of the names aren't used.
 ///
-/// `OK`: the positions are at the front of `out`, and `needed` is their number. `TOO_SHORT`: `out` has too little room
-/// for them, and `needed` is their number. `OUT_OF_MEMORY`: `needed` is 0. The rest of `out` stays as it was.
+/// Returns `OK`: the positions are at the front of `out`, and `needed` is their number. `TOO_SHORT`: `out` is too
+/// short, and `needed` is the number. `OUT_OF_MEMORY`: `needed` is 0. The rest of `out` is unchanged.
 #[unsafe(no_mangle)]
 pub extern "C" fn gix_mailmap_text_unneeded(
     alloc: Global,
@@ -57,7 +56,6 @@ pub extern "C" fn gix_mailmap_text_unneeded(
     }
 }
 
-// The lines that no contact needs.
 fn unneeded(
     alloc: Global,
     lengths: &[Lengths],
@@ -71,7 +69,7 @@ fn unneeded(
     needs::unneeded(alloc, buffers.as_slice(), contacts)
 }
 
-// Puts positions at the front of `out`, if they fit, and their number.
+// Copies positions to the front of `out`, if they fit, and sets `needed` to their number.
 fn put(found: &[verify::Position], out: &mut [Position], needed: &mut usize) -> u32
     ensures { IsPut (all_positions found.now) out.old out.new needed.new result }
 {
@@ -83,7 +81,6 @@ fn put(found: &[verify::Position], out: &mut [Position], needed: &mut usize) -> 
     OK
 }
 
-// Puts each position at its index.
 fn list(found: &[verify::Position], out: &mut [Position])
     requires { length found.now ≤ length out.old }
     ensures { IsWritten (all_positions found.now) out.old out.new }

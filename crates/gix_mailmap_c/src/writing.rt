@@ -1,4 +1,4 @@
-//! The mailmap of a handle, written as a text.
+//! Writes a handle's mailmap as text.
 ghost use Rattle.std.specs.Prelude.{◌≡◌, IfSome, IfNone};
 ghost use Rattle.gix_mailmap_c.specs.Handles.{contents};
 ghost use Rattle.gix_mailmap_c.specs.Written.{Writes};
@@ -7,15 +7,15 @@ use crate::buffers::{out_of_memory, put};
 use crate::held::lent::snapshot;
 use crate::held::{Mailmap, is_open};
 use crate::status::{CLOSED, UNWRITABLE};
-use gix_mailmap::Snapshot;
-use gix_mailmap::snapshot::WriteError;
+use mailmap_snapshot::Snapshot;
+use mailmap_snapshot::snapshot::WriteError;
 use std::alloc::Global;
 
-/// Writes the mailmap as a text, as [`Snapshot::write`] does.
+/// Writes the mailmap as text, as [`Snapshot::write`] does.
 ///
-/// `OK`: the text is at the front of `out`, and `needed` is its length. `TOO_SHORT`: `out` is too short for it, and
-/// `needed` is its length. `OUT_OF_MEMORY`: `needed` is 0. `UNWRITABLE`: no line can hold the entry at the index
-/// `needed` of the listing. `CLOSED`: nothing is written. The rest of `out` stays as it was.
+/// Returns `OK`: the text is at the front of `out`, and `needed` is its length. `TOO_SHORT`: `out` is too short, and
+/// `needed` is the length. `OUT_OF_MEMORY`: `needed` is 0. `UNWRITABLE`: no line can hold the entry at the index
+/// `needed` of the listing. `CLOSED`: nothing is written. The rest of `out` is unchanged.
 #[unsafe(no_mangle)]
 pub extern "C" fn gix_mailmap_handle_write(
     alloc: Global,
@@ -33,7 +33,6 @@ pub extern "C" fn gix_mailmap_handle_write(
     write(alloc, snapshot(m), out, needed)
 }
 
-// Writes a snapshot.
 fn write(alloc: Global, snapshot: &Snapshot, out: &mut [u8], needed: &mut usize) -> u32
     ensures { Writes snapshot.now out.old out.new needed.new result }
 {

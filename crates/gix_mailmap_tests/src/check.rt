@@ -8,12 +8,10 @@ Joe R. Developer <joe@example.com> <bugs@example.com>
 Jane Doe <jane@example.com> Jane <bugs@example.com>
 ";
 
-/// Wants these bytes.
 pub(crate) fn assert_bytes(rt: &impl Abort, bytes: &[u8], want: &[u8]) {
     assert_eq!(rt; bytes, want);
 }
 
-/// Wants these answers of some buffers to contacts.
 fn assert_checked(
     rt: &impl Abort,
     alloc: Global,
@@ -26,7 +24,7 @@ fn assert_checked(
     Ok(())
 }
 
-/// Each contact is looked up; later buffers come after earlier ones.
+/// Later buffers override earlier ones.
 #[test]
 fn contacts_are_answered_by_the_buffers(rt: HostRuntime) -> Result<(), AllocError> {
     static ROWS: [(&[&[u8]], &[u8], &[u8]); 4] = [
@@ -53,7 +51,7 @@ fn contacts_are_answered_by_the_buffers(rt: HostRuntime) -> Result<(), AllocErro
     Ok(())
 }
 
-/// Contacts that nothing is known of are trimmed, and other lines stay as they are, without their ends.
+/// Contacts without a mapping are trimmed. Other lines stay as they are, except for their line ends.
 #[test]
 fn without_buffers_contacts_are_laid_out(rt: HostRuntime) -> Result<(), AllocError> {
     static ROWS: [(&[u8], &[u8]); 3] = [
@@ -70,12 +68,11 @@ fn without_buffers_contacts_are_laid_out(rt: HostRuntime) -> Result<(), AllocErr
     Ok(())
 }
 
-/// Wants these two parts.
 fn assert_parted(rt: &impl Abort, parts: (&[u8], &[u8]), want: (&[u8], &[u8])) {
     assert_eq!(rt; parts, want);
 }
 
-/// The first line that is just `--` parts the input; blanks, or a carriage return at the end, make another line.
+/// A line `--` separates the input. With spaces around it, or a carriage return, it is another line.
 #[test]
 fn split_parts_at_the_first_line_of_two_dashes(rt: HostRuntime) {
     static ROWS: [(&[u8], &[u8], &[u8]); 5] = [

@@ -3,7 +3,6 @@ use gix_mailmap::check::compact;
 use std::alloc::{AllocError, Global};
 use std::process::Abort;
 
-/// Wants these buffers to be compacted to a text.
 fn assert_compacted(
     rt: &impl Abort,
     alloc: Global,

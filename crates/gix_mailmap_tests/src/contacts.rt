@@ -1,15 +1,16 @@
 use crate::check::assert_bytes;
 use crate::files::{SHELF, assert_paths, paths_of};
 use crate::run::{ALL, BREAKS, ONE, Sink, Source, Turn};
-use crate::verifying::BROKEN;
-use mailmap_io::outcome::Outcome;
-use mailmap_reports::failure::Failure;
-use mailmap_reports::task::{Misuse, Mode, Task, perform, task_of};
+use crate::verifying::{BROKEN, UNWRITTEN};
+use command_line::failure::Failure;
+use command_line::outcome::Outcome;
 use std::alloc::{AllocError, Global};
 use std::io::{ErrorKind, Read, Write};
+use verify_command::failure::TaskFailure;
+use verify_command::task::{Misuse, Mode, Task, perform, task_of};
 
-/// The argument after `--contacts` is its file, whatever it looks like. A single `-` is standard input after that,
-/// unless the contacts are standard input.
+/// The argument after `--contacts` is its file, whatever it looks like. After that, a single `-` is standard input,
+/// unless standard input has the contacts.
 #[test]
 fn the_file_of_contacts_comes_after_the_option(rt: HostRuntime) -> Result<(), AllocError> {
     static ROWS: [(&[&str], &str, &[&str]); 8] = [
@@ -37,7 +38,7 @@ fn the_file_of_contacts_comes_after_the_option(rt: HostRuntime) -> Result<(), Al
     Ok(())
 }
 
-/// Without a file, and after another mode, it is a misuse.
+/// `--contacts` needs a file, and can't follow another mode.
 #[test]
 fn contacts_without_a_file_are_a_misuse(rt: HostRuntime) -> Result<(), AllocError> {
     static ROWS: [(&[&str], Misuse<'static>); 4] = [
@@ -71,7 +72,7 @@ fn reported<R: Read, W: Write>(
     names: &[&str],
     input: &mut R,
     output: &mut W,
-) -> Result<Outcome, Failure> {
+) -> Result<Outcome, TaskFailure> {
     let paths = paths_of(alloc, names)?;
     let task = Task {
         mode: Mode::Contacts,
@@ -81,10 +82,10 @@ fn reported<R: Read, W: Write>(
     perform(&SHELF, alloc, task, input, output)
 }
 
-/// The contacts are a file's or standard input's. The first failure ends the run, and then nothing is written.
+/// Contacts come from a file or from standard input. The first failure ends the run, and then nothing is written.
 #[test]
 fn contacts_are_reported_beside_mailmaps(rt: HostRuntime) {
-    static ROWS: [(&str, &[&str], Result<Outcome, Failure>, &[u8]); 8] = [
+    static ROWS: [(&str, &[&str], Result<Outcome, TaskFailure>, &[u8]); 8] = [
         (
             "-",
             &["mailmap"],
@@ -112,7 +113,7 @@ fn contacts_are_reported_beside_mailmaps(rt: HostRuntime) {
         (
             "three",
             &["mailmap"],
-            Err(Failure::Contacts {
+            Err(TaskFailure::Contacts {
                 cause: ErrorKind::NotFound,
             }),
             b"",
@@ -120,19 +121,19 @@ fn contacts_are_reported_beside_mailmaps(rt: HostRuntime) {
         (
             "three",
             &["mailmap", "three"],
-            Err(Failure::File {
+            Err(TaskFailure::Run(Failure::File {
                 number: 2,
                 cause: ErrorKind::NotFound,
-            }),
+            })),
             b"",
         ),
         (
             "-",
             &["-"],
-            Err(Failure::File {
+            Err(TaskFailure::Run(Failure::File {
                 number: 1,
                 cause: ErrorKind::NotFound,
-            }),
+            })),
             b"",
         ),
     ];
@@ -145,10 +146,11 @@ fn contacts_are_reported_beside_mailmaps(rt: HostRuntime) {
     }
 }
 
-/// A read may give one byte, or fail: then nothing is written. A writer that fails holds the beginning of the report.
+/// Reads can return single bytes, or fail; then nothing is written. If a write fails, a prefix of the report was
+/// written.
 #[test]
 fn contacts_come_in_parts(rt: HostRuntime) {
-    static ROWS: [(&[Turn], &[Turn], Result<Outcome, Failure>, &[u8]); 5] = [
+    static ROWS: [(&[Turn], &[Turn], Result<Outcome, TaskFailure>, &[u8]); 5] = [
         (
             &[ONE, ONE, ONE, Turn::Fails(ErrorKind::Interrupted), ALL],
             &[],
@@ -157,13 +159,8 @@ fn contacts_come_in_parts(rt: HostRuntime) {
         ),
         (&[BREAKS], &[], Err(BROKEN), b""),
         (&[Turn::Moves(5), BREAKS], &[], Err(BROKEN), b""),
-        (&[ALL], &[BREAKS], Err(Failure::Output), b""),
-        (
-            &[ALL],
-            &[Turn::Moves(4), BREAKS],
-            Err(Failure::Output),
-            b"mail",
-        ),
+        (&[ALL], &[BREAKS], Err(UNWRITTEN), b""),
+        (&[ALL], &[Turn::Moves(4), BREAKS], Err(UNWRITTEN), b"mail"),
     ];
     for (reads, writes, ended, want) in &ROWS {
         let mut input = Source {

@@ -1,8 +1,10 @@
 use crate::check::assert_bytes;
 use crate::files::{SHELF, assert_paths, paths_of};
-use crate::run::{ALL, BREAKS, ONE, Sink, Source, Turn};
-use mailmap_io::run_error::RunError;
-use mailmap_shortlogs::task::{Mode, Options, Task, USAGE, UnknownOption, perform, task_of};
+use crate::run::{
+    ALL, BLOCKED, BLOCKS, BREAKS, BROKEN, INTERRUPTED, ONE, Repeating, Sink, Source, Turn, repeated,
+};
+use command_line::failure::Failure;
+use shortlog_command::task::{Mode, Options, Task, USAGE, UnknownOption, perform, task_of};
 use std::alloc::{AllocError, Global};
 use std::io::{ErrorKind, Read, Write};
 use std::process::Abort;
@@ -27,8 +29,8 @@ const BOTH: Mode = Mode::Shortlog(Options {
     with_email: true,
 });
 
-/// The first argument is the program's own name, whatever it is. Options are read from left to right, up to `--` or the
-/// first path, and short ones may be joined.
+/// The first argument is the program's own name, whatever it is. Options are parsed from left to right, up to `--` or
+/// the first path, and short ones can be joined.
 #[test]
 fn arguments_ask_for_a_shortlog_or_have_an_unknown_option(
     rt: HostRuntime,
@@ -74,14 +76,14 @@ fn arguments_ask_for_a_shortlog_or_have_an_unknown_option(
     Ok(())
 }
 
-/// Does a task with the files of these names.
+/// Runs a task with the files of these names.
 fn performed<R: Read, W: Write>(
     alloc: Global,
     mode: Mode,
     names: &[&str],
     input: &mut R,
     output: &mut W,
-) -> Result<(), RunError> {
+) -> Result<(), Failure> {
     let paths = paths_of(alloc, names)?;
     let task = Task {
         mode,
@@ -90,10 +92,10 @@ fn performed<R: Read, W: Write>(
     perform(&SHELF, alloc, task, input, output)
 }
 
-/// What each mode prints of the same contacts, and that a file that is not there keeps them from being counted.
+/// Each mode with the same contacts. A missing file keeps them from being counted.
 #[test]
 fn contacts_are_counted_by_the_files(rt: HostRuntime) {
-    static ROWS: [(Mode, &[&str], Result<(), RunError>, &[u8]); 7] = [
+    static ROWS: [(Mode, &[&str], Result<(), Failure>, &[u8]); 7] = [
         (NONE, &["mailmap"], Ok(()), b"     2\tM\n     1\tb\n"),
         (
             BY_COUNT,
@@ -118,7 +120,7 @@ fn contacts_are_counted_by_the_files(rt: HostRuntime) {
         (
             NONE,
             &["mailmap", "three"],
-            Err(RunError::File {
+            Err(Failure::File {
                 number: 2,
                 cause: ErrorKind::NotFound,
             }),
@@ -134,7 +136,7 @@ fn contacts_are_counted_by_the_files(rt: HostRuntime) {
     }
 }
 
-/// For the usage neither a file nor the input is read.
+/// For the usage, neither files nor the input are read.
 #[test]
 fn help_reads_nothing(rt: HostRuntime) {
     let mut input: &[u8] = b"a <a>";
@@ -145,14 +147,11 @@ fn help_reads_nothing(rt: HostRuntime) {
     assert_eq!(rt; input.len(), 5);
 }
 
-const BROKEN: RunError = RunError::Input {
-    cause: ErrorKind::BrokenPipe,
-};
-
-/// Lines may come in any parts. Where a read fails nothing is written, but an interrupted one is made again.
+/// Reads can split lines anywhere. A failed read ends the run before anything is written; an interrupted one is
+/// repeated.
 #[test]
-fn a_history_may_come_in_any_parts(rt: HostRuntime) {
-    static ROWS: [(&[u8], &[Turn], Result<(), RunError>, &[u8]); 6] = [
+fn contacts_may_come_in_any_parts(rt: HostRuntime) {
+    static ROWS: [(&[u8], &[Turn], Result<(), Failure>, &[u8]); 6] = [
         (
             b"a <a>\nb <",
             &[ONE, ONE, ONE, ONE, ONE, ONE, ONE, ONE, ONE, ONE],
@@ -182,19 +181,19 @@ fn a_history_may_come_in_any_parts(rt: HostRuntime) {
     }
 }
 
-/// What a writer that fails took is the beginning of the shortlog.
+/// If a write fails, a prefix of the shortlog was written.
 #[test]
 fn a_writer_that_fails_holds_a_front_of_the_shortlog(rt: HostRuntime) {
-    static ROWS: [(&[Turn], Turn, Result<(), RunError>, &[u8]); 4] = [
-        (&[BREAKS], ALL, Err(RunError::Output), b""),
+    static ROWS: [(&[Turn], Turn, Result<(), Failure>, &[u8]); 4] = [
+        (&[BREAKS], ALL, Err(Failure::Output), b""),
         (
             &[Turn::Moves(7), BREAKS],
             ALL,
-            Err(RunError::Output),
+            Err(Failure::Output),
             b"     1\t",
         ),
         (&[ONE, ONE, ONE], ALL, Ok(()), b"     1\ta\n"),
-        (&[], BREAKS, Err(RunError::Output), b"     1\ta\n"),
+        (&[], BREAKS, Err(Failure::Output), b"     1\ta\n"),
     ];
     for (turns, flush, ended, want) in &ROWS {
         let mut input: &[u8] = b"a <a>";
@@ -203,4 +202,23 @@ fn a_writer_that_fails_holds_a_front_of_the_shortlog(rt: HostRuntime) {
         assert_eq!(rt; end, *ended);
         assert_bytes(&rt, &output.taken, want);
     }
+}
+
+/// An input may come byte by byte, with an interrupted read before each byte. A read that would block is a failure.
+#[test]
+fn only_interrupted_reads_are_repeated(rt: HostRuntime) -> Result<(), AllocError> {
+    static ROWS: [(&[Turn], Result<(), Failure>, &[u8]); 3] = [
+        (&[INTERRUPTED, ONE], Ok(()), b"  8000\tM\n  8000\tb\n"),
+        (&[BLOCKS], Err(BLOCKED), b""),
+        (&[INTERRUPTED, ALL, BLOCKS], Err(BLOCKED), b""),
+    ];
+    let contacts = repeated(rt.alloc(), b"", b"b <A@x>\nb <b@x>\n", 8_000)?;
+    for (turns, ended, want) in &ROWS {
+        let mut input = Repeating::new(contacts.as_slice(), turns);
+        let mut output = Vec::new(rt.alloc());
+        let end = performed(rt.alloc(), NONE, &["mailmap"], &mut input, &mut output);
+        assert_eq!(rt; end, *ended);
+        assert_bytes(&rt, &output, want);
+    }
+    Ok(())
 }

@@ -1,22 +1,22 @@
-//! Entries and snapshots of them, made in few words, and texts that are wanted.
+//! Short ways to make entries and snapshots.
 use gix_mailmap::{Entry, Snapshot};
 use std::alloc::{AllocError, Global};
 use std::process::Abort;
 
-/// An entry that is written out, as the constructor of its fields takes them.
+/// An entry as a row of a table, with the arguments of its constructor in their order.
 #[derive(Clone, Copy)]
 pub(crate) enum Row {
-    /// Nothing for nothing.
+    /// An entry without new fields.
     Nothing,
-    /// A name for an email.
+    /// A new name for an email.
     Name(&'static [u8], &'static [u8]),
-    /// An email for an email.
+    /// A new email for an email.
     Email(&'static [u8], &'static [u8]),
-    /// An email for a name and an email.
+    /// A new email for a name and an email.
     EmailOfName(&'static [u8], &'static [u8], &'static [u8]),
-    /// A name and an email for an email.
+    /// A new name and a new email for an email.
     Both(&'static [u8], &'static [u8], &'static [u8]),
-    /// A name and an email for a name and an email.
+    /// A new name and a new email for a name and an email.
     BothOfName(&'static [u8], &'static [u8], &'static [u8], &'static [u8]),
 }
 
@@ -37,7 +37,6 @@ impl Row {
     }
 }
 
-/// The entries of some rows.
 pub(crate) fn entries_of(alloc: Global, rows: &[Row]) -> Result<Vec<Entry<'static>>, AllocError> {
     let mut entries = Vec::new(alloc);
     for row in rows {
@@ -46,18 +45,15 @@ pub(crate) fn entries_of(alloc: Global, rows: &[Row]) -> Result<Vec<Entry<'stati
     Ok(entries)
 }
 
-/// A snapshot of these entries.
 pub(crate) fn snapshot_of(alloc: Global, entries: &[Entry<'_>]) -> Result<Snapshot, AllocError> {
     Snapshot::new(alloc, entries.iter().copied())
 }
 
-/// A snapshot of the entries of some rows.
 pub(crate) fn snapshot_of_rows(alloc: Global, rows: &[Row]) -> Result<Snapshot, AllocError> {
     let entries = entries_of(alloc, rows)?;
     snapshot_of(alloc, &entries)
 }
 
-/// Wants this text.
 pub(crate) fn assert_str(rt: &impl Abort, text: &str, want: &str) {
     assert_eq!(rt; text, want);
 }

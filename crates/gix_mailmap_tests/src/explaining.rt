@@ -1,18 +1,18 @@
 use crate::check::assert_bytes;
 use crate::run::{ALL, BREAKS, ONE, Sink, Source, Turn};
-use crate::verifying::{BROKEN, performed};
-use mailmap_io::outcome::Outcome;
-use mailmap_reports::failure::Failure;
-use mailmap_reports::task::Mode;
+use crate::verifying::{BROKEN, UNWRITTEN, performed};
+use command_line::failure::Failure;
+use command_line::outcome::Outcome;
 use std::alloc::AllocError;
 use std::io::ErrorKind;
 use std::process::Abort;
+use verify_command::failure::TaskFailure;
+use verify_command::task::Mode;
 
-/// Contacts are explained by the files; without any no contact is mapped. A file that is not there keeps the contacts
-/// from being read.
+/// Without files, no contact is mapped. A missing file keeps the contacts from being read.
 #[test]
 fn contacts_are_explained_by_the_files(rt: HostRuntime) {
-    static ROWS: [(&[&str], Result<Outcome, Failure>, &[u8]); 4] = [
+    static ROWS: [(&[&str], Result<Outcome, TaskFailure>, &[u8]); 4] = [
         (
             &["one", "mailmap"],
             Ok(Outcome::Clean),
@@ -30,10 +30,10 @@ fn contacts_are_explained_by_the_files(rt: HostRuntime) {
         ),
         (
             &["mailmap", "three"],
-            Err(Failure::File {
+            Err(TaskFailure::Run(Failure::File {
                 number: 2,
                 cause: ErrorKind::NotFound,
-            }),
+            })),
             b"",
         ),
     ];
@@ -46,10 +46,10 @@ fn contacts_are_explained_by_the_files(rt: HostRuntime) {
     }
 }
 
-/// Before a read that fails all lines that have ended are explained.
+/// When a read fails, all lines that ended before are explained.
 #[test]
 fn the_lines_before_a_failure_are_explained(rt: HostRuntime) {
-    static ROWS: [(&[u8], &[Turn], Result<Outcome, Failure>, &[u8]); 6] = [
+    static ROWS: [(&[u8], &[Turn], Result<Outcome, TaskFailure>, &[u8]); 6] = [
         (
             b"b <A@x>\np",
             &[ONE, ONE, ONE, ONE, ONE, ONE, ONE, ONE, ONE],
@@ -90,24 +90,14 @@ fn the_lines_before_a_failure_are_explained(rt: HostRuntime) {
     }
 }
 
-/// What a writer that fails took is the beginning of the explanations.
+/// If a write fails, a prefix of the explanations was written.
 #[test]
 fn a_writer_that_fails_holds_a_front_of_explanations(rt: HostRuntime) {
-    static ROWS: [(&[Turn], Turn, Result<Outcome, Failure>, &[u8]); 4] = [
-        (&[BREAKS], ALL, Err(Failure::Output), b""),
-        (
-            &[Turn::Moves(4), BREAKS],
-            ALL,
-            Err(Failure::Output),
-            b"p is",
-        ),
-        (
-            &[ALL, BREAKS],
-            ALL,
-            Err(Failure::Output),
-            b"p is no contact\n",
-        ),
-        (&[], BREAKS, Err(Failure::Output), b"p is no contact\n"),
+    static ROWS: [(&[Turn], Turn, Result<Outcome, TaskFailure>, &[u8]); 4] = [
+        (&[BREAKS], ALL, Err(UNWRITTEN), b""),
+        (&[Turn::Moves(4), BREAKS], ALL, Err(UNWRITTEN), b"p is"),
+        (&[ALL, BREAKS], ALL, Err(UNWRITTEN), b"p is no contact\n"),
+        (&[], BREAKS, Err(UNWRITTEN), b"p is no contact\n"),
     ];
     for (turns, flush, ended, want) in &ROWS {
         let mut input: &[u8] = b"p\nq";
@@ -124,7 +114,7 @@ fn a_writer_that_fails_holds_a_front_of_explanations(rt: HostRuntime) {
     }
 }
 
-/// A line, and what is said of it, may be longer than what is read and written at a time.
+/// A line and its explanation can be longer than one read or write.
 #[test]
 fn a_long_line_is_explained(rt: HostRuntime) -> Result<(), AllocError> {
     let mut contacts = Vec::new(rt.alloc());

@@ -3,7 +3,7 @@ use gix_mailmap::verify::{Mailmaps, Position};
 use std::alloc::{AllocError, Global};
 use std::process::Abort;
 
-/// Wants this explanation of a name and an email, and these lines that they need.
+/// Asserts the explanation of a name and an email, and the lines that they need.
 fn assert_explained(
     rt: &impl Abort,
     alloc: Global,
@@ -42,7 +42,7 @@ const NONE: Needed = Needed {
     second: None,
 };
 
-/// The lines of the name and of the email come in the order of the lines. A line that gives both comes once.
+/// A line behind both fields is listed once.
 #[test]
 fn up_to_two_lines_give_an_answer(rt: HostRuntime) -> Result<(), AllocError> {
     let jane: &[&[u8]] = &[b"<jane@x> <JD@x>\nJane <jd@x>\n"];
@@ -86,7 +86,7 @@ fn up_to_two_lines_give_an_answer(rt: HostRuntime) -> Result<(), AllocError> {
     )
 }
 
-/// The line that spells the email is needed, and gives something only if the email is spelled in another way.
+/// The line that spells the email is always needed, but it is behind the answer only if its spelling differs.
 #[test]
 fn a_line_that_spells_the_email_counts_if_it_changes_it(rt: HostRuntime) -> Result<(), AllocError> {
     let names: &[&[u8]] = &[b"P <p@x> Bob <B@x>\nQ <q@x> Al <b@x>\n"];

@@ -1,12 +1,20 @@
-use mailmap_io::failure::Failure;
+use crate::run::BROKEN;
+use command_line::failure::Failure;
+use std::io::ErrorKind;
 use std::test::Fail;
 
-/// A program prints them after its own name.
+/// Programs print this text after their name.
 #[test]
 fn each_failure_has_its_text(rt: HostRuntime) -> Result<(), Fail> {
     static ROWS: [(Failure, &str); 4] = [
-        (Failure::File { number: 2 }, "cannot read file 2"),
-        (Failure::Input, "cannot read standard input"),
+        (
+            Failure::File {
+                number: 2,
+                cause: ErrorKind::NotFound,
+            },
+            "cannot read file 2",
+        ),
+        (BROKEN, "cannot read standard input"),
         (Failure::Memory, "out of memory"),
         (Failure::Output, "cannot write output"),
     ];

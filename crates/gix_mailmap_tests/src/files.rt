@@ -1,15 +1,11 @@
-ghost use Rattle.std.specs.Prelude.{None};
-
 use crate::check::assert_bytes;
-use mailmap_io::failure::Failure;
-use mailmap_io::files::{FileSystem, System, read_each, read_files};
-use mailmap_io::read_error::ReadError;
+use crate::shelf::{Shelf, ShelfFile};
+use command_line::failure::Failure;
+use command_line::files::{FileSystem, System, read_files};
 use std::alloc::{AllocError, Global};
-use std::io;
-use std::io::{Error, ErrorKind};
+use std::io::ErrorKind;
 use std::process::Abort;
 
-/// Texts of these names.
 pub(crate) fn paths_of(alloc: Global, names: &[&str]) -> Result<Vec<Vec<u8>>, AllocError> {
     let mut paths = Vec::new(alloc);
     for name in names {
@@ -18,46 +14,41 @@ pub(crate) fn paths_of(alloc: Global, names: &[&str]) -> Result<Vec<Vec<u8>>, Al
     Ok(paths)
 }
 
-/// Wants as paths the arguments from an index on.
+/// Asserts that the paths are the arguments from an index on.
 pub(crate) fn assert_paths(rt: &impl Abort, paths: &[Vec<u8>], arguments: &[Vec<u8>], from: usize) {
     assert!(rt; from <= arguments.len());
     assert!(rt; paths.iter().eq(arguments[from..].iter()));
 }
 
-/// Files that are kept in memory. Of the last one with a name the bytes are read.
-#[derive(Drop)]
-pub(crate) struct Shelf<'a> {
-    pub(crate) files: &'a [(&'a str, &'a [u8])],
-}
-
-impl<'a> FileSystem for Shelf<'a> {
-    type Reader = &'a [u8];
-
-    ghost may_open = { λ _ _. Unit {0} };
-
-    ghost bytes = { λ _ _. None };
-
-    fn open(&self, path: &[u8]) -> io::Result<&'a [u8]> {
-        for (name, bytes) in self.files {
-            if name.as_bytes() == path {
-                return Ok(*bytes);
-            }
-        }
-        Err(Error::from(ErrorKind::NotFound))
-    }
-}
-
-/// Some files.
 pub(crate) const SHELF: Shelf<'static> = Shelf {
     files: &[
-        ("one", b"1"),
-        ("two", b"22"),
-        ("empty", b""),
-        ("mailmap", b"M <m@y> <a@x>\n"),
+        ShelfFile {
+            path: "one",
+            held: Ok(b"1"),
+        },
+        ShelfFile {
+            path: "two",
+            held: Ok(b"22"),
+        },
+        ShelfFile {
+            path: "empty",
+            held: Ok(b""),
+        },
+        ShelfFile {
+            path: "mailmap",
+            held: Ok(b"M <m@y> <a@x>\n"),
+        },
+        ShelfFile {
+            path: "closed",
+            held: Err(ErrorKind::PermissionDenied),
+        },
+        ShelfFile {
+            path: "folder",
+            held: Err(ErrorKind::IsADirectory),
+        },
     ],
 };
 
-/// Wants these bytes of the files of these names.
 fn assert_read(
     rt: &impl Abort,
     alloc: Global,
@@ -86,7 +77,28 @@ fn each_path_has_the_bytes_of_its_file(rt: HostRuntime) -> Result<(), AllocError
     Ok(())
 }
 
-/// Wants the file of this number to fail, or with `None` all of them to be read.
+/// The first file that can't be read is named by its number among the paths, and by its cause.
+#[test]
+fn a_file_that_cannot_be_read_is_named_by_its_place_and_its_cause(
+    rt: HostRuntime,
+) -> Result<(), AllocError> {
+    static ROWS: [(&[&str], usize, ErrorKind); 5] = [
+        (&["three"], 1, ErrorKind::NotFound),
+        (&["one", "two", "three"], 3, ErrorKind::NotFound),
+        (&["one", "three", "closed"], 2, ErrorKind::NotFound),
+        (&["one", "closed", "three"], 2, ErrorKind::PermissionDenied),
+        (&["folder", "closed", "one"], 1, ErrorKind::IsADirectory),
+    ];
+    for (names, number, cause) in &ROWS {
+        let paths = paths_of(rt.alloc(), names)?;
+        let read = read_files(&SHELF, rt.alloc(), paths.as_slice()).map(|files| files.len());
+        let (number, cause) = (*number, *cause);
+        assert_eq!(rt; read, Err(Failure::File { number, cause }));
+    }
+    Ok(())
+}
+
+/// Asserts which file of the system fails, by its number; `None` if all can be read.
 fn assert_failing<F: FileSystem>(
     rt: &impl Abort,
     alloc: Global,
@@ -95,30 +107,19 @@ fn assert_failing<F: FileSystem>(
     failing: Option<usize>,
 ) -> Result<(), AllocError> {
     let paths = paths_of(alloc, names)?;
-    let read = read_files(system, alloc, paths.as_slice()).map(|contents| contents.len());
-    let expected = match failing {
-        Some(number) => Err(Failure::File { number }),
-        None => Ok(names.len()),
+    let failed = match read_files(system, alloc, paths.as_slice()) {
+        Ok(contents) => {
+            assert_eq!(rt; contents.len(), names.len());
+            None
+        }
+        Err(Failure::File { number, .. }) => Some(number),
+        Err(_) => Some(0),
     };
-    assert_eq!(rt; read, expected);
+    assert_eq!(rt; failed, failing);
     Ok(())
 }
 
-/// The first file that isn't there is named by its number among the paths.
-#[test]
-fn a_file_that_is_not_there_is_named_by_its_place(rt: HostRuntime) -> Result<(), AllocError> {
-    static ROWS: [(&[&str], usize); 3] = [
-        (&["three"], 1),
-        (&["one", "two", "three"], 3),
-        (&["one", "three", "four"], 2),
-    ];
-    for (names, failing) in &ROWS {
-        assert_failing(&rt, rt.alloc(), &SHELF, names, Some(*failing))?;
-    }
-    Ok(())
-}
-
-/// So is a file of the system that is a folder or breaks off.
+/// So is a file of the system that is a directory or that fails while it is read.
 #[test]
 fn a_file_of_the_system_that_cannot_be_read_is_named_by_its_place(
     rt: HostRuntime,
@@ -138,14 +139,14 @@ fn a_file_of_the_system_that_cannot_be_read_is_named_by_its_place(
     Ok(())
 }
 
-/// The toolchain opens no file whose name is not UTF-8.
+/// The toolchain can't open a path that isn't UTF-8.
 #[test]
 fn a_name_that_is_not_utf8_is_invalid_data(rt: HostRuntime) -> Result<(), AllocError> {
     let mut paths = paths_of(rt.alloc(), &["/dev/null"])?;
     paths.push(Vec::from_slice(rt.alloc(), b"/dev/nul\xff")?)?;
     let system = System { files: &rt };
-    let read = read_each(&system, rt.alloc(), paths.as_slice()).map(|contents| contents.len());
+    let read = read_files(&system, rt.alloc(), paths.as_slice()).map(|contents| contents.len());
     let cause = ErrorKind::InvalidData;
-    assert_eq!(rt; read, Err(ReadError::File { number: 2, cause }));
+    assert_eq!(rt; read, Err(Failure::File { number: 2, cause }));
     Ok(())
 }

@@ -1,13 +1,13 @@
 use gix_mailmap::Entry;
 use gix_mailmap::lines::Error;
 use gix_mailmap::verify::{
-    Contact, Finding, GitReading, Kind, Mailmaps, Position, Verification, first_read_otherwise,
-    verify,
+    Contact, Finding, FindingKind, GitReading, Mailmaps, Position, Verification,
+    first_read_otherwise, verify,
 };
 use std::alloc::{AllocError, Global};
 use std::process::Abort;
 
-/// Wants these findings of the buffers, collected or made one by one, and none after the last.
+/// Asserts the findings of the buffers, collected and one by one.
 fn assert_findings(
     rt: &impl Abort,
     alloc: Global,
@@ -48,7 +48,7 @@ fn assert_no_finding(rt: &impl Abort, alloc: Global, buffers: &[&[u8]]) -> Resul
     assert_findings(rt, alloc, buffers, &[])
 }
 
-/// A fault or ignored text comes before what the entry of the line does. Clean lines may come between.
+/// A fault or ignored text comes before a finding about the line's entry. There can be clean lines in between.
 #[test]
 fn each_line_has_up_to_two_findings_in_order(rt: HostRuntime) -> Result<(), AllocError> {
     let buffers: [&[u8]; 3] = [
@@ -58,24 +58,24 @@ fn each_line_has_up_to_two_findings_in_order(rt: HostRuntime) -> Result<(), Allo
     ];
     let (r, q) = (contact(b"R"), contact(b"Q"));
     let want = [
-        found(at(0, 1), Kind::IgnoredText(b"p")),
-        found(at(0, 1), Kind::NoEffect { beside: at(0, 3) }),
+        found(at(0, 1), FindingKind::IgnoredText(b"p")),
+        found(at(0, 1), FindingKind::NoEffect { beside: at(0, 3) }),
         found(
             at(0, 4),
-            Kind::Fault(Error::NoEmail {
+            FindingKind::Fault(Error::NoEmail {
                 line: 4,
                 input: b"plain",
             }),
         ),
-        found(at(2, 2), Kind::IgnoredText(b"<c")),
-        found(at(2, 2), Kind::ItselfMapped { contact: r, to: q }),
-        found(at(2, 3), Kind::IgnoredText(b"c")),
-        found(at(2, 3), Kind::ItselfMapped { contact: r, to: q }),
+        found(at(2, 2), FindingKind::IgnoredText(b"<c")),
+        found(at(2, 2), FindingKind::ItselfMapped { contact: r, to: q }),
+        found(at(2, 3), FindingKind::IgnoredText(b"c")),
+        found(at(2, 3), FindingKind::ItselfMapped { contact: r, to: q }),
     ];
     assert_findings(&rt, rt.alloc(), &buffers, &want)
 }
 
-/// What git reads comes between them. It trims no email, reads up to the first zero byte, and 1,023 bytes at a time.
+/// What git reads comes between them. git doesn't trim emails, stops at a zero byte, and reads 1,023 bytes at a time.
 #[test]
 fn what_git_reads_is_the_second_of_three_findings(rt: HostRuntime) -> Result<(), AllocError> {
     let alloc = rt.alloc();
@@ -89,15 +89,15 @@ fn what_git_reads_is_the_second_of_three_findings(rt: HostRuntime) -> Result<(),
         long.as_slice(),
     ];
     let want = [
-        found(at(0, 1), Kind::IgnoredText(b"p")),
+        found(at(0, 1), FindingKind::IgnoredText(b"p")),
         read(
             at(0, 1),
             GitReading::Entry(Entry::change_name_by_email(b"P", b" a@x ")),
         ),
-        found(at(0, 1), Kind::NoEffect { beside: at(0, 2) }),
+        found(at(0, 1), FindingKind::NoEffect { beside: at(0, 2) }),
         found(
             at(0, 3),
-            Kind::Fault(Error::EmptyEmail {
+            FindingKind::Fault(Error::EmptyEmail {
                 line: 3,
                 input: b"R < > <b@x>",
             }),
@@ -113,10 +113,10 @@ fn what_git_reads_is_the_second_of_three_findings(rt: HostRuntime) -> Result<(),
 }
 
 fn read<'a>(position: Position, reading: GitReading<'a>) -> Finding<'a> {
-    found(position, Kind::GitReads(reading))
+    found(position, FindingKind::GitReads(reading))
 }
 
-/// The first line of all buffers, whatever comes before it.
+/// The first line among all buffers counts, whatever comes before it.
 #[test]
 fn the_first_line_that_git_reads_otherwise_is_given(rt: HostRuntime) {
     let rows: [(&[&[u8]], Option<Position>); 6] = [
@@ -135,11 +135,11 @@ fn the_first_line_that_git_reads_otherwise_is_given(rt: HostRuntime) {
     }
 }
 
-fn found<'a>(position: Position, kind: Kind<'a>) -> Finding<'a> {
+fn found<'a>(position: Position, kind: FindingKind<'a>) -> Finding<'a> {
     Finding { position, kind }
 }
 
-/// The contact of this name by `a@x`.
+/// A contact with this name and the email `a@x`.
 fn contact<'a>(name: &'a [u8]) -> Contact<'a> {
     Contact {
         name: Some(name),

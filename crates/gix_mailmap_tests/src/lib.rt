@@ -1,6 +1,6 @@
-//! Tests of snapshots, what they list, find, write and answer to signatures and contacts, of sources that are merged,
-//! and of the runs of `mailmap_check`, `mailmap_verify` and `mailmap_shortlog`. Those of lines, entries and signatures
-//! are in `mailmap_reading_tests`.
+//! Tests of snapshots: what they list, find and write, their answers to signatures and contacts, and merging. Tests of
+//! the runs of `mailmap_check`, `mailmap_verify` and `mailmap_shortlog`, over the files in memory of [`shelf`].
+//! `mailmap_reading_tests` has the tests of lines, entries and signatures.
 #![tactic(auto)]
 
 #[cfg(test)]
@@ -41,6 +41,7 @@ mod report;
 mod resolve;
 #[cfg(test)]
 mod run;
+pub mod shelf;
 #[cfg(test)]
 mod sources;
 #[cfg(test)]

@@ -8,15 +8,13 @@ use std::hash::{BuildHasher, BuildHasherDefault, FoldHasher};
 use std::process::Abort;
 use std::test::Fail;
 
-/// Two lists of entries.
+/// Entries, and those that are expected.
 type Pair = (&'static [Row], &'static [Row]);
 
-/// Wants these entries.
 fn assert_entries(rt: &impl Abort, entries: &[Entry<'_>], want: &[Entry<'_>]) {
     assert_eq!(rt; entries, want);
 }
 
-/// Wants these entries of a snapshot.
 pub(crate) fn assert_lists(
     rt: &impl Abort,
     alloc: Global,
@@ -33,13 +31,13 @@ fn hash_of(snapshot: &Snapshot) -> u64 {
     BuildHasherDefault::<FoldHasher>::default().hash_one(snapshot)
 }
 
-/// Wants two snapshots to be equal, and to hash alike.
+/// Asserts that two snapshots are equal and have the same hash.
 fn assert_same(rt: &impl Abort, a: &Snapshot, b: &Snapshot) {
     assert!(rt; a == b);
     assert_eq!(rt; hash_of(a), hash_of(b));
 }
 
-/// Wants a snapshot to be that of a mailmap, and to hash as it does.
+/// Asserts that a snapshot equals that of a mailmap, and has the same hash.
 fn assert_same_as_read(
     rt: &impl Abort,
     alloc: Global,
@@ -59,7 +57,6 @@ fn nothing_is_listed_of_a_snapshot_without_an_entry(rt: HostRuntime) -> Result<(
     assert_same_as_read(&rt, alloc, &empty, b"")
 }
 
-/// Wants the entries of these rows of a snapshot.
 fn assert_lists_rows(
     rt: &impl Abort,
     alloc: Global,
@@ -70,7 +67,7 @@ fn assert_lists_rows(
     assert_lists(rt, alloc, snapshot, &want)
 }
 
-/// Wants the second entries of each pair of the snapshot of the first.
+/// Asserts what the snapshot of each pair's first entries lists.
 fn assert_all_listed(rt: &impl Abort, alloc: Global, table: &[Pair]) -> Result<(), AllocError> {
     for (given, want) in table {
         let snapshot = snapshot_of_rows(alloc, given)?;
@@ -143,7 +140,7 @@ fn emails_and_their_names_are_listed_in_folded_order(rt: HostRuntime) -> Result<
             &[EmailOfName(b"n@y", b"", b"x@y"), Name(b"P", b"x@y")],
             &[Name(b"P", b"x@y"), EmailOfName(b"n@y", b"", b"x@y")],
         ),
-        // a name that answers just as its email does
+        // a name with the same answer as its email
         (
             &[EmailOfName(b"n@y", b"Jane", b"x@y"), Email(b"n@y", b"x@y")],
             &[Email(b"n@y", b"x@y"), EmailOfName(b"n@y", b"Jane", b"x@y")],
@@ -152,13 +149,12 @@ fn emails_and_their_names_are_listed_in_folded_order(rt: HostRuntime) -> Result<
     assert_all_listed(&rt, rt.alloc(), &TABLE)
 }
 
-/// Merges the entries of some rows into a snapshot.
 fn merge_rows(alloc: Global, snapshot: &mut Snapshot, rows: &[Row]) -> Result<(), AllocError> {
     let entries = entries_of(alloc, rows)?;
     snapshot.merge(entries.iter().copied())
 }
 
-/// Wants the last rows of the snapshot of the first, after which the later ones are merged.
+/// Asserts what the snapshot of the first rows lists after the later ones were merged.
 fn assert_merged(
     rt: &impl Abort,
     alloc: Global,
@@ -199,7 +195,7 @@ fn an_entry_that_maps_nothing_changes_nothing(rt: HostRuntime) -> Result<(), All
     assert_merged(&rt, rt.alloc(), &GIVEN, &[Nothing], &GIVEN)
 }
 
-/// Wants a snapshot to be that of these rows, and to hash as it does.
+/// Asserts that a snapshot equals that of these rows, and has the same hash.
 fn assert_same_as_of(
     rt: &impl Abort,
     alloc: Global,
@@ -211,7 +207,7 @@ fn assert_same_as_of(
     Ok(())
 }
 
-/// Wants the snapshots of both entries of each pair to be equal, and to hash alike.
+/// Asserts that the snapshots of each pair are equal and have the same hash.
 fn assert_all_alike(rt: &impl Abort, alloc: Global, table: &[Pair]) -> Result<(), AllocError> {
     for (one, other) in table {
         let snapshot = snapshot_of_rows(alloc, one)?;
@@ -247,7 +243,7 @@ fn snapshots_are_equal_by_what_they_list_and_hash_alike(rt: HostRuntime) -> Resu
     assert_all_alike(&rt, rt.alloc(), &TABLE)
 }
 
-/// Wants a snapshot to be another than that of these rows.
+/// Asserts that a snapshot differs from that of these rows.
 fn assert_other(
     rt: &impl Abort,
     alloc: Global,
@@ -281,7 +277,7 @@ fn wear(
     Ok(())
 }
 
-/// Wants the entries of these rows of the copy of a snapshot that is gone.
+/// Asserts what a copy lists after the snapshot itself is dropped.
 fn assert_copy_lists(
     rt: &impl Abort,
     alloc: Global,
@@ -305,69 +301,10 @@ fn many_rounds_of_replaced_names_leave_the_snapshot_of_the_last(
     assert_copy_lists(&rt, rt.alloc(), worn, &SHORT)
 }
 
-/// The entries of some rows, so many times over.
-fn entries_over_and_over(
-    alloc: Global,
-    rows: &[Row],
-    times: usize,
-) -> Result<Vec<Entry<'static>>, AllocError> {
-    let once = entries_of(alloc, rows)?;
-    let mut entries = Vec::new(alloc);
-    for _ in 0..times {
-        entries.extend_from_slice(&once)?;
-    }
-    Ok(entries)
-}
-
-/// Wants these entries of a snapshot of some rows after which entries are merged at once, and of its copy.
-fn assert_merged_at_once(
-    rt: &impl Abort,
-    alloc: Global,
-    before: &[Row],
-    entries: &[Entry<'_>],
-    want: &[Row],
-) -> Result<(), AllocError> {
-    let mut snapshot = snapshot_of_rows(alloc, before)?;
-    snapshot.merge(entries.iter().copied())?;
-    assert_copy_lists(rt, alloc, snapshot, want)
-}
-
-/// If few keys come again and again, their entries are joined in portions, of which the last one may be whole or not.
-#[test]
-fn many_rounds_in_one_merge_leave_the_entries_of_the_last(
-    rt: HostRuntime,
-) -> Result<(), AllocError> {
-    static ROUND: [Row; 4] = [
-        Name(b"First", b"A@x"),
-        EmailOfName(b"n1@y", b"JANE", b"a@X"),
-        EmailOfName(b"n2@y", b"Jane", b"a@x"),
-        Name(b"Last", b"a@x"),
-    ];
-    static BEFORE: [Row; 3] = [
-        Name(b"Ann", b"a@X"),
-        EmailOfName(b"n3@y", b"jane", b"a@x"),
-        Email(b"n4@y", b"b@x"),
-    ];
-    static ENTRIES_ONLY: [Row; 2] = [Name(b"Last", b"A@x"), EmailOfName(b"n2@y", b"JANE", b"A@x")];
-    static BOTH: [Row; 3] = [
-        Name(b"Last", b"a@X"),
-        EmailOfName(b"n2@y", b"jane", b"a@X"),
-        Email(b"n4@y", b"b@x"),
-    ];
-    let alloc = rt.alloc();
-    let whole = entries_over_and_over(alloc, &ROUND, 16_384)?;
-    assert_merged_at_once(&rt, alloc, &[], &whole, &ENTRIES_ONLY)?;
-    assert_merged_at_once(&rt, alloc, &BEFORE, &whole, &BOTH)?;
-    let broken = entries_over_and_over(alloc, &ROUND, 10_000)?;
-    assert_merged_at_once(&rt, alloc, &[], &broken, &ENTRIES_ONLY)?;
-    assert_merged_at_once(&rt, alloc, &BEFORE, &broken, &BOTH)
-}
-
 fn debug_text(alloc: Global, value: &impl Debug) -> Result<String, AllocError> {
     format!(in alloc; "{value:?}")
 }
 
-/// Wants this text of a snapshot by `Debug`.
 fn assert_debug_text(
     rt: &impl Abort,
     alloc: Global,
@@ -379,7 +316,6 @@ fn assert_debug_text(
     Ok(())
 }
 
-/// Wants the text of a snapshot by `Debug` to be that of its entries.
 fn assert_debug_of_entries(
     rt: &impl Abort,
     alloc: Global,
@@ -397,7 +333,7 @@ fn the_debug_text_is_that_of_the_entries(rt: HostRuntime) -> Result<(), AllocErr
     assert_debug_of_entries(&rt, rt.alloc(), &snapshot)
 }
 
-// `abcdefghijkl`, the letters in capitals whose indexes are the binary ones of a number.
+// `abcdefghijkl`, with capitals at the positions of the 1s in a number's binary digits.
 fn capitals(number: u32) -> [u8; 12] {
     let mut text = *b"abcdefghijkl";
     let mut rest = number;
@@ -410,7 +346,7 @@ fn capitals(number: u32) -> [u8; 12] {
     text
 }
 
-/// Each spelling of a text of twelve letters, and its number after a word.
+/// All 4,096 spellings of a text of twelve letters, each with a word followed by its number.
 fn all_spellings(alloc: Global, word: &str) -> Result<Vec<([u8; 12], String)>, AllocError> {
     let mut all = Vec::new(alloc);
     for number in 0..4096 {
@@ -419,7 +355,7 @@ fn all_spellings(alloc: Global, word: &str) -> Result<Vec<([u8; 12], String)>, A
     Ok(all)
 }
 
-/// A name for each spelling of an email, its number.
+/// Entries that map each spelling of an email to its number as a name.
 fn names_of<'a>(
     alloc: Global,
     spellings: &'a [([u8; 12], String)],
@@ -431,7 +367,7 @@ fn names_of<'a>(
     Ok(entries)
 }
 
-/// The snapshot of these entries, each merged alone.
+/// The snapshot made by merging each of these entries alone.
 fn merged_in_turn(alloc: Global, entries: &[Entry<'_>]) -> Result<Snapshot, AllocError> {
     let mut in_turn = Snapshot::empty(alloc);
     for entry in entries {
@@ -440,7 +376,7 @@ fn merged_in_turn(alloc: Global, entries: &[Entry<'_>]) -> Result<Snapshot, Allo
     Ok(in_turn)
 }
 
-/// Wants the snapshot of these entries to be that of each merged alone.
+/// Asserts that merging entries one by one makes the same snapshot as merging them at once.
 fn assert_same_in_turn(
     rt: &impl Abort,
     alloc: Global,
@@ -450,7 +386,7 @@ fn assert_same_in_turn(
     assert_same_at_once(rt, alloc, &in_turn, entries)
 }
 
-/// Wants a snapshot to be that of these entries, and to hash as it does.
+/// Asserts that a snapshot equals that of these entries, and has the same hash.
 fn assert_same_at_once(
     rt: &impl Abort,
     alloc: Global,
@@ -462,7 +398,7 @@ fn assert_same_at_once(
     Ok(())
 }
 
-/// Wants this one entry of the snapshot of others.
+/// Asserts that the snapshot of some entries lists just this one.
 fn assert_listed(
     rt: &impl Abort,
     alloc: Global,
@@ -473,7 +409,7 @@ fn assert_listed(
     assert_lists(rt, alloc, &snapshot, &[want])
 }
 
-/// Wants the names of all spellings of an email to be listed as the last, whichever way they come.
+/// Asserts that the names of all spellings of an email are listed as the last one, in whatever order they are merged.
 fn assert_names_are_one(
     rt: &impl Abort,
     alloc: Global,
@@ -496,7 +432,7 @@ fn all_spellings_of_an_email_are_one(rt: HostRuntime) -> Result<(), AllocError> 
     assert_names_are_one(&rt, rt.alloc(), &spellings)
 }
 
-/// An email for each spelling of a name, its number.
+/// Entries that map each spelling of a name to its number as an email.
 fn emails_of<'a>(
     alloc: Global,
     spellings: &'a [([u8; 12], String)],
@@ -517,7 +453,7 @@ fn all_spellings_of_a_name_are_one(rt: HostRuntime) -> Result<(), AllocError> {
     assert_listed(&rt, rt.alloc(), &entries, want)
 }
 
-/// Wants a snapshot to be equal to its copy, and to hash as it does.
+/// Asserts that a snapshot equals its copy and has the same hash.
 fn assert_same_as_copy(
     rt: &impl Abort,
     alloc: Global,
@@ -528,7 +464,7 @@ fn assert_same_as_copy(
     Ok(())
 }
 
-/// Wants going through a snapshot to give just this entry.
+/// Asserts that iterating over a snapshot yields just this entry.
 fn assert_gives(
     rt: &impl Abort,
     alloc: Global,
@@ -540,7 +476,7 @@ fn assert_gives(
     Ok(())
 }
 
-/// Wants a snapshot to be equal to its copy, and to give just this entry.
+/// Asserts that a snapshot equals its copy and yields just this entry.
 fn assert_copied(
     rt: &impl Abort,
     alloc: Global,
@@ -563,31 +499,31 @@ fn a_batch_may_come_in_parts(rt: HostRuntime) -> Result<(), AllocError> {
     assert_copied(&rt, rt.alloc(), &at_once, want)
 }
 
-/// The second number of a text, as the system counts pages.
+/// The second number in a text; the system prints page counts in this way.
 fn second_number(text: &str) -> Option<usize> {
     text.split(' ').nth(1)?.parse().ok()
 }
 
-/// How many bytes of memory the process has, by the system's text on it.
+/// The process's resident memory in bytes, as the system reports it.
 fn resident(rt: &HostRuntime) -> Result<usize, Fail> {
     let text = fs::read_to_string(rt, "/proc/self/statm")?;
     let pages = second_number(&text).ok_or("a count of pages")?;
     Ok(pages.saturating_mul(4096))
 }
 
-/// Keeps forty copies of a snapshot with those before them.
+/// Appends sixty copies of a snapshot.
 fn keep_copies(
     alloc: Global,
     snapshot: &Snapshot,
     copies: &mut Vec<Snapshot>,
 ) -> Result<(), AllocError> {
-    for _ in 0..40 {
+    for _ in 0..60 {
         copies.push(snapshot.try_clone(alloc)?)?;
     }
     Ok(())
 }
 
-/// How many bytes of memory forty copies of a snapshot take, which are kept with those before them.
+/// How much resident memory sixty copies of a snapshot take, which are appended to the earlier ones.
 fn taken_by_copies(
     rt: &HostRuntime,
     snapshot: &Snapshot,
@@ -598,12 +534,12 @@ fn taken_by_copies(
     Ok(resident(rt)?.saturating_sub(before))
 }
 
-/// Counts what copies of a snapshot take after each of twenty merges of these entries.
+/// Records what copies of a snapshot take after each of twelve merges of these entries.
 fn take_in_rounds(
     rt: &HostRuntime,
     snapshot: &mut Snapshot,
     entries: &[Entry<'_>],
-    taken: &mut [usize; 20],
+    taken: &mut [usize; 12],
 ) -> Result<(), Fail> {
     let mut copies = Vec::new(rt.alloc());
     for bytes in taken {
@@ -613,39 +549,41 @@ fn take_in_rounds(
     Ok(())
 }
 
-/// The snapshot of these entries, which are merged again twenty times, and what its copies take after each.
+/// The snapshot of these entries, merged again twelve times, with what its copies take after each merge.
 fn merged_in_rounds(
     rt: &HostRuntime,
     entries: &[Entry<'_>],
-    taken: &mut [usize; 20],
+    taken: &mut [usize; 12],
 ) -> Result<Snapshot, Fail> {
     let mut snapshot = snapshot_of(rt.alloc(), entries)?;
     take_in_rounds(rt, &mut snapshot, entries, taken)?;
     Ok(snapshot)
 }
 
-/// Wants forty copies to take memory for at most twice their texts.
+/// Asserts that sixty copies take between one and two times the memory of their texts of 100,000 bytes.
+///
+/// The system's count can be off by 1.5 MB, because the copies first reuse memory that was freed before.
 fn assert_small(rt: &impl Abort, taken: &[usize]) {
     for bytes in taken {
-        assert!(rt; 3_000_000 < *bytes && *bytes < 11_000_000, "{bytes}");
+        assert!(rt; 4_500_000 < *bytes && *bytes < 16_500_000, "{bytes}");
     }
 }
 
-/// A pool of which half is out of use is given up, so that merges which replace don't make it grow without end.
+/// A merge that leaves half of the text pool unused rebuilds it, so that overriding merges don't grow it without bound.
 ///
-/// The pool can't be asked for its length, but forty copies show it: they take memory for at most twice their texts.
+/// The pool's length isn't public, but sixty copies show it: they take at most twice the memory of their texts.
 #[test]
 fn replaced_texts_are_given_up(rt: HostRuntime) -> Result<(), Fail> {
     let new_name = [b'N'; 100_000];
     let given = [Entry::change_name_and_email_by_email(&new_name, b"new@x", b"a@x")];
-    let mut taken = [0; 20];
+    let mut taken = [0; 12];
     let snapshot = merged_in_rounds(&rt, &given, &mut taken)?;
     assert_small(&rt, &taken);
     assert_lists(&rt, rt.alloc(), &snapshot, &given)?;
     Ok(())
 }
 
-/// So it is under small merges, which are made in place.
+/// The same holds for small merges, which are made in place.
 #[test]
 fn texts_that_small_merges_replace_are_given_up(rt: HostRuntime) -> Result<(), Fail> {
     let new_name = [b'N'; 25_000];
@@ -655,7 +593,7 @@ fn texts_that_small_merges_replace_are_given_up(rt: HostRuntime) -> Result<(), F
         Entry::change_name_and_email_by_email(&new_name, b"new@x", b"c@x"),
         Entry::change_name_and_email_by_email(&new_name, b"new@x", b"d@x"),
     ];
-    let mut taken = [0; 20];
+    let mut taken = [0; 12];
     let mut snapshot = snapshot_of(rt.alloc(), &given)?;
     take_in_rounds(&rt, &mut snapshot, &given[1..2], &mut taken)?;
     assert_small(&rt, &taken);
@@ -663,13 +601,13 @@ fn texts_that_small_merges_replace_are_given_up(rt: HostRuntime) -> Result<(), F
     Ok(())
 }
 
-/// Counts what copies of a snapshot take after each of twenty rounds, in which a copy of it takes its place and these
-/// entries are merged.
+/// Records what copies of a snapshot take after each of twelve rounds. In each round, a copy replaces the snapshot
+/// before these entries are merged.
 fn take_over_copies(
     rt: &HostRuntime,
     snapshot: &mut Snapshot,
     entries: &[Entry<'_>],
-    taken: &mut [usize; 20],
+    taken: &mut [usize; 12],
 ) -> Result<(), Fail> {
     let mut copies = Vec::new(rt.alloc());
     for bytes in taken {
@@ -680,7 +618,7 @@ fn take_over_copies(
     Ok(())
 }
 
-/// So it is if a copy takes the place of the snapshot before each merge: it knows which of its texts are out of use.
+/// The same holds if a copy replaces the snapshot before each merge: it knows which of its texts are unused.
 #[test]
 fn texts_that_a_copy_replaces_are_given_up(rt: HostRuntime) -> Result<(), Fail> {
     let new_name = [b'N'; 25_000];
@@ -690,10 +628,57 @@ fn texts_that_a_copy_replaces_are_given_up(rt: HostRuntime) -> Result<(), Fail> 
         Entry::change_name_and_email_by_email(&new_name, b"new@x", b"c@x"),
         Entry::change_name_and_email_by_email(&new_name, b"new@x", b"d@x"),
     ];
-    let mut taken = [0; 20];
+    let mut taken = [0; 12];
     let mut snapshot = snapshot_of(rt.alloc(), &given)?;
     take_over_copies(&rt, &mut snapshot, &given[1..2], &mut taken)?;
     assert_small(&rt, &taken);
     assert_lists(&rt, rt.alloc(), &snapshot, &given)?;
+    Ok(())
+}
+
+/// Entries that give each of 26 names of one email this new name.
+fn renames<'a>(alloc: Global, new_name: &'a [u8]) -> Result<Vec<Entry<'a>>, AllocError> {
+    static LETTERS: [u8; 26] = *b"ABCDEFGHIJKLMNOPQRSTUVWXYZ";
+    let mut entries = Vec::new(alloc);
+    for letter in LETTERS.chunks(1) {
+        entries.push(Entry::change_name_and_email_by_name_and_email(
+            new_name, b"new@x", letter, b"a@x",
+        ))?;
+    }
+    Ok(entries)
+}
+
+/// The snapshot of these entries after 150 merges of others.
+fn merged_often(
+    alloc: Global,
+    entries: &[Entry<'_>],
+    others: &[Entry<'_>],
+) -> Result<Snapshot, AllocError> {
+    let mut snapshot = snapshot_of(alloc, entries)?;
+    for _ in 0..150 {
+        snapshot.merge(others.iter().copied())?;
+    }
+    Ok(snapshot)
+}
+
+/// The same holds for the texts of names: in merges of one entry, which are made in place, and in merges of seventeen,
+/// which aren't. Sixty copies have 15.6 MB of texts.
+#[test]
+fn texts_that_names_replace_are_given_up(rt: HostRuntime) -> Result<(), Fail> {
+    static COUNTS: [usize; 2] = [1, 17];
+    let new_name = [b'N'; 10_000];
+    let given = renames(rt.alloc(), &new_name)?;
+    let first = given.first().ok_or("the first of 26 entries")?;
+    let again = [*first; 17];
+    for count in COUNTS {
+        let others = again.get(..count).ok_or("at most 17 entries")?;
+        let snapshot = merged_often(rt.alloc(), &given, others)?;
+        let taken = taken_by_copies(&rt, &snapshot, &mut Vec::new(rt.alloc()))?;
+        assert!(rt;
+            14_100_000 < taken && taken < 32_700_000,
+            "{count}: {taken}"
+        );
+        assert_lists(&rt, rt.alloc(), &snapshot, &given)?;
+    }
     Ok(())
 }

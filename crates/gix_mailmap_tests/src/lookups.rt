@@ -7,10 +7,10 @@ use gix_mailmap::{Entry, Snapshot};
 use std::alloc::{AllocError, Global};
 use std::process::Abort;
 
-/// A name and an email, each if it is there.
+/// The new name and the new email, as far as they are set.
 type Answer<'a> = Option<(Option<&'a [u8]>, Option<&'a [u8]>)>;
 
-/// A name and an email, and the answer to them.
+/// A name, an email, and the expected answer.
 type Question = (&'static [u8], &'static [u8], Answer<'static>);
 
 fn signature<'a>(name: &'a [u8], email: &'a [u8]) -> SignatureRef<'a> {
@@ -26,12 +26,11 @@ fn answer_of(found: Option<ResolvedSignature<'_>>) -> Answer<'_> {
     Some((found.name, found.email))
 }
 
-/// Wants this answer.
 fn assert_answer(rt: &impl Abort, answer: Answer<'_>, want: Answer<'_>) {
     assert_eq!(rt; answer, want);
 }
 
-/// Wants these answers of each lookup, to a name and an email each.
+/// Asserts the answers of each lookup call.
 fn assert_answers(rt: &impl Abort, snapshot: &Snapshot, table: &[Question]) {
     for (name, email, want) in table {
         let asked = signature(name, email);
@@ -67,10 +66,9 @@ fn an_old_name_counts_before_its_email(rt: HostRuntime) -> Result<(), AllocError
     Ok(())
 }
 
-/// Some entries, and the answers of the snapshot of them.
+/// Entries, and expected answers of their snapshot.
 type Known = (&'static [Row], &'static [Question]);
 
-/// Wants the answers of each table of the snapshot of its rows.
 fn assert_all_found(rt: &impl Abort, alloc: Global, tables: &[Known]) -> Result<(), AllocError> {
     for (rows, table) in tables {
         let snapshot = snapshot_of_rows(alloc, rows)?;
@@ -172,7 +170,7 @@ fn empty_texts_are_looked_up_and_answered_as_others(rt: HostRuntime) -> Result<(
     assert_all_found(&rt, rt.alloc(), &TABLES)
 }
 
-/// The answer to a signature that is gone when it comes.
+/// Looks up a signature that is dropped before the answer is used.
 fn answer_to_the_gone(snapshot: &Snapshot) -> Answer<'_> {
     let email = [b'X', b'@', b'y'];
     answer_of(snapshot.try_resolve_ref(signature(b"Bob", &email)))
@@ -187,19 +185,18 @@ fn an_answer_outlives_the_signature(rt: HostRuntime) -> Result<(), AllocError> {
     Ok(())
 }
 
-/// How many comparisons the lookup of an email makes.
+/// How many comparisons a lookup makes.
 fn count_of(snapshot: &Snapshot, name: &[u8], email: &[u8]) -> usize {
     let mut steps = Steps::new();
     let _ = snapshot.try_resolve_ref_counted(signature(name, email), &mut steps);
     steps.count()
 }
 
-/// Wants so many comparisons.
 fn assert_within(rt: &impl Abort, count: usize, at_least: usize, at_most: usize) {
     assert!(rt; at_least <= count && count <= at_most, "{count}");
 }
 
-/// Wants so many comparisons of the lookup of `b@x` under each of these names, in the snapshot of some entries.
+/// Asserts the number of comparisons for looking up `b@x` with each of these names, in the snapshot of some entries.
 fn assert_names_within(
     rt: &impl Abort,
     alloc: Global,
@@ -237,7 +234,7 @@ fn emails_and_names_are_searched_within_the_digits_of_their_numbers(
     Ok(())
 }
 
-/// 1024 emails.
+/// 1,024 emails.
 fn numbered(alloc: Global) -> Result<Vec<String>, AllocError> {
     let mut texts = Vec::new(alloc);
     for i in 0..1024 {
@@ -246,7 +243,7 @@ fn numbered(alloc: Global) -> Result<Vec<String>, AllocError> {
     Ok(texts)
 }
 
-/// A name for each of these emails.
+/// An entry that sets a name, for each of these emails.
 fn names_of<'a>(alloc: Global, texts: &'a [String]) -> Result<Vec<Entry<'a>>, AllocError> {
     let mut entries = Vec::new(alloc);
     for text in texts {
@@ -255,7 +252,7 @@ fn names_of<'a>(alloc: Global, texts: &'a [String]) -> Result<Vec<Entry<'a>>, Al
     Ok(entries)
 }
 
-/// Wants at most so many comparisons of the lookup of each of these emails, in the snapshot of some entries.
+/// Asserts the maximum number of comparisons for looking up each of these emails, in the snapshot of some entries.
 fn assert_counts(
     rt: &impl Abort,
     alloc: Global,
@@ -271,7 +268,7 @@ fn assert_counts(
     Ok(())
 }
 
-/// Wants eleven comparisons at most of the lookup of 1024 emails, and ten if the last is not known.
+/// Asserts that looking up one of 1,024 emails takes at most eleven comparisons, and one of 1,023 at most ten.
 fn assert_thousand(rt: &impl Abort, alloc: Global, texts: &[String]) -> Result<(), AllocError> {
     let mut entries = names_of(alloc, texts)?;
     assert_counts(rt, alloc, &entries, texts, 11)?;

@@ -3,20 +3,19 @@ use gix_mailmap::{Snapshot, parse, parse_ignore_errors};
 use std::alloc::{AllocError, Global};
 use std::process::Abort;
 
-/// How many lines there are: more than any table has room for at first.
-const COUNT: usize = 200_000;
+/// The number of lines: more than fit into the initial capacity of any table.
+const COUNT: usize = 20_000;
 
-/// A mailmap of so many lines, each for another email.
+/// A mailmap of `COUNT` lines, each for another email.
 fn mailmap(alloc: Global) -> Result<Vec<u8>, AllocError> {
     let mut text = Vec::new(alloc);
-    for number in 100_000..300_000 {
+    for number in 100_000..120_000 {
         let line = format!(in alloc; "N{number} <{number}@x>\n")?;
         text.extend_from_slice(line.as_bytes())?;
     }
     Ok(text)
 }
 
-/// Wants this number.
 fn assert_count(rt: &impl Abort, count: usize, want: usize) {
     assert_eq!(rt; count, want);
 }
@@ -29,7 +28,7 @@ fn many_lines_are_read(rt: HostRuntime) -> Result<(), AllocError> {
     Ok(())
 }
 
-/// No clause says that there is memory. Here there is, and it is used.
+/// No clause promises that there is memory. Here there is, and it is used.
 #[test]
 fn many_entries_are_merged_and_listed(rt: HostRuntime) -> Result<(), AllocError> {
     let text = mailmap(rt.alloc())?;
@@ -39,7 +38,7 @@ fn many_entries_are_merged_and_listed(rt: HostRuntime) -> Result<(), AllocError>
     Ok(())
 }
 
-/// A mailmap that comes twice has no effect the first time.
+/// In a mailmap that is read twice, no line of the first copy has an effect.
 #[test]
 fn many_findings_are_collected(rt: HostRuntime) -> Result<(), AllocError> {
     let text = mailmap(rt.alloc())?;

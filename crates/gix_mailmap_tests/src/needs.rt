@@ -1,10 +1,10 @@
 use gix_mailmap::needs::{Needs, unneeded};
 use gix_mailmap::remarks::{Remark, Remarks};
-use gix_mailmap::verify::{Finding, Kind, Mailmaps, Position, Verification};
+use gix_mailmap::verify::{Finding, FindingKind, Mailmaps, Position, Verification};
 use std::alloc::{AllocError, Global};
 use std::process::Abort;
 
-/// Wants these lines that the contacts don't need, also if the contacts are taken line by line.
+/// Asserts which lines the contacts don't need, adding all contacts at once and line by line.
 fn assert_unneeded(
     rt: &impl Abort,
     alloc: Global,
@@ -16,7 +16,7 @@ fn assert_unneeded(
     let mut needs = Needs::new(alloc, &mailmaps)?;
     let mut text = Vec::new(alloc);
     for contact in contacts {
-        let _is_contact = needs.take(contact);
+        let _is_contact = needs.add_line(contact);
         text.extend_from_slice(contact)?;
     }
     assert!(rt; needs.unneeded(alloc)?.as_slice() == want);
@@ -28,7 +28,7 @@ const fn at(buffer: usize, line: usize) -> Position {
     Position { buffer, line }
 }
 
-/// The new name, the new email and the spelling of the email are needed, each of its own line.
+/// The lines of the new name, of the new email and of the email's spelling are needed.
 #[test]
 fn lines_that_give_no_answer_are_not_needed(rt: HostRuntime) -> Result<(), AllocError> {
     let alloc = rt.alloc();
@@ -44,7 +44,7 @@ fn lines_that_give_no_answer_are_not_needed(rt: HostRuntime) -> Result<(), Alloc
     assert_unneeded(&rt, alloc, spelled, &[b"cy <a@x>\n"], &[at(0, 2)])
 }
 
-/// Lines of no effect are not among them. Blank lines and lines that are no contacts need nothing.
+/// Lines without effect aren't listed. Blank lines of contacts, and lines that are no contacts, need nothing.
 #[test]
 fn lines_that_are_no_contacts_need_nothing(rt: HostRuntime) -> Result<(), AllocError> {
     let alloc = rt.alloc();
@@ -54,14 +54,14 @@ fn lines_that_are_no_contacts_need_nothing(rt: HostRuntime) -> Result<(), AllocE
     assert_unneeded(&rt, alloc, two, &[], &[at(1, 2), at(1, 3)])?;
     let mailmaps = Mailmaps::read(alloc, two)?;
     let mut needs = Needs::new(alloc, &mailmaps)?;
-    assert!(rt; needs.take(b" \r\n"));
-    assert!(rt; needs.take(b"<>"));
-    assert!(rt; !needs.take(b"plain"));
-    assert!(rt; !needs.take(b"x <open\n"));
+    assert!(rt; needs.add_line(b" \r\n"));
+    assert!(rt; needs.add_line(b"<>"));
+    assert!(rt; !needs.add_line(b"plain"));
+    assert!(rt; !needs.add_line(b"x <open\n"));
     Ok(())
 }
 
-/// Findings and lines that no contact needs come in the order of the lines; of one line the findings come first.
+/// Findings and unneeded lines are in the order of the lines. A line's findings come first.
 #[test]
 fn remarks_are_in_the_order_of_the_lines(rt: HostRuntime) -> Result<(), AllocError> {
     let alloc = rt.alloc();
@@ -74,10 +74,10 @@ fn remarks_are_in_the_order_of_the_lines(rt: HostRuntime) -> Result<(), AllocErr
         unneeded.as_slice(),
     ).collect(alloc)?;
     let want = [
-        found(1, Kind::NoEffect { beside: at(0, 2) }),
+        found(1, FindingKind::NoEffect { beside: at(0, 2) }),
         Remark::Unneeded(at(0, 2)),
-        found(3, Kind::IgnoredText(b"r")),
-        found(4, Kind::IgnoredText(b"s")),
+        found(3, FindingKind::IgnoredText(b"r")),
+        found(4, FindingKind::IgnoredText(b"s")),
         Remark::Unneeded(at(0, 4)),
         Remark::Unneeded(at(0, 5)),
     ];
@@ -85,7 +85,7 @@ fn remarks_are_in_the_order_of_the_lines(rt: HostRuntime) -> Result<(), AllocErr
     Ok(())
 }
 
-fn found(line: usize, kind: Kind<'_>) -> Remark<'_> {
+fn found(line: usize, kind: FindingKind<'_>) -> Remark<'_> {
     Remark::Found(Finding {
         position: at(0, line),
         kind,

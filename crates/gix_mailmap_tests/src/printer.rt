@@ -1,11 +1,10 @@
 use crate::check::assert_bytes;
 use crate::run::{ALL, BREAKS, ONE, Sink, Turn};
-use mailmap_io::failure::Failure;
-use mailmap_io::printer::{CAPACITY, Printer};
+use command_line::failure::Failure;
+use command_line::printer::{CAPACITY, Printer};
 use std::alloc::{AllocError, Global};
 use std::io::Write;
 
-/// Prints pieces and flushes.
 fn printed<W: Write>(
     printer: &mut Printer,
     pieces: &[&[u8]],
@@ -17,8 +16,8 @@ fn printed<W: Write>(
     printer.flush(output)
 }
 
-/// Short pieces are written together when the printer is flushed, also to a writer that takes one byte at a time. What
-/// a writer that fails took is the beginning of them.
+/// Short pieces are written together when the printer is flushed, also to a writer that takes one byte at a time. If a
+/// write fails, a prefix of them was written.
 #[test]
 fn pieces_are_written_in_their_order(rt: HostRuntime) -> Result<(), AllocError> {
     static ROWS: [(&[Turn], Turn, Result<(), Failure>, &[u8]); 5] = [
@@ -43,14 +42,14 @@ fn pieces_are_written_in_their_order(rt: HostRuntime) -> Result<(), AllocError> 
     Ok(())
 }
 
-/// So many bytes.
 fn bytes_of(alloc: Global, byte: u8, count: usize) -> Result<Vec<u8>, AllocError> {
     let mut bytes = Vec::new(alloc);
     bytes.resize(count, byte)?;
     Ok(bytes)
 }
 
-/// What is held is written before a piece for which there is no room, and a longer one is written at once.
+/// A piece that doesn't fit makes the buffered bytes be written first. A piece longer than the buffer is written
+/// directly.
 #[test]
 fn nothing_is_lost_when_the_buffer_is_full(rt: HostRuntime) -> Result<(), AllocError> {
     static ROWS: [[usize; 3]; 4] = [

@@ -1,13 +1,13 @@
 use crate::check::assert_bytes;
 use crate::files::paths_of;
+use command_line::failure::Failure;
+use command_line::outcome::Outcome;
 use gix_mailmap::verify::{Mailmaps, Verification};
-use mailmap_io::outcome::Outcome;
-use mailmap_reports::failure::Failure;
-use mailmap_reports::report::print_findings;
 use std::alloc::{AllocError, Global};
 use std::process::Abort;
+use verify_command::report::print_findings;
 
-/// What is found in mailmaps with these names, printed into a text.
+/// Prints the findings in mailmaps with these names.
 fn print(
     alloc: Global,
     names: &[&str],
@@ -20,7 +20,7 @@ fn print(
     print_findings(alloc, paths.as_slice(), verification.findings(), text)
 }
 
-/// Wants these lines of what is found in mailmaps with these names, of which the last is a line 30.
+/// Asserts the report on mailmaps with these names. The last mailmap has `line` as its line 30.
 fn assert_reported(
     rt: &impl Abort,
     alloc: Global,
@@ -65,15 +65,104 @@ fn each_fault_has_its_line(rt: HostRuntime) -> Result<(), AllocError> {
     Ok(())
 }
 
-/// Control bytes are shown as `\x1b`, also in a file's name, and other bytes as they are.
+/// Control bytes are escaped as in `\x1b`, also in a file's name. Other bytes are as they are.
 #[test]
 fn control_bytes_are_shown(rt: HostRuntime) -> Result<(), AllocError> {
-    let line = b"Jane <jane@x> \x00\x09\x1b[31m\x1f \x7e\x7f\x80\xff";
-    let want = b"a\\x0ab:30: warning: ignored text: \\x00\\x09\\x1b[31m\\x1f \x7e\\x7f\x80\xff\n";
+    let line = b"Jane <jane@x> \x00\x09\x1b[31m\x1f \\x1b\x7e\x7f\x80\x9f\xa0\xff";
+    let want =
+        b"a\\x0ab:30: warning: ignored text: \\x00\\x09\\x1b[31m\\x1f \\x1b\x7e\\x7f\\x80\\x9f\xa0\xff\n";
     assert_reported(&rt, rt.alloc(), &["", "a\nb"], b"", line, want)
 }
 
-/// Other texts are shown byte for byte. A name that is missing is left out with its blank.
+/// Control characters and those that turn the direction of text are escaped. Those beside them are as they are, and so
+/// are all bytes of other characters.
+#[test]
+fn characters_are_shown(rt: HostRuntime) -> Result<(), AllocError> {
+    let rows: [(&[u8], &[u8]); 12] = [
+        (
+            b"\xc2\x80\xc2\x9b\xc2\x9f\xc2\xa0|",
+            b"\\u0080\\u009b\\u009f\xc2\xa0|",
+        ),
+        (b"\xd8\x9b\xd8\x9c\xd8\x9d", b"\xd8\x9b\\u061c\xd8\x9d"),
+        (
+            b"\xe2\x80\x8d\xe2\x80\x8e\xe2\x80\x8f\xe2\x80\x90",
+            b"\xe2\x80\x8d\\u200e\\u200f\xe2\x80\x90",
+        ),
+        (
+            b"|\xe2\x80\xa9\xe2\x80\xaa\xe2\x80\xab\xe2\x80\xac",
+            b"|\xe2\x80\xa9\\u202a\\u202b\\u202c",
+        ),
+        (
+            b"\xe2\x80\xad\xe2\x80\xae\xe2\x80\xaf|",
+            b"\\u202d\\u202e\xe2\x80\xaf|",
+        ),
+        (
+            b"\xe2\x81\xa5\xe2\x81\xa6\xe2\x81\xa7",
+            b"\xe2\x81\xa5\\u2066\\u2067",
+        ),
+        (
+            b"\xe2\x81\xa8\xe2\x81\xa9\xe2\x81\xaa",
+            b"\\u2068\\u2069\xe2\x81\xaa",
+        ),
+        (
+            b"\xc4\x80\xe2\x82\x80\xf0\x9f\x98\x80",
+            b"\xc4\x80\xe2\x82\x80\xf0\x9f\x98\x80",
+        ),
+        (b"\xc4\x80\x80", b"\xc4\x80\\x80"),
+        (
+            b"\xe2\x80x\xf0\x9f\x98x\xed\xa0\x80",
+            b"\xe2\\x80x\xf0\\x9f\\x98x\xed\xa0\\x80",
+        ),
+        (b"\xc2\xc2\x9b", b"\xc2\\u009b"),
+        (b"\xf0\x9f\xe2\x80\xae", b"\xf0\\x9f\\u202e"),
+    ];
+    for (text, shown) in rows {
+        let mut line = Vec::from_slice(rt.alloc(), b"Jane <jane@x> ")?;
+        line.extend_from_slice(text)?;
+        let mut want = Vec::from_slice(rt.alloc(), b"b:30: warning: ignored text: ")?;
+        want.extend_from_slice(shown)?;
+        want.push(b'\n')?;
+        assert_reported(&rt, rt.alloc(), &["a", "b"], b"", &line, &want)?;
+    }
+    Ok(())
+}
+
+/// A text of 256 bytes is whole. A longer one is shown by its first 256 bytes, or by up to three fewer if a character
+/// would be cut.
+#[test]
+fn long_texts_are_cut(rt: HostRuntime) -> Result<(), AllocError> {
+    let rows: [(usize, &[u8], &[u8]); 14] = [
+        (252, b"nnnn", b"nnnn"),
+        (252, b"nnnnn", b"nnnn.."),
+        (255, b"\xc3", b"\xc3"),
+        (254, b"\xc3\xa4", b"\xc3\xa4"),
+        (255, b"\xc3\xa4", b".."),
+        (256, b"\xc3\xa4", b".."),
+        (253, b"\xe2\x82\xac\xc3\xa4", b"\xe2\x82\xac.."),
+        (254, b"\xe2\x82\xac", b".."),
+        (252, b"\xf0\x9f\x98\xa0n", b"\xf0\x9f\x98\xa0.."),
+        (253, b"\xf0\x9f\x98\xa0", b".."),
+        (255, b"\xf0\x9f\x98\xa0", b".."),
+        (253, b"\xf0\x9f\x98n", b"\xf0\\x9f\\x98.."),
+        (255, b"\xe2\x82", b"\xe2.."),
+        (252, b"\x80\x80\x80\x80\x80", b"\\x80\\x80\\x80\\x80.."),
+    ];
+    for (count, end, shown_end) in rows {
+        let mut line = Vec::from_slice(rt.alloc(), b"Jane <jane@x> ")?;
+        let mut want = Vec::from_slice(rt.alloc(), b"b:30: warning: ignored text: ")?;
+        for _ in 0..count {
+            line.push(b'n')?;
+            want.push(b'n')?;
+        }
+        line.extend_from_slice(end)?;
+        want.extend_from_slice(shown_end)?;
+        want.push(b'\n')?;
+        assert_reported(&rt, rt.alloc(), &["a", "b"], b"", &line, &want)?;
+    }
+    Ok(())
+}
+
+/// Texts without control bytes are shown byte for byte. A missing name is left out, with the space after it.
 #[test]
 fn each_warning_has_its_line(rt: HostRuntime) -> Result<(), AllocError> {
     let rows: [(&[u8], &[u8], &[u8]); 7] = [
@@ -119,7 +208,7 @@ fn each_warning_has_its_line(rt: HostRuntime) -> Result<(), AllocError> {
     Ok(())
 }
 
-/// Without a path the one mailmap is standard input.
+/// Without a path, the one mailmap is standard input.
 #[test]
 fn without_a_path_standard_input_is_shown(rt: HostRuntime) -> Result<(), AllocError> {
     let want = b"<stdin>:30: warning: ignored text: x\n";

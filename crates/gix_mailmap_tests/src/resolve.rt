@@ -7,7 +7,6 @@ use std::borrow::CowSlice;
 use std::process::Abort;
 use std::test::Fail;
 
-/// A text of an answer.
 #[derive(Clone, Copy, PartialEq, Eq, Debug)]
 enum Text<'a> {
     Owned(&'a [u8]),
@@ -21,13 +20,12 @@ fn text_of<'a>(text: &'a CowSlice<'_, u8>) -> Text<'a> {
     }
 }
 
-/// The time of Bob.
 const FIVE: Time = Time {
     seconds: 5,
     offset: 0,
 };
 
-/// Bob, by an email.
+/// Bob's signature with an email.
 fn bob(email: &str) -> SignatureRef<'_> {
     SignatureRef {
         name: b"Bob",
@@ -36,12 +34,11 @@ fn bob(email: &str) -> SignatureRef<'_> {
     }
 }
 
-/// Wants this text of an answer.
 fn assert_text(rt: &impl Abort, text: Text<'_>, want: Text<'_>) {
     assert_eq!(rt; text, want);
 }
 
-/// Wants these texts of an answer, and the time of Bob.
+/// Asserts an answer to Bob, which has his time.
 fn assert_answer(
     rt: &impl Abort,
     answer: &Signature<'_>,
@@ -53,7 +50,6 @@ fn assert_answer(
     assert_eq!(rt; answer.time, FIVE);
 }
 
-/// Wants these texts of the answer of a snapshot to Bob and an email.
 fn assert_answered(
     rt: &impl Abort,
     alloc: Global,
@@ -71,12 +67,11 @@ fn assert_answered(
     assert_copied(rt, alloc, snapshot, bob(email), &owned)
 }
 
-/// Wants two answers to be equal.
 fn assert_same(rt: &impl Abort, one: &Signature<'_>, other: &Signature<'_>) {
     assert_eq!(rt; one, other);
 }
 
-/// Wants this copy of an answer, if no text is to be borrowed.
+/// Asserts that `resolve` returns the same answer with both texts owned.
 fn assert_copied(
     rt: &impl Abort,
     alloc: Global,
@@ -89,10 +84,10 @@ fn assert_copied(
     Ok(())
 }
 
-/// An email, and the texts of the answer to Bob and the email.
+/// An email, and the expected texts of the answer to Bob with this email.
 type Answered = (&'static str, Text<'static>, Text<'static>);
 
-/// Wants these answers if there is one entry.
+/// Asserts the answers of a snapshot with one entry.
 fn assert_all_answered(
     rt: &impl Abort,
     alloc: Global,
@@ -139,7 +134,6 @@ fn owned(
     })
 }
 
-/// Wants this answer in place of a signature.
 fn assert_mapped(
     rt: &impl Abort,
     alloc: Global,
@@ -153,7 +147,7 @@ fn assert_mapped(
     Ok(())
 }
 
-/// The snapshot of the entries of a buffer, which are collected first. It has to be the one that is read at once.
+/// The snapshot of a buffer's entries, collected first. It equals the one that is parsed directly.
 fn collected(rt: &impl Abort, alloc: Global, buffer: &[u8]) -> Result<Snapshot, Fail> {
     let parsed: Vec<Entry<'_>> = parse(buffer)
         .map(|item| item.map_err(Fail::from))
@@ -184,13 +178,13 @@ Jane Doe <jane@example.com> Jane <bugs@example.com>
     Ok(())
 }
 
-/// Wants these seconds and this offset of the time of a signature.
+/// Asserts the seconds and the offset of a signature's time.
 fn assert_time(rt: &impl Abort, signature: SignatureRef<'_>, want: Option<(i64, i32)>) {
     let read = signature.time().map(|time| (time.seconds, time.offset));
     assert_eq!(rt; read, want, "{}", signature.time);
 }
 
-/// Wants this time of a text, and the signature with it kept by an empty snapshot.
+/// Asserts how a time is parsed, and that an empty snapshot keeps a signature with it.
 fn assert_kept(
     rt: &impl Abort,
     alloc: Global,
@@ -204,7 +198,7 @@ fn assert_kept(
     assert_left(rt, alloc, signature, &want)
 }
 
-/// Wants this signature of an empty snapshot, which maps none.
+/// Asserts that an empty snapshot, which maps nothing, leaves a signature as it is.
 fn assert_left(
     rt: &impl Abort,
     alloc: Global,

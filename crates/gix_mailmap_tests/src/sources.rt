@@ -4,12 +4,11 @@ use gix_mailmap::{Entry, Snapshot};
 use std::alloc::{AllocError, Global};
 use std::process::Abort;
 
-/// Wants all sources to be made.
 fn assert_made(rt: &impl Abort, made: &[bool; 3]) {
     assert_eq!(rt; *made, [true, true, true]);
 }
 
-/// Wants the one name `M` of these three sources, of which the second is a buffer.
+/// Asserts that merging three sources, the second of them a buffer, leaves just the name `M`.
 fn assert_merged_buffers(
     rt: &impl Abort,
     alloc: Global,
@@ -29,13 +28,13 @@ fn assert_merged_buffers(
     assert_is_m(rt, alloc, &snapshot)
 }
 
-/// Wants the one name `M` of a snapshot.
+/// Asserts that the snapshot has just the name `M`.
 fn assert_is_m(rt: &impl Abort, alloc: Global, snapshot: &Snapshot) -> Result<(), AllocError> {
     let want = [Entry::change_name_by_email(b"M", b"a@x")];
     assert_lists(rt, alloc, snapshot, &want)
 }
 
-/// Wants the one name `M` of these three sources, of which the second has entries.
+/// Asserts that merging three sources, the second of them a list of entries, leaves just the name `M`.
 fn assert_merged(
     rt: &impl Abort,
     alloc: Global,
@@ -55,7 +54,7 @@ fn assert_merged(
     assert_is_m(rt, alloc, &snapshot)
 }
 
-/// With ample memory all sources are made, also an empty one, and later ones count.
+/// With ample memory all sources are merged, including an empty one, and later ones override earlier ones.
 #[test]
 fn each_source_is_merged_behind_the_ones_before_it(rt: HostRuntime) -> Result<(), AllocError> {
     let alloc = rt.alloc();

@@ -3,7 +3,7 @@ use gix_mailmap::check::{ContactStream, check};
 use std::alloc::{AllocError, Global};
 use std::process::Abort;
 
-/// The answers to contacts that come in parts of so many bytes, put together.
+/// The answers to contacts in parts of this many bytes, put together.
 fn answers_in_parts(
     alloc: Global,
     buffers: &[&[u8]],
@@ -25,7 +25,7 @@ fn answers_in_parts(
     Ok(text)
 }
 
-/// Gives the stream all of a part.
+/// Pushes until all of a part is taken.
 fn push_all(stream: &mut ContactStream, part: &[u8], text: &mut Vec<u8>) -> Result<(), AllocError> {
     let mut left = part;
     for _ in 0..part.len() {
@@ -35,7 +35,8 @@ fn push_all(stream: &mut ContactStream, part: &[u8], text: &mut Vec<u8>) -> Resu
     Ok(())
 }
 
-/// Whatever the parts, the answers are those to all contacts at once: of lines with each kind of end, and without one.
+/// However the contacts are split, the answers are the same as for all at once. The lines have all kinds of ends, or
+/// none.
 #[test]
 fn parts_of_every_size_are_answered_alike(rt: HostRuntime) -> Result<(), AllocError> {
     static ROWS: [&[u8]; 4] = [
@@ -55,7 +56,7 @@ fn parts_of_every_size_are_answered_alike(rt: HostRuntime) -> Result<(), AllocEr
     Ok(())
 }
 
-/// Each line is answered as soon as its line feed comes, and the last one at the end.
+/// Each line is answered once its line feed is there, and the last one at the end.
 #[test]
 fn a_line_is_answered_with_its_line_feed(rt: HostRuntime) -> Result<(), AllocError> {
     let mut stream = ContactStream::new(rt.alloc(), &[b"Jane Doe <jane@x>".as_slice()])?;
@@ -69,7 +70,7 @@ fn a_line_is_answered_with_its_line_feed(rt: HostRuntime) -> Result<(), AllocErr
     Ok(())
 }
 
-/// One call stops after 64 KiB of answers, so that few long answers are in memory at once.
+/// A call stops after 64 KiB of answers, so that only a few long answers are in memory at once.
 #[test]
 fn a_call_stops_after_64_kib_of_answers(rt: HostRuntime) -> Result<(), AllocError> {
     let mut map = Vec::new(rt.alloc());
@@ -85,8 +86,8 @@ fn a_call_stops_after_64_kib_of_answers(rt: HostRuntime) -> Result<(), AllocErro
     Ok(())
 }
 
-/// Lines that come again are answered again: also lines that differ only by their ends, lines whose hashes have one
-/// slot of the table, each kept or not, and lines of which the text has several.
+/// Lines that recur get the same answers: lines that differ only in their ends, lines whose hashes share a slot, cached
+/// or not, and lines that occur several times in one text.
 #[test]
 fn lines_that_come_again_are_answered_again(rt: HostRuntime) -> Result<(), AllocError> {
     static ROWS: [(&[u8], &[u8]); 7] = [
@@ -119,7 +120,7 @@ fn lines_that_come_again_are_answered_again(rt: HostRuntime) -> Result<(), Alloc
     Ok(())
 }
 
-/// Lines of every length from none to more than the table has room for are answered again. They are no contacts, so
+/// Lines of every length, from empty to longer than the cache can hold, are answered again. They are no contacts, so
 /// each is its own answer.
 #[test]
 fn long_lines_that_come_again_are_answered_again(rt: HostRuntime) -> Result<(), AllocError> {
@@ -133,8 +134,8 @@ fn long_lines_that_come_again_are_answered_again(rt: HostRuntime) -> Result<(), 
     assert_answered_thrice(&rt, rt.alloc(), lines.as_slice(), lines.as_slice())
 }
 
-/// So many lines differ that the table has room for none of them until they all come again. They are no contacts. Each
-/// comes twice in a row, so it is kept.
+/// There are so many distinct lines that none stays cached until it recurs. Each occurs twice in a row, so that it is
+/// cached at first. They are no contacts.
 #[test]
 fn many_lines_that_come_again_are_answered_again(rt: HostRuntime) -> Result<(), AllocError> {
     let mut lines = Vec::new(rt.alloc());
@@ -145,7 +146,7 @@ fn many_lines_that_come_again_are_answered_again(rt: HostRuntime) -> Result<(), 
     assert_answered_thrice(&rt, rt.alloc(), lines.as_slice(), lines.as_slice())
 }
 
-/// Wants these answers each time that the contacts come, three times in one stream.
+/// Asserts the answers each time when the contacts are pushed three times into one stream.
 fn assert_answered_thrice(
     rt: &impl Abort,
     alloc: Global,
@@ -163,7 +164,6 @@ fn assert_answered_thrice(
     Ok(())
 }
 
-/// Wants this number.
 fn assert_count(rt: &impl Abort, count: usize, want: usize) {
     assert_eq!(rt; count, want);
 }

@@ -5,7 +5,6 @@ use gix_mailmap::snapshot::WriteError;
 use std::alloc::{AllocError, Global};
 use std::process::Abort;
 
-/// Wants a snapshot to be written as `want`.
 fn assert_text(
     rt: &impl Abort,
     alloc: Global,
@@ -17,7 +16,7 @@ fn assert_text(
     Ok(())
 }
 
-/// Wants `want` to be read as a snapshot, and to be written as it was.
+/// Asserts that the text parses to an equal snapshot, which is written as the same text.
 fn assert_read_back(
     rt: &impl Abort,
     alloc: Global,
@@ -29,7 +28,7 @@ fn assert_read_back(
     assert_text(rt, alloc, &read_back, want)
 }
 
-/// Wants the snapshot of `buf` to be written as `want`, and that to be read and written as the same.
+/// Asserts the text of a buffer's snapshot, and that the text parses to an equal snapshot.
 fn assert_written(
     rt: &impl Abort,
     alloc: Global,
@@ -41,7 +40,6 @@ fn assert_written(
     assert_read_back(rt, alloc, &snapshot, want)
 }
 
-/// Wants the entry at `index` to be refused.
 fn assert_unwritable(
     rt: &impl Abort,
     alloc: Global,
@@ -54,7 +52,6 @@ fn assert_unwritable(
     Ok(())
 }
 
-/// Wants the entry at `index` to be what was refused.
 fn assert_refused_at(rt: &impl Abort, refused: Option<WriteError>, index: usize) {
     assert_eq!(rt; refused, Some(WriteError::Unwritable { index }));
 }
@@ -103,7 +100,6 @@ fn the_first_entry_that_no_line_can_hold_is_named(rt: HostRuntime) -> Result<(),
     Ok(())
 }
 
-/// Wants this text of an error.
 fn assert_error_text(
     rt: &impl Abort,
     alloc: Global,

@@ -1,16 +1,21 @@
 use crate::check::assert_bytes;
 use crate::files::{SHELF, assert_paths, paths_of};
-use crate::run::{ALL, BREAKS, Sink, Source, Turn};
+use crate::run::{
+    self, ALL, Asker, BLOCKS, BREAKS, FlushCounter, INTERRUPTED, ONE, Repeating, Sink, Source,
+    Turn, assert_count, assert_flushed, repeated,
+};
+use command_line::failure::Failure;
+use command_line::outcome::Outcome;
 use gix_mailmap::verify::Position;
-use mailmap_io::outcome::Outcome;
-use mailmap_reports::failure::Failure;
-use mailmap_reports::task::{Misuse, Mode, Task, USAGE, perform, task_of};
 use std::alloc::{AllocError, Global};
+use std::cell::Cell;
 use std::io::{ErrorKind, Read, Write};
 use std::process::Abort;
+use verify_command::failure::TaskFailure;
+use verify_command::task::{Misuse, Mode, Task, USAGE, perform, task_of};
 
-/// The first argument is the program's own name, whatever it is. Options are read from left to right, up to `--` or the
-/// first path.
+/// The first argument is the program's own name, whatever it is. Options are parsed from left to right, up to `--` or
+/// the first path.
 #[test]
 fn arguments_ask_for_a_task_or_are_a_misuse(rt: HostRuntime) -> Result<(), AllocError> {
     static ROWS: [(&[&str], Result<(Mode, &[&str]), Misuse<'static>>); 34] = [
@@ -92,24 +97,25 @@ fn arguments_ask_for_a_task_or_are_a_misuse(rt: HostRuntime) -> Result<(), Alloc
     Ok(())
 }
 
-/// Does a task with the files of these names.
+/// Runs a task with the files of these names. Contacts come from standard input.
 pub(crate) fn performed<R: Read, W: Write>(
     alloc: Global,
     mode: Mode,
     names: &[&str],
     input: &mut R,
     output: &mut W,
-) -> Result<Outcome, Failure> {
+) -> Result<Outcome, TaskFailure> {
     let paths = paths_of(alloc, names)?;
     let task = Task {
         mode,
-        contacts: b"",
+        contacts: b"-",
         paths: paths.as_slice(),
     };
     perform(&SHELF, alloc, task, input, output)
 }
 
-/// A mailmap of which git reads a line otherwise is not pruned, and nothing is written. The first such line is named.
+/// A mailmap is not pruned if git reads one of its lines in another way. Nothing is written, and the first such line is
+/// named.
 #[test]
 fn a_mailmap_that_git_reads_otherwise_is_not_pruned(rt: HostRuntime) {
     static ROWS: [(&[u8], usize); 3] = [
@@ -125,16 +131,15 @@ fn a_mailmap_that_git_reads_otherwise_is_not_pruned(rt: HostRuntime) {
             buffer: 0,
             line: *line,
         };
-        assert_eq!(rt; end, Err(Failure::ReadOtherwise { position }));
+        assert_eq!(rt; end, Err(TaskFailure::ReadOtherwise { position }));
         assert!(rt; output.is_empty());
     }
 }
 
-/// Without a file standard input has the mailmap. A file that is not there keeps the others from being looked at, and
-/// more than one can't be pruned.
+/// Without files, standard input has the mailmap. A missing file fails the task, and so do several files to prune.
 #[test]
 fn a_task_is_done_with_its_files_or_with_the_input(rt: HostRuntime) {
-    static ROWS: [(Mode, &[&str], Result<Outcome, Failure>, &[u8]); 10] = [
+    static ROWS: [(Mode, &[&str], Result<Outcome, TaskFailure>, &[u8]); 10] = [
         (
             Mode::Verify,
             &[],
@@ -157,10 +162,10 @@ fn a_task_is_done_with_its_files_or_with_the_input(rt: HostRuntime) {
         (
             Mode::Verify,
             &["one", "three"],
-            Err(Failure::File {
+            Err(TaskFailure::Run(Failure::File {
                 number: 2,
                 cause: ErrorKind::NotFound,
-            }),
+            })),
             b"",
         ),
         (Mode::Prune, &[], Ok(Outcome::Clean), b"N <a@x>\n"),
@@ -168,22 +173,22 @@ fn a_task_is_done_with_its_files_or_with_the_input(rt: HostRuntime) {
         (
             Mode::Prune,
             &["three"],
-            Err(Failure::File {
+            Err(TaskFailure::Run(Failure::File {
                 number: 1,
                 cause: ErrorKind::NotFound,
-            }),
+            })),
             b"",
         ),
         (
             Mode::Prune,
             &["one", "two"],
-            Err(Failure::TooManyFiles),
+            Err(TaskFailure::TooManyFiles),
             b"",
         ),
         (
             Mode::Prune,
             &["three", "three", "three"],
-            Err(Failure::TooManyFiles),
+            Err(TaskFailure::TooManyFiles),
             b"",
         ),
     ];
@@ -196,7 +201,7 @@ fn a_task_is_done_with_its_files_or_with_the_input(rt: HostRuntime) {
     }
 }
 
-/// For help and the version nothing is read.
+/// For help and the version, nothing is read.
 #[test]
 fn help_is_the_usage_and_the_version_has_the_name(rt: HostRuntime) {
     static ROWS: [(Mode, &str); 2] = [
@@ -213,15 +218,16 @@ fn help_is_the_usage_and_the_version_has_the_name(rt: HostRuntime) {
     }
 }
 
-/// What [`BREAKS`] is if standard input is read.
-pub(crate) const BROKEN: Failure = Failure::Input {
-    cause: ErrorKind::BrokenPipe,
-};
+/// The failure that [`BREAKS`] causes on standard input.
+pub(crate) const BROKEN: TaskFailure = TaskFailure::Run(run::BROKEN);
 
-/// A reader that fails is `Input`, and nothing is written. It is read only if no file is given, and not for help.
+/// The failure that [`BREAKS`] causes on standard output.
+pub(crate) const UNWRITTEN: TaskFailure = TaskFailure::Run(Failure::Output);
+
+/// A failed read is `Input`, and then nothing is written. The input is read only without files, and not for help.
 #[test]
 fn a_reader_that_fails_is_input_and_nothing_is_written(rt: HostRuntime) {
-    static ROWS: [(Mode, &[&str], Result<Outcome, Failure>); 5] = [
+    static ROWS: [(Mode, &[&str], Result<Outcome, TaskFailure>); 5] = [
         (Mode::Verify, &[], Err(BROKEN)),
         (Mode::Prune, &[], Err(BROKEN)),
         (Mode::Verify, &["empty"], Ok(Outcome::Clean)),
@@ -240,32 +246,32 @@ fn a_reader_that_fails_is_input_and_nothing_is_written(rt: HostRuntime) {
     }
 }
 
-/// A writer that fails is `Output`, and what it took is the beginning of what is printed.
+/// A failed write is `Output`, and a prefix of the output was written.
 #[test]
 fn a_writer_that_fails_is_output_and_holds_a_front(rt: HostRuntime) {
-    static ROWS: [(Mode, &[Turn], Turn, Result<Outcome, Failure>, &[u8]); 5] = [
+    static ROWS: [(Mode, &[Turn], Turn, Result<Outcome, TaskFailure>, &[u8]); 5] = [
         (
             Mode::Verify,
             &[Turn::Moves(7), BREAKS],
             ALL,
-            Err(Failure::Output),
+            Err(UNWRITTEN),
             b"<stdin>",
         ),
         (
             Mode::Prune,
             &[Turn::Moves(2), Turn::Moves(0)],
             ALL,
-            Err(Failure::Output),
+            Err(UNWRITTEN),
             b"pl",
         ),
         (
             Mode::Help,
             &[Turn::Moves(6), BREAKS],
             ALL,
-            Err(Failure::Output),
+            Err(UNWRITTEN),
             b"usage:",
         ),
-        (Mode::Prune, &[], BREAKS, Err(Failure::Output), b"plain\n"),
+        (Mode::Prune, &[], BREAKS, Err(UNWRITTEN), b"plain\n"),
         (
             Mode::Prune,
             &[Turn::Moves(1), Turn::Moves(2)],
@@ -280,5 +286,112 @@ fn a_writer_that_fails_is_output_and_holds_a_front(rt: HostRuntime) {
         let end = performed(rt.alloc(), *mode, &[], &mut input, &mut output);
         assert_eq!(rt; end, *ended);
         assert_bytes(&rt, &output.taken, want);
+    }
+}
+
+/// An input may come byte by byte, with an interrupted read before each byte.
+#[test]
+fn single_bytes_between_interrupted_reads_are_an_input(rt: HostRuntime) -> Result<(), AllocError> {
+    static ROWS: [(Mode, &[&str], &[u8], &[u8]); 4] = [
+        (Mode::Verify, &[], b"# comment\n\n", b""),
+        (Mode::Prune, &[], b"# comment\n\n", b"# comment\n\n"),
+        (
+            Mode::Explain,
+            &["mailmap"],
+            b"b <A@x>\np\n",
+            b"b <A@x> is M <m@y> by mailmap:1\np is no contact\n",
+        ),
+        (Mode::Contacts, &["mailmap"], b"b <A@x>\n \n", b""),
+    ];
+    for (mode, names, text, printed) in &ROWS {
+        let text = repeated(rt.alloc(), b"", text, 10_000)?;
+        let want = repeated(rt.alloc(), b"", printed, 10_000)?;
+        let mut input = Repeating::new(text.as_slice(), &[INTERRUPTED, ONE]);
+        let mut output = Vec::new(rt.alloc());
+        let end = performed(rt.alloc(), *mode, names, &mut input, &mut output);
+        assert_eq!(rt; end, Ok(Outcome::Clean));
+        assert_bytes(&rt, &output, want.as_slice());
+    }
+    Ok(())
+}
+
+/// A read that would block is not repeated. Only explanations of whole lines may have been written before it.
+#[test]
+fn a_read_that_would_block_is_a_failure(rt: HostRuntime) {
+    static ROWS: [(Mode, &[&str], &[u8]); 4] = [
+        (Mode::Verify, &[], b""),
+        (Mode::Prune, &[], b""),
+        (Mode::Explain, &["mailmap"], b"p is no contact\n"),
+        (Mode::Contacts, &["mailmap"], b""),
+    ];
+    for (mode, names, want) in &ROWS {
+        let mut input = Repeating::new(b"p\nq\n", &[Turn::Moves(3), INTERRUPTED, BLOCKS]);
+        let mut output = Vec::new(rt.alloc());
+        let end = performed(rt.alloc(), *mode, names, &mut input, &mut output);
+        assert_eq!(rt; end, Err(TaskFailure::Run(run::BLOCKED)));
+        assert_bytes(&rt, &output, want);
+    }
+}
+
+/// The explanations of all lines that have ended are flushed before more is read. The first line is longer than what is
+/// buffered.
+#[test]
+fn explanations_are_flushed_before_more_is_read(rt: HostRuntime) -> Result<(), AllocError> {
+    static ROWS: [&[Turn]; 4] = [
+        &[ALL],
+        &[ONE],
+        &[INTERRUPTED, Turn::Moves(7)],
+        &[Turn::Moves(8), ONE],
+    ];
+    let first = repeated(rt.alloc(), b"", b"x", 70_000)?;
+    let contacts = repeated(rt.alloc(), first.as_slice(), b"\nb <A@x>\nplain", 1_000)?;
+    for turns in &ROWS {
+        let flushed = Cell::new(0);
+        let mut input = Asker::new(contacts.as_slice(), turns, &flushed);
+        let mut output = FlushCounter::new(&flushed);
+        let end = performed(
+            rt.alloc(),
+            Mode::Explain,
+            &["mailmap"],
+            &mut input,
+            &mut output,
+        );
+        assert_eq!(rt; end, Ok(Outcome::Clean));
+        assert_count(&rt, flushed.get(), 2_001);
+    }
+    Ok(())
+}
+
+/// At the end, all that was written is flushed.
+#[test]
+fn all_is_flushed_at_the_end(rt: HostRuntime) {
+    static ROWS: [(Mode, &[&str], Outcome, &[u8]); 4] = [
+        (
+            Mode::Verify,
+            &[],
+            Outcome::Found,
+            b"<stdin>:1: error: no email in brackets\n",
+        ),
+        (Mode::Prune, &[], Outcome::Clean, b"plain\n"),
+        (
+            Mode::Explain,
+            &["mailmap"],
+            Outcome::Clean,
+            b"plain is no contact\n",
+        ),
+        (
+            Mode::Contacts,
+            &["mailmap"],
+            Outcome::Found,
+            b"mailmap:1: warning: no contact needs it\n<stdin>:1: error: no contact\n",
+        ),
+    ];
+    for (mode, names, outcome, want) in &ROWS {
+        let mut input: &[u8] = b"plain\n";
+        let mut output = Sink::new(rt.alloc(), &[], ALL);
+        let end = performed(rt.alloc(), *mode, names, &mut input, &mut output);
+        assert_eq!(rt; end, Ok(*outcome));
+        assert_bytes(&rt, &output.taken, want);
+        assert_flushed(&rt, &output, Ok(()));
     }
 }

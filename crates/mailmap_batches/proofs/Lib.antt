@@ -1,4 +1,3 @@
 pub mod Numbered
 pub mod Stable
-pub mod Arranged
 pub mod LeadingNames

@@ -1,4 +1,4 @@
--- A batch of entries, and when it is sorted.
+-- Batches of entries, and what a sorted batch is.
 use Rattle.std.specs.Prelude.{◌≡◌, ℕ, false, List, [], ◌∷◌, map, unwrap_or}
 use Rattle.std.specs.List.{AllByRecursion, enumerate_from}
 use Rattle.std.specs.List.Sorted.{IsPermutation}
@@ -6,10 +6,9 @@ use Rattle.std.specs.Ordering.{is_lt}
 use Rattle.std.specs.declared.cmp.Ordering.{Ordering}
 use Rattle.mailmap_entries.specs.Entries.{Mapping, mapping_of}
 use Rattle.mailmap_entries.specs.Folding.{Text, folded}
-use Rattle.mailmap_histories.specs.Histories.{Key, key, key_cmp, of_key}
+use Rattle.mailmap_entries.specs.Semantics.{Key, key, key_cmp, of_key}
 use Rattle.mailmap_batches.specs.declared.indexed.IndexedEntry.{IndexedEntry}
 
--- what an entry of a batch says
 abbrev pub mapping_at : IndexedEntry → Mapping
 mapping_at p = mapping_of p.entry.now
 
@@ -19,7 +18,7 @@ indexed_mapping p = (p.index, mapping_at p)
 abbrev pub email_text : Mapping → Text
 email_text m = folded m.old_email
 
--- the old email of the first entry, without its case
+-- the folded old email of the first entry
 abbrev pub first_email : List Mapping → Text
 first_email [] = []
 first_email (m ∷ ms) = email_text m
@@ -32,8 +31,12 @@ abbrev pub IsAscending : {K : Type 0} → (K → K → Ordering) → List K → 
 IsAscending cmp [] = Unit {0}
 IsAscending cmp (x ∷ xs) = AllByRecursion (λ y. is_lt (cmp y x) ≡ false) xs × IsAscending cmp xs
 
--- the entries of a batch in ascending order of their keys, those of one key as they came
-pub record IsSorted (xs : List Mapping) (ps : List (ℕ × Mapping)) : Type 0 where
+-- a permutation of the entries in which those with equal keys keep their order
+pub record KeepsKeys (xs : List Mapping) (ps : List (ℕ × Mapping)) : Type 0 where
   pub moved : IsPermutation (enumerate_from 0 xs) ps
   pub keyed : (k : Key) → of_key xs k ≡ of_key (map (λ p. p.1) ps) k
+
+-- such a permutation in ascending order of the keys
+pub record IsSorted (xs : List Mapping) (ps : List (ℕ × Mapping)) : Type 0 where
+  pub keeps : KeepsKeys xs ps
   pub ascending : IsAscending key_cmp (map (λ p. key p.1) ps)

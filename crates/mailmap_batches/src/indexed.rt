@@ -1,17 +1,17 @@
-//! Entries of a batch, each with its index among them.
+//! Entries with their index in a batch.
 ghost use Rattle.std.specs.Prelude.{◌≡◌};
 ghost use Rattle.mailmap_entries.specs.Entries.{Mapping, mapping_of};
 
 use mailmap_entries::Entry;
 
-/// An entry of a batch, and its index among them.
+/// An entry, and its index in the batch before the sort.
 #[derive(Clone, Copy)]
 pub struct IndexedEntry<'e, 'a> {
     pub index: usize,
     pub entry: &'e Entry<'a>,
 }
 
-/// What has an entry: an entry itself, or one with more beside it.
+/// A type that has an entry: the entry itself, or an entry with more data.
 pub trait HasEntry<'a> {
     ghost mapped: { Self → Mapping };
 

@@ -1,5 +1,4 @@
-//! Batches of entries: sorted by key, and the entries of one key together. The crate `gix_mailmap` builds on these;
-//! they are no part of what it gives to users.
+//! Batches of entries, sorted so that the entries of each key are neighbours. This is internal to the library.
 #![tactic(auto)]
 
 pub mod batch;

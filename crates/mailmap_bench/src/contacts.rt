@@ -1,10 +1,10 @@
-//! The contacts that are looked up, a line for each.
+//! The contacts to look up, one per line.
 
 use bstr::ByteSlice;
 use gix_mailmap::actor::SignatureRef;
 use std::alloc::{AllocError, Global};
 
-/// The name and the email of a line, as in `Jane <j@x>`, `None` if there is none.
+/// Parses a line such as `Jane <j@x>`, `None` if it has no email.
 fn contact(line: &[u8]) -> Option<SignatureRef<'_>> {
     let line = line.trim();
     let open = line.find_byte(b'<')?;
@@ -17,7 +17,6 @@ fn contact(line: &[u8]) -> Option<SignatureRef<'_>> {
     })
 }
 
-/// The contacts of a text.
 pub fn contacts(alloc: Global, text: &[u8]) -> Result<Vec<SignatureRef<'_>>, AllocError> {
     let mut all = Vec::new(alloc);
     for line in text.lines() {

@@ -1,18 +1,18 @@
-//! What the words of the command line name.
+//! The command line's arguments.
 ghost use Rattle.std.specs.Prelude.{◌<◌, IfOk};
 
 use anyhow::{Context, Result};
 use std::fs;
 use std::rt::Files;
 
-/// The bytes of the file that a word names.
+/// Reads the file that an argument names.
 pub fn file<R: Files + AllocGlobal>(rt: &R, words: &[String], index: usize) -> Result<Vec<u8>> {
     let path = words.get(index).context("argument missing")?;
     let bytes = fs::read(rt, path).context(format_args!("{path}"))?;
     Ok(bytes)
 }
 
-/// The number that a word spells, 1 if there is no word, and never 0.
+/// Parses a number, 1 if the argument is missing. Never 0.
 pub fn number(words: &[String], index: usize) -> Result<usize>
     ensures { IfOk result (λ n. 0 < n) }
 {

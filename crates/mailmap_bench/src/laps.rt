@@ -1,32 +1,29 @@
-//! How long each of several runs took.
+//! The times of repeated runs.
 
 use std::alloc::Global;
 use std::rt::Clock;
 use std::time::Instant;
 use std::{fmt, io};
 
-/// The nanoseconds of each run.
 #[derive(Drop)]
 pub struct Laps {
     nanos: Vec<u128>,
 }
 
 impl Laps {
-    /// No run yet.
     pub fn new(alloc: Global) -> Laps {
         Laps {
             nanos: Vec::new(alloc),
         }
     }
 
-    /// Adds a run that began at `start` and ends now.
+    /// Adds a run that started at `start` and ends now.
     pub fn end(&mut self, clock: &impl Clock, start: Instant) -> io::Result<()> {
         let elapsed = start.elapsed(clock)?;
         self.nanos.push(elapsed.as_nanos())?;
         Ok(())
     }
 
-    /// What is reported of the runs.
     pub fn summary(&mut self) -> Summary {
         self.nanos.sort_unstable();
         let nanos = &self.nanos;
@@ -40,7 +37,7 @@ impl Laps {
     }
 }
 
-/// How many runs there were, and the nanoseconds of all together, the quickest, the middle and the slowest one.
+/// The number of runs, and in nanoseconds their total, minimum, median and maximum.
 #[derive(Clone, Copy)]
 pub struct Summary {
     iters: usize,

@@ -1,4 +1,4 @@
-//! Times the calls of gix_mailmap on mailmaps in files, so that they can be compared with the same calls elsewhere.
+//! Times calls of gix_mailmap on mailmaps in files, to compare them with the same calls of peers.
 #![tactic(auto)]
 
 mod contacts;
@@ -33,7 +33,6 @@ fn main(rt: HostRuntime) -> Result<()> {
     }
 }
 
-// Times what the mode says, and prints it.
 fn measure(rt: &HostRuntime, mode: &str, words: &[String], laps: &mut Laps) -> Result<()> {
     match mode {
         "bench-parse" => modes::walks(rt, words, laps),

@@ -1,4 +1,4 @@
-//! What is timed. Each mode sums up what it is given, so that none of it can be left out.
+//! What is timed. Each mode adds up its results, so that the compiler can't drop any of the work.
 ghost use Rattle.std.specs.Prelude.{◌<◌};
 
 use crate::contacts::contacts;
@@ -14,7 +14,7 @@ use std::iter;
 use std::rt::Runtime;
 use std::time::Instant;
 
-/// Walks over the items of a file.
+/// Iterates over the items of a file.
 pub fn walks<R: Runtime + AllocGlobal>(rt: &R, words: &[String], laps: &mut Laps) -> Result<()> {
     let buf = file(rt, words, 0)?;
     let tally = often(rt, number(words, 1)?, laps, || walk(&buf))?;
@@ -35,7 +35,7 @@ fn walk(buf: &[u8]) -> Tally {
     tally
 }
 
-// How long the texts of an entry are together.
+// The length of an entry's texts together.
 fn entry_len(entry: &Entry<'_>) -> usize {
     let names = optional_len(entry.new_name()).wrapping_add(optional_len(entry.old_name()));
     let emails = optional_len(entry.new_email()).wrapping_add(entry.old_email().len());
@@ -77,7 +77,7 @@ fn listed(snapshot: &Snapshot) -> Tally {
     tally
 }
 
-/// Looks contacts up in the snapshot of a file.
+/// Looks up contacts in the snapshot of a file.
 pub fn lookups<R: Runtime + AllocGlobal>(rt: &R, words: &[String], laps: &mut Laps) -> Result<()> {
     let snapshot = snapshot_of(rt, words)?;
     let text = file(rt, words, 1)?;
@@ -94,7 +94,7 @@ pub fn lookups<R: Runtime + AllocGlobal>(rt: &R, words: &[String], laps: &mut La
     Ok(())
 }
 
-/// Looks contacts up in the snapshot of a file, and reads the answers.
+/// Looks up contacts in the snapshot of a file, and reads the answers.
 pub fn answers<R: Runtime + AllocGlobal>(rt: &R, words: &[String], laps: &mut Laps) -> Result<()> {
     let snapshot = snapshot_of(rt, words)?;
     let text = file(rt, words, 1)?;
@@ -111,7 +111,7 @@ fn snapshot_of<R: Runtime + AllocGlobal>(rt: &R, words: &[String]) -> Result<Sna
     Ok(Snapshot::from_bytes(rt.alloc(), &buf)?)
 }
 
-// Times each round of some work, and gives the tally of the last one.
+// Times each round, and returns the tally of the last one.
 fn often<R: Runtime, W: Fn() -> Tally>(
     rt: &R,
     rounds: usize,
@@ -154,7 +154,7 @@ fn answer(snapshot: &Snapshot, contacts: &[SignatureRef<'_>]) -> Tally {
     tally
 }
 
-// The length of a text and its first byte, which is what is read of it at least.
+// The length of a text plus its first byte, to read at least that.
 fn read(text: &[u8]) -> usize {
     match text.first() {
         Some(byte) => text.len().wrapping_add(*byte as usize),
@@ -162,7 +162,7 @@ fn read(text: &[u8]) -> usize {
     }
 }
 
-/// Merges the entries of a file, in batches.
+/// Merges the entries of a file in batches.
 pub fn merges<R: Runtime + AllocGlobal>(
     rt: &R,
     mode: &str,
@@ -217,7 +217,7 @@ fn merged(alloc: Global, entries: &[Entry<'_>], batch: usize) -> Result<Snapshot
     Ok(snapshot)
 }
 
-/// Merges the last entries of a file one by one into the snapshot of all others.
+/// Merges the last entries of a file one by one into a snapshot of the others.
 pub fn last_merges<R: Runtime + AllocGlobal>(
     rt: &R,
     words: &[String],
@@ -250,7 +250,7 @@ fn merge_each<R: Runtime + AllocGlobal>(
     Ok(())
 }
 
-/// Answers a file of contacts by the snapshot of a file.
+/// Answers a file of contacts using the snapshot of a file.
 pub fn checks<R: Runtime + AllocGlobal>(rt: &R, words: &[String], laps: &mut Laps) -> Result<()> {
     let buf = file(rt, words, 0)?;
     let contacts = file(rt, words, 1)?;
@@ -275,7 +275,7 @@ fn check_once<R: Runtime + AllocGlobal>(
     Ok(answers.len())
 }
 
-/// Writes the canonical text of a file.
+/// Writes a file as a compact mailmap.
 pub fn compactions<R: Runtime + AllocGlobal>(
     rt: &R,
     words: &[String],

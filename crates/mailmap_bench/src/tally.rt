@@ -1,8 +1,8 @@
-//! What was given, in two numbers.
+//! A checksum of results.
 
 use std::fmt;
 
-/// How many items there were, and how long their texts are together.
+/// The number of items, and the length of their texts together.
 #[derive(Clone, Copy)]
 pub struct Tally {
     items: usize,
@@ -10,7 +10,6 @@ pub struct Tally {
 }
 
 impl Tally {
-    /// No item yet.
     pub fn new() -> Tally {
         Tally { items: 0, bytes: 0 }
     }

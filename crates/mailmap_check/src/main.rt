@@ -1,25 +1,23 @@
-//! Maps the contacts of standard input by mailmaps, or writes mailmaps anew.
+//! Maps the contacts on standard input using mailmaps, or writes mailmaps as one.
 //!
-//! `mailmap_check FILE..` reads each FILE as a mailmap, and answers each line of standard input.
-//! Without a FILE a line `--` splits standard input into a mailmap and the lines to answer. With
-//! `--compact` as the first argument it prints the mailmaps as one; without a FILE all of standard
-//! input is the one mailmap.
+//! `mailmap_check FILE..` reads each FILE as a mailmap, and answers each line of standard input. Without a FILE, a line
+//! `--` on standard input separates a mailmap from the lines to answer. With `--compact` as the first argument it
+//! prints the mailmaps as one; without a FILE, standard input is the mailmap.
 //!
-//! `-h` or `--help` as the first argument prints a usage, and `--version` the version.
+//! `-h` or `--help` as the first argument prints the usage, and `--version` the version.
 //!
-//! A failure prints its one line on standard error and ends the program with status 2.
+//! A failure prints one line on standard error, and the exit status is 2.
 #![tactic(auto)]
 
-use mailmap_io::VERSION;
-use mailmap_io::arguments::arguments;
-use mailmap_io::failure::Failure;
-use mailmap_io::files::System;
-use mailmap_io::outcome::{Outcome, exit_code};
-use mailmap_io::streams::write_all;
-use mailmap_runs::task::{perform, task_of};
+use check_command::task::{perform, task_of};
+use command_line::VERSION;
+use command_line::arguments::arguments;
+use command_line::failure::Failure;
+use command_line::files::System;
+use command_line::outcome::{Outcome, exit_code};
+use command_line::streams::write_all;
 use std::process::ExitCode;
 
-// What `--help` prints.
 const USAGE: &str = "\
 usage: mailmap_check [FILE..]            answers standard input by the mailmaps
        mailmap_check --compact [FILE..]  prints the mailmaps as one
@@ -31,13 +29,12 @@ Without a FILE a line -- splits standard input into a mailmap and the lines to a
 fn main(rt: HostRuntime) -> ExitCode {
     let ended = start(&rt);
     if let Err(failure) = ended {
-        // If standard error fails as well, only the status reports it.
+        // If standard error fails as well, the exit status still reports the failure.
         let _ = eprintln!(rt; "mailmap_check: {failure}");
     }
     exit_code(ended.map(|()| Outcome::Clean))
 }
 
-// Does what the arguments ask for.
 fn start(rt: &HostRuntime) -> Result<(), Failure> {
     let arguments = arguments(rt, rt.alloc())?;
     if let [_, first, ..] = arguments.as_slice() {

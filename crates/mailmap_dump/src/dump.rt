@@ -1,4 +1,4 @@
-//! The dumps, a line for each item.
+//! The dumps, one line per item.
 
 use crate::shown::Hex;
 use anyhow::{Context, Result};
@@ -7,7 +7,7 @@ use gix_mailmap::actor::SignatureRef;
 use gix_mailmap::{Entry, Snapshot, parse};
 use std::alloc::{AllocError, Global};
 
-/// What each line of the files says.
+/// Dumps the entry or the fault of each line of the files.
 pub fn items(out: &mut String, files: &[Vec<u8>]) -> Result<(), AllocError> {
     for file in files {
         lines(out, file)?;
@@ -25,7 +25,7 @@ fn lines(out: &mut String, file: &[u8]) -> Result<(), AllocError> {
     Ok(())
 }
 
-/// What a snapshot lists.
+/// Dumps the entries of a snapshot.
 pub fn entries(out: &mut String, snapshot: &Snapshot) -> Result<(), AllocError> {
     for entry in snapshot.iter() {
         put_entry(out, &entry)?;
@@ -44,7 +44,7 @@ fn put_entry(out: &mut String, entry: &Entry<'_>) -> Result<(), AllocError> {
     )
 }
 
-/// What a snapshot finds for the name and the email of each line.
+/// Dumps the answer for each line, which has a name and an email in hex.
 pub fn answers(out: &mut String, alloc: Global, snapshot: &Snapshot, pairs: &[u8]) -> Result<()> {
     for line in pairs.lines() {
         let mut fields = line.fields();
@@ -72,7 +72,7 @@ fn put_answer(
     }
 }
 
-// The text that a field has in hex.
+// Decodes a field; `.` is empty.
 fn text(alloc: Global, field: Option<&[u8]>) -> Result<Vec<u8>> {
     match field.context("a name and an email are wanted")? {
         b"." => Ok(Vec::new(alloc)),

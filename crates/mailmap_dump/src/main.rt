@@ -1,4 +1,4 @@
-//! Prints what the library makes of mailmaps, in hex, so that it can be compared with what the original makes of them.
+//! Dumps entries, listings and answers in hex, to compare them with those of the Rust original.
 #![tactic(auto)]
 
 mod dump;
@@ -28,7 +28,6 @@ fn main(rt: HostRuntime) -> Result<()> {
     }
 }
 
-// Reads the files, and prints what the mode dumps of them.
 fn run(rt: &HostRuntime, mode: &str, paths: &[String]) -> Result<()> {
     let files = read_files(rt, paths)?;
     let mut out = String::new(rt.alloc());
@@ -37,7 +36,6 @@ fn run(rt: &HostRuntime, mode: &str, paths: &[String]) -> Result<()> {
     Ok(())
 }
 
-// What the mode dumps of the files.
 fn put_dump(rt: &HostRuntime, mode: &str, files: &[Vec<u8>], out: &mut String) -> Result<()> {
     match mode {
         "parse" => Ok(dump::items(out, files)?),
@@ -47,7 +45,7 @@ fn put_dump(rt: &HostRuntime, mode: &str, files: &[Vec<u8>], out: &mut String) -
     }
 }
 
-// Dumps what the snapshot of the files finds for the lines of standard input.
+// Dumps the answers for the names and emails on standard input.
 fn resolve(rt: &HostRuntime, files: &[Vec<u8>], out: &mut String) -> Result<()> {
     let snapshot = merged(rt.alloc(), files)?;
     let mut pairs = Vec::new(rt.alloc());
@@ -55,7 +53,6 @@ fn resolve(rt: &HostRuntime, files: &[Vec<u8>], out: &mut String) -> Result<()> 
     dump::answers(out, rt.alloc(), &snapshot, &pairs)
 }
 
-// The bytes of the files.
 fn read_files<R: Files + AllocGlobal>(rt: &R, paths: &[String]) -> Result<Vec<Vec<u8>>> {
     let mut files = Vec::new(rt.alloc());
     for path in paths {
@@ -64,7 +61,7 @@ fn read_files<R: Files + AllocGlobal>(rt: &R, paths: &[String]) -> Result<Vec<Ve
     Ok(files)
 }
 
-// The snapshot of the files, later ones after earlier ones.
+// Later files override earlier ones.
 fn merged(alloc: Global, files: &[Vec<u8>]) -> Result<Snapshot, AllocError> {
     let mut snapshot = Snapshot::empty(alloc);
     for file in files {

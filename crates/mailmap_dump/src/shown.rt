@@ -2,7 +2,7 @@
 
 use std::fmt;
 
-/// A text, or none: `-` is none, `.` an empty text, and any other has two digits for each byte.
+/// `-` for a missing text, `.` for an empty one, and else two digits for each byte.
 #[derive(Clone, Copy)]
 pub struct Hex<'a>(pub Option<&'a [u8]>);
 

@@ -1,4 +1,4 @@
--- What the order of two lists of numbers says.
+-- How the lexicographic order of texts decides: the first difference, a proper prefix, equal texts.
 use Rattle.std.proofs.Common.{◌+◌, length, ◌⊎◌, ◌↔◌, ◌≡◌, ◌<◌, ℕ, List, [], ◌∷◌, refl, sym, ap, ◌∙◌, arith, inl, inr, ⊎_elim, Ordering, Less, Equal, Greater}
 use Rattle.std.proofs.lemmas.Bool.{cases_lt, cases_eq}
 use Rattle.std.specs.Ordering.{nat_cmp, ordering_then}
@@ -22,7 +22,7 @@ less-smaller (x ∷ xs) (y ∷ ys) e =
     (cases_eq x y))
     (cases_lt x y)
 
--- and the other way round
+-- the converse
 pub smaller-less : (xs ys : List ℕ) → IsSmaller xs ys → slice_cmp nat_cmp xs ys ≡ Less
 smaller-less [] [] h = absurd h
 smaller-less [] (y ∷ ys) h = refl
@@ -32,26 +32,26 @@ smaller-less (x ∷ xs) (y ∷ ys) h = ⊎_elim
     (λ same. ap (λ o. ordering_then o (slice_cmp nat_cmp xs ys)) (sym (nat_cmp_is x y Equal same.0)) ∙ smaller-less xs ys same.1)
     h
 
--- only one text compares as equal
+-- only equal texts compare as equal
 pub equal-same : (xs ys : List ℕ) → slice_cmp nat_cmp xs ys ≡ Equal → xs ≡ ys
 equal-same xs ys e = slice_cmp-IsAntisymmetric nat_cmp-IsAntisymmetric xs ys e
 
--- and each compares as equal to itself
+-- a text compares as equal to itself
 pub same-equal : (xs : List ℕ) → slice_cmp nat_cmp xs xs ≡ Equal
 same-equal [] = refl
 same-equal (x ∷ xs) = ap (λ o. ordering_then o (slice_cmp nat_cmp xs xs)) (sym (nat_cmp_is x x Equal refl)) ∙ same-equal xs
 
--- if nothing is left of one of two texts of k and l bytes, the lengths decide
+-- once the rest of one of two texts, k and l bytes long, is empty, their lengths decide
 pub text_cmp-end : (s t : Text) (k l : ℕ) → k + length t ≡ l + length s → (length s ≡ 0) ⊎ (length t ≡ 0) → text_cmp (folded s) (folded t) ≡ nat_cmp k l
 text_cmp-end [] [] k l long empty = nat_cmp_is k l Equal (omega arith)
 text_cmp-end [] (y ∷ t) k l long empty = nat_cmp_is k l Less (omega arith)
 text_cmp-end (x ∷ s) [] k l long empty = nat_cmp_is k l Greater (omega arith)
 text_cmp-end (x ∷ s) (y ∷ t) k l long empty = absurd (omega arith)
 
--- `Less` is below
+-- `Less` means below
 pub less-below : (a b : Text) (o : Ordering) → o ≡ text_cmp (folded a) (folded b) → (o ≡ Less) ↔ IsBelow a b
 less-below a b o is = (λ e. less-smaller _ _ (sym is ∙ e), λ h. is ∙ smaller-less _ _ h)
 
--- `Equal` is folded alike
+-- `Equal` means equal once folded
 pub equal-folded : (a b : Text) (o : Ordering) → o ≡ text_cmp (folded a) (folded b) → (o ≡ Equal) ↔ (folded a ≡ folded b)
 equal-folded a b o is = (λ e. equal-same _ _ (sym is ∙ e), λ h. is ∙ ap (λ t. text_cmp t (folded b)) h ∙ same-equal (folded b))

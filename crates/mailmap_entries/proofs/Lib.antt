@@ -5,3 +5,15 @@ pub mod Lowercase
 pub mod Search
 pub mod Lookups
 pub mod Results
+pub mod Alike
+pub mod Ascending
+pub mod Exists
+pub mod Joined
+pub mod Keys
+pub mod Normal
+pub mod Parts
+pub mod Reorder
+pub mod Unique
+pub mod EqualListings
+pub mod Building
+pub mod Shortest

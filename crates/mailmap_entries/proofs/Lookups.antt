@@ -1,4 +1,4 @@
--- What a search by a key says of a table whose keys strictly ascend.
+-- Results of a binary search by key, in a table whose keys strictly ascend.
 use Rattle.std.proofs.Common.{◌≡◌, ◌≢◌, ℕ, ◌<◌, ◌≤◌, List, [], ◌∷◌, length, map, get_or, All, Some, Ordering, Less, Equal, Greater, refl, sym, ap, ◌∙◌, arith, ⊎_elim}
 use Rattle.std.specs.List.{slice_get, AllByRecursion, AllWithin, HoldsAt}
 use Rattle.std.specs.List.Sorted.{IsStrictlySortedBy, IsPartitionPoint}
@@ -11,37 +11,37 @@ use Rattle.std.proofs.lemmas.Option.{slice_get_within, get_or_from_slice_get}
 use Rattle.mailmap_entries.specs.Search.{IsPartitioned}
 
 module _ {K : Type 0} {R : K → K → Ordering} (o : IsTotalOrder R) where
-  -- what is above q, is above it also when asked the other way
+  -- q is below y, so y is above q
   above : (y q : K) → R q y ≡ Less → R y q ≡ Greater
   above y q e = o.antisymm y q ∙ ap ordering_reverse e
 
-  -- what is above a k that is not below q, is above q
+  -- k is not below q, and y is above k: so y is above q
   above_other : (k y q : K) (a : Ordering) → R k q ≡ a → a ≢ Less → R k y ≡ Less → R y q ≡ Greater
   above_other k y q Less is other up = absurd (other refl)
   above_other k y q Equal is other up = above y q (sym (o.congr k q y is) ∙ up)
   above_other k y q Greater is other up = above y q (o.trans q k y (o.antisymm q k ∙ ap ordering_reverse is) up)
 
   module _ {X : Type 0} (key : X → K) (q : K) where
-    -- after a key that is not below q are only keys above q
+    -- after a key that is not below q, all keys are above q
     greater_behind : (k : K) (a : Ordering) → R k q ≡ a → a ≢ Less → (xs : List X) → AllByRecursion (λ y. R k y ≡ Less) (map key xs) → AllByRecursion (λ a. a ≡ Greater) (map (λ x. R (key x) q) xs)
     greater_behind k a is other [] all = tt
     greater_behind k a is other (x ∷ xs) all = (above_other k (key x) q a is other all.0, greater_behind k a is other xs all.1)
 
-    -- how the first key compares, before a parted list or before `Greater` alone
+    -- the first answer, followed by a partitioned list, or by `Greater` only
     parted_on : (k : K) (a : Ordering) → R k q ≡ a → (xs : List X) → AllByRecursion (λ y. R k y ≡ Less) (map key xs) → IsPartitioned (map (λ x. R (key x) q) xs) → IsPartitioned (a ∷ map (λ x. R (key x) q) xs)
     unfolding IsPartitioned
     parted_on k Less is xs all parted = parted
     parted_on k Equal is xs all parted = greater_behind k Equal is (λ e. cc) xs all
     parted_on k Greater is xs all parted = greater_behind k Greater is (λ e. cc) xs all
 
-    -- strictly ascending keys are parted by any q
+    -- strictly ascending keys are partitioned by any q
     pub IsPartitioned-from_ascending : (xs : List X) → IsStrictlySortedBy R (map key xs) → IsPartitioned (map (λ x. R (key x) q) xs)
     unfolding IsPartitioned IsStrictlySortedBy
     IsPartitioned-from_ascending [] up = tt
     IsPartitioned-from_ascending (x ∷ xs) up = parted_on (key x) (R (key x) q) refl xs up.0 (IsPartitioned-from_ascending xs up.1)
 
 module _ {X K : Type 0} (R : K → K → Ordering) (key : X → K) (q : K) where
-  -- the index that a search finds is one of the table, and the key there compares as equal
+  -- a found index is in the table, and its key compares as equal
   pub found-at : (xs : List X) (i : ℕ) → slice_get (map (λ x. R (key x) q) xs) i ≡ Some Equal → (i < length xs) × HoldsAt (λ x. R (key x) q ≡ Equal) xs i
   found-at xs i found =
       let compare : X → Ordering = λ x. R (key x) q in
@@ -49,16 +49,16 @@ module _ {X K : Type 0} (R : K → K → Ordering) (key : X → K) (q : K) where
       let inside : i < length xs = omega (arith, length-map xs compare) in
       (inside, λ d. sym (get_or-map compare xs i d Equal inside) ∙ get_or_from_slice_get (map compare xs) i Equal Equal found)
 
-  -- where only equal keys tie, it is the key that was sought
+  -- if only equal keys compare as equal, it is the key that was searched for
   pub found-key : IsAntisymmetric R → (xs : List X) (i : ℕ) → slice_get (map (λ x. R (key x) q) xs) i ≡ Some Equal → (i < length xs) × HoldsAt (λ x. key x ≡ q) xs i
   found-key same xs i found = let at = found-at xs i found in (at.0, λ d. same (key (get_or xs i d)) q (at.1 d))
 
-  -- before the index where nothing is found are the lower keys
+  -- all keys before the insertion index are lower
   pub missing-below : (xs : List X) (i : ℕ) → i ≤ length xs → IsPartitionPoint (λ a. a ≡ Less) (λ a. a ≡ Greater) (map (λ x. R (key x) q) xs) i → AllWithin (λ x. R (key x) q ≡ Less) xs 0 i
   missing-below xs i le missing = λ k d low high.
       sym (get_or-map (λ x. R (key x) q) xs k d Less (omega arith)) ∙ missing.0 k Less low high
 
-  -- and from it on the higher ones
+  -- all keys from the insertion index on are higher
   pub missing-above : (xs : List X) (i : ℕ) → IsPartitionPoint (λ a. a ≡ Less) (λ a. a ≡ Greater) (map (λ x. R (key x) q) xs) i → AllWithin (λ x. R (key x) q ≡ Greater) xs i (length xs)
   missing-above xs i missing = λ k d low high.
       sym (get_or-map (λ x. R (key x) q) xs k d Less high) ∙ missing.1 k Less low (omega (arith, length-map xs (λ x. R (key x) q)))

@@ -1,4 +1,4 @@
--- Letters without their case, sixteen at a time.
+-- Sixteen bytes in lower case at once give the same as byte by byte.
 use Rattle.std.proofs.Common.{◌≡◌, ◌+◌, ◌%◌, ℕ, Bool, true, false, cond, leb, ◌&&◌, List, [], ◌∷◌, length, map, replicate, bit_and, refl, ap₂, ◌∙◌, arith}
 use Rattle.std.proofs.lemmas.Bool.Decides.{nat_tests}
 use Rattle.std.specs.Char.{to_ascii_lowercase}

@@ -1,4 +1,4 @@
--- The order of entries is total, and tells apart all that differ.
+-- The order of entries is total, and no two different entries compare as equal.
 use Rattle.std.proofs.Common.{◌≡◌, Option, Some, None, Ordering, Less, Equal, Greater, refl, subst, ap}
 use Rattle.std.specs.Prelude.{◌↔◌}
 use Rattle.std.specs.Cmp.{IsTotalOrder, tied_itself}
@@ -16,7 +16,7 @@ entries_total =
     (then_total (on_total (λ (m : Mapping). m.new_email) (options_total nat_list_cmp_total))
     (then_total (on_total (λ (m : Mapping). m.old_name) (options_total nat_list_cmp_total)) (on_total (λ (m : Mapping). m.old_email) nat_list_cmp_total)))
 
--- two answers, of which the second counts if the first is `Equal`
+-- two comparisons in a row give `Equal` only if both do
 both : (o p : Ordering) → ordering_then o p ≡ Equal → (o ≡ Equal) × (p ≡ Equal)
 both Less p e = absurd (cc)
 both Equal p e = (refl, e)

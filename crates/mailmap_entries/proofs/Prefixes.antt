@@ -1,4 +1,4 @@
--- The numbers of the first bytes of two texts order the texts, where they differ.
+-- Texts whose prefixes differ are in the order of their prefixes.
 use Rattle.std.proofs.Common.{◌≡◌, ◌≢◌, ◌<◌, ◌≤◌, ◌+◌, ◌-◌, ◌*◌, ◌^◌, ℕ, zero, suc, [], ◌∷◌, drop, take, map, length, get_or, Ordering, Less, Equal, Greater, refl, sym, ap, ◌∙◌, arith, true, false, cond}
 use Rattle.std.specs.Cmp.Lexicographic.{slice_cmp, nat_list_cmp_total}
 use Rattle.std.specs.Ordering.{nat_cmp, ordering_then, ordering_reverse}
@@ -22,7 +22,7 @@ prefix_below (suc n) (x ∷ xs) all =
     let digit : suc x ≤ 256 = omega (arith, all.0) in
     omega (arith, pow-succ' 256 n, suc-mul x (256 ^ n), mul-le-mul_right (256 ^ n) digit, prefix_below n xs all.1)
 
--- a greater digit outweighs all after it
+-- a greater digit outweighs all digits after it
 outweighed : (n x y : ℕ) (xs ys : Text) → AreBytes xs → x < y → x * 256 ^ n + key_prefix n xs < y * 256 ^ n
 outweighed n x y xs ys all lt = omega (arith, suc-mul x (256 ^ n), mul-le-mul_right (256 ^ n) lt, prefix_below n xs all)
 
@@ -41,13 +41,13 @@ prefix_less (suc n) (x ∷ xs) (y ∷ ys) ps qs lt =
           absurd (omega (arith, lt, outweighed n y x ys xs qs.1 above))
     ] refl
 
--- if the numbers differ, they answer for the texts
+-- texts whose prefixes differ are in the order of these
 pub prefix_settles : (n : ℕ) (xs ys : Text) → AreBytes xs → AreBytes ys → (r : Ordering) → r ≡ nat_cmp (key_prefix n xs) (key_prefix n ys) → r ≢ Equal → text_cmp xs ys ≡ r
 prefix_settles n xs ys ps qs Less e other = prefix_less n xs ys ps qs (ranked _ _ Less e)
 prefix_settles n xs ys ps qs Equal e other = absurd (other refl)
 prefix_settles n xs ys ps qs Greater e other = nat_list_cmp_total.antisymm xs ys ∙ ap ordering_reverse (prefix_less n ys xs qs ps (ranked _ _ Greater e))
 
--- if the numbers are alike, what is after those bytes answers
+-- if the prefixes are equal, the bytes after them decide
 pub prefix_alike : (n : ℕ) (xs ys : Text) → AreBytes xs → AreBytes ys → n ≤ length xs → n ≤ length ys → key_prefix n xs ≡ key_prefix n ys → text_cmp xs ys ≡ text_cmp (drop n xs) (drop n ys)
 prefix_alike zero xs ys ps qs lx ly e = refl
 prefix_alike (suc n) [] ys ps qs lx ly e = absurd (omega arith)
@@ -80,7 +80,6 @@ first_digit n (suc i) [] = omega (arith, none_left (suc n) (suc i), none_left n 
 first_digit n zero (x ∷ xs) = refl
 first_digit n (suc i) (x ∷ xs) = first_digit n i xs
 
--- one digit more
 digit : (number n i : ℕ) (xs : Text) → (number * 256 + get_or xs i 0) * 256 ^ n + key_prefix n (drop (suc i) xs) ≡ number * 256 ^ suc n + key_prefix (suc n) (drop i xs)
 digit number n i xs =
     let whole : number * 256 ^ suc n ≡ number * 256 * 256 ^ n = ap (λ k. number * k) (pow-succ' 256 n) ∙ sym (mul_assoc number 256 (256 ^ n)) in
@@ -103,7 +102,7 @@ prefix_done number i xs le e =
     let none : 16 - i ≡ 0 = omega (arith, le) in
     omega (arith, ap (λ k. number * 256 ^ k + key_prefix k (drop i xs)) none, e)
 
--- sixteen bytes, the first one worth most
+-- the first sixteen bytes as a big-endian number
 pub number_of : (xs : Text) → from_be_bytes w128 xs ≡ key_prefix 16 xs
 number_of xs = omega (
   arith,
@@ -125,7 +124,7 @@ number_of xs = omega (
   first_digit 0 15 xs,
 )
 
--- what is after them doesn't count
+-- only the first n bytes count
 pub prefix_take : (f : ℕ → ℕ) (n : ℕ) (xs : Text) → key_prefix n (map f (take n xs)) ≡ key_prefix n (map f xs)
 prefix_take f zero xs = refl
 prefix_take f (suc n) [] = refl

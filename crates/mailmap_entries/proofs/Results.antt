@@ -1,4 +1,4 @@
--- What a result says, by weaker statements.
+-- Weaker statements about a result, from stronger ones.
 use Rattle.std.proofs.Common.{Result, Ok, Err}
 use Rattle.std.specs.Result.{IfOk, IsOk, OnErr, OnOk}
 

@@ -1,4 +1,4 @@
--- What one answer of a parted list says of the others, and the digits of a half.
+-- Answers of a partitioned list, and the number of binary digits of a half.
 use Rattle.std.proofs.Common.{◌≡◌, ℕ, zero, suc, ◌+◌, ◌/◌, ◌^◌, ◌<◌, ◌≤◌, List, [], ◌∷◌, length, get_or, Some, Ordering, Less, Equal, Greater, refl, subst, arith}
 use Rattle.std.specs.List.{slice_get, AllByRecursion}
 use Rattle.std.specs.Int.Digits.{digits_of}
@@ -12,7 +12,7 @@ pub digits-le : (k n : ℕ) → n < 2 ^ k → digits n ≤ k
 unfolding digits
 digits-le k n h = length-digits_of-le 2 k n (omega arith) h
 
--- a number of k digits is below 2 ^ k
+-- a number with k digits is below 2 ^ k
 pub below_digits : (n : ℕ) → n < 2 ^ digits n
 unfolding digits
 below_digits n =
@@ -23,18 +23,18 @@ below_digits n =
 pub digits-rise : (m n : ℕ) → m ≤ n → digits m ≤ digits n
 digits-rise m n le = digits-le (digits n) m (omega (arith, below_digits n))
 
--- a half has one digit less
+-- half a number has one digit less
 pub digits-half : (n : ℕ) → 0 < n → digits n ≡ digits (n / 2) + 1
 unfolding digits
 digits-half n above = length-digits_of_step 2 n (omega arith) above
 
--- what is at most half of n, together with one digit more, has no more digits than n
+-- half of n or less has at least one digit less than n
 pub digits-part : (m n : ℕ) → 0 < n → m + m ≤ n → digits m + 1 ≤ digits n
 digits-part m n above half =
     let le : m ≤ n / 2 = omega arith in
     omega (arith, digits-half n above, digits-rise m (n / 2) le)
 
--- ---- parted lists
+-- ---- partitioned lists
 
 abbrev AreGreater : List Ordering → Type 0
 AreGreater = AllByRecursion (λ a. a ≡ Greater)
@@ -49,7 +49,7 @@ greater_or [] k d all h = absurd (omega arith)
 greater_or (x ∷ xs) zero d all h = all.0
 greater_or (x ∷ xs) (suc k) d all h = greater_or xs k d all.1 (omega arith)
 
--- before a `Less` are only `Less`
+-- before a `Less`, all are `Less`
 pub less_before : (xs : List Ordering) (k j : ℕ) (d : Ordering) → IsPartitioned xs → slice_get xs k ≡ Some Less → j ≤ k → get_or xs j d ≡ Less
 unfolding IsPartitioned
 less_before [] k j d parted e le = absurd (cc)
@@ -61,7 +61,7 @@ less_before (Equal ∷ xs) (suc k) j d parted e le = let wrong = greater_at xs k
 less_before (Greater ∷ xs) zero j d parted e le = absurd (cc)
 less_before (Greater ∷ xs) (suc k) j d parted e le = let wrong = greater_at xs k Less parted e in absurd (cc)
 
--- from a `Greater` on are only `Greater`
+-- from a `Greater` on, all are `Greater`
 pub greater_from : (xs : List Ordering) (k j : ℕ) (d : Ordering) → IsPartitioned xs → slice_get xs k ≡ Some Greater → k ≤ j → j < length xs → get_or xs j d ≡ Greater
 unfolding IsPartitioned
 greater_from [] k j d parted e le h = absurd (cc)

@@ -7,14 +7,13 @@ use Rattle.std.specs.declared.cmp.Ordering.{Ordering}
 use Rattle.mailmap_entries.specs.Folding.{Text, text_cmp}
 use Rattle.mailmap_entries.specs.declared.entry.Entry.{Entry}
 
--- the four fields of an entry as texts, wherever they lie in memory
+-- the four fields of an entry as texts, independent of where they are in memory
 pub record Mapping : Type 0 where
   pub new_name : Option Text
   pub new_email : Option Text
   pub old_name : Option Text
   pub old_email : Text
 
--- the mapping of these four texts
 abbrev pub mapping : Option Text → Option Text → Option Text → Text → Mapping
 mapping new_name new_email old_name old_email =
     record { new_name = new_name; new_email = new_email; old_name = old_name; old_email = old_email }
@@ -28,7 +27,7 @@ mapping_of e = record {
   old_email = e.old_email.now;
 }
 
--- what the default maps: nothing, by the empty email
+-- what the default entry maps: nothing, for an empty email
 abbrev pub nothing : Mapping
 nothing = record { new_name = None; new_email = None; old_name = None; old_email = [] }
 
@@ -40,11 +39,11 @@ mapping_cmp a b =
     (ordering_then (option_cmp text_cmp a.old_name b.old_name)
     (text_cmp a.old_email b.old_email)))
 
--- what a text that may be missing feeds a hasher
+-- what a hasher gets of a text that may be missing
 abbrev pub text_writes : Option Text → List (List ℕ)
 text_writes = fed.option (fed.slice fed.u8)
 
--- what an entry feeds a hasher: its four texts in turn, and nothing of where they lie
+-- what a hasher gets of an entry: its four texts in turn, independent of where they are in memory
 abbrev pub mapping_writes : Mapping → List (List ℕ)
 mapping_writes m = text_writes m.new_name ++ (text_writes m.new_email
     ++ (text_writes m.old_name ++ fed.slice fed.u8 m.old_email))

@@ -1,4 +1,4 @@
--- Texts, and how they compare if the case of ASCII letters does not count.
+-- Texts, and how they compare without the case of ASCII letters.
 use Rattle.std.specs.Prelude.{◌≡◌, ◌<◌, ◌⊎◌, ℕ, List, [], ◌∷◌}
 use Rattle.std.specs.Cmp.Lexicographic.{slice_cmp}
 use Rattle.std.specs.Ordering.{nat_cmp}
@@ -9,20 +9,20 @@ use Rattle.std.specs.declared.cmp.Ordering.{Ordering}
 abbrev pub Text : Type 0
 Text = List ℕ
 
--- each capital letter of ASCII as the small one, and the other bytes as they are
+-- in lower case: the capital letters of ASCII become small ones, and other bytes stay as they are
 abbrev pub folded : Text → Text
 folded s = str_to_ascii_lowercase s
 
--- byte by byte, a proper prefix first
+-- byte by byte; a proper prefix comes first
 abbrev pub text_cmp : Text → Text → Ordering
 text_cmp = slice_cmp nat_cmp
 
--- the first bytes that differ decide, and a proper prefix is smaller
+-- the first bytes that differ decide; a proper prefix is smaller
 abbrev pub IsSmaller : Text → Text → Type 0
 IsSmaller xs [] = ⊥
 IsSmaller [] (y ∷ ys) = Unit {0}
 IsSmaller (x ∷ xs) (y ∷ ys) = (x < y) ⊎ ((x ≡ y) × IsSmaller xs ys)
 
--- smaller, whatever the case of the letters
+-- smaller without regard to case
 abbrev pub IsBelow : Text → Text → Type 0
 IsBelow a b = IsSmaller (folded a) (folded b)

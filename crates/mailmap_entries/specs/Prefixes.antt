@@ -1,9 +1,9 @@
--- The first bytes of a text as a number, which orders texts as far as they differ there.
+-- Key prefixes: the first bytes of a text as a number. Texts whose numbers differ are in the order of these.
 use Rattle.std.specs.Prelude.{◌≡◌, ◌+◌, ◌*◌, ◌^◌, ◌<◌, ℕ, zero, suc, [], ◌∷◌}
 use Rattle.std.specs.List.{AllByRecursion}
 use Rattle.mailmap_entries.specs.Folding.{Text}
 
--- the first n bytes as the digits of a number in base 256, those after the end as 0
+-- the first n bytes as the digits of a number in base 256; a byte past the end counts as 0
 abbrev pub key_prefix : ℕ → Text → ℕ
 key_prefix zero xs = 0
 key_prefix (suc n) [] = 0

@@ -1,8 +1,8 @@
-//! What one line of a mailmap maps.
+//! An entry is what one line of a mailmap says.
 //!
-//! A commit names its author and its committer by a name and an email. An [`Entry`] says what replaces these: its old
-//! fields say which commits it is for, and its new fields what these commits are to show. The format of git's mailmaps
-//! says which fields can be there together, and each combination has its constructor.
+//! A commit names its author and its committer by a name and an email. The old fields of an [`Entry`] say which commits
+//! it applies to, and its new fields say what to show in their place. A line can have five combinations of fields, and
+//! there is a constructor for each.
 //!
 //! | line | new name | new email | old name | old email |
 //! |---|---|---|---|---|
@@ -13,19 +13,19 @@
 //! | `Proper <proper@x> Commit <commit@x>` | `Proper` | `proper@x` | `Commit` | `commit@x` |
 ghost use Rattle.std.specs.Prelude.{◌≡◌, IsSome};
 
-mod derived;
-/// A mapping of names and emails, which borrows its texts: from the buffer that was parsed, or from whoever made it.
+/// A mapping of names and emails. It borrows its texts: from the buffer that was parsed, from a snapshot that lists it,
+/// or from the caller.
 ///
 /// The old email, and the old name if there is one, are compared without regard to the case of ASCII letters. The new
-/// name and the new email replace what the commit has; either may be missing. An entry with an old name always has a
+/// name and the new email replace what the commit has; either can be missing. An entry with an old name always has a
 /// new email. Texts are bytes and need not be UTF-8.
 ///
-/// Entries come from the lines of a mailmap and from a snapshot's listing, or are made by the constructors below. The
-/// constructors take texts as they are: an empty one, or one with white space or brackets that no line could hold, too.
+/// Entries come from the lines of a mailmap, from the listing of a snapshot, or from the constructors below. The
+/// constructors accept any text, even an empty one, or one with white space or brackets that no line could hold.
 ///
-/// Entries are ordered by new name, new email, old name and old email, in this sequence, byte by byte and without
-/// folding case; a missing field comes before each one that is there. The default has no field but an empty old email;
-/// it maps nothing, and merging it changes nothing.
+/// Entries are ordered by new name, new email, old name and old email, byte by byte and with regard to case. A missing
+/// field sorts before any that is there. The default entry has only an empty old email; it maps nothing, and merging it
+/// changes nothing.
 #[derive(Clone, Copy, Debug, PartialEq, Eq, PartialOrd, Ord, Hash)]
 pub struct Entry<'a> {
     new_name: Option<&'a [u8]>,
@@ -131,26 +131,26 @@ impl<'a> Entry<'a> {
     }
 }
 
-/// Getters. What they return lives as long as the texts do, even if the entry, or the iterator that gave it, is gone.
+/// Getters. The returned texts can outlive the entry, and the iterator that yielded it.
 impl<'a> Entry<'a> {
     ghost use Rattle.std.specs.Option.{option_copied};
     ghost use Rattle.mailmap_entries.specs.Entries.{mapping_of};
 
-    /// The name to map to, `None` if the commit keeps its name.
+    /// The name to map to, `None` if this entry gives none.
     pub fn new_name(&self) -> Option<&'a [u8]>
         ensures { option_copied result ≡ (mapping_of self.now).new_name }
     {
         self.new_name
     }
 
-    /// The email to map to, `None` if the commit keeps its email.
+    /// The email to map to, `None` if this entry gives none.
     pub fn new_email(&self) -> Option<&'a [u8]>
         ensures { option_copied result ≡ (mapping_of self.now).new_email }
     {
         self.new_email
     }
 
-    /// The name to look for and replace, `None` if the entry is for all names of its old email.
+    /// The name to look for and replace, `None` if the entry applies to any name with its old email.
     pub fn old_name(&self) -> Option<&'a [u8]>
         ensures { option_copied result ≡ (mapping_of self.now).old_name }
     {

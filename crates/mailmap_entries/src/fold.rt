@@ -1,4 +1,4 @@
-//! The order in which the case of ASCII letters does not count, and a search that counts its comparisons.
+//! An order that ignores the case of ASCII letters, and a binary search that counts its comparisons.
 ghost use Rattle.std.specs.Prelude.{◌≡◌, ◌↔◌, ◌+◌, ◌-◌, ◌<◌, ◌≤◌, ℕ, List, length, slice_get, IfOk, IfErr};
 ghost use Rattle.std.specs.List.Sorted.{IsSearchInRange, IsPartitionPoint};
 ghost use Rattle.std.specs.declared.cmp.Ordering.{Ordering as Answer};
@@ -10,16 +10,16 @@ pub mod prefix;
 use std::cmp::Ordering;
 use std::marker::Model;
 
-/// Compares two texts byte by byte; the bytes `A` to `Z` count as `a` to `z`.
+/// Compares two texts byte by byte, with the bytes `A` to `Z` taken as `a` to `z`.
 ///
-/// No other byte is changed, so letters past ASCII keep their case. A proper prefix is smaller:
-/// `a` is smaller than `B`, and `foo` than `FOO1`. `FooBar` and `foobar` are equal.
+/// All other bytes stay as they are, so letters outside ASCII keep their case. A proper prefix is smaller: `a` sorts
+/// before `B`, and `foo` before `FOO1`. `FooBar` and `foobar` are equal.
 pub fn cmp_ignore_ascii_case(a: &[u8], b: &[u8]) -> Ordering
     ensures value { result ≡ text_cmp (folded a.now) (folded b.now) }
     ensures less { (result ≡ Ordering.Less) ↔ IsBelow a.now b.now }
     ensures equal { (result ≡ Ordering.Equal) ↔ (folded a.now ≡ folded b.now) }
 {
-    // Keys that are alike are mostly spelled alike.
+    // Equal keys mostly have the same spelling, too.
     if a == b {
         return Ordering::Equal;
     }
@@ -35,16 +35,16 @@ pub fn cmp_ignore_ascii_case(a: &[u8], b: &[u8]) -> Ordering
     a.len().cmp(&b.len())
 }
 
-/// A sorted list that is searched for something. It is asked about one index at a time, and counts the questions.
+/// A sorted list and the key to find in it. [`search`] asks it about one index at a time, and each question is counted.
 ///
-/// The answer says how the element at the index compares to what is sought: `Less` before it, `Equal` at it and
-/// `Greater` after it.
+/// `Less` means that the element at the index comes before the key, `Equal` that it matches, `Greater` that it comes
+/// after.
 pub trait Probe {
     ghost answers: { Self → List Answer };
 
     ghost asked: { Self → ℕ };
 
-    /// Answers for an index of the list, and counts the question.
+    /// Compares the element at the index to the key.
     fn ask(&mut self, index: usize) -> Ordering
         requires within { index < length (answers self.old) }
         requires countable { asked self.old < usize.MAX }
@@ -53,18 +53,18 @@ pub trait Probe {
         ensures counted { asked self.new ≡ asked self.old + 1 };
 }
 
-/// A binary search for the index with the answer `Equal`.
+/// Finds the index with the answer `Equal` by binary search.
 ///
-/// `Ok` has that index. If no answer is `Equal`, `Err` has the number of the answers `Less`: the index where the
-/// element would be. Each question halves what is left to search, so there are at most as many questions as the length
-/// has binary digits: one for one element, ten for 1,023 elements, and none for an empty list.
+/// If no answer is `Equal`, `Err` has the index where the element could be inserted. Each question halves the rest of
+/// the list, so there are at most as many questions as the length has binary digits: one for one element, ten for 1,023
+/// elements, and none for an empty list.
 pub fn search<P: Probe>(len: usize, p: &mut P) -> Result<usize, usize>
     requires whole { len ≡ length (P.answers p.old) }
     requires parted { IsPartitioned (P.answers p.old) }
     requires countable { P.asked p.old ≤ usize.MAX - 64 }
     ensures within { IsSearchInRange result len }
     ensures found { IfOk result (λ i. slice_get (P.answers p.old) i ≡ Some Ordering.Equal) }
-    // `Less` before the index, and `Greater` from it on
+    // all are `Less` before the index, and `Greater` from it on
     ensures missing { IfErr result
         (λ i. IsPartitionPoint (λ a. a ≡ Ordering.Less) (λ a. a ≡ Ordering.Greater) (P.answers p.old) i) }
     ensures same { P.answers p.new ≡ P.answers p.old }
@@ -85,7 +85,7 @@ pub fn search<P: Probe>(len: usize, p: &mut P) -> Result<usize, usize>
     Err(low)
 }
 
-/// How many comparisons were made.
+/// A counter of comparisons.
 #[derive(Drop)]
 pub struct Steps {
     count: usize,
@@ -98,21 +98,21 @@ impl Model for Steps {
 }
 
 impl Steps {
-    /// No comparison yet.
+    /// Starts at zero.
     pub fn new() -> Steps
         ensures { result ≡ 0 }
     {
         Steps { count: 0 }
     }
 
-    /// How many comparisons were made so far.
+    /// The number of comparisons so far.
     pub fn count(&self) -> usize
         ensures { result ≡ self.now }
     {
         self.count
     }
 
-    /// Compares as [`cmp_ignore_ascii_case`] does, and counts it.
+    /// Compares as [`cmp_ignore_ascii_case`] does, and counts it as one comparison.
     pub fn compare(&mut self, a: &[u8], b: &[u8]) -> Ordering
         requires { self.old < usize.MAX }
         ensures value { result ≡ text_cmp (folded a.now) (folded b.now) }

@@ -1,4 +1,5 @@
-//! Laws of entries and of the order without case. Each function runs nothing: its contract is the law.
+//! Laws about entries and about the order without case. These functions do nothing: each states its law in its
+//! contract.
 ghost use Rattle.std.specs.Prelude.{◌≡◌, ◌↔◌, true};
 ghost use Rattle.std.specs.Cmp.{IsTotalOrder};
 ghost use Rattle.std.specs.declared.cmp.Ordering.{Ordering};
@@ -9,8 +10,8 @@ ghost use Rattle.mailmap_entries.specs.declared.entry.Entry as the_entry;
 use crate::entry::Entry;
 use std::hash::Hash;
 
-/// The comparisons and the hash of entries depend only on what the entries say: their four texts, byte for byte,
-/// wherever these are in memory. Entries are equal exactly if they say the same, and equal ones hash alike.
+/// Comparisons and hashes of entries depend only on their four texts, byte for byte, and not on where these are in
+/// memory. Entries are equal exactly if their texts are, and equal entries have the same hash.
 pub fn law_entries()
     ensures equal { (a b : the_entry.Entry)
         → (⟦<Entry<'static> as PartialEq>⟧.eq a b ≡ true) ↔ (mapping_of a ≡ mapping_of b) }
@@ -20,14 +21,14 @@ pub fn law_entries()
         → ⟦<Entry<'static> as Hash>⟧.hash_input a ≡ mapping_writes (mapping_of a) }
 {}
 
-/// The order of entries is total, and distinguishes all that differ.
+/// The order of entries is total, and no two different entries compare as equal.
 pub fn law_order()
     ensures total { IsTotalOrder mapping_cmp }
     ensures same { (a b : Mapping) → (mapping_cmp a b ≡ Ordering.Equal) ↔ (a ≡ b) }
 {}
 
-/// The order without the case of ASCII letters is a total preorder: it is total, and puts texts level exactly if they
-/// differ in nothing but case.
+/// The order without the case of ASCII letters is a total preorder: any two texts can be compared, and they compare as
+/// equal exactly if they differ in nothing but case.
 pub fn law_order_without_case()
     ensures total { IsTotalOrder (λ (a b : Text). text_cmp (folded a) (folded b)) }
     ensures level { (a b : Text) → (text_cmp (folded a) (folded b) ≡ Ordering.Equal) ↔ (folded a ≡ folded b) }

@@ -1,8 +1,9 @@
-//! The entries of mailmaps, and the order of their keys. The crate `gix_mailmap` passes on what users need of this.
+//! Entries of mailmaps, and the order of their keys. Users need only `gix_mailmap`, which re-exports the public parts.
 #![tactic(auto)]
 
 mod entry;
 pub mod fold;
 pub mod laws;
+pub mod semantics;
 
 pub use entry::Entry;

@@ -1,4 +1,4 @@
--- The entry of a line is accepted: it has a new name or a new email.
+-- The entry of a line is accepted, since it has a new name or a new email.
 use Rattle.std.proofs.Common.{◌≡◌, ℕ, true, false, cond, Option, Some, None, Ok, Err, List, [], ◌∷◌, map, refl, subst, sym}
 use Rattle.std.specs.List.{All, AllByRecursion, cons_option}
 use Rattle.std.specs.Option.{option_and_then, option_map}
@@ -8,7 +8,7 @@ use Rattle.mailmap_entries.specs.Entries.{Mapping, mapping_of}
 use Rattle.mailmap_entries.specs.Folding.{Text}
 use Rattle.mailmap_grammar.specs.Lines.{Reading, ParsedContact, Absent, Unclosed, Closed, cut, trimmed_contact, two_contacts, first_contact, line_reading, is_comment, unless_blank, reading}
 use Rattle.mailmap_grammar.specs.Trimming.{trim}
-use Rattle.mailmap_histories.specs.Histories.{is_accepted}
+use Rattle.mailmap_entries.specs.Semantics.{is_accepted}
 use Rattle.mailmap_redundancy.specs.Redundancy.{LocatedMapping, located_of}
 use Rattle.mailmap_redundancy.specs.declared.located.LocatedEntry.{LocatedEntry}
 use Rattle.mailmap_findings.specs.Positions.{Line, entry, located}
@@ -70,6 +70,6 @@ accepted_items : (xs : List LocatedEntry) → AreAccepted (map located_of xs) �
 accepted_items [] a = tt
 accepted_items (x ∷ xs) a = (a.0, accepted_items xs a.1)
 
--- the entries of lines may be reduced
+-- so without_redundant can be called with them
 pub items_accepted : (ls : List Line) (xs : List LocatedEntry) → map located_of xs ≡ located ls → All (λ x. is_accepted (mapping_of x.entry) ≡ true) xs
 items_accepted ls xs e = All-from_recursion _ xs (accepted_items xs (subst AreAccepted (sym e) (located_accepted ls)))

@@ -1,4 +1,4 @@
--- All lines that are reported to have no effect can be deleted at once: the entries of the others are those that stay.
+-- All lines without effect can be deleted at once: the entries of the others are the effective ones.
 use Rattle.std.proofs.Common.{◌≡◌, ◌≢◌, Bool, true, false, true≢false, if◌then◌else◌, Option, Some, None, option_to_list, is_some, List, [], ◌∷◌, ◌++◌, Ok, Err, map, filter, ap, refl, subst, sym, ◌∙◌}
 use Rattle.std.specs.Prelude.{◌||◌, ◌&&◌, ◌↔◌, Contains, is_none, not}
 use Rattle.std.specs.List.{AllByRecursion, cons_option, flat_map, list_any}
@@ -8,10 +8,10 @@ use Rattle.std.proofs.lemmas.List.Elements.{All-contains_itself, recursion_from_
 use Rattle.std.proofs.lemmas.List.Folds.{list_any-append}
 use Rattle.mailmap_entries.specs.Entries.{Mapping}
 use Rattle.mailmap_entries.specs.Folding.{Text}
-use Rattle.mailmap_git.specs.Git.{GitReading}
-use Rattle.mailmap_grammar.specs.Lines.{Reading, good, non_empty, strict_reading}
-use Rattle.mailmap_histories.specs.Histories.{IsNormal, is_accepted, key}
-use Rattle.mailmap_redundancy.specs.Redundancy.{IsReduced, LocatedMapping, entries, last_position}
+use Rattle.mailmap_findings.specs.Git.{GitReading}
+use Rattle.mailmap_grammar.specs.Lines.{Reading, mappings_of, non_empty, strict_reading}
+use Rattle.mailmap_entries.specs.Semantics.{IsNormal, is_accepted, key}
+use Rattle.mailmap_redundancy.specs.Redundancy.{AreEffective, LocatedMapping, entries, last_position}
 use Rattle.mailmap_redundancy.specs.declared.located.Position.{Position}
 use Rattle.mailmap_redundancy.proofs.Kept.{last_stays, one_reduced, reduced_normal, reduced_sublist, some_reduced}
 use Rattle.mailmap_findings.specs.Findings.{AreFindings, Contact, Finding, IsPruned, Reported, contact, findings, git_reads, has_no_effect, ignored, ignored_text, is_redundant, is_line_kept, mapped, no_effect, read_otherwise, same_contact, reported_of_contact, reported_of_entry, reported_of_line, reported_of_reading, itself_mapped}
@@ -20,10 +20,10 @@ use Rattle.mailmap_findings.specs.Marked.{AreApart}
 use Rattle.mailmap_findings.proofs.Accepted.{located_accepted}
 use Rattle.mailmap_findings.proofs.Placing.{apart_lines}
 use Rattle.mailmap_findings.proofs.Pruned.{located_left}
-use Rattle.mailmap_findings.proofs.Read.{good-lines}
+use Rattle.mailmap_findings.proofs.Read.{mappings_of-lines}
 use Rattle.mailmap_findings.proofs.Walking.{differs, same_itself, starts}
 
--- ---- tests
+-- ---- filters
 
 and_true : (b : Bool) → b && true ≡ b
 and_true true = refl
@@ -41,12 +41,12 @@ pub filter_same : (p q : Line → Bool) (ls : List Line) → AllByRecursion (λ 
 filter_same p q [] all = refl
 filter_same p q (l ∷ ls) all = ap (λ b. if b then l ∷ filter p ls else filter p ls) all.0 ∙ ap (λ xs. if q l then l ∷ xs else xs) (filter_same p q ls all.1)
 
--- ---- what is reported of a line
+-- ---- the findings of one line
 
 abbrev pub reported_at : Position → List Reported → List Finding
 reported_at position ts = map (λ t. record { position = position; reported = t }) ts
 
--- whether a finding says that the line at this position has no effect
+-- a finding that reports the line at this position as without effect
 abbrev pub redundant_at : Position → Finding → Bool
 redundant_at position f = has_no_effect f.reported && same_position f.position position
 
@@ -83,7 +83,7 @@ position_some : (o : Option Position) → is_some o ≡ true → list_any has_no
 position_some None e = absurd (true≢false (sym e))
 position_some (Some p) e = refl
 
--- an entry of this key stays
+-- an effective entry has this key
 abbrev pub IfStays : List LocatedMapping → Option Mapping → Type 0
 IfStays kept None = Unit {0}
 IfStays kept (Some e) = is_some (last_position kept (key e)) ≡ true
@@ -154,19 +154,19 @@ module _ (kept : List LocatedMapping) where
         | Some e ↦ λ all. (all.0, lines_stay ls all.1)
       ]
 
-pub each_stays : (xs kept : List LocatedMapping) → IsReduced xs kept → AllByRecursion (λ x. is_accepted x.entry ≡ true) xs → AllByRecursion (λ x. is_some (last_position kept (key x.entry)) ≡ true) xs
-each_stays xs kept reduced accepted = both xs (recursion_from_All (Contains xs) xs (All-contains_itself xs)) accepted
+pub each_stays : (xs kept : List LocatedMapping) → AreEffective xs kept → AllByRecursion (λ x. is_accepted x.entry ≡ true) xs → AllByRecursion (λ x. is_some (last_position kept (key x.entry)) ≡ true) xs
+each_stays xs kept effective accepted = both xs (recursion_from_All (Contains xs) xs (All-contains_itself xs)) accepted
   where
     both : (ys : List LocatedMapping) → AllByRecursion (Contains xs) ys → AllByRecursion (λ x. is_accepted x.entry ≡ true) ys → AllByRecursion (λ x. is_some (last_position kept (key x.entry)) ≡ true) ys
-    both [] inside good = tt
-    both (y ∷ ys) inside good = (last_stays xs kept y reduced inside.0 good.0, both ys inside.1 good.1)
+    both [] inside mappings_of = tt
+    both (y ∷ ys) inside mappings_of = (last_stays xs kept y effective inside.0 mappings_of.0, both ys inside.1 mappings_of.1)
 
 pub left_lines : (buffers : List Text) (found : List Finding) (are : AreFindings buffers found) → filter (λ l. not (is_redundant found l)) (lines buffers) ≡ filter (is_line_kept are.kept) (lines buffers)
 left_lines buffers found are =
     let ls = lines buffers in
     let h = entries (located ls) in
     let all : List Finding = flat_map (findings h are.kept) ls in
-    let stay = lines_stay are.kept ls (each_stays (located ls) are.kept are.reduced (located_accepted ls)) in
+    let stay = lines_stay are.kept ls (each_stays (located ls) are.kept are.effective (located_accepted ls)) in
     ap (λ fs. filter (λ (l : Line). not (is_redundant fs l)) ls) are.whole
     ∙ filter_same (λ (l : Line). not (is_redundant all l)) (is_line_kept are.kept) ls (not_reported h are.kept all ls (reported_redundant h are.kept ls (apart_lines 0 buffers) stay))
 
@@ -174,46 +174,46 @@ pub left_entries : (buffers : List Text) (found : List Finding) (are : AreFindin
 left_entries buffers found are =
     let ls = lines buffers in
     ap located (left_lines buffers found are)
-    ∙ located_left are.kept ls are.kept (starts are.kept ls (record { sublist = reduced_sublist (located ls) are.kept are.reduced; apart = apart_lines 0 buffers }))
+    ∙ located_left are.kept ls are.kept (starts are.kept ls (record { sublist = reduced_sublist (located ls) are.kept are.effective; apart = apart_lines 0 buffers }))
 
 pub same_listing : (buffers : List Text) (found : List Finding) (n : List Mapping) → AreFindings buffers found
-    → IsNormal (flat_map good buffers) n ↔ IsNormal (entries (located (filter (λ l. not (is_redundant found l)) (lines buffers)))) n
+    → IsNormal (flat_map mappings_of buffers) n ↔ IsNormal (entries (located (filter (λ l. not (is_redundant found l)) (lines buffers)))) n
 same_listing buffers found n are =
-    let there = reduced_normal (located (lines buffers)) are.kept n are.reduced in
+    let there = reduced_normal (located (lines buffers)) are.kept n are.effective in
     let e : entries (located (filter (λ (l : Line). not (is_redundant found l)) (lines buffers))) ≡ entries are.kept = ap entries (left_entries buffers found are) in (
-      λ d. subst (λ g. IsNormal g n) (sym e) (there.0 (subst (λ g. IsNormal g n) (sym (good-lines 0 buffers)) d)),
-      λ d. subst (λ g. IsNormal g n) (good-lines 0 buffers) (there.1 (subst (λ g. IsNormal g n) e d)),
+      λ d. subst (λ g. IsNormal g n) (sym e) (there.0 (subst (λ g. IsNormal g n) (sym (mappings_of-lines 0 buffers)) d)),
+      λ d. subst (λ g. IsNormal g n) (mappings_of-lines 0 buffers) (there.1 (subst (λ g. IsNormal g n) e d)),
     )
 
--- what is left of a pruned buffer is the lines that are not reported to have no effect
+-- pruning keeps exactly the lines that are not reported as without effect
 pub pruned_reported : (buffer text : Text) (found : List Finding) → AreFindings (buffer ∷ []) found → IsPruned buffer text
     → text ≡ flat_map (λ l. l.text) (filter (λ l. not (is_redundant found l)) (lines (buffer ∷ [])))
 pruned_reported buffer text found are pruned =
     let ls = lines (buffer ∷ []) in
     pruned.whole
-    ∙ ap (λ kept. flat_map (λ (l : Line). l.text) (filter (is_line_kept kept) ls)) (one_reduced (located ls) pruned.kept are.kept pruned.reduced are.reduced)
+    ∙ ap (λ kept. flat_map (λ (l : Line). l.text) (filter (is_line_kept kept) ls)) (one_reduced (located ls) pruned.kept are.kept pruned.effective are.effective)
     ∙ ap (flat_map (λ (l : Line). l.text)) (sym (left_lines (buffer ∷ []) found are))
 
--- ---- there is one answer
+-- ---- the list of findings is unique
 
 pub some_findings : (buffers : List Text) → (found : List Finding) × AreFindings buffers found
 some_findings buffers =
     let ls = lines buffers in
-    let reduced = some_reduced (located ls) in
-    (flat_map (findings (entries (located ls)) reduced.0) ls, record { kept = reduced.0; reduced = reduced.1; whole = refl })
+    let effective = some_reduced (located ls) in
+    (flat_map (findings (entries (located ls)) effective.0) ls, record { kept = effective.0; effective = effective.1; whole = refl })
 
 pub one_findings : (buffers : List Text) (found other : List Finding) → AreFindings buffers found → AreFindings buffers other → found ≡ other
 one_findings buffers found other a b =
     let ls = lines buffers in
-    a.whole ∙ ap (λ kept. flat_map (findings (entries (located ls)) kept) ls) (one_reduced (located ls) a.kept b.kept a.reduced b.reduced) ∙ sym b.whole
+    a.whole ∙ ap (λ kept. flat_map (findings (entries (located ls)) kept) ls) (one_reduced (located ls) a.kept b.kept a.effective b.effective) ∙ sym b.whole
 
 pub some_pruned : (buffer : Text) → (text : Text) × IsPruned buffer text
 some_pruned buffer =
     let ls = lines (buffer ∷ []) in
-    let reduced = some_reduced (located ls) in
-    (flat_map (λ (l : Line). l.text) (filter (is_line_kept reduced.0) ls), record { kept = reduced.0; reduced = reduced.1; whole = refl })
+    let effective = some_reduced (located ls) in
+    (flat_map (λ (l : Line). l.text) (filter (is_line_kept effective.0) ls), record { kept = effective.0; effective = effective.1; whole = refl })
 
 pub one_pruned : (buffer text other : Text) → IsPruned buffer text → IsPruned buffer other → text ≡ other
 one_pruned buffer text other a b =
     let ls = lines (buffer ∷ []) in
-    a.whole ∙ ap (λ kept. flat_map (λ (l : Line). l.text) (filter (is_line_kept kept) ls)) (one_reduced (located ls) a.kept b.kept a.reduced b.reduced) ∙ sym b.whole
+    a.whole ∙ ap (λ kept. flat_map (λ (l : Line). l.text) (filter (is_line_kept kept) ls)) (one_reduced (located ls) a.kept b.kept a.effective b.effective) ∙ sym b.whole

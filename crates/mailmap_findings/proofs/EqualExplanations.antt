@@ -1,4 +1,4 @@
--- When explanations are the same.
+-- When explanations are equal.
 use Rattle.std.proofs.Common.{◌≡◌, Bool, true, true≢false, Decides, Option, Some, None, ◌∷◌, Bor, nat_eq, option_copied, option_to_list, refl, sym, ap, subst}
 use Rattle.std.specs.Prelude.{◌&&◌}
 use Rattle.std.specs.Option.{option_eq}
@@ -11,7 +11,6 @@ use Rattle.mailmap_findings.specs.Positions.{same_position}
 use Rattle.mailmap_findings.specs.declared.explain.Explanation.{Explanation}
 use Rattle.mailmap_findings.proofs.Walking.{same_is, same_itself}
 
--- texts that are referred to, if there are any
 pub texts_decide : (o p : Option (Bor Text)) → Decides (option_eq (λ x y. pointwise nat_eq x.now y.now) o p) (option_copied o ≡ option_copied p)
 texts_decide None None = (λ e. refl, λ e. refl)
 texts_decide None (Some y) = (λ e. absurd (true≢false (sym e)), λ e. cc)
@@ -27,7 +26,7 @@ positions_decide None (Some y) = (λ e. absurd (true≢false (sym e)), λ e. cc)
 positions_decide (Some x) None = (λ e. absurd (true≢false (sym e)), λ e. cc)
 positions_decide (Some x) (Some y) = (λ e. ap (λ t. Some t) ((position_decides x y).0 e), λ e. (position_decides x y).1 (cc))
 
--- one or two lines are the same if the first is, and the second
+-- lists of one or two lines are equal exactly if both their parts are
 same_lines : (x y : Position) (o p : Option Position) → (x ∷ option_to_list o) ≡ (y ∷ option_to_list p) → (x ≡ y) × (o ≡ p)
 same_lines x y None None e = (cc, refl)
 same_lines x y None (Some q) e = absurd (cc)

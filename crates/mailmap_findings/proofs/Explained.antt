@@ -1,19 +1,21 @@
--- An answer that changes something has a line that gives it.
-use Rattle.std.proofs.Common.{◌≡◌, true, false, cond, [], ◌∷◌, Option, Some, None, is_some, sym, ap, ◌∙◌}
+-- An answer that changes something has a line behind it.
+use Rattle.std.proofs.Common.{◌≡◌, true, cond, [], ◌∷◌, Option, Some, None, Less, Equal, Greater, is_some, sym, ap, ◌∙◌}
 use Rattle.std.specs.Option.{option_and_then, option_or}
+use Rattle.std.specs.Ordering.{match_ordering}
 use Rattle.mailmap_entries.specs.Folding.{Text}
-use Rattle.mailmap_histories.specs.Histories.{Fields, respelled, unless_empty}
-use Rattle.mailmap_redundancy.specs.Givers.{Givers, given}
-use Rattle.mailmap_redundancy.specs.Redundancy.{LocatedMapping}
+use Rattle.mailmap_entries.specs.Semantics.{Fields, respelled, unless_empty}
+use Rattle.mailmap_redundancy.specs.Origins.{Origins, given}
+use Rattle.mailmap_redundancy.specs.Redundancy.{LocatedMapping, position_cmp}
 use Rattle.mailmap_redundancy.proofs.Keyed.{some_out}
-use Rattle.mailmap_findings.specs.Explanations.{giving_positions, in_order, is_before}
+use Rattle.mailmap_findings.specs.Explanations.{giving_positions, in_order}
 
 some_of_two : (x : LocatedMapping) (o : Option LocatedMapping) → in_order (Some x) o ≡ [] → ⊥
 some_of_two x None e = cc
 some_of_two x (Some y) e =
-    (elim (is_before x.position y.position) as (λ b. cond b (x.position ∷ y.position ∷ []) (cond (is_before y.position x.position) (y.position ∷ x.position ∷ []) (x.position ∷ [])) ≡ [] → ⊥) [
-      | true ↦ λ e. cc
-      | false ↦ λ e. (elim (is_before y.position x.position) as (λ b. cond b (y.position ∷ x.position ∷ []) (x.position ∷ []) ≡ [] → ⊥) [ true ↦ λ e. cc | false ↦ λ e. cc ]) e
+    (elim (position_cmp x.position y.position) as (λ o. match_ordering o (x.position ∷ y.position ∷ []) (x.position ∷ []) (y.position ∷ x.position ∷ []) ≡ [] → ⊥) [
+      | Less ↦ λ e. cc
+      | Equal ↦ λ e. cc
+      | Greater ↦ λ e. cc
     ]) e
 
 emailed : (o : Option Text) (f : Fields) → unless_empty (record { name = None; email = o }) ≡ Some f → is_some f.email ≡ true
@@ -31,5 +33,5 @@ by_parts None (Some y) first email f e none = one_line y (option_or y.entry.new_
 by_parts None None (Some y) email f e none = one_line y (respelled y.entry.old_email email) f e none
 by_parts None None None email f e none = cc
 
-pub some_line : (g : Givers) (email : Text) (f : Fields) → given g email ≡ Some f → giving_positions g f ≡ [] → ⊥
+pub some_line : (g : Origins) (email : Text) (f : Fields) → given g email ≡ Some f → giving_positions g f ≡ [] → ⊥
 some_line g = by_parts g.name g.email g.spelling

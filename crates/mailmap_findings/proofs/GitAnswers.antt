@@ -1,26 +1,27 @@
--- If git reads each line of a buffer as it is read here, so it does each line of the pruned text, and answers alike.
+-- If git reads each line of a buffer as this library does, it does so for the pruned text, and its answers are the
+-- same.
 use Rattle.std.proofs.Common.{◌≡◌, ◌+◌, ℕ, Bool, true, false, true≢false, if◌then◌else◌, Option, Some, None, is_some, option_to_list, unwrap_or, List, [], ◌∷◌, ◌++◌, filter, refl, sym, ap, ◌∙◌}
 use Rattle.std.specs.List.{AllByRecursion, cons_option, flat_map}
 use Rattle.std.specs.Option.{option_map}
 use Rattle.mailmap_entries.specs.Entries.{Mapping}
 use Rattle.mailmap_entries.specs.Folding.{Text, folded}
-use Rattle.mailmap_git.specs.Git.{git_entries, git_reading, reads_alike}
-use Rattle.mailmap_grammar.specs.Lines.{good}
-use Rattle.mailmap_histories.specs.Alike.{Alike}
-use Rattle.mailmap_histories.specs.Histories.{IsNormal, first, unless_empty}
-use Rattle.mailmap_histories.proofs.EqualListings.{entries_decide}
-use Rattle.mailmap_histories.proofs.Exists.{is_normal, normal}
-use Rattle.mailmap_histories.proofs.Normal.{alike_normal}
+use Rattle.mailmap_findings.specs.Git.{git_entries, git_reading, reads_alike}
+use Rattle.mailmap_grammar.specs.Lines.{mappings_of}
+use Rattle.mailmap_entries.specs.Alike.{Alike}
+use Rattle.mailmap_entries.specs.Semantics.{IsNormal, first, unless_empty}
+use Rattle.mailmap_entries.proofs.EqualListings.{entries_decide}
+use Rattle.mailmap_entries.proofs.Exists.{is_normal, normal}
+use Rattle.mailmap_entries.proofs.Normal.{alike_normal}
 use Rattle.mailmap_redundancy.specs.Redundancy.{entries}
 use Rattle.mailmap_redundancy.specs.declared.located.Position.{Position}
 use Rattle.mailmap_findings.specs.Findings.{IsPruned, first_read_otherwise, is_line_kept, read_otherwise}
 use Rattle.mailmap_findings.specs.GitAnswers.{git_answer, git_history, git_scan}
 use Rattle.mailmap_findings.specs.Positions.{Line, entry, lines, located, located_from, whole_lines}
-use Rattle.mailmap_findings.proofs.Pruned.{good-one, kept_entries, kept_lines, one_buffer, same_listing, text_entries, text_lines}
+use Rattle.mailmap_findings.proofs.Pruned.{mappings_of-one, kept_entries, kept_lines, one_buffer, same_listing, text_entries, text_lines}
 use Rattle.mailmap_findings.proofs.Renumbered.{entry_same, texts-located}
 use Rattle.mailmap_findings.proofs.Wholes.{texts}
 
--- git has the entry of the line
+-- git reads exactly the entry of this library
 abbrev IsAlike : Line → Type 0
 IsAlike l = git_entries l.text ≡ option_to_list (entry l)
 
@@ -33,7 +34,7 @@ is_otherwise l = is_some (read_otherwise l)
 abbrev first_of : List Line → Option Position
 first_of ls = option_map (λ l. l.position) (first ls)
 
--- ---- no line is read otherwise if git has the entry of each
+-- ---- no line is read in another way exactly if all lines are read alike
 
 read_alike : (ls : List Line) → first_of (filter is_otherwise ls) ≡ None → AreAlike ls
 read_alike [] = λ none. tt
@@ -76,11 +77,11 @@ renumbered_alike buffer line (l ∷ ls) all = (
   renumbered_alike buffer (line + 1) ls all.1,
 )
 
-buffer_history : (s : Text) → AreAlike (lines (s ∷ [])) → git_history s ≡ good s
+buffer_history : (s : Text) → AreAlike (lines (s ∷ [])) → git_history s ≡ mappings_of s
 buffer_history s all =
     ap (flat_map git_entries) (sym (ap texts (one_buffer s) ∙ texts-located 0 1 (whole_lines s)))
     ∙ alike_entries (lines (s ∷ [])) all
-    ∙ good-one s
+    ∙ mappings_of-one s
 
 -- ---- a pruned text
 
@@ -91,13 +92,13 @@ module _ (buffer text : Text) (pruned : IsPruned buffer text) (none : first_read
   kept_alike : AreAlike (kept_lines buffer text pruned)
   kept_alike = some_alike (is_line_kept pruned.kept) (lines (buffer ∷ [])) all_alike
 
-  text_history : git_history text ≡ good text
+  text_history : git_history text ≡ mappings_of text
   text_history =
       ap (flat_map git_entries) (text_lines buffer text pruned)
       ∙ alike_entries (kept_lines buffer text pruned) kept_alike
       ∙ ap entries (kept_entries buffer text pruned)
       ∙ sym (text_entries buffer text pruned)
-      ∙ good-one text
+      ∙ mappings_of-one text
 
   pub none_left : first_read_otherwise (text ∷ []) ≡ None
   none_left =
@@ -106,13 +107,13 @@ module _ (buffer text : Text) (pruned : IsPruned buffer text) (none : first_read
 
   pub same_answer : (name email : Text) → git_answer text name email ≡ git_answer buffer name email
   same_answer name email =
-      let n = normal (good buffer) in
-      let d : IsNormal (good buffer) n = is_normal (good buffer) in
-      let of_buffer = alike_normal (good buffer) n d in
-      let of_text = alike_normal (good text) n ((same_listing buffer text n pruned).0 d) in
+      let n = normal (mappings_of buffer) in
+      let d : IsNormal (mappings_of buffer) n = is_normal (mappings_of buffer) in
+      let of_buffer = alike_normal (mappings_of buffer) n d in
+      let of_text = alike_normal (mappings_of text) n ((same_listing buffer text n pruned).0 d) in
       ap (λ h. git_scan h name email) text_history
-      ∙ alike_scan (good text) n name email of_text
-      ∙ sym (alike_scan (good buffer) n name email of_buffer)
+      ∙ alike_scan (mappings_of text) n name email of_text
+      ∙ sym (alike_scan (mappings_of buffer) n name email of_buffer)
       ∙ ap (λ h. git_scan h name email) (sym (buffer_history buffer all_alike))
     where
       alike_scan : (h g : List Mapping) (name email : Text) → Alike h g → git_scan h name email ≡ git_scan g name email

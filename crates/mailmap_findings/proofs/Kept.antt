@@ -1,4 +1,4 @@
--- The text of marked lines without those whose entries go.
+-- The text of the lines that pruning keeps.
 use Rattle.std.proofs.Common.{◌≡◌, Bool, true, false, if◌then◌else◌, List, [], ◌∷◌, ◌++◌, filter, is_none, map, ap, refl}
 use Rattle.std.specs.Prelude.{◌||◌}
 use Rattle.std.specs.List.{flat_map}

@@ -1,4 +1,4 @@
--- A walk over lines meets what was read of them in step.
+-- An iteration over lines stays in step with the entries of the first parse.
 use Rattle.std.proofs.Common.{◌≡◌, ◌+◌, ◌<◌, ◌≤◌, ℕ, suc, Bool, true, false, true≢false, Option, Some, None, List, [], ◌∷◌, drop, get_or, length, length-drop, is_none, is_some, map, not, arith, refl, sym, ap, subst, ◌∙◌}
 use Rattle.std.specs.List.{cons_option}
 use Rattle.std.specs.Option.{option_map}
@@ -14,7 +14,6 @@ use Rattle.mailmap_findings.specs.Clean.{SaysOnly, is_clean, are_clean}
 use Rattle.mailmap_findings.proofs.Meeting.{with_position}
 use Rattle.mailmap_findings.proofs.Walking.{Elsewhere, is_first_at, located_elsewhere, same_is, same_itself}
 
--- what `is_none` says of an option says it of the mapped one
 pub none_mapped : {X Y : Type 0} (f : X → Y) (o : Option X) (is : Bool) → is_some o ≡ not is → is ≡ is_none (option_map f o)
 none_mapped f None true e = refl
 none_mapped f None false e = absurd (true≢false (sym e))
@@ -25,14 +24,13 @@ pub none_of : (o : Option Reported) → is_none o ≡ true → o ≡ None
 none_of None is = refl
 none_of (Some x) is = absurd (true≢false (sym is))
 
--- the lines of marked lines
 pub lines-marked : (kept : List LocatedMapping) (ls : List Line) → map (λ (m : MarkedLine). m.0) (map (marked kept) ls) ≡ ls
 lines-marked kept [] = refl
 lines-marked kept (l ∷ ls) = ap (λ xs. l ∷ xs) (lines-marked kept ls)
 
--- ---- the next entry that was read, and the first line
+-- ---- the next entry of the first parse, and the first line
 
--- it is of a later line
+-- it is the entry of a later line
 other_by : (l : Line) (rest : List Line) (found : List LocatedMapping) (clean : List Bool) (o : Option Mapping) → AreApart (l ∷ rest)
     → found ≡ cons_option (option_map (with_position l) o) (located rest) → clean ≡ cons_option (option_map (λ e. is_clean l) o) (are_clean rest)
     → is_first_at found l.position ≡ false → IsReadWalk found clean rest
@@ -44,7 +42,7 @@ other : (l : Line) (rest : List Line) (found : List LocatedMapping) (clean : Lis
     → is_first_at found l.position ≡ false → IsReadWalk found clean rest
 other l rest found clean walk differs = other_by l rest found clean (entry l) walk.apart walk.entries walk.clean_too differs
 
--- it is of this line
+-- it is the entry of this line
 pub record IsMet (x : LocatedMapping) (xs : List LocatedMapping) (clean : List Bool) (l : Line) (rest : List Line) : Type 0 where
   pub same : entry l ≡ Some x.entry
   pub clean_is : clean ≡ is_clean l ∷ are_clean rest
@@ -64,7 +62,7 @@ met : (x : LocatedMapping) (xs : List LocatedMapping) (l : Line) (rest : List Li
     → same_position x.position l.position ≡ true → IsMet x xs clean l rest
 met x xs l rest clean walk agrees = met_by x xs l rest clean (entry l) refl walk.apart walk.entries walk.clean_too (same_is x.position l.position agrees)
 
--- ---- the code's walk, which has passed the first i of the entries that were read
+-- ---- the program's iteration, past the first i entries of the first parse
 
 abbrev pub found_from : ℕ → List LocatedEntry → List LocatedMapping
 found_from i read = map located_of (drop i read)
@@ -85,7 +83,7 @@ module _ (read : List LocatedEntry) (clean : List Bool) (i : ℕ) (marks left : 
         let e : suc i ≡ i + 1 = omega arith in
         ap (map located_of) (drop-cons read i x within) ∙ (λ j. located_of (sym is j) ∷ found_from (e j) read)
 
-    -- the next one is of another line
+    -- the next entry is another line's
     pub other_read : same_position x.position l.position ≡ false → IsReadWalk (found_from i read) (drop i clean) (map (λ (m : MarkedLine). m.0) left)
     other_read differs =
         other l (map (λ (m : MarkedLine). m.0) left) (found_from i read) (drop i clean) here

@@ -18,3 +18,11 @@ pub mod Deleted
 pub mod GitAnswers
 pub mod PrunedFindings
 mod Explained
+pub mod GitParts
+pub mod GitCases
+pub mod GitNames
+pub mod LinesAscend
+pub mod Taking
+pub mod Answered
+pub mod TextsLeft
+pub mod Merging

@@ -1,14 +1,14 @@
--- What a history makes of a contact.
+-- The contact that entries map a contact to.
 use Rattle.std.proofs.Common.{◌≡◌, Option, Some, None, List, [], unwrap_or, nat_eq, refl, sym, ap, ◌∙◌, true}
 use Rattle.std.proofs.lemmas.Bool.{cond-true}
 use Rattle.std.proofs.lemmas.Bool.Decides.{Decides-and}
 use lib.Pointwise.{bytes_decides, pointwise}
-use Rattle.mailmap_histories.specs.Listings.{same_optional}
-use Rattle.mailmap_histories.proofs.EqualListings.{optional_decides}
+use Rattle.mailmap_entries.specs.Listings.{same_optional}
+use Rattle.mailmap_entries.proofs.EqualListings.{optional_decides}
 use Rattle.std.specs.Option.{option_map}
 use Rattle.mailmap_entries.specs.Entries.{Mapping}
 use Rattle.mailmap_entries.specs.Folding.{Text}
-use Rattle.mailmap_histories.specs.Histories.{Fields, no_fields, scan}
+use Rattle.mailmap_entries.specs.Semantics.{Fields, no_fields, answer_of}
 use Rattle.mailmap_findings.specs.Findings.{Contact, mapped, replaced, reported_of_contact, same_contact}
 
 same_name : (name : Option Text) → option_map (unwrap_or None) name ≡ name
@@ -16,18 +16,18 @@ same_name None = refl
 same_name (Some name) = refl
 
 module _ (h : List Mapping) (c : Contact) (name : Text) (is : name ≡ unwrap_or c.name []) where
-  made : (o : Option Fields) → o ≡ scan h name c.email → replaced (unwrap_or o no_fields) c ≡ mapped h c
-  made o found = ap (λ x. replaced (unwrap_or x no_fields) c) (found ∙ ap (λ n. scan h n c.email) is)
+  made : (o : Option Fields) → o ≡ answer_of h name c.email → replaced (unwrap_or o no_fields) c ≡ mapped h c
+  made o found = ap (λ x. replaced (unwrap_or x no_fields) c) (found ∙ ap (λ n. answer_of h n c.email) is)
 
-  pub mapped-none : None ≡ scan h name c.email → c ≡ mapped h c
+  pub mapped-none : None ≡ answer_of h name c.email → c ≡ mapped h c
   mapped-none found = (λ i. record { name = sym (same_name c.name) i; email = c.email }) ∙ made None found
 
-  -- and nothing is reported of it
-  pub unreported : None ≡ scan h name c.email → None ≡ reported_of_contact c (mapped h c)
+  -- so nothing is reported
+  pub unreported : None ≡ answer_of h name c.email → None ≡ reported_of_contact c (mapped h c)
   unreported found =
       let same : same_contact c c ≡ true =
       (Decides-and (same_optional c.name c.name) (pointwise nat_eq c.email c.email) (optional_decides c.name c.name) (bytes_decides c.email c.email)).1 (refl, refl) in
       sym (cond-true _ _ _ same) ∙ ap (λ x. reported_of_contact c x) (mapped-none found)
 
-  pub mapped-some : (f : Fields) → Some f ≡ scan h name c.email → replaced f c ≡ mapped h c
+  pub mapped-some : (f : Fields) → Some f ≡ answer_of h name c.email → replaced f c ≡ mapped h c
   mapped-some f found = made (Some f) found

@@ -1,4 +1,4 @@
--- What is found of a line, and its entry.
+-- The findings of a line, and its entry.
 use Rattle.std.proofs.Common.{◌≡◌, ◌++◌, Bool, Option, Some, None, List, ◌∷◌, append_assoc, map, refl, sym, ap, ◌∙◌}
 use Rattle.std.specs.List.{cons_option}
 use Rattle.std.specs.Option.{option_and_then, option_map, option_to_list}
@@ -17,7 +17,7 @@ mapped : {X Y : Type 0} (f : X → Y) (o : Option X) → map f (option_to_list o
 mapped f None = refl
 mapped f (Some x) = refl
 
--- what is found by what the line says, by what git reads of it, and by what its entry does
+-- the three kinds of findings together
 pub found_all : (h : List Mapping) (kept : List LocatedMapping) (is_kept : Bool) (l : Line) (of_text of_git of_entry : Option Reported)
     → of_text ≡ reported_of_reading l.text (strict_reading l.position.line l.text) → of_git ≡ option_map git_reads (read_otherwise l)
     → of_entry ≡ option_and_then (reported_of_entry h kept is_kept) (entry l)
@@ -36,11 +36,9 @@ one_more : {X : Type 0} (o : Option X) (xs : List X) → option_to_list o ++ xs 
 one_more None xs = refl
 one_more (Some x) xs = refl
 
--- the entry of one more line
 pub located_more : (found : List LocatedMapping) (l : Line) (ls : List Line) → (found ++ option_to_list (located_entry l)) ++ located ls ≡ found ++ located (l ∷ ls)
 located_more found l ls = append_assoc found (option_to_list (located_entry l)) (located ls) ∙ ap (λ xs. found ++ xs) (one_more (located_entry l) (located ls))
 
--- whether one more line is clean, if it gives an entry
 pub more_are_clean : (found : List Bool) (l : Line) (ls : List Line) → (found ++ option_to_list (option_map (λ e. is_clean l) (entry l))) ++ are_clean ls ≡ found ++ are_clean (l ∷ ls)
 more_are_clean found l ls =
     append_assoc found (option_to_list (option_map (λ e. is_clean l) (entry l))) (are_clean ls)

@@ -7,7 +7,6 @@ use Rattle.mailmap_findings.specs.Findings.{AreFindings, AreInOrder, Finding, Is
 use Rattle.mailmap_findings.specs.Positions.{Line, whole_lines, located_from, lines_from, lines}
 use Rattle.mailmap_findings.proofs.Placing.{position_at, all_located, all_lines, all_append}
 
--- the lines are in their order
 abbrev LinesInOrder : List Line → Type 0
 LinesInOrder [] = Unit {0}
 LinesInOrder (l ∷ ls) = AllByRecursion (λ m. IsUpTo l.position m.position) ls × LinesInOrder ls
@@ -32,7 +31,7 @@ lines_in_order buffer (s ∷ ss) =
     (all_located (λ x. AllByRecursion (λ y. IsUpTo x.position y.position) (lines_from (buffer + 1) ss)) buffer 1 (whole_lines s)
     (λ n t le. all_lines (λ y. IsUpTo (position_at buffer n) y.position) (buffer + 1) ss (λ m k u later. inl (omega arith))))
 
--- what is reported at one position
+-- findings at one position
 abbrev reported_at : Position → List Reported → List Finding
 reported_at position ts = map (λ t. record { position = position; reported = t }) ts
 

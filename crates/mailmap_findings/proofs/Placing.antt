@@ -1,4 +1,4 @@
--- Lines with their positions: the lines that are left, and that no two lines are at one position.
+-- Iterating over lines with their positions, which are distinct.
 use Rattle.std.proofs.Common.{◌≡◌, ◌≢◌, ◌+◌, ◌<◌, ◌≤◌, ℕ, suc, List, [], ◌∷◌, ◌++◌, length, map, drop, get_or, Bor, ap, ◌∙◌, arith}
 use Rattle.std.specs.List.{AllByRecursion}
 use Rattle.std.proofs.Math.Seq.{drop-cons}
@@ -14,17 +14,17 @@ position_at buffer line = record { buffer = buffer; line = line }
 abbrev pub line_at : ℕ → ℕ → Text → Line
 line_at buffer line t = record { position = position_at buffer line; text = t }
 
--- the lines that are left of one buffer from a line on, and those of the buffers after the first so many
+-- the remaining lines: those of the current buffer from a line on, and those of the buffers not reached yet
 abbrev pub lines_left : ℕ → ℕ → List Text → ℕ → List (Bor Text) → List Line
 lines_left buffer line ts reached bufs = located_from buffer (line + 1) ts ++ lines_from reached (map (λ b. b.now) (drop reached bufs))
 
--- the first of them
+-- the next line is in the current buffer
 pub left_first : (buffer line reached : ℕ) (bufs : List (Bor Text)) (ts rest : List Text) (t : Text) → ts ≡ t ∷ rest
     → lines_left buffer line ts reached bufs ≡ line_at buffer (line + 1) t ∷ lines_left buffer (line + 1) rest reached bufs
 unfolding located_from
 left_first buffer line reached bufs ts rest t is = ap (λ xs. located_from buffer (line + 1) xs ++ lines_from reached (map (λ b. b.now) (drop reached bufs))) is
 
--- the first of them, if none of the one buffer is left
+-- the current buffer is exhausted, so the next one begins
 pub left_next : (buffer line reached : ℕ) (bufs : List (Bor Text)) (ts : List Text) (d : Bor Text) → ts ≡ [] → reached < length bufs
     → lines_left buffer line ts reached bufs ≡ lines_left reached 0 (whole_lines (get_or bufs reached d).now) (reached + 1) bufs
 unfolding located_from lines_from
@@ -34,16 +34,15 @@ left_next buffer line reached bufs ts d none within =
     ∙ ap (λ bs. lines_from reached (map (λ b. b.now) bs)) (drop-cons bufs reached d within)
     ∙ ap (λ n. buffer_lines reached (get_or bufs reached d).now ++ lines_from (reached + 1) (map (λ b. b.now) (drop n bufs))) e
 
--- nothing is left
 pub left_none : (buffer line reached : ℕ) (bufs : List (Bor Text)) (ts : List Text) → ts ≡ [] → length bufs ≤ reached → lines_left buffer line ts reached bufs ≡ []
 unfolding located_from lines_from
 left_none buffer line reached bufs ts none all =
     ap (λ xs. located_from buffer (line + 1) xs ++ lines_from reached (map (λ b. b.now) (drop reached bufs))) none
     ∙ ap (λ bs. lines_from reached (map (λ b. b.now) bs)) (drop_all reached bufs all)
 
--- ---- apart
+-- ---- positions are distinct
 
--- what holds of each position in this buffer from a line on
+-- a property that holds at each position of this buffer from a line on
 pub all_located : (P : Line → Type 0) (buffer line : ℕ) (ts : List Text) → ((n : ℕ) (t : Text) → line ≤ n → P (line_at buffer n t)) → AllByRecursion P (located_from buffer line ts)
 unfolding located_from
 all_located P buffer line [] h = tt
@@ -53,7 +52,7 @@ pub all_append : (P : Line → Type 0) (xs ys : List Line) → AllByRecursion P 
 all_append P [] ys a b = b
 all_append P (x ∷ xs) ys a b = (a.0, all_append P xs ys a.1 b)
 
--- what holds of each position from a buffer on
+-- a property that holds at each position from a buffer on
 pub all_lines : (P : Line → Type 0) (buffer : ℕ) (ss : List Text) → ((m n : ℕ) (t : Text) → buffer ≤ m → P (line_at m n t)) → AllByRecursion P (lines_from buffer ss)
 unfolding lines_from
 all_lines P buffer [] h = tt

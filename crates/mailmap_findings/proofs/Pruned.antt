@@ -1,4 +1,4 @@
--- What is left of a pruned buffer: the entries that stay, and nothing to prune.
+-- A pruned text has exactly the effective entries, and pruning it again changes nothing.
 use Rattle.std.proofs.Common.{◌≡◌, ◌≢◌, true, false, if◌then◌else◌, Some, None, is_none, List, [], ◌∷◌, ◌++◌, filter, append-nil, append_assoc, refl, sym, ap, subst, ◌∙◌}
 use Rattle.std.specs.Prelude.{◌||◌, ◌↔◌}
 use Rattle.std.specs.List.{AllByRecursion, cons_option, flat_map}
@@ -7,21 +7,21 @@ use Rattle.std.proofs.lemmas.Bool.{cond-true, or_right}
 use Rattle.std.proofs.lemmas.List.{map-append}
 use Rattle.mailmap_entries.specs.Entries.{Mapping}
 use Rattle.mailmap_entries.specs.Folding.{Text}
-use Rattle.mailmap_grammar.specs.Lines.{good}
-use Rattle.mailmap_histories.specs.Histories.{IsNormal}
-use Rattle.mailmap_redundancy.specs.Redundancy.{LocatedMapping, IsPass, done, stays, IsReduced, settled, IsSublist, none, IsRedundant, entries}
+use Rattle.mailmap_grammar.specs.Lines.{mappings_of}
+use Rattle.mailmap_entries.specs.Semantics.{IsNormal}
+use Rattle.mailmap_redundancy.specs.Redundancy.{LocatedMapping, IsPass, done, stays, AreEffective, settled, IsSublist, none, IsRedundant, entries}
 use Rattle.mailmap_redundancy.proofs.Kept.{none_can_go, reduced_normal, reduced_sublist}
 use Rattle.mailmap_redundancy.proofs.Sublists.{sublist_all}
 use Rattle.mailmap_findings.specs.Findings.{IsPruned, is_line_kept}
 use Rattle.mailmap_findings.specs.Positions.{Line, entry, located, same_position, has_entry_at, whole_lines, located_from, lines_from, lines}
 use Rattle.mailmap_findings.specs.Marked.{AreApart}
 use Rattle.mailmap_findings.proofs.Placing.{apart_lines}
-use Rattle.mailmap_findings.proofs.Read.{good-lines}
+use Rattle.mailmap_findings.proofs.Read.{mappings_of-lines}
 use Rattle.mailmap_findings.proofs.Renumbered.{entries-renumbered, texts-located}
 use Rattle.mailmap_findings.proofs.Walking.{InStep, First, is_first_at, without_first_at, passes, meets, first_met, step_by, starts, no_entry_at, located_elsewhere, same_itself}
 use Rattle.mailmap_findings.proofs.Wholes.{joined, joined-whole_lines, are_whole, whole_lines-joined, texts, some_whole, without_one, AreWhole}
 
--- ---- of the lines that are left the entries are those that stay
+-- ---- the lines that are kept have exactly the effective entries
 
 by_first : (kept left : List LocatedMapping) (l : Line) (ls : List Line) → ((xs : List LocatedMapping) → InStep kept xs ls → located (filter (is_line_kept kept) ls) ≡ xs)
     → First l ls left → AllByRecursion (λ x. has_entry_at kept x.position ≡ has_entry_at left x.position) (l ∷ ls) → AreApart (l ∷ ls) → located (filter (is_line_kept kept) (l ∷ ls)) ≡ left
@@ -51,7 +51,7 @@ located_left kept (l ∷ ls) left s = by_first kept left l ls (located_left kept
 
 -- ---- the lines of the text
 
-joined-texts : (ls : List Line) → flat_map (λ l. l.text) ls ≡ joined (texts ls)
+pub joined-texts : (ls : List Line) → flat_map (λ l. l.text) ls ≡ joined (texts ls)
 joined-texts [] = refl
 joined-texts (l ∷ ls) = ap (λ t. l.text ++ t) (joined-texts ls)
 
@@ -62,7 +62,7 @@ one_buffer s = append-nil (located_from 0 1 (whole_lines s))
 lines_whole : (s : Text) → AreWhole (texts (lines (s ∷ [])))
 lines_whole s = subst AreWhole (sym (ap texts (one_buffer s) ∙ texts-located 0 1 (whole_lines s))) (are_whole s)
 
--- the text is whole lines again, and their entries are those that stay
+-- the text splits into the kept lines again, whose entries are the effective ones
 module _ (buffer text : Text) (pruned : IsPruned buffer text) where
   abbrev pub kept_lines : List Line
   kept_lines = filter (is_line_kept pruned.kept) (lines (buffer ∷ []))
@@ -76,7 +76,7 @@ module _ (buffer text : Text) (pruned : IsPruned buffer text) where
   kept_entries =
       located_left pruned.kept (lines (buffer ∷ [])) pruned.kept
       (starts pruned.kept (lines (buffer ∷ []))
-      (record { sublist = reduced_sublist (located (lines (buffer ∷ []))) pruned.kept pruned.reduced; apart = apart_lines 0 (buffer ∷ []) }))
+      (record { sublist = reduced_sublist (located (lines (buffer ∷ []))) pruned.kept pruned.effective; apart = apart_lines 0 (buffer ∷ []) }))
 
   pub text_entries : entries (located (lines (text ∷ []))) ≡ entries pruned.kept
   text_entries =
@@ -84,48 +84,47 @@ module _ (buffer text : Text) (pruned : IsPruned buffer text) where
       ∙ entries-renumbered 0 1 kept_lines
       ∙ ap entries kept_entries
 
-pub good-one : (s : Text) → entries (located (lines (s ∷ []))) ≡ good s
-good-one s = good-lines 0 (s ∷ []) ∙ append-nil (good s)
+pub mappings_of-one : (s : Text) → entries (located (lines (s ∷ []))) ≡ mappings_of s
+mappings_of-one s = mappings_of-lines 0 (s ∷ []) ∙ append-nil (mappings_of s)
 
--- what is left of a text without one of its lines says what these lines say
-pub good-without : (s : Text) (a c : List Line) (l : Line) → lines (s ∷ []) ≡ a ++ l ∷ c → good (flat_map (λ k. k.text) (a ++ c)) ≡ entries (located (a ++ c))
-good-without s a c l whole =
+-- deleting one line from a text leaves the entries of the other lines
+pub mappings_of-without : (s : Text) (a c : List Line) (l : Line) → lines (s ∷ []) ≡ a ++ l ∷ c → mappings_of (flat_map (λ k. k.text) (a ++ c)) ≡ entries (located (a ++ c))
+mappings_of-without s a c l whole =
     let rest = flat_map (λ k. k.text) (a ++ c) in
     let are = without_one a c l (subst (λ ls. AreWhole (texts ls)) whole (lines_whole s)) in
-    sym (good-one rest)
+    sym (mappings_of-one rest)
     ∙ ap (λ ls. entries (located ls))
     (one_buffer rest ∙ ap (located_from 0 1) (ap whole_lines (joined-texts (a ++ c)) ∙ whole_lines-joined (texts (a ++ c)) are))
     ∙ entries-renumbered 0 1 (a ++ c)
 
-pub same_listing : (buffer text : Text) (n : List Mapping) → IsPruned buffer text → IsNormal (good buffer) n ↔ IsNormal (good text) n
+pub same_listing : (buffer text : Text) (n : List Mapping) → IsPruned buffer text → IsNormal (mappings_of buffer) n ↔ IsNormal (mappings_of text) n
 same_listing buffer text n pruned =
-    let there = reduced_normal (located (lines (buffer ∷ []))) pruned.kept n pruned.reduced in
-    let e : good text ≡ entries pruned.kept = sym (good-one text) ∙ text_entries buffer text pruned in (
-      λ d. subst (λ h. IsNormal h n) (sym e) (there.0 (subst (λ h. IsNormal h n) (sym (good-one buffer)) d)),
-      λ d. subst (λ h. IsNormal h n) (good-one buffer) (there.1 (subst (λ h. IsNormal h n) e d)),
+    let there = reduced_normal (located (lines (buffer ∷ []))) pruned.kept n pruned.effective in
+    let e : mappings_of text ≡ entries pruned.kept = sym (mappings_of-one text) ∙ text_entries buffer text pruned in (
+      λ d. subst (λ h. IsNormal h n) (sym e) (there.0 (subst (λ h. IsNormal h n) (sym (mappings_of-one buffer)) d)),
+      λ d. subst (λ h. IsNormal h n) (mappings_of-one buffer) (there.1 (subst (λ h. IsNormal h n) e d)),
     )
 
--- ---- nothing to prune
+-- ---- pruning again
 
--- entries that say what those that stay say: none of them goes
-none_goes : (ys kept a c b d : List LocatedMapping) → IsReduced ys kept → kept ≡ a ++ c → entries a ≡ entries b → entries c ≡ entries d → IsPass b d (b ++ d)
-none_goes ys kept a [] b [] reduced parts front after = subst (IsPass b []) (sym (append-nil b)) (done b)
-none_goes ys kept a [] b (y ∷ d) reduced parts front after = cc
-none_goes ys kept a (x ∷ c) b [] reduced parts front after = cc
-none_goes ys kept a (x ∷ c) b (y ∷ d) reduced parts front after =
+-- in entries equal to the effective ones, none is redundant
+none_goes : (ys kept a c b d : List LocatedMapping) → AreEffective ys kept → kept ≡ a ++ c → entries a ≡ entries b → entries c ≡ entries d → IsPass b d (b ++ d)
+none_goes ys kept a [] b [] effective parts front after = subst (IsPass b []) (sym (append-nil b)) (done b)
+none_goes ys kept a [] b (y ∷ d) effective parts front after = cc
+none_goes ys kept a (x ∷ c) b [] effective parts front after = cc
+none_goes ys kept a (x ∷ c) b (y ∷ d) effective parts front after =
     let here : x.entry ≡ y.entry = cc in
     let after : entries c ≡ entries d = cc in
     let busy : IsRedundant (entries b) y.entry (entries d) → ⊥ =
     λ redundant.
-    none_can_go ys a c x (subst (IsReduced ys) parts reduced)
+    none_can_go ys a c x (subst (AreEffective ys) parts effective)
     (subst (λ h. IsRedundant h x.entry (entries c)) (sym front) (subst (λ e. IsRedundant (entries b) e (entries c)) (sym here) (subst (IsRedundant (entries b) y.entry) (sym after) redundant))) in
     let next : IsPass (b ++ y ∷ []) d ((b ++ y ∷ []) ++ d) =
-    none_goes ys kept (a ++ x ∷ []) c (b ++ y ∷ []) d reduced (parts ∙ sym (append_assoc a (x ∷ []) c))
+    none_goes ys kept (a ++ x ∷ []) c (b ++ y ∷ []) d effective (parts ∙ sym (append_assoc a (x ∷ []) c))
     (map-append (λ (z : LocatedMapping). z.entry) a (x ∷ []) ∙ (λ i. front i ++ here i ∷ []) ∙ sym (map-append (λ (z : LocatedMapping). z.entry) b (y ∷ [])))
     after in
     stays b y d (b ++ y ∷ d) busy (subst (IsPass (b ++ y ∷ []) d) (append_assoc b (y ∷ []) d) next)
 
--- each entry is at its position
 one_more : (x : LocatedMapping) (xs ys : List LocatedMapping) → AllByRecursion (λ y. has_entry_at xs y.position ≡ true) ys → AllByRecursion (λ y. has_entry_at (x ∷ xs) y.position ≡ true) ys
 one_more x xs [] all = tt
 one_more x xs (y ∷ ys) all = (or_right (same_position x.position y.position) (has_entry_at xs y.position) all.0, one_more x xs ys all.1)
@@ -143,17 +142,17 @@ all_left kept (l ∷ ls) =
       | Some e ↦ λ all. ap (λ b. if b then l ∷ filter (is_line_kept kept) ls else filter (is_line_kept kept) ls) all.0 ∙ ap (λ xs. l ∷ xs) (all_left kept ls all.1)
     ]
 
--- none of the entries of the text goes
-pub text_reduced : (buffer text : Text) → IsPruned buffer text → IsReduced (located (lines (text ∷ []))) (located (lines (text ∷ [])))
+-- no entry of a pruned text is redundant
+pub text_reduced : (buffer text : Text) → IsPruned buffer text → AreEffective (located (lines (text ∷ []))) (located (lines (text ∷ [])))
 text_reduced buffer text pruned =
     let xs = located (lines (text ∷ [])) in
-    settled xs (none_goes (located (lines (buffer ∷ []))) pruned.kept [] pruned.kept [] xs pruned.reduced refl refl (sym (text_entries buffer text pruned)))
+    settled xs (none_goes (located (lines (buffer ∷ []))) pruned.kept [] pruned.kept [] xs pruned.effective refl refl (sym (text_entries buffer text pruned)))
 
 pub nothing_to_prune : (buffer text : Text) → IsPruned buffer text → IsPruned text text
 nothing_to_prune buffer text pruned =
     let xs = located (lines (text ∷ [])) in record {
       kept = xs;
-      reduced = text_reduced buffer text pruned;
+      effective = text_reduced buffer text pruned;
       whole =
           sym (joined-whole_lines text)
           ∙ ap joined (sym (texts-located 0 1 (whole_lines text)) ∙ ap texts (sym (one_buffer text)))

@@ -1,4 +1,4 @@
--- What is found in a pruned text: what was found of the lines that are left, with their new numbers.
+-- The findings of a pruned text are those of the kept lines, with their new line numbers.
 use Rattle.std.proofs.Common.{◌≡◌, ◌≢◌, ◌+◌, ℕ, Bool, true, false, true≢false, if◌then◌else◌, cond, Option, Some, None, option_to_list, unwrap_or, List, [], ◌∷◌, ◌++◌, filter, length, length-append, map, append_assoc, ap, refl, subst, sym, ◌∙◌, arith}
 use Rattle.std.specs.Prelude.{◌||◌, ◌&&◌, is_none, not}
 use Rattle.std.specs.List.{AllByRecursion, cons_option, flat_map, list_any}
@@ -8,11 +8,11 @@ use Rattle.std.proofs.lemmas.List.Elements.{filter-append, filter_map-append}
 use Rattle.std.proofs.lemmas.List.Folds.{list_any-append}
 use Rattle.mailmap_entries.specs.Entries.{Mapping}
 use Rattle.mailmap_entries.specs.Folding.{Text}
-use Rattle.mailmap_git.specs.Git.{GitReading, read_in_place}
-use Rattle.mailmap_grammar.specs.Lines.{ParsedContact, Absent, Unclosed, Closed, cut, first_contact, good, is_comment, non_empty, strict_contacts, strict_line_reading, strict_reading, trimmed_contact, two_contacts, unless_blank}
+use Rattle.mailmap_findings.specs.Git.{GitReading, read_in_place}
+use Rattle.mailmap_grammar.specs.Lines.{ParsedContact, Absent, Unclosed, Closed, cut, first_contact, mappings_of, is_comment, non_empty, strict_contacts, strict_line_reading, strict_reading, trimmed_contact, two_contacts, unless_blank}
 use Rattle.mailmap_grammar.specs.Trimming.{trim}
-use Rattle.mailmap_histories.specs.Histories.{IsNormal, no_fields, scan}
-use Rattle.mailmap_redundancy.specs.Redundancy.{IsReduced, LocatedMapping, entries}
+use Rattle.mailmap_entries.specs.Semantics.{IsNormal, no_fields, answer_of}
+use Rattle.mailmap_redundancy.specs.Redundancy.{AreEffective, LocatedMapping, entries}
 use Rattle.mailmap_redundancy.specs.declared.located.Position.{Position}
 use Rattle.mailmap_redundancy.proofs.Kept.{listing_differs, one_reduced, reduced_scan}
 use Rattle.mailmap_findings.specs.Findings.{AreFindings, Contact, Finding, IsPruned, Reported, contact, findings, git_reads, has_no_effect, ignored, ignored_text, is_line_kept, is_redundant, mapped, read_otherwise, replaced, reported_of_contact, reported_of_entry, reported_of_line, reported_of_reading, same_contact, itself_mapped}
@@ -22,14 +22,14 @@ use Rattle.mailmap_findings.specs.Pruning.{at_line, is_left, lines_left, number_
 use Rattle.mailmap_findings.proofs.Accepted.{located_accepted}
 use Rattle.mailmap_findings.proofs.Deleted.{contact_none, each_stays, git_none, left_lines, lines_stay, not_reported, one_findings, reading_none, redundant_at, reported_at, reported_redundant}
 use Rattle.mailmap_findings.proofs.Placing.{apart_lines, line_at}
-use Rattle.mailmap_findings.proofs.Pruned.{all_stand, good-one, one_buffer, text_entries, text_lines, text_reduced}
+use Rattle.mailmap_findings.proofs.Pruned.{all_stand, mappings_of-one, one_buffer, text_entries, text_lines, text_reduced}
 use Rattle.mailmap_findings.proofs.Renumbered.{entry_same}
 use Rattle.mailmap_findings.proofs.Walking.{differs, same_itself}
 use Rattle.mailmap_findings.proofs.Wholes.{texts}
 
--- ---- numbers among lines
+-- ---- line numbers
 
--- the lines ls have these numbers among all, the first of them n
+-- the lines ls are numbered among all, from n on
 abbrev AreNumbered : List Line → ℕ → List Line → Type 0
 AreNumbered all n [] = Unit {0}
 AreNumbered all n (l ∷ ls) = (number_among all l.position ≡ n) × AreNumbered all (n + 1) ls
@@ -69,7 +69,7 @@ some_apart test (l ∷ ls) apart =
     some_of P [] all = tt
     some_of P (x ∷ xs) all = elim (test x) as (λ b. AllByRecursion P (if b then x ∷ filter test xs else filter test xs)) [ true ↦ (all.0, some_of P xs all.1) | false ↦ some_of P xs all.1 ]
 
--- ---- what is reported of a line with another number
+-- ---- a line's findings under another number
 
 text_numbered : (n : ℕ) (o : Option Text) → option_map ignored_text o ≡ option_map (with_number n) (option_map ignored_text o)
 text_numbered n None = refl
@@ -122,7 +122,7 @@ to_list-map : (n : ℕ) (o : Option Reported) → option_to_list (option_map (wi
 to_list-map n None = refl
 to_list-map n (Some t) = refl
 
--- what is found of a line whose entry is kept
+-- the findings of a line whose entry is effective
 abbrev kept_reported : List Mapping → Line → List Reported
 kept_reported h l = reported_of_line h [] true l
 
@@ -133,7 +133,7 @@ numbered_at : (n : ℕ) (position : Position) (ts : List Reported) → reported_
 numbered_at n position [] = refl
 numbered_at n position (t ∷ ts) = ap (λ fs. record { position = record { buffer = 0; line = n }; reported = with_number n t } ∷ fs) (numbered_at n position ts)
 
--- two histories that make the same of each contact
+-- two lists of entries that map each contact alike
 module _ (g h : List Mapping) (same : (c : Contact) → mapped g c ≡ mapped h c) where
   entry_numbered : (n : ℕ) (o : Option Mapping) → option_and_then (reported_of_entry g [] true) o ≡ option_map (with_number n) (option_and_then (reported_of_entry h [] true) o)
   entry_numbered n None = refl
@@ -160,7 +160,7 @@ module _ (g h : List Mapping) (same : (c : Contact) → mapped g c ≡ mapped h 
   found_numbered : (n : ℕ) (l : Line) → kept_findings g (line_at 0 n l.text) ≡ map (at_line n) (kept_findings h l)
   found_numbered n l = ap (reported_at (record { buffer = 0; line = n })) (line_numbered n l) ∙ numbered_at n l.position (kept_reported h l)
 
--- ---- lines whose entries are kept
+-- ---- lines whose entries are effective
 
 abbrev Stands : List LocatedMapping → Position → Option Mapping → Type 0
 Stands kept position None = Unit {0}
@@ -203,7 +203,7 @@ text_found g h same kept n (l ∷ ls) all =
     ap (λ fs. fs ++ flat_map (findings g kept) (located_from 0 (n + 1) (texts ls))) (standing g kept (line_at 0 n l.text) all.0 ∙ found_numbered g h same n l)
     ∙ ap (λ fs. map (at_line n) (kept_findings h l) ++ fs) (text_found g h same kept (n + 1) ls all.1)
 
--- ---- those of the buffer whose lines are left
+-- ---- the findings of the buffer's kept lines
 
 line_left : (found : List Finding) (position : Position) (b : Bool) (ts : List Reported) → not (list_any (redundant_at position) found) ≡ b
     → filter (is_left found) (reported_at position ts) ≡ (if b then reported_at position ts else [])
@@ -231,7 +231,7 @@ left_found found h kept (l ∷ ls) all =
       | false ↦ λ is. refl
     ] refl
 
--- ---- with their new numbers
+-- ---- renumbering them
 
 renumbered_at : (all : List Line) (n : ℕ) (position : Position) (ts : List Reported) → number_among all position ≡ n → map (renumbered all) (reported_at position ts) ≡ map (at_line n) (reported_at position ts)
 renumbered_at all n position [] is = refl
@@ -246,7 +246,7 @@ renumbered_all h all n (l ∷ ls) are =
     ∙ ap (λ fs. fs ++ map (renumbered all) (flat_map (kept_findings h) ls)) (renumbered_at all n l.position (kept_reported h l) are.0)
     ∙ ap (λ fs. map (at_line n) (kept_findings h l) ++ fs) (renumbered_all h all (n + 1) ls are.1)
 
--- ---- what is found in the text
+-- ---- both are equal
 
 module _ (buffer text : Text) (pruned : IsPruned buffer text) where
   abbrev own : List LocatedMapping
@@ -262,7 +262,7 @@ module _ (buffer text : Text) (pruned : IsPruned buffer text) where
   same_mapped c =
       let name = unwrap_or c.name [] in
       ap (λ o. replaced (unwrap_or o no_fields) c)
-      (ap (λ es. scan es name c.email) (text_entries buffer text pruned) ∙ reduced_scan (located (lines (buffer ∷ []))) pruned.kept name c.email pruned.reduced)
+      (ap (λ es. answer_of es name c.email) (text_entries buffer text pruned) ∙ reduced_scan (located (lines (buffer ∷ []))) pruned.kept name c.email pruned.effective)
 
   own_lines : lines (text ∷ []) ≡ located_from 0 1 (texts left_ones)
   own_lines = one_buffer text ∙ ap (located_from 0 1) (text_lines buffer text pruned)
@@ -271,7 +271,7 @@ module _ (buffer text : Text) (pruned : IsPruned buffer text) where
   own_stand = all_stands own (lines (text ∷ [])) (all_stand own)
 
   own_found : (left : List Finding) → AreFindings (text ∷ []) left → left ≡ flat_map (findings (entries own) own) (lines (text ∷ []))
-  own_found left are = one_findings (text ∷ []) left (flat_map (findings (entries own) own) (lines (text ∷ []))) are (record { kept = own; reduced = text_reduced buffer text pruned; whole = refl })
+  own_found left are = one_findings (text ∷ []) left (flat_map (findings (entries own) own) (lines (text ∷ []))) are (record { kept = own; effective = text_reduced buffer text pruned; whole = refl })
 
   text_findings : (left : List Finding) → AreFindings (text ∷ []) left → left ≡ numbered_findings whole_history 1 left_ones
   text_findings left are =
@@ -279,21 +279,21 @@ module _ (buffer text : Text) (pruned : IsPruned buffer text) where
       ∙ ap (flat_map (findings (entries own) own)) own_lines
       ∙ text_found (entries own) whole_history same_mapped own 1 left_ones (subst (AllByRecursion (λ l. Stands own l.position (entry l))) own_lines own_stand)
 
-  -- of the buffer's lines those are left that are kept
+  -- the lines that the findings leave are those that pruning keeps
   buffer_left : (found : List Finding) → AreFindings (buffer ∷ []) found → lines_left buffer found ≡ left_ones
   buffer_left found are =
       left_lines (buffer ∷ []) found are
-      ∙ ap (λ kept. filter (is_line_kept kept) (lines (buffer ∷ []))) (one_reduced (located (lines (buffer ∷ []))) are.kept pruned.kept are.reduced pruned.reduced)
+      ∙ ap (λ kept. filter (is_line_kept kept) (lines (buffer ∷ []))) (one_reduced (located (lines (buffer ∷ []))) are.kept pruned.kept are.effective pruned.effective)
 
   buffer_findings : (found : List Finding) → AreFindings (buffer ∷ []) found → filter (is_left found) found ≡ flat_map (kept_findings whole_history) left_ones
   buffer_findings found are =
       let ls = lines (buffer ∷ []) in
-      let stay = lines_stay are.kept ls (each_stays (located ls) are.kept are.reduced (located_accepted ls)) in
+      let stay = lines_stay are.kept ls (each_stays (located ls) are.kept are.effective (located_accepted ls)) in
       let all : List Finding = flat_map (findings whole_history are.kept) ls in
       let none = not_reported whole_history are.kept all ls (reported_redundant whole_history are.kept ls (apart_lines 0 (buffer ∷ [])) stay) in
       ap (λ fs. filter (is_left fs) fs) are.whole
       ∙ left_found all whole_history are.kept ls none
-      ∙ ap (λ kept. flat_map (kept_findings whole_history) (filter (is_line_kept kept) ls)) (one_reduced (located ls) are.kept pruned.kept are.reduced pruned.reduced)
+      ∙ ap (λ kept. flat_map (kept_findings whole_history) (filter (is_line_kept kept) ls)) (one_reduced (located ls) are.kept pruned.kept are.effective pruned.effective)
 
   left_numbered : AreNumbered left_ones 1 left_ones
   left_numbered = are_numbered [] left_ones (some_apart (is_line_kept pruned.kept) (lines (buffer ∷ [])) (apart_lines 0 (buffer ∷ [])))
@@ -308,7 +308,7 @@ others_stay buffer text found left are pruned left_are =
     ∙ ap (map (renumbered ls)) (sym (buffer_findings buffer text pruned found are))
     ∙ ap (λ all. map (renumbered all) (filter (is_left found) found)) (sym (buffer_left buffer text pruned found are))
 
--- ---- no line without effect
+-- ---- no line is without effect
 
 none_of : (position there : Position) (ts : List Reported) → list_any has_no_effect ts ≡ false → list_any (redundant_at position) (reported_at there ts) ≡ false
 none_of position there [] = λ none. refl
@@ -347,10 +347,10 @@ none_redundant buffer text left l pruned are =
     let xs = own buffer text pruned in
     ap (λ fs. is_redundant fs l) (own_found buffer text pruned left are) ∙ none_found (entries xs) xs l.position (lines (text ∷ [])) (own_stand buffer text pruned)
 
--- ---- no line with an entry can go
+-- ---- no line with an entry can be deleted
 
 pub none_can_go : (buffer text : Text) (a c : List Line) (l : Line) (e : Mapping) (n m : List Mapping) → IsPruned buffer text → lines (text ∷ []) ≡ a ++ l ∷ c → entry l ≡ Some e
-    → IsNormal (good text) n → IsNormal (entries (located (a ++ c))) m → n ≢ m
+    → IsNormal (mappings_of text) n → IsNormal (entries (located (a ++ c))) m → n ≢ m
 none_can_go buffer text a c l e n m pruned whole given with_l without =
     let xs = located (lines (text ∷ [])) in
     let x : LocatedMapping = record { position = l.position; entry = e } in
@@ -358,6 +358,6 @@ none_can_go buffer text a c l e n m pruned whole given with_l without =
     ap located whole ∙ filter_map-append located_entry a (l ∷ c)
     ∙ ap (λ o. located a ++ cons_option (option_map (λ (y : Mapping). record { position = l.position; entry = y }) o) (located c)) given in
     listing_differs xs (located a) (located c) x n m
-    (subst (IsReduced xs) parts (text_reduced buffer text pruned))
-    (subst (λ h. IsNormal h n) (sym (good-one text)) with_l)
+    (subst (AreEffective xs) parts (text_reduced buffer text pruned))
+    (subst (λ h. IsNormal h n) (sym (mappings_of-one text)) with_l)
     (subst (λ ys. IsNormal (entries ys) m) (filter_map-append located_entry a c) without)

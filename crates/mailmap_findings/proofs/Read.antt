@@ -1,4 +1,4 @@
--- What lines say with their line feeds is what the pieces between line feeds say, and their entries are those of the buffers.
+-- Parsing lines with their line feeds has the same result as parsing the pieces between line feeds.
 use Rattle.std.proofs.Common.{take-append-drop, ◌<◌, ◌-◌, suc, length, take, drop, get_or, arith, ◌≡◌, ◌+◌, ◌==◌, ℕ, true, false, cond, Option, Some, None, option_to_list, Ok, Err, List, [], ◌∷◌, ◌++◌, inl, inr, ⊎_elim, append-nil, refl, sym, ap, ◌∙◌}
 use Rattle.std.specs.List.{cons_option, flat_map}
 use Rattle.std.specs.Option.{option_and_then, option_map}
@@ -12,12 +12,12 @@ use Rattle.mailmap_entries.specs.Folding.{Text}
 use Rattle.mailmap_grammar.specs.Trimming.{trim}
 use Rattle.mailmap_redundancy.specs.declared.located.Position.{Position}
 use Rattle.mailmap_findings.specs.Findings.{ignored, ignored_text, reported_of_reading}
-use Rattle.mailmap_grammar.specs.Lines.{trailing_text, cut, non_empty, Reading, reading_by, line_reading, strict_line_reading, unless_blank, reading, strict_reading, readings_from, pieces, with_first, good, good_of}
+use Rattle.mailmap_grammar.specs.Lines.{trailing_text, cut, non_empty, Reading, reading_by, line_reading, strict_line_reading, unless_blank, reading, strict_reading, readings_from, pieces, with_first, mappings_of, mappings_in}
 use Rattle.mailmap_grammar.proofs.Trimmed.{trim-white_end}
 use Rattle.mailmap_redundancy.specs.Redundancy.{LocatedMapping, entries}
 use Rattle.mailmap_findings.specs.Positions.{IsPieceOf, Line, entry, located, located_entry, located_from, whole_lines, lines_from, lines}
 
--- a line feed at the end says nothing
+-- a line feed at the end changes nothing
 reading_by-feed : (says : ℕ → Text → Reading) (n : ℕ) (z : Text) → reading_by says n (z ++ 10 ∷ []) ≡ reading_by says n z
 unfolding encode_utf8
 reading_by-feed says n [] = ap (unless_blank says n) (trim-white_end 10 [] refl)
@@ -47,7 +47,7 @@ are_pieces (b ∷ s) =
 pub same_reading : (says : ℕ → Text → Reading) (n : ℕ) (w p : Text) → IsPieceOf w p → reading_by says n w ≡ reading_by says n p
 same_reading says n w p is = ⊎_elim (λ e. ap (reading_by says n) e) (λ e. ap (reading_by says n) e ∙ reading_by-feed says n p) is
 
--- what is reported of it by what it says, and its entry, are the same
+-- including the finding about the text
 reported_alike : (w p : Text) → ignored w ≡ ignored p → (o : Option Reading) → reported_of_reading w o ≡ reported_of_reading p o
 reported_alike w p is None = refl
 reported_alike w p is (Some (Err f)) = refl
@@ -60,7 +60,6 @@ same_ignored w p is = ⊎_elim (λ e. ap ignored e) (λ e. ap ignored e ∙ ap (
 pub same_reported : (n : ℕ) (w p : Text) → IsPieceOf w p → reported_of_reading w (strict_reading n w) ≡ reported_of_reading p (strict_reading n p)
 same_reported n w p is = reported_alike w p (same_ignored w p is) (strict_reading n w) ∙ ap (reported_of_reading p) (same_reading strict_line_reading n w p is)
 
--- a line feed at the end
 pub last-feed : (s : Text) → 0 < length s → get_or s (length s - 1) 0 ≡ 10 → s ≡ take (length s - 1) s ++ 10 ∷ []
 last-feed s some is =
     let n = length s - 1 in
@@ -72,7 +71,7 @@ pub same_entry : (position : Position) (w p : Text) → IsPieceOf w p → entry 
 unfolding entry
 same_entry position w p is = ap (option_and_then result_ok) (same_reading line_reading position.line w p is)
 
--- ---- all that lines say
+-- ---- all readings
 
 abbrev pub said : (ℕ → Text → Option Reading) → List Line → List Reading
 said read ls = flat_map (λ l. option_to_list (read l.position.line l.text)) ls
@@ -92,30 +91,30 @@ said-buffer says s = ap (said (reading_by says)) (append-nil (located_from 0 1 (
 
 -- ---- the entries
 
-good_first : (o : Option Reading) (l : Line) (ls : List Line) (rs : List Reading) → entry l ≡ option_and_then result_ok o → entries (located ls) ≡ good_of rs
-    → entries (located (l ∷ ls)) ≡ good_of (option_to_list o ++ rs)
-unfolding good_of
+good_first : (o : Option Reading) (l : Line) (ls : List Line) (rs : List Reading) → entry l ≡ option_and_then result_ok o → entries (located ls) ≡ mappings_in rs
+    → entries (located (l ∷ ls)) ≡ mappings_in (option_to_list o ++ rs)
+unfolding mappings_in
 good_first None l ls rs is e = ap (λ x. entries (cons_option (option_map (λ m. record { position = l.position; entry = m }) x) (located ls))) is ∙ e
 good_first (Some (Ok m)) l ls rs is e = ap (λ x. entries (cons_option (option_map (λ m. record { position = l.position; entry = m }) x) (located ls))) is ∙ ap (λ es. m ∷ es) e
 good_first (Some (Err f)) l ls rs is e = ap (λ x. entries (cons_option (option_map (λ m. record { position = l.position; entry = m }) x) (located ls))) is ∙ e
 
-good-located : (buffer n : ℕ) (ws ps : List Text) → ArePiecesOf ws ps → entries (located (located_from buffer n ws)) ≡ good_of (readings_from reading n ps)
-unfolding located_from readings_from good_of entry
-good-located buffer n [] [] are = refl
-good-located buffer n [] (p ∷ ps) are = absurd are
-good-located buffer n (w ∷ ws) [] are = absurd are
-good-located buffer n (w ∷ ws) (p ∷ ps) are =
+mappings_of-located : (buffer n : ℕ) (ws ps : List Text) → ArePiecesOf ws ps → entries (located (located_from buffer n ws)) ≡ mappings_in (readings_from reading n ps)
+unfolding located_from readings_from mappings_in entry
+mappings_of-located buffer n [] [] are = refl
+mappings_of-located buffer n [] (p ∷ ps) are = absurd are
+mappings_of-located buffer n (w ∷ ws) [] are = absurd are
+mappings_of-located buffer n (w ∷ ws) (p ∷ ps) are =
     good_first (reading n p) (record { position = record { buffer = buffer; line = n }; text = w }) (located_from buffer (n + 1) ws) (readings_from reading (n + 1) ps)
     (ap (option_and_then result_ok) (same_reading line_reading n w p are.0))
-    (good-located buffer (n + 1) ws ps are.1)
+    (mappings_of-located buffer (n + 1) ws ps are.1)
 
-entries-append : (xs ys : List Line) → entries (located (xs ++ ys)) ≡ entries (located xs) ++ entries (located ys)
+pub entries-append : (xs ys : List Line) → entries (located (xs ++ ys)) ≡ entries (located xs) ++ entries (located ys)
 entries-append xs ys = ap entries (filter_map-append located_entry xs ys) ∙ map-append (λ (x : LocatedMapping). x.entry) (located xs) (located ys)
 
-pub good-lines : (buffer : ℕ) (ss : List Text) → entries (located (lines_from buffer ss)) ≡ flat_map good ss
+pub mappings_of-lines : (buffer : ℕ) (ss : List Text) → entries (located (lines_from buffer ss)) ≡ flat_map mappings_of ss
 unfolding lines_from
-good-lines buffer [] = refl
-good-lines buffer (s ∷ ss) =
+mappings_of-lines buffer [] = refl
+mappings_of-lines buffer (s ∷ ss) =
     entries-append (located_from buffer 1 (whole_lines s)) (lines_from (buffer + 1) ss)
-    ∙ ap (λ es. es ++ entries (located (lines_from (buffer + 1) ss))) (good-located buffer 1 (whole_lines s) (pieces s) (are_pieces s))
-    ∙ ap (λ es. good s ++ es) (good-lines (buffer + 1) ss)
+    ∙ ap (λ es. es ++ entries (located (lines_from (buffer + 1) ss))) (mappings_of-located buffer 1 (whole_lines s) (pieces s) (are_pieces s))
+    ∙ ap (λ es. mappings_of s ++ es) (mappings_of-lines (buffer + 1) ss)

@@ -1,4 +1,4 @@
--- The entry of a line is the same wherever the line stands.
+-- The entry of a line doesn't depend on its position.
 use Rattle.std.proofs.Common.{◌≡◌, ◌+◌, ℕ, true, false, cond, Some, None, List, [], ◌∷◌, refl, ap, ◌∙◌}
 use Rattle.std.specs.List.{cons_option}
 use Rattle.std.specs.Option.{option_and_then, option_map}
@@ -41,7 +41,6 @@ pub entry_same : (l m : Line) → l.text ≡ m.text → entry l ≡ entry m
 unfolding entry
 entry_same l m e = reading_same l.position.line m.position.line l.text ∙ ap (λ t. option_and_then result_ok (reading m.position.line t)) e
 
--- lines at other positions have the same entries
 pub entries-renumbered : (buffer line : ℕ) (ls : List Line) → entries (located (located_from buffer line (texts ls))) ≡ entries (located ls)
 unfolding located_from
 entries-renumbered buffer line [] = refl

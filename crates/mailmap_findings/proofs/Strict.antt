@@ -1,4 +1,4 @@
--- A line that the strict reading takes is read alike for lookups.
+-- A line that passes strict parsing parses to the same entry leniently.
 use Rattle.std.proofs.Common.{◌≡◌, ℕ, Bool, true, false, cond, Some, None, Ok, [], ◌∷◌}
 use Rattle.mailmap_entries.specs.Entries.{Mapping}
 use Rattle.mailmap_entries.specs.Folding.{Text}
@@ -25,7 +25,7 @@ unless n (b ∷ t) e is = λ i. Some (first n (b ∷ t) (trimmed_contact (cut (b
     inside : {r : Reading} → Some r ≡ Some (Ok e) → r ≡ Ok e
     inside q = cc
 
--- what the strict reading takes
+-- a line with an entry
 pub taken : (n : ℕ) (line : Text) (e : Mapping) → strict_reading n line ≡ Some (Ok e) → reading n line ≡ Some (Ok e)
 taken n line e = by (is_comment line)
   where
@@ -37,7 +37,7 @@ blank : (n : ℕ) (t : Text) → unless_blank strict_line_reading n t ≡ None �
 blank n [] is = is
 blank n (b ∷ t) is = cc
 
--- what the strict reading passes over
+-- a line without an entry or a fault
 pub passed_over : (n : ℕ) (line : Text) → strict_reading n line ≡ None → reading n line ≡ None
 passed_over n line = by (is_comment line)
   where

@@ -1,4 +1,4 @@
--- A walk over lines meets the kept entries in step.
+-- An iteration over lines stays in step with the effective entries.
 use Rattle.std.proofs.Common.{◌≡◌, ◌≢◌, ◌+◌, ◌<◌, ◌≤◌, ℕ, suc, Bool, true, false, if◌then◌else◌, Some, None, List, [], ◌∷◌, Bor, drop, get_or, length, map, ⊎_elim, arith, refl, sym, ap, subst, ◌∙◌}
 use Rattle.std.specs.Prelude.{◌||◌}
 use Rattle.std.specs.List.{AllByRecursion, cons_option}
@@ -26,21 +26,18 @@ same_is a b same =
 pub differs : (a b : Position) → a ≢ b → same_position a b ≡ false
 differs a b other = ⊎_elim (λ yes. absurd (other (same_is a b yes))) (λ no. no) (cases_Bool (same_position a b))
 
--- ---- the first entry
+-- ---- the first remaining entry
 
--- whether the first of the entries is at this position
 abbrev pub is_first_at : List LocatedMapping → Position → Bool
 is_first_at [] position = false
 is_first_at (x ∷ xs) position = same_position x.position position
 
--- the entries without the first, if that is at this position
 abbrev pub without_first_at : List LocatedMapping → Position → List LocatedMapping
 without_first_at [] position = []
 without_first_at (x ∷ xs) position = if same_position x.position position then xs else x ∷ xs
 
--- ---- if no entry is there
+-- ---- no entry is at the position
 
--- none of the entries is at this position
 abbrev pub Elsewhere : Position → List LocatedMapping → Type 0
 Elsewhere position = AllByRecursion (λ x. x.position ≢ position)
 
@@ -64,9 +61,9 @@ pub none_passed : (position : Position) (xs : List LocatedMapping) → Elsewhere
 none_passed position [] a = refl
 none_passed position (x ∷ xs) a = cond-false _ _ _ (differs x.position position a.0)
 
--- ---- a walk
+-- ---- an iteration
 
--- of all kept entries those are left that are on the lines that are left
+-- the remaining entries are the effective entries of the remaining lines
 pub record InStep (kept left : List LocatedMapping) (ls : List Line) : Type 0 where
   pub same : AllByRecursion (λ l. has_entry_at kept l.position ≡ has_entry_at left l.position) ls
   pub walk : IsWalk left ls
@@ -78,7 +75,7 @@ all_same kept (l ∷ ls) = (refl, all_same kept ls)
 pub starts : (kept : List LocatedMapping) (ls : List Line) → IsWalk kept ls → InStep kept kept ls
 starts kept ls walk = record { same = all_same kept ls; walk = walk }
 
--- a first line whose entry is not among those left, or is the first of them
+-- the first line's entry is not among the remaining ones, or is the first of them
 pub data First (l : Line) (ls : List Line) : List LocatedMapping → Type 0 where
   passes : (left : List LocatedMapping) → IsSublist left (located ls) → First l ls left
   meets : (x : LocatedMapping) (left : List LocatedMapping) → x.position ≡ l.position → located_entry l ≡ Some x → IsSublist left (located ls) → First l ls (x ∷ left)
@@ -94,7 +91,7 @@ first_met l ls left =
       | Some e ↦ λ is s. first_some l ls left (record { position = l.position; entry = e }) refl (ap (option_map (λ m. record { position = l.position; entry = m })) is) s
     ] refl
 
--- without a first entry that is elsewhere, there are entries at the same lines
+-- dropping a first entry that is on none of the lines
 without_first : (kept left : List LocatedMapping) (x : LocatedMapping) (ls : List Line) → AllByRecursion (λ l. l.position ≢ x.position) ls
     → AllByRecursion (λ l. has_entry_at kept l.position ≡ has_entry_at (x ∷ left) l.position) ls → AllByRecursion (λ l. has_entry_at kept l.position ≡ has_entry_at left l.position) ls
 without_first kept left x [] apart same = tt
@@ -103,7 +100,7 @@ without_first kept left x (l ∷ ls) apart same = (
   without_first kept left x ls apart.1 same.1,
 )
 
--- one step: whether the entry of the line is kept shows in the first of those left
+-- one step: the line's entry is effective exactly if the first remaining entry is at its position
 pub record Step (kept left : List LocatedMapping) (l : Line) (ls : List Line) : Type 0 where
   pub stays : has_entry_at kept l.position ≡ is_first_at left l.position
   pub next : InStep kept (without_first_at left l.position) ls
@@ -135,7 +132,7 @@ same_marked : (kept left : List LocatedMapping) (ls : List Line) → AllByRecurs
 same_marked kept left [] all = refl
 same_marked kept left (l ∷ ls) all = λ i. (l, all.0 i) ∷ same_marked kept left ls all.1 i
 
--- the first line, marked, and the walk after it
+-- the first line with its mark, and the iteration after it
 pub record IsFirstMarked (kept left : List LocatedMapping) (l : Line) (is_kept : Bool) (ls : List Line) : Type 0 where
   pub whole : map (marked kept) (l ∷ ls) ≡ (l, is_kept) ∷ map (marked left) ls
   pub walk : IsWalk left ls
@@ -147,7 +144,7 @@ first_marked kept left l is_kept ls walk first rest =
     let next = subst (λ xs. InStep kept xs ls) rest one.next in
     record { whole = λ i. (l, (one.stays ∙ first) i) ∷ same_marked kept left ls next.same i; walk = next.walk }
 
--- ---- the code's walk, which has passed the first i of the kept entries
+-- ---- the program's iteration, past the first i effective entries
 
 abbrev pub kept_from : ℕ → List (Bor LocatedEntry) → List LocatedMapping
 kept_from i kept = map located_of_reference (drop i kept)
@@ -171,13 +168,13 @@ module _ (kept : List (Bor LocatedEntry)) (i : ℕ) (ls rest : List Line) (l : L
         let e : suc i ≡ i + 1 = omega arith in
         ap (map located_of_reference) (drop-cons kept i x within) ∙ (λ j. located_of_reference (sym here j) ∷ kept_from (e j) kept)
 
-    -- the next one is of another line
+    -- the next entry is another line's
     pub other_marked : same_position x.now.position l.position ≡ false → (map (marked (kept_from i kept)) ls ≡ (l, false) ∷ map (marked (kept_from i kept)) rest) × IsWalk (kept_from i kept) rest
     other_marked other =
         marked_by (kept_from i kept) false (ap (λ xs. is_first_at xs l.position) parts ∙ other)
         (ap (λ xs. without_first_at xs l.position) parts ∙ cond-false _ _ _ other ∙ sym parts)
 
-    -- the next one is of this line
+    -- the next entry is this line's
     pub kept_marked : same_position x.now.position l.position ≡ true → (map (marked (kept_from i kept)) ls ≡ (l, true) ∷ map (marked (kept_from (i + 1) kept)) rest) × IsWalk (kept_from (i + 1) kept) rest
     kept_marked same =
         marked_by (kept_from (i + 1) kept) true (ap (λ xs. is_first_at xs l.position) parts ∙ same)

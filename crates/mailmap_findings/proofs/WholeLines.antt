@@ -1,4 +1,4 @@
--- The lines that bstr gives are those of the definition.
+-- bstr splits a text into the lines of the specification.
 use Rattle.std.proofs.Common.{◌≡◌, ◌==◌, ℕ, suc, List, [], ◌∷◌, take, drop, sym, ap, ◌∙◌, arith, ⊎_elim}
 use Rattle.std.proofs.lemmas.Bool.{cases_Bool, cond-true, cond-false}
 use Rattle.bstr.specs.Text.{line_len, lines_of}
@@ -6,7 +6,7 @@ use Rattle.bstr.proofs.lemmas.LineLemmas.{lines-nil, lines-step}
 use Rattle.mailmap_grammar.specs.Lines.{with_first}
 use Rattle.mailmap_findings.specs.Positions.{whole_lines}
 
--- one more byte in front of the first line
+-- prepending a byte to the first line
 one_more : (b : ℕ) (s : List ℕ) → (b ∷ take (line_len s) s) ∷ lines_of (drop (line_len s) s) ≡ with_first b (lines_of s)
 unfolding line_len
 one_more b [] = ap (λ ls. (b ∷ []) ∷ ls) lines-nil ∙ sym (ap (with_first b) lines-nil)

@@ -1,4 +1,4 @@
--- Lines as they are: together they are their buffer, and some of them are the lines of what they are together.
+-- The lines of a buffer concatenate to it, and concatenating some of them gives a text with exactly these lines.
 use Rattle.std.proofs.Common.{◌≡◌, ◌≢◌, ◌⊎◌, ◌==◌, ℕ, Bool, true, false, if◌then◌else◌, List, [], ◌∷◌, ◌++◌, map, filter, inl, inr, ⊎_elim, append-nil, refl, sym, ap, ◌∙◌}
 use Rattle.std.specs.List.{flat_map}
 use Rattle.std.proofs.lemmas.Bool.{cond-false, cond_both, ne_eqb, eqb-false, eqb-true}
@@ -9,7 +9,7 @@ use Rattle.mailmap_findings.specs.Positions.{Line, whole_lines}
 abbrev pub joined : List Text → Text
 joined ts = flat_map (λ t. t) ts
 
--- ---- together they are their buffer
+-- ---- lines concatenate to their buffer
 
 joined-with_first : (b : ℕ) (ts : List Text) → joined (with_first b ts) ≡ b ∷ joined ts
 joined-with_first b [] = refl
@@ -22,17 +22,17 @@ joined-whole_lines (b ∷ s) =
     cond_both (b == 10) _ _ (λ ts. joined ts ≡ b ∷ s) (λ feed. ap (λ t. b ∷ t) (joined-whole_lines s))
     (λ other. joined-with_first b (whole_lines s) ∙ ap (λ t. b ∷ t) (joined-whole_lines s))
 
--- ---- which texts are the lines of what they are together
+-- ---- when texts are the lines of their concatenation
 
 -- a line feed at the end, and nowhere else
 abbrev IsEnded : Text → Type 0
 IsEnded t = (front : Text) × HoldsNo 10 front × (t ≡ front ++ 10 ∷ [])
 
--- no line feed
+-- not empty, and without a line feed
 abbrev IsOpen : Text → Type 0
 IsOpen t = (t ≢ []) × HoldsNo 10 t
 
--- each is a line with its line feed, but a last one may have none
+-- each text ends in its only line feed, which the last text may lack
 abbrev pub AreWhole : List Text → Type 0
 AreWhole [] = Unit {0}
 AreWhole (t ∷ ts) = (IsEnded t ⊎ (IsOpen t × (ts ≡ []))) × AreWhole ts
@@ -77,7 +77,7 @@ whole_lines-joined (t ∷ ts) are = ⊎_elim
     (λ w. ap (λ xs. whole_lines (t ++ joined xs)) w.1 ∙ ap whole_lines (append-nil t) ∙ lines-open t w.0.1 w.0.0 ∙ ap (λ xs. t ∷ xs) (sym w.1))
     are.0
 
--- ---- some of them
+-- ---- some of the lines
 
 abbrev pub texts : List Line → List Text
 texts ls = map (λ l. l.text) ls

@@ -1,4 +1,4 @@
--- What is known of lines once they were read.
+-- Lines whose entry is all there is to know.
 use Rattle.std.specs.Prelude.{◌≡◌, Bool, true, Option, Some, List, is_none}
 use Rattle.std.specs.List.{filter_map}
 use Rattle.std.specs.Option.{option_map}
@@ -7,17 +7,17 @@ use Rattle.mailmap_grammar.specs.Lines.{strict_reading}
 use Rattle.mailmap_findings.specs.Findings.{Reported, reported_of_reading}
 use Rattle.mailmap_findings.specs.Positions.{Line, entry}
 
--- what is reported of a line by what it says
+-- the finding about the text of a line
 abbrev pub reported_of_text : Line → Option Reported
 reported_of_text l = reported_of_reading l.text (strict_reading l.position.line l.text)
 
 abbrev pub is_clean : Line → Bool
 is_clean l = is_none (reported_of_text l)
 
--- of each line that gives an entry, whether it is clean
+-- for each line that has an entry, whether it is clean
 abbrev pub are_clean : List Line → List Bool
 are_clean ls = filter_map (λ l. option_map (λ e. is_clean l) (entry l)) ls
 
--- the line gives this entry, and nothing else is reported of what it says
+-- the line has this entry, and neither a fault nor ignored text
 abbrev pub SaysOnly : Line → Mapping → Type 0
 SaysOnly l e = (entry l ≡ Some e) × (is_clean l ≡ true)

@@ -1,4 +1,4 @@
--- What is found in mailmaps, and what is kept of one that is pruned.
+-- The findings of mailmaps, and the lines that pruning keeps.
 use Rattle.std.specs.Prelude.{◌≡◌, ◌<◌, ◌≤◌, ◌⊎◌, ◌++◌, ◌∷◌, ◌||◌, ◌&&◌, Bool, true, false, if◌then◌else◌, Option, Some, None, List, [], Ok, Err, map, filter, is_none, is_some, nat_eq, unwrap_or}
 use Rattle.std.specs.List.{AllByRecursion, flat_map, list_any}
 use Rattle.std.specs.Option.{option_and_then, option_copied, option_map, option_or, option_to_list}
@@ -7,23 +7,22 @@ use Rattle.mailmap_entries.specs.Entries.{Mapping}
 use Rattle.mailmap_entries.specs.Folding.{Text}
 use Rattle.mailmap_grammar.specs.Lines.{Fault, fault_of, Reading, trailing_text, cut, non_empty, strict_reading}
 use Rattle.mailmap_grammar.specs.Trimming.{trim}
-use Rattle.mailmap_git.specs.Git.{GitReading, git_reading_of, read_in_place}
-use Rattle.mailmap_histories.specs.Histories.{Fields, fields_for, first, key}
-use Rattle.mailmap_histories.specs.Listings.{same_optional}
-use Rattle.mailmap_redundancy.specs.Redundancy.{LocatedMapping, IsReduced, entries, last_position}
+use Rattle.mailmap_findings.specs.Git.{GitReading, git_reading_of, read_in_place}
+use Rattle.mailmap_entries.specs.Semantics.{Fields, fields_for, first, key}
+use Rattle.mailmap_entries.specs.Listings.{same_optional}
+use Rattle.mailmap_redundancy.specs.Redundancy.{LocatedMapping, AreEffective, entries, last_position}
 use Rattle.mailmap_redundancy.specs.declared.located.Position.{Position}
 use Rattle.mailmap_findings.specs.Positions.{Line, entry, lines, located, same_position, has_entry_at}
 use Rattle.mailmap_findings.specs.declared.verify.Contact as the_contact
 use Rattle.mailmap_findings.specs.declared.verify.Finding as the_finding
-use Rattle.mailmap_findings.specs.declared.verify.Kind as the_kind
-use Rattle.mailmap_findings.specs.declared.verify.Kind.TheVariants as variant
+use Rattle.mailmap_findings.specs.declared.verify.FindingKind as the_kind
+use Rattle.mailmap_findings.specs.declared.verify.FindingKind.TheVariants as variant
 
--- a name, if one is known, and an email
 pub record Contact : Type 0 where
   pub name : Option Text
   pub email : Text
 
--- what may be reported of a line
+-- the kinds of findings
 pub data Reported : Type 0 where
   fault : Fault → Reported
   ignored_text : Text → Reported
@@ -31,16 +30,15 @@ pub data Reported : Type 0 where
   no_effect : Position → Reported
   itself_mapped : Contact → Contact → Reported
 
--- what is reported, and the position of the line that it is reported of
 pub record Finding : Type 0 where
   pub position : Position
   pub reported : Reported
 
--- the code's contact, kind of finding, and finding
+-- the specification's view of a contact, a kind and a finding
 abbrev pub contact_of : the_contact.Contact → Contact
 contact_of c = record { name = option_copied c.name; email = c.email.now }
 
-abbrev pub reported_of : the_kind.Kind → Reported
+abbrev pub reported_of : the_kind.FindingKind → Reported
 reported_of (variant.Fault e) = fault (fault_of e)
 reported_of (variant.IgnoredText text) = ignored_text text.now
 reported_of (variant.GitReads reading) = git_reads (git_reading_of reading)
@@ -50,39 +48,38 @@ reported_of (variant.ItselfMapped contact to) = itself_mapped (contact_of contac
 abbrev pub finding_of : the_finding.Finding → Finding
 finding_of f = record { position = f.position; reported = reported_of f.kind }
 
--- ---- what a line says for itself
+-- ---- findings about the text of a line
 
--- the text of a line with an entry that the entry has nothing of
+-- the text after the last email of a line that has an entry
 abbrev pub ignored : Text → Text
 ignored line = trim (trailing_text (cut (trim line)))
 
--- what is reported of a line by what it says, read strictly: its fault, or else the text that is ignored, if it is not
--- blank
+-- the fault that strict parsing finds, or else the ignored text, if it isn't blank
 abbrev pub reported_of_reading : Text → Option Reading → Option Reported
 reported_of_reading line None = None
 reported_of_reading line (Some (Err f)) = Some (fault f)
 reported_of_reading line (Some (Ok e)) = option_map ignored_text (non_empty (ignored line))
 
--- what git reads of a line in place of its entry, if that is not the same
+-- what git reads from a line, if that differs from its entry
 abbrev pub read_otherwise : Line → Option GitReading
 read_otherwise l = read_in_place (entry l) l.text
 
--- the position of the first line of buffers that git reads otherwise
+-- the position of the first line that git reads in another way
 abbrev pub first_read_otherwise : List Text → Option Position
 first_read_otherwise buffers = option_map (λ l. l.position)
     (first (filter (λ l. is_some (read_otherwise l)) (lines buffers)))
 
--- ---- what its entry does in a history
+-- ---- findings about the entry of a line
 
--- the contact that an entry maps to: its new fields, and for those that it has not its old ones
+-- the contact that an entry maps to: its new fields where it has them, else its old ones
 abbrev pub contact : Mapping → Contact
 contact e = record { name = option_or e.new_name e.old_name; email = unwrap_or e.new_email e.old_email }
 
--- the contact with these fields, if there are any, in place of its own; it has no name if it had none
+-- the contact with its fields overridden; one without a name gets none
 abbrev pub replaced : Fields → Contact → Contact
 replaced f c = record { name = option_map (unwrap_or f.name) c.name; email = unwrap_or f.email c.email }
 
--- what the history makes of a contact; if no name is known only its email counts
+-- what a contact maps to; one without a name is looked up by its email
 abbrev pub mapped : List Mapping → Contact → Contact
 mapped h c = replaced (fields_for h (unwrap_or c.name []) c.email) c
 
@@ -93,15 +90,15 @@ same_contact a b = same_optional a.name b.name && pointwise nat_eq a.email b.ema
 abbrev pub reported_of_contact : Contact → Contact → Option Reported
 reported_of_contact c to = if same_contact c to then None else Some (itself_mapped c to)
 
--- what is reported of an entry that is kept, and of one that is not, of which the last kept one of its key is named
+-- For an effective entry, whether its contact is itself mapped; for another one, the last effective entry of its key.
 abbrev pub reported_of_entry : List Mapping → List LocatedMapping → Bool → Mapping → Option Reported
 reported_of_entry h kept true e = reported_of_contact (contact e) (mapped h (contact e))
 reported_of_entry h kept false e = option_map no_effect (last_position kept (key e))
 
--- ---- all of it, for all lines
+-- ---- all findings of all lines
 
--- what is reported of a line, if the history has the entries of all lines, `kept` those that are kept, and its own is
--- kept or not
+-- the findings of a line: h has the entries of all lines, `kept` the effective ones, and is_kept tells whether the
+-- line's own entry is among those
 abbrev pub reported_of_line : List Mapping → List LocatedMapping → Bool → Line → List Reported
 reported_of_line h kept is_kept l =
     option_to_list (reported_of_reading l.text (strict_reading l.position.line l.text)) ++
@@ -112,17 +109,16 @@ abbrev pub line_findings : List Mapping → List LocatedMapping → Bool → Lin
 line_findings h kept is_kept l =
     map (λ t. record { position = l.position; reported = t }) (reported_of_line h kept is_kept l)
 
--- the same; its entry is kept if it is one of `kept`
+-- the line's entry is effective if `kept` has an entry at its position
 abbrev pub findings : List Mapping → List LocatedMapping → Line → List Finding
 findings h kept l = line_findings h kept (has_entry_at kept l.position) l
 
--- what is reported of the lines of these buffers, line by line: each defect that there is, and nothing else
+-- the findings of all lines of the buffers, in their order: all that there are, and nothing else
 pub record AreFindings (buffers : List Text) (found : List Finding) : Type 0 where
   pub kept : List LocatedMapping
-  pub reduced : IsReduced (located (lines buffers)) kept
+  pub effective : AreEffective (located (lines buffers)) kept
   pub whole : found ≡ flat_map (findings (entries (located (lines buffers))) kept) (lines buffers)
 
--- a position at or before another one, in the order of the lines
 abbrev pub IsUpTo : Position → Position → Type 0
 IsUpTo a b = (a.buffer < b.buffer) ⊎ ((a.buffer ≡ b.buffer) × (a.line ≤ b.line))
 
@@ -131,9 +127,8 @@ abbrev pub AreInOrder : List Finding → Type 0
 AreInOrder [] = Unit {0}
 AreInOrder (f ∷ fs) = AllByRecursion (λ g. IsUpTo f.position g.position) fs × AreInOrder fs
 
--- ---- what is kept
+-- ---- pruned texts
 
--- whether a line is reported to have no effect
 abbrev pub has_no_effect : Reported → Bool
 has_no_effect (fault f) = false
 has_no_effect (ignored_text text) = false
@@ -144,12 +139,12 @@ has_no_effect (itself_mapped c to) = false
 abbrev pub is_redundant : List Finding → Line → Bool
 is_redundant found l = list_any (λ f. has_no_effect f.reported && same_position f.position l.position) found
 
--- whether a line is kept: it gives no entry, or one that is kept
+-- lines without an entry are kept, and those with an effective one
 abbrev pub is_line_kept : List LocatedMapping → Line → Bool
 is_line_kept kept l = is_none (entry l) || has_entry_at kept l.position
 
--- the text has the lines of the buffer as they are, but those whose entries go
+-- the buffer's lines, byte for byte, without those whose entries have no effect
 pub record IsPruned (buffer text : Text) : Type 0 where
   pub kept : List LocatedMapping
-  pub reduced : IsReduced (located (lines (buffer ∷ []))) kept
+  pub effective : AreEffective (located (lines (buffer ∷ []))) kept
   pub whole : text ≡ flat_map (λ l. l.text) (filter (is_line_kept kept) (lines (buffer ∷ [])))

@@ -1,8 +1,8 @@
 pub use Rattle.mailmap_entries.specs.Folding
 pub use Rattle.mailmap_entries.specs.Entries
 pub use Rattle.mailmap_grammar.specs.Lines
-pub use Rattle.mailmap_histories.specs.Histories
-pub use Rattle.mailmap_git.specs.Git
+pub use Rattle.mailmap_entries.specs.Semantics
+pub mod Git
 pub mod Positions
 pub mod Findings
 pub mod GitAnswers
@@ -10,3 +10,5 @@ pub mod Explanations
 pub mod Pruning
 pub mod Clean
 pub mod Marked
+pub mod Needs
+pub mod Remarks

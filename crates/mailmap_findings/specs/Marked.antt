@@ -1,4 +1,4 @@
--- Lines, each with whether its entry is kept.
+-- Lines, each with whether its entry is effective.
 use Rattle.std.specs.Prelude.{◌≡◌, ◌≢◌, Bool, List, [], ◌∷◌}
 use Rattle.std.specs.List.{AllByRecursion}
 use Rattle.mailmap_redundancy.specs.Redundancy.{LocatedMapping, IsSublist}
@@ -7,31 +7,31 @@ use Rattle.mailmap_findings.specs.Clean.{are_clean}
 use Rattle.mailmap_findings.specs.declared.verify.lines.Line.{Line as the_line}
 use Rattle.mailmap_findings.specs.declared.verify.lines.KnownLine.{KnownLine as the_known_line}
 
--- a line, and whether one of the kept entries is at its position
+-- a line, and whether one of the effective entries is at its position
 abbrev pub MarkedLine : Type 0
 MarkedLine = Line × Bool
 
 abbrev pub marked : List LocatedMapping → Line → MarkedLine
 marked kept l = (l, has_entry_at kept l.position)
 
--- the code's
+-- the specification's view of a marked line
 abbrev pub marked_of : the_line × Bool → MarkedLine
 marked_of m = (line_of m.0, m.1)
 
 abbrev pub marked_line_of : the_known_line → MarkedLine
 marked_line_of k = (line_of k.line, k.is_kept)
 
--- no two lines are at one position
+-- the positions are distinct
 abbrev pub AreApart : List Line → Type 0
 AreApart [] = Unit {0}
 AreApart (l ∷ ls) = AllByRecursion (λ x. x.position ≢ l.position) ls × AreApart ls
 
--- the lines of a walk, and some of their entries
+-- the lines of an iteration, and some of their entries
 pub record IsWalk (kept : List LocatedMapping) (ls : List Line) : Type 0 where
   pub sublist : IsSublist kept (located ls)
   pub apart : AreApart ls
 
--- the lines of a walk, and what was read of them
+-- the lines of an iteration, and the result of their first parse
 pub record IsReadWalk (found : List LocatedMapping) (clean : List Bool) (ls : List Line) : Type 0 where
   pub entries : found ≡ located ls
   pub clean_too : clean ≡ are_clean ls

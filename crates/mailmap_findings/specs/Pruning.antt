@@ -1,4 +1,4 @@
--- The findings of a pruned text, by those of its buffer.
+-- The findings of a pruned text, from those of its buffer.
 use Rattle.std.specs.Prelude.{◌+◌, ◌&&◌, ℕ, Bool, if◌then◌else◌, List, [], ◌∷◌, filter, not}
 use Rattle.std.specs.List.{list_any}
 use Rattle.mailmap_entries.specs.Folding.{Text}
@@ -6,20 +6,20 @@ use Rattle.mailmap_redundancy.specs.declared.located.Position.{Position}
 use Rattle.mailmap_findings.specs.Findings.{Finding, Reported, fault, git_reads, has_no_effect, ignored_text, is_redundant, itself_mapped, no_effect}
 use Rattle.mailmap_findings.specs.Positions.{Line, lines, same_position}
 
--- the lines of a buffer that are left, if those go that are reported to have no effect
+-- the lines of a buffer that pruning keeps: those not reported as without effect
 abbrev pub lines_left : Text → List Finding → List Line
 lines_left buffer found = filter (λ l. not (is_redundant found l)) (lines (buffer ∷ []))
 
--- whether the line of a finding is left
+-- whether the line of a finding is kept
 abbrev pub is_left : List Finding → Finding → Bool
 is_left found f = not (list_any (λ g. has_no_effect g.reported && same_position g.position f.position) found)
 
--- the number of the line at this position among these lines, counted from 1
+-- the number, from 1, of the line at this position among these lines
 abbrev pub number_among : List Line → Position → ℕ
 number_among [] position = 1
 number_among (l ∷ ls) position = if same_position l.position position then 1 else number_among ls position + 1
 
--- what is reported, with this number of its line: only a fault has it
+-- only a fault contains the number of its line
 abbrev pub with_number : ℕ → Reported → Reported
 with_number n (fault f) = fault (record f { line = n })
 with_number n (ignored_text text) = ignored_text text
@@ -27,10 +27,10 @@ with_number n (git_reads reading) = git_reads reading
 with_number n (no_effect beside) = no_effect beside
 with_number n (itself_mapped contact to) = itself_mapped contact to
 
--- a finding that is reported of line n of a text of its own
+-- moves a finding to line n of a text of its own
 abbrev pub at_line : ℕ → Finding → Finding
 at_line n f = record { position = record { buffer = 0; line = n }; reported = with_number n f.reported }
 
--- a finding with the number that its line has among these lines
+-- moves a finding to where its line is among these lines
 abbrev pub renumbered : List Line → Finding → Finding
 renumbered ls f = at_line (number_among ls f.position) f

@@ -1,4 +1,4 @@
-//! What mailmaps answer to a name and an email, and which of their lines give the answer.
+//! Answers for names and emails, and the mailmap lines behind each answer.
 //!
 //! ```text
 //! let mailmaps = Mailmaps::read(alloc, &[b"<jane@x> <JD@x>\nJane <jd@x>\n"])?;
@@ -8,85 +8,85 @@
 //! ```
 ghost use Rattle.std.specs.Prelude.{◌≡◌, IfOk, IfSome, IsSome, None, map};
 ghost use Rattle.std.specs.Option.{option_map};
-ghost use Rattle.mailmap_histories.specs.Histories.{scan};
-ghost use Rattle.mailmap_redundancy.specs.Givers.{givers};
-ghost use Rattle.mailmap_redundancy.specs.Numbers.{fields_of, givers_of, referred};
-ghost use Rattle.mailmap_redundancy.specs.Redundancy.{IsReduced, entries};
+ghost use Rattle.mailmap_entries.specs.Semantics.{answer_of};
+ghost use Rattle.mailmap_redundancy.specs.Origins.{origins};
+ghost use Rattle.mailmap_redundancy.specs.Numbers.{fields_of, origins_of, referred};
+ghost use Rattle.mailmap_redundancy.specs.Redundancy.{AreEffective, entries};
 ghost use Rattle.mailmap_findings.specs.Explanations as spec;
 ghost use Rattle.mailmap_findings.specs.Explanations.{explained, explained_by, giving_positions, needed_positions, positions_of};
 ghost use Rattle.mailmap_findings.specs.Positions.{lines, located};
 
 use crate::verify::Mailmaps;
-use mailmap_redundancy::{Fields, Givers, LocatedEntry, Position, Reduced, without_redundant};
+use mailmap_redundancy::{Effective, Fields, LocatedEntry, Origins, Position, without_redundant};
 use std::alloc::{AllocError, Global};
+use std::cmp::Ordering;
 use std::marker::Model;
 
-/// What mailmaps answer, and which of their lines give each answer.
+/// The answers of mailmaps, and the lines behind each answer.
 ///
-/// To a contract it is the history of their lines, and the entries of it that have an effect.
+/// Contracts see it as all entries, and those of them that have an effect.
 #[derive(Drop)]
 pub struct Explanations<'m, 'a> {
-    reduced: Reduced<'m, 'a>,
+    effective: Effective<'m, 'a>,
 }
 
 impl<'m, 'a> Model for Explanations<'m, 'a> {
-    ghost use Rattle.mailmap_redundancy.specs.Numbers.{ReducedHistory};
-    ghost use Rattle.mailmap_redundancy.specs.Redundancy.{IsReduced};
+    ghost use Rattle.mailmap_redundancy.specs.Numbers.{EffectiveEntries};
+    ghost use Rattle.mailmap_redundancy.specs.Redundancy.{AreEffective};
 
-    ghost Value = { ReducedHistory };
+    ghost Value = { EffectiveEntries };
 
-    ghost view = { λ s. s.reduced };
+    ghost view = { λ s. s.effective };
 
-    ghost invariant = { λ s. IsReduced s.reduced.history s.reduced.kept };
+    ghost invariant = { λ s. AreEffective s.effective.history s.effective.kept };
 }
 
-/// What a name and an email are mapped to, and by which lines.
+/// What a name and an email map to, and by which lines.
 #[derive(Clone, Copy, Debug, PartialEq, Eq)]
 pub struct Explanation<'a> {
-    /// The new name, `None` if the name is kept.
+    /// The new name, `None` if the name stays as it is.
     pub name: Option<&'a [u8]>,
-    /// The new email, `None` if the email is kept.
+    /// The new email, `None` if the email stays as it is.
     pub email: Option<&'a [u8]>,
-    /// The line that gives the name or the email or both; of two lines the one that comes first.
+    /// The line behind the name or the email or both. If there are two such lines, the earlier one.
     pub first: Position,
-    /// The other line, if there are two.
+    /// The later line, if there are two.
     pub second: Option<Position>,
 }
 
-/// The lines that an answer needs, in their order. There are two at most: one gives the name, one gives the email or
-/// spells it.
+/// The lines that an answer needs, in their order. There are at most two: one sets the name, the other sets the email
+/// or its spelling.
 #[derive(Clone, Copy, Debug, PartialEq, Eq)]
 pub struct Needed {
-    /// The first line that the answer needs, if any.
     pub first: Option<Position>,
-    /// The other line, if there are two. There is none if there is no first.
+    /// The later line, if there are two. Without `first`, there is none.
     pub second: Option<Position>,
 }
 
 impl<'m, 'a> Explanations<'m, 'a> {
-    /// Finds out which entries have an effect, and takes all the memory that the explanations need.
+    /// Finds out which entries have an effect. Allocates all the memory that the explanations need.
     pub fn new(
         alloc: Global,
         mailmaps: &'m Mailmaps<'_, 'a>,
     ) -> Result<Explanations<'m, 'a>, AllocError>
         ensures history { IfOk result (λ s. s.history ≡ located (lines mailmaps.now)) }
-        ensures reduced { IfOk result (λ s. IsReduced s.history s.kept) }
+        ensures effective { IfOk result (λ s. AreEffective s.history s.kept) }
     {
         Ok(Explanations {
-            reduced: without_redundant(alloc, mailmaps.entries())?,
+            effective: without_redundant(alloc, mailmaps.entries())?,
         })
     }
 
-    /// What a name and an email are mapped to, and the lines that give it; `None` if no line gives either. A line that
-    /// spells the email counts only if it spells it in another way.
+    /// What a name and an email map to and the lines behind it, `None` if no line changes either. A line that only
+    /// spells the email counts if its spelling differs.
     pub fn of(&self, name: &[u8], email: &[u8]) -> Option<Explanation<'a>>
-        ensures fields { option_map explained result ≡ scan (entries self.now.history) name.now email.now }
+        ensures fields { option_map explained result ≡ answer_of (entries self.now.history) name.now email.now }
         ensures positions { IfSome result (λ e. explained_by e
-            ≡ giving_positions (givers self.now.kept name.now email.now) (explained e)) }
+            ≡ giving_positions (origins self.now.kept name.now email.now) (explained e)) }
     {
-        let givers = self.reduced.givers(name, email);
-        let fields = givers.fields(email)?;
-        let positions = giving(&givers, &fields);
+        let origins = self.effective.origins(name, email);
+        let fields = origins.fields(email)?;
+        let positions = giving(&origins, &fields);
         let first = positions.first?;
         Some(Explanation {
             name: fields.name,
@@ -100,16 +100,16 @@ impl<'m, 'a> Explanations<'m, 'a> {
     pub fn lines(&self, alloc: Global) -> Result<Vec<Position>, AllocError>
         ensures { IfOk result (λ lines. lines.items ≡ map (λ x. x.position) self.now.kept) }
     {
-        positions_in(alloc, self.reduced.kept())
+        positions_in(alloc, self.effective.kept())
     }
 
-    /// The lines that a name and an email need: without any other line they are answered as before.
+    /// The lines that the answer to a name and an email needs: deleting any other line leaves it as it is.
     pub fn needs(&self, name: &[u8], email: &[u8]) -> Needed
-        ensures positions { positions_of result ≡ needed_positions (givers self.now.kept name.now email.now) }
+        ensures positions { positions_of result ≡ needed_positions (origins self.now.kept name.now email.now) }
         ensures second { result.first ≡ None → result.second ≡ None }
     {
-        let givers = self.reduced.givers(name, email);
-        in_order(givers.name, givers.email.or(givers.spelling))
+        let origins = self.effective.origins(name, email);
+        in_order(origins.name, origins.email.or(origins.spelling))
     }
 }
 
@@ -119,20 +119,19 @@ fn positions_in(alloc: Global, entries: &[&LocatedEntry<'_>]) -> Result<Vec<Posi
     entries.iter().map(|entry| entry.position).collect(alloc)
 }
 
-// The lines that give the new fields.
-fn giving(givers: &Givers<'_, '_>, fields: &Fields<'_>) -> Needed
-    ensures positions { positions_of result ≡ giving_positions (givers_of givers.now) (fields_of fields.now) }
+// The lines behind the new fields. The line that spells the email counts only if it changes the email.
+fn giving(origins: &Origins<'_, '_>, fields: &Fields<'_>) -> Needed
+    ensures positions { positions_of result ≡ giving_positions (origins_of origins.now) (fields_of fields.now) }
     ensures second { result.first ≡ None → result.second ≡ None }
 {
     let emails = if fields.email.is_some() {
-        givers.email.or(givers.spelling)
+        origins.email.or(origins.spelling)
     } else {
         None
     };
-    in_order(givers.name, emails)
+    in_order(origins.name, emails)
 }
 
-// The positions of up to two entries, in the order of their lines.
 fn in_order(a: Option<&LocatedEntry<'_>>, b: Option<&LocatedEntry<'_>>) -> Needed
     ensures positions { positions_of result ≡ spec.in_order (referred a.entry) (referred b.entry) }
     ensures second { result.first ≡ None → result.second ≡ None }
@@ -142,7 +141,6 @@ fn in_order(a: Option<&LocatedEntry<'_>>, b: Option<&LocatedEntry<'_>>) -> Neede
     two_in_order(x.position, y.position)
 }
 
-// The position of an entry, if there is one.
 fn one(a: Option<&LocatedEntry<'_>>) -> Needed
     ensures positions { positions_of result ≡ spec.in_order (referred a.entry) None }
     ensures second { result.second ≡ None }
@@ -156,31 +154,23 @@ fn one(a: Option<&LocatedEntry<'_>>) -> Needed
     }
 }
 
-// Two positions in the order of their lines; equal ones count once.
+// Equal positions count once.
 fn two_in_order(a: Position, b: Position) -> Needed
     ensures positions { positions_of result ≡ spec.two_in_order a b }
     ensures first { IsSome result.first }
 {
-    if is_before(a, b) {
-        return Needed {
+    match a.cmp(&b) {
+        Ordering::Less => Needed {
             first: Some(a),
             second: Some(b),
-        };
-    }
-    if is_before(b, a) {
-        return Needed {
+        },
+        Ordering::Equal => Needed {
+            first: Some(a),
+            second: None,
+        },
+        Ordering::Greater => Needed {
             first: Some(b),
             second: Some(a),
-        };
+        },
     }
-    Needed {
-        first: Some(a),
-        second: None,
-    }
-}
-
-fn is_before(a: Position, b: Position) -> bool
-    ensures { result ≡ spec.is_before a b }
-{
-    a.buffer < b.buffer || a.buffer == b.buffer && a.line < b.line
 }

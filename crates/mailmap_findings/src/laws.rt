@@ -1,10 +1,10 @@
-//! Laws of lines, findings and pruned texts. Each function runs nothing: its contract is the law.
+//! What is proved of lines, findings and pruned texts. These functions do nothing: the contract of each is a law.
 ghost use Rattle.std.specs.Prelude.{◌≡◌, ◌↔◌, ◌∷◌, [], List, None, filter, not, option_to_list, true};
 ghost use Rattle.std.specs.List.{flat_map};
 ghost use Rattle.mailmap_entries.specs.Entries.{Mapping};
 ghost use Rattle.mailmap_entries.specs.Folding.{Text};
-ghost use Rattle.mailmap_grammar.specs.Lines.{good, readings, reading, strict_reading, strict_readings};
-ghost use Rattle.mailmap_histories.specs.Histories.{IsNormal};
+ghost use Rattle.mailmap_grammar.specs.Lines.{mappings_of, readings, reading, strict_reading, strict_readings};
+ghost use Rattle.mailmap_entries.specs.Semantics.{IsNormal};
 ghost use Rattle.mailmap_redundancy.specs.Redundancy.{entries};
 ghost use Rattle.mailmap_redundancy.specs.declared.located.Position.{Position};
 ghost use Rattle.mailmap_findings.specs.Findings.{AreFindings, AreInOrder, Contact, Finding, IsPruned, first_read_otherwise, is_redundant, same_contact};
@@ -12,20 +12,24 @@ ghost use Rattle.mailmap_findings.specs.GitAnswers.{git_answer};
 ghost use Rattle.mailmap_findings.specs.Positions.{lines, located, same_position, whole_lines};
 
 mod equal;
+mod git;
+mod needs;
 mod pruning;
 
 pub use equal::{law_equal_explanations, law_equal_findings, law_equal_kinds};
+pub use git::law_equal_git_readings;
+pub use needs::{law_contacts_stay, law_deleted_texts, law_equal_remarks, law_one_unneeded};
 pub use pruning::{law_none_left, law_pruned_findings};
 
-/// The lines of a buffer, with their line feeds, are the buffer when they are put together again. They say what the
-/// buffer is read to say, and their entries are what the buffers map.
+/// A buffer's lines, including their line feeds, concatenate to the buffer. Parsed line by line, they have the same
+/// readings and entries as the whole.
 pub fn law_whole_lines()
     ensures whole { (s : Text) → flat_map (λ t. t) (whole_lines s) ≡ s }
     ensures said { (s : Text) → flat_map (λ l. option_to_list (reading l.position.line l.text)) (lines (s ∷ []))
         ≡ readings s }
     ensures said_strictly { (s : Text)
         → flat_map (λ l. option_to_list (strict_reading l.position.line l.text)) (lines (s ∷ [])) ≡ strict_readings s }
-    ensures entries { (buffers : List Text) → entries (located (lines buffers)) ≡ flat_map good buffers }
+    ensures entries { (buffers : List Text) → entries (located (lines buffers)) ≡ flat_map mappings_of buffers }
 {}
 
 /// Buffers have exactly one list of findings, and a buffer has exactly one pruned text.
@@ -37,38 +41,37 @@ pub fn law_one_answer()
     ensures one_pruned { (buffer text other : Text) → IsPruned buffer text → IsPruned buffer other → text ≡ other }
 {}
 
-/// Positions are compared by plain equality, and so are contacts.
+/// Comparing positions, and contacts, decides whether they are equal.
 pub fn law_equal_contacts()
     ensures positions { (a b : Position) → (same_position a b ≡ true) ↔ (a ≡ b) }
     ensures contacts { (a b : Contact) → (same_contact a b ≡ true) ↔ (a ≡ b) }
 {}
 
-/// Findings are in the order of their lines.
 pub fn law_in_order()
     ensures { (buffers : List Text) (found : List Finding) → AreFindings buffers found → AreInOrder found }
 {}
 
-/// All lines that are reported to have no effect can be deleted at once: the entries of the other lines have the normal
-/// list of all.
+/// All lines reported as without effect can be deleted at once: the other lines have the same normal list as all lines
+/// together.
 pub fn law_deleted()
     ensures { (buffers : List Text) (found : List Finding) (n : List Mapping) → AreFindings buffers found
-        → IsNormal (flat_map good buffers) n
+        → IsNormal (flat_map mappings_of buffers) n
         ↔ IsNormal (entries (located (filter (λ l. not (is_redundant found l)) (lines buffers)))) n }
 {}
 
-/// A pruned text has the lines of its buffer that are not reported to have no effect. It has the normal list of the
-/// buffer, so it reads to an equal snapshot, and there is nothing to prune in it.
+/// A pruned text has the lines of its buffer that are not reported as without effect. It has the buffer's normal list,
+/// so both parse to equal snapshots, and pruning it again changes nothing.
 pub fn law_pruned()
     ensures reported { (buffer text : Text) (found : List Finding) → AreFindings (buffer ∷ []) found
         → IsPruned buffer text
         → text ≡ flat_map (λ l. l.text) (filter (λ l. not (is_redundant found l)) (lines (buffer ∷ []))) }
     ensures listing { (buffer text : Text) (n : List Mapping) → IsPruned buffer text
-        → IsNormal (good buffer) n ↔ IsNormal (good text) n }
+        → IsNormal (mappings_of buffer) n ↔ IsNormal (mappings_of text) n }
     ensures settled { (buffer text : Text) → IsPruned buffer text → IsPruned text text }
 {}
 
-/// If git reads each line of a buffer as it is read here, it reads each line of the pruned text so, and gives the same
-/// answer to every contact by both.
+/// If git reads each line of a buffer as this library does, this holds for the pruned text too, and git gives the same
+/// answer to each contact with either of them.
 pub fn law_pruned_for_git()
     ensures settled { (buffer text : Text) → IsPruned buffer text → first_read_otherwise (buffer ∷ []) ≡ None
         → first_read_otherwise (text ∷ []) ≡ None }

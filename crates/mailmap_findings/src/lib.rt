@@ -1,7 +1,10 @@
-//! What is wrong with mailmaps, line by line, and which of their lines can be deleted. The crate `gix_mailmap` passes
-//! on what users need of this.
+//! Finds what is wrong with the lines of mailmaps, and which lines can be deleted. An internal crate of `gix_mailmap`,
+//! which re-exports what users need.
 #![tactic(auto)]
 
 pub mod explain;
+pub mod git;
 pub mod laws;
+pub mod needs;
+pub mod remarks;
 pub mod verify;

@@ -1,6 +1,6 @@
-//! The lines of mailmaps that don't do what they seem to.
+//! Finds lines of mailmaps that don't do what they seem to.
 //!
-//! Of the mailmap
+//! In the mailmap
 //!
 //! ```text
 //! Jane <jane@x> <JD@x>
@@ -8,10 +8,10 @@
 //! Joe <joe@x> joe
 //! ```
 //!
-//! [`verify`] finds that the third line ends with text that nobody reads. The first line gives `JD@x` its spelling, so
-//! it has an effect, although the second one replaces both of its fields.
+//! [`verify`] finds that nothing reads the text at the end of the third line. It doesn't report the first line,
+//! although the second overrides both of its fields: a snapshot lists the email as the first line spells it, `JD@x`.
 //!
-//! A mailmap may have many more findings than entries. [`Findings`] makes them one by one, and takes no memory:
+//! A mailmap can have many more findings than entries. [`Findings`] computes them one by one, without allocating:
 //!
 //! ```text
 //! let mailmaps = Mailmaps::read(alloc, &buffers)?;
@@ -31,39 +31,38 @@ mod lines;
 mod reading;
 mod walk;
 
+pub use crate::git::GitReading;
 pub use git::first_read_otherwise;
 use known::{KnownLines, ReadEntries, read_entries};
 use lines::has_lines;
-pub use mailmap_git::GitReading;
 use mailmap_grammar::lines::Error;
 pub use mailmap_redundancy::Position;
-use mailmap_redundancy::{LocatedEntry, Reduced, without_redundant};
+use mailmap_redundancy::{Effective, LocatedEntry, without_redundant};
 use std::alloc::{AllocError, Global};
 use std::marker::Model;
 use walk::{LineFindings, MarkedLines, line_findings, pruned_text};
 
-/// What is wrong with one line, and which line it is.
+/// What is wrong with a line, and where the line is.
 #[derive(PartialEq, Eq, Debug, Drop)]
 pub struct Finding<'a> {
-    /// The buffer and the number of the line.
     pub position: Position,
-    /// What is wrong with it.
-    pub kind: Kind<'a>,
+    pub kind: FindingKind<'a>,
 }
 
-/// What is wrong with a line.
+/// The kinds of findings, each with its details.
 #[derive(Debug, PartialEq, Eq, Drop)]
-pub enum Kind<'a> {
-    /// The line has a fault of the strict reading: it gives no entry, or its second email isn't closed.
+pub enum FindingKind<'a> {
+    /// The line breaks a rule of strict parsing: it has no entry, or its second email isn't closed.
     Fault(Error<'a>),
-    /// Text after the last email of a line that gives an entry. It is trimmed and not empty: `joe` of `Joe <joe@x>
-    /// joe`.
+    /// Text after the last email that counts, of a line that has an entry, trimmed and not empty. In `Joe <joe@x> joe`
+    /// it is the last word.
     IgnoredText(&'a [u8]),
-    /// git reads the line otherwise than this library, and this is what it reads. Of `Joe < a@x >` it has an email with
-    /// blanks, and of a line with a zero byte before its email it has nothing.
+    /// git reads the line in another way than this library, as shown here. For git, the email in `Joe < a@x >` has a
+    /// space at each end, and a line with a zero byte before its email has no entry.
     GitReads(GitReading<'a>),
-    /// The line could be deleted and nothing would change. `beside` is the last line for the same old email and old
-    /// name that has an effect.
+    /// Deleting all lines with this finding together changes nothing. Deleting only one of them may: a line can be
+    /// without effect because another one is. `beside` is the last line for the same old email and old name that has an
+    /// effect.
     NoEffect {
         beside: Position,
     },
@@ -74,29 +73,25 @@ pub enum Kind<'a> {
     },
 }
 
-/// A name and an email. There is no name if a line names neither a new one nor an old one.
+/// A name and an email. There is no name if the line has neither a new name nor an old one.
 #[derive(Clone, Copy, Debug, PartialEq, Eq)]
 pub struct Contact<'a> {
-    /// The name, if the line has one.
     pub name: Option<&'a [u8]>,
-    /// The email.
     pub email: &'a [u8],
 }
 
-/// Reports what is wrong with the lines of the buffers, in the order of the lines; later buffers come after earlier
-/// ones.
+/// Reports what is wrong with the lines of the buffers, in the order of the buffers and their lines.
 ///
-/// A line may have three findings: a fault or ignored text, then that git reads it otherwise, and then that its entry
-/// has no effect or maps to a contact that is itself mapped. All lines that are reported to have no effect can be
-/// deleted at once.
+/// A line can have up to three findings, in this order: a fault or ignored text; that git reads it in another way; that
+/// its entry has no effect, or that its contact is itself mapped. All lines without effect can be deleted at once.
 ///
-/// For the buffer `P <a@x>\nP <a@x> p` this reports that line 1 has no effect beside line 2, and that line 2 has the
+/// For the buffer `P <a@x>\nP <a@x> p`, this reports that line 1 has no effect beside line 2, and that line 2 has the
 /// ignored text `p`.
 pub fn verify<'a>(alloc: Global, buffers: &[&'a [u8]]) -> Result<Vec<Finding<'a>>, AllocError>
     ensures findings { IfOk result
         (λ findings. AreFindings (map (λ b. b.now) buffers.now) (map finding_of findings.items)) }
 
-    // Out of memory is reported only if a buffer has a line.
+    // Without a line in the buffers it can't fail.
     ensures out_of_memory { OnErr result (lines (map (λ b. b.now) buffers.now) ≢ []) }
 {
     if !has_lines(buffers) {
@@ -107,12 +102,12 @@ pub fn verify<'a>(alloc: Global, buffers: &[&'a [u8]]) -> Result<Vec<Finding<'a>
     verification.findings().collect(alloc)
 }
 
-/// The buffer without the lines whose entries have no effect. All other lines are kept byte for byte, even comments and
-/// lines with faults.
+/// Copies the buffer without the lines whose entries have no effect. All other lines are kept byte for byte, including
+/// comments and lines with faults.
 pub fn prune(alloc: Global, buffer: &[u8]) -> Result<Vec<u8>, AllocError>
     ensures pruned { IfOk result (λ text. IsPruned buffer.now text.items) }
 
-    // Out of memory is reported only if the buffer has a line.
+    // Without a line in the buffer it can't fail.
     ensures out_of_memory { OnErr result (lines (buffer.now ∷ []) ≢ []) }
 {
     let buffers = [buffer];
@@ -120,14 +115,14 @@ pub fn prune(alloc: Global, buffer: &[u8]) -> Result<Vec<u8>, AllocError>
         return Ok(Vec::new(alloc));
     }
     let read = read_entries(alloc, &buffers)?;
-    let reduced = without_redundant(alloc, &read.entries)?;
-    let lines = MarkedLines::new(&buffers, reduced.kept());
+    let effective = without_redundant(alloc, &read.entries)?;
+    let lines = MarkedLines::new(&buffers, effective.kept());
     pruned_text(alloc, buffer.len(), lines)
 }
 
-/// Mailmaps, each in a buffer, and the entries of their lines. A [`Verification`] borrows them.
+/// Mailmaps, each in its own buffer, with their entries. A [`Verification`] borrows from it.
 ///
-/// To a contract it is the list of the buffers' texts.
+/// Contracts see it as the list of the buffers' texts.
 #[derive(Drop)]
 pub struct Mailmaps<'b, 'a> {
     buffers: &'b [&'a [u8]],
@@ -150,7 +145,7 @@ impl<'b, 'a> Model for Mailmaps<'b, 'a> {
 }
 
 impl<'b, 'a> Mailmaps<'b, 'a> {
-    /// Reads the lines of the buffers and keeps their entries. Other lines take no memory.
+    /// Parses the buffers and stores their entries. Lines without an entry take no memory.
     pub fn read(alloc: Global, buffers: &'b [&'a [u8]]) -> Result<Mailmaps<'b, 'a>, AllocError>
         ensures { IfOk result (λ mailmaps. mailmaps ≡ map (λ b. b.now) buffers.now) }
     {
@@ -160,7 +155,7 @@ impl<'b, 'a> Mailmaps<'b, 'a> {
         })
     }
 
-    /// The entries of the lines that give one.
+    /// The entries, in the order of their lines.
     pub(crate) fn entries(&self) -> &[LocatedEntry<'a>]
         ensures { map located_of result.now ≡ located (lines self.now) }
     {
@@ -168,14 +163,14 @@ impl<'b, 'a> Mailmaps<'b, 'a> {
     }
 }
 
-/// What is wrong with the lines of mailmaps, as [`verify`] reports it, but to be made one by one.
+/// A verification of mailmaps whose findings are computed on demand. [`verify`] collects the same findings.
 ///
-/// To a contract it is the list of all findings.
+/// Contracts see it as the list of all findings.
 #[derive(Drop)]
 pub struct Verification<'m, 'a> {
     buffers: &'m [&'a [u8]],
     read: &'m ReadEntries<'a>,
-    reduced: Reduced<'m, 'a>,
+    effective: Effective<'m, 'a>,
 }
 
 impl<'m, 'a> Model for Verification<'m, 'a> {
@@ -188,16 +183,16 @@ impl<'m, 'a> Model for Verification<'m, 'a> {
 
     ghost Value = { List Finding };
 
-    ghost view = { λ s. flat_map (findings (entries s.reduced.history) s.reduced.kept)
+    ghost view = { λ s. flat_map (findings (entries s.effective.history) s.effective.kept)
         (lines (map (λ b. b.now) s.buffers.now)) };
 
     ghost invariant = { λ s. let ls = lines (map (λ b. b.now) s.buffers.now) in
-        IsSublist s.reduced.kept (located ls) × (map located_of s.read.now.entries.items ≡ located ls)
+        IsSublist s.effective.kept (located ls) × (map located_of s.read.now.entries.items ≡ located ls)
         × (s.read.now.clean.items ≡ are_clean ls) };
 }
 
 impl<'m, 'a> Verification<'m, 'a> {
-    /// Finds out which entries have an effect, and takes all the memory that the findings need.
+    /// Finds out which entries have an effect. Allocates all the memory that the findings need.
     pub fn new(
         alloc: Global,
         mailmaps: &'m Mailmaps<'_, 'a>,
@@ -207,30 +202,30 @@ impl<'m, 'a> Verification<'m, 'a> {
         Ok(Verification {
             buffers: mailmaps.buffers,
             read: &mailmaps.read,
-            reduced: without_redundant(alloc, &mailmaps.read.entries)?,
+            effective: without_redundant(alloc, &mailmaps.read.entries)?,
         })
     }
 
-    /// All findings, in the order of the lines. They are made one by one, and nothing is allocated.
+    /// Iterates over all findings in the order of the lines, without allocating.
     pub fn findings(&self) -> Findings<'_, 'a>
         ensures { result ≡ self.now }
     {
         Findings {
-            lines: KnownLines::new(self.buffers, self.reduced.kept(), self.read),
-            reduced: &self.reduced,
+            lines: KnownLines::new(self.buffers, self.effective.kept(), self.read),
+            effective: &self.effective,
             of_line: LineFindings::none(),
         }
     }
 }
 
-/// The findings of a [`Verification`], made on demand: the iterator that [`findings`](Verification::findings()) makes.
+/// The iterator that [`findings`](Verification::findings()) returns.
 ///
-/// To a contract it is the list of the findings that are left.
+/// Contracts see it as the list of the remaining findings.
 #[derive(Drop)]
 pub struct Findings<'v, 'a> {
     lines: KnownLines<'v, 'a>,
-    reduced: &'v Reduced<'v, 'a>,
-    // what `next` has still to return of the findings of the line that it read last
+    effective: &'v Effective<'v, 'a>,
+    // the findings of the current line that are left
     of_line: LineFindings<'a>,
 }
 
@@ -243,7 +238,7 @@ impl<'v, 'a> Model for Findings<'v, 'a> {
     ghost Value = { List Finding };
 
     ghost view = { λ s. s.of_line
-        ++ flat_map (λ m. line_findings (entries s.reduced.now.history) s.reduced.now.kept m.1 m.0) s.lines };
+        ++ flat_map (λ m. line_findings (entries s.effective.now.history) s.effective.now.kept m.1 m.0) s.lines };
 }
 
 impl<'v, 'a> Iterator for Findings<'v, 'a> {
@@ -259,7 +254,7 @@ impl<'v, 'a> Iterator for Findings<'v, 'a> {
                 return Some(finding);
             }
             let next = self.lines.next()?;
-            self.of_line = line_findings(self.reduced, &next.line, next.is_kept, next.known);
+            self.of_line = line_findings(self.effective, &next.line, next.is_kept, next.known);
         }
     }
 }

@@ -1,4 +1,4 @@
--- A text round its first `<` and the first `>` after it.
+-- A text split at its first `<` and the first `>` after it.
 use Rattle.std.proofs.Common.{◌≡◌, ◌⊎◌, ℕ, Some, None, option_map, List, [], ◌∷◌, ◌++◌, refl, sym, ap, ◌∙◌, inl, inr, ⊎_elim}
 use Rattle.std.proofs.lemmas.Bool.{cases_eq, cond-true, cond-false, ne_eqb, eq-eqb}
 use Rattle.mailmap_grammar.specs.Lines.{split_once, opened, closed, cut, Absent, Unclosed, Closed, HoldsNo, IsCut, IsUnclosed}
@@ -14,7 +14,6 @@ module _ (x : ℕ) where
   once-some [] r h = cond-true _ _ _ (eq-eqb x x refl)
   once-some (y ∷ a) r h = cond-false _ _ _ (ne_eqb y x h.0) ∙ ap (option_map _) (once-some a r h.1)
 
-  -- which of the two a text is
   once-cases : (s : List ℕ) → HoldsNo x s ⊎ ((a : List ℕ) × (r : List ℕ) × HoldsNo x a × (s ≡ a ++ x ∷ r))
   once-cases [] = inl tt
   once-cases (y ∷ s) = ⊎_elim
@@ -25,7 +24,7 @@ module _ (x : ℕ) where
       (once-cases s))
       (cases_eq y x)
 
--- each text is of one of the three kinds
+-- exactly one of three cases holds for each text
 pub data Kind (s : List ℕ) : Type 0 where
   absent_kind : HoldsNo 60 s → cut s ≡ Absent → Kind s
   unclosed_kind : IsUnclosed s → cut s ≡ Unclosed → Kind s

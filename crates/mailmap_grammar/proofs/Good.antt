@@ -1,29 +1,29 @@
--- The first of some readings, and whether it is good.
+-- The mappings among some readings, by the first reading.
 use Rattle.std.proofs.Common.{◌≡◌, ◌≤◌, Result, Ok, Err, List, [], ◌∷◌, ◌++◌, length, option_to_list, arith, refl, sym, ap, ◌∙◌}
 use Rattle.mailmap_entries.specs.declared.entry.Entry.{Entry}
 use Rattle.mailmap_grammar.specs.declared.lines.Error.{Error}
 use Rattle.mailmap_entries.specs.Entries.{Mapping, mapping_of}
 use Rattle.std.specs.Result.{result_ok}
-use Rattle.mailmap_grammar.specs.Lines.{Reading, reading_of, good_of}
+use Rattle.mailmap_grammar.specs.Lines.{Reading, reading_of, mappings_in}
 
-module _ (said : List Mapping) (rs rest : List Reading) (x : Result Entry Error) (whole : good_of rs ≡ said) (first : rs ≡ reading_of x ∷ rest) where
-  split : said ≡ option_to_list (result_ok (reading_of x)) ++ good_of rest
-  unfolding good_of
-  split = sym whole ∙ ap good_of first
+module _ (said : List Mapping) (rs rest : List Reading) (x : Result Entry Error) (whole : mappings_in rs ≡ said) (first : rs ≡ reading_of x ∷ rest) where
+  split : said ≡ option_to_list (result_ok (reading_of x)) ++ mappings_in rest
+  unfolding mappings_in
+  split = sym whole ∙ ap mappings_in first
 
-  pub good_of-ok : (e : Entry) → x ≡ Ok e → said ≡ mapping_of e ∷ good_of rest
-  good_of-ok e is = split ∙ ap (λ y. option_to_list (result_ok (reading_of y)) ++ good_of rest) is
+  pub mappings_in-ok : (e : Entry) → x ≡ Ok e → said ≡ mapping_of e ∷ mappings_in rest
+  mappings_in-ok e is = split ∙ ap (λ y. option_to_list (result_ok (reading_of y)) ++ mappings_in rest) is
 
-  pub good_of-err : (e : Error) → x ≡ Err e → good_of rest ≡ said
-  good_of-err e is = sym (split ∙ ap (λ y. option_to_list (result_ok (reading_of y)) ++ good_of rest) is)
+  pub mappings_in-err : (e : Error) → x ≡ Err e → mappings_in rest ≡ said
+  mappings_in-err e is = sym (split ∙ ap (λ y. option_to_list (result_ok (reading_of y)) ++ mappings_in rest) is)
 
-pub good_of-nil : good_of [] ≡ []
-unfolding good_of
-good_of-nil = refl
+pub mappings_in-nil : mappings_in [] ≡ []
+unfolding mappings_in
+mappings_in-nil = refl
 
--- no more mappings than items
-pub length-good_of : (rs : List Reading) → length (good_of rs) ≤ length rs
-unfolding good_of
-length-good_of [] = omega arith
-length-good_of (Ok m ∷ rs) = omega (arith, length-good_of rs)
-length-good_of (Err f ∷ rs) = omega (arith, length-good_of rs)
+-- there are no more mappings than items
+pub length-mappings_in : (rs : List Reading) → length (mappings_in rs) ≤ length rs
+unfolding mappings_in
+length-mappings_in [] = omega arith
+length-mappings_in (Ok m ∷ rs) = omega (arith, length-mappings_in rs)
+length-mappings_in (Err f ∷ rs) = omega (arith, length-mappings_in rs)

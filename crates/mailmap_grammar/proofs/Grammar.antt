@@ -1,4 +1,4 @@
--- A reading is the relation by cases.
+-- What is computed for a line is what the definition by cases describes.
 use Rattle.std.proofs.Common.{◌≡◌, ◌≢◌, ◌⊎◌, ℕ, true, false, Option, Some, Ok, [], ◌∷◌, refl, sym, ap, subst, ◌∙◌, inl, inr, ⊎_elim}
 use Rattle.std.proofs.lemmas.Bool.{cond-true, cond-false, eqb-true, cases_Bool}
 use Rattle.mailmap_entries.specs.Folding.{Text}
@@ -13,7 +13,7 @@ contact-cut s name email rest h =
     let is_email : email ≡ trim h.between = trimmed-same _ _ h.is_email in
     ap trimmed_contact (cut-closed _ _ _ _ h.is_cut) ∙ rw (← is_name, ← is_email) refl
 
--- each text has no `<`, no `>` after it, or a contact
+-- each text has no `<`, no `>` after the first one, or a contact
 data ContactKind (s : Text) : Type 0 where
   absent_contact : HoldsNo 60 s → trimmed_contact (cut s) ≡ Absent → ContactKind s
   unclosed_contact : IsUnclosed s → trimmed_contact (cut s) ≡ Unclosed → ContactKind s
@@ -73,7 +73,7 @@ second-same n t name email rest r h = elim h [
   | neither none same is ↦ neither-none n t name email (trimmed_contact (cut rest)) (no_contact rest none) same ∙ sym is
 ]
 
--- where the rest is closed or has no `<`, strict reading is the other one
+-- unless the second contact is unclosed, strict parsing gives the same as lenient parsing
 strict-other : (n : ℕ) (t name email rest : Text) (h : ParsedContact) → h ≢ Unclosed → strict_contacts n t name email rest h ≡ two_contacts n t name email h
 strict-other n t name email rest Absent other = refl
 strict-other n t name email rest Unclosed other = absurd (other refl)

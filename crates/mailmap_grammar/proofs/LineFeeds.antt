@@ -1,22 +1,21 @@
--- The pieces of a text round its line feeds.
+-- A text split at its line feeds.
 use Rattle.std.proofs.Common.{◌≡◌, ◌≢◌, ◌⊎◌, ℕ, ◌==◌, List, [], ◌∷◌, ◌++◌, ⊎_elim, inl, inr, append-nil, append_assoc, refl, sym, ap, subst, ◌∙◌}
 use Rattle.std.specs.List.{AllByRecursion}
 use Rattle.std.proofs.lemmas.Bool.{cond-false, cond_both, ne_eqb, eqb-false, eqb-true}
 use Rattle.mailmap_entries.specs.Folding.{Text}
 use Rattle.mailmap_grammar.specs.Lines.{ArePieces, HoldsNo, fed, pieces, with_first}
 
--- a line and its line feed are one piece
+-- a line and its line feed make one piece
 pub pieces-line : (l rest : List ℕ) → HoldsNo 10 l → pieces (l ++ 10 ∷ rest) ≡ l ∷ pieces rest
 unfolding pieces
 pieces-line [] rest h = refl
 pieces-line (b ∷ l) rest h = cond-false _ _ _ (ne_eqb b 10 h.0) ∙ ap (with_first b) (pieces-line l rest h.1)
 
--- one more number in front of the first piece
 one_more : (b : ℕ) (ps : List (List ℕ)) → b ≢ 10 → AllByRecursion (HoldsNo 10) ps → AllByRecursion (HoldsNo 10) (with_first b ps)
 one_more b [] other all = ((other, tt), tt)
 one_more b (p ∷ ps) other all = ((other, all.0), all.1)
 
--- no piece holds a line feed
+-- no piece contains a line feed
 pub pieces-hold_no : (s : List ℕ) → AllByRecursion (HoldsNo 10) (pieces s)
 unfolding pieces
 pieces-hold_no [] = tt
@@ -30,7 +29,7 @@ pieces-open [] h some = absurd (some refl)
 pieces-open (b ∷ []) h some = cond-false _ _ _ (ne_eqb b 10 h.0)
 pieces-open (b ∷ c ∷ l) h some = cond-false _ _ _ (ne_eqb b 10 h.0) ∙ ap (with_first b) (pieces-open (c ∷ l) h.1 (λ e. cc))
 
--- lines with their line feeds, and what is after them
+-- lines with their line feeds, followed by more text
 pub pieces-fed : (ls : List Text) (rest : Text) → AllByRecursion (HoldsNo 10) ls → pieces (fed ls ++ rest) ≡ ls ++ pieces rest
 pieces-fed [] rest h = refl
 pieces-fed (l ∷ ls) rest h =
@@ -42,12 +41,12 @@ pieces-nil : pieces [] ≡ []
 unfolding pieces
 pieces-nil = refl
 
--- what holds of all holds of those in front, and of those after
+-- what holds for all elements holds for those of both parts
 pub all_parts : (P : Text → Type 0) (xs ys : List Text) → AllByRecursion P (xs ++ ys) → AllByRecursion P xs × AllByRecursion P ys
 all_parts P [] ys all = (tt, all)
 all_parts P (x ∷ xs) ys all = let rest = all_parts P xs ys all.1 in ((all.0, rest.0), rest.1)
 
--- no other texts are the lines of a buffer
+-- no other texts are the lines of the buffer
 pub pieces-are : (s : Text) (ls : List Text) → ArePieces s ls → pieces s ≡ ls
 pieces-are s ls are = ⊎_elim
     (λ e. ap pieces (e ∙ sym (append-nil (fed ls))) ∙ pieces-fed ls [] are.no_feed ∙ ap (λ ps. ls ++ ps) pieces-nil ∙ append-nil ls)
@@ -59,14 +58,12 @@ pieces-are s ls are = ⊎_elim
 abbrev IsWhole : Text → List Text → Type 0
 IsWhole s ls = (s ≡ fed ls) ⊎ ((front : List Text) × (last : Text) × (ls ≡ front ++ last ∷ []) × (last ≢ []) × (s ≡ fed front ++ last))
 
--- one more line in front
 fed_line : (s : Text) (ls : List Text) → IsWhole s ls → IsWhole (10 ∷ s) ([] ∷ ls)
 fed_line s ls h = ⊎_elim
     (λ e. inl (ap (λ t. 10 ∷ t) e))
     (λ w. inr ([] ∷ w.0, w.1, ap (λ l. [] ∷ l) w.2, w.3, ap (λ t. 10 ∷ t) w.4))
     h
 
--- one more byte in front of the first line
 more_byte : (b : ℕ) (s : Text) (ls : List Text) → IsWhole s ls → IsWhole (b ∷ s) (with_first b ls)
 more_byte b s [] h = ⊎_elim
     (λ e. inr ([], b ∷ [], refl, (λ n. cc), ap (λ t. b ∷ t) e))

@@ -1,4 +1,4 @@
--- The lines that bstr gives say what the pieces between line feeds say.
+-- Reading the lines that bstr yields gives the same as reading the pieces between line feeds.
 use Rattle.std.proofs.Common.{◌≡◌, ◌≢◌, ◌⊎◌, ◌+◌, ◌-◌, ◌<◌, ◌≤◌, ℕ, zero, suc, true, false, cond, ◌==◌, nat_lt, Option, None, option_to_list, List, [], ◌∷◌, ◌++◌, length, take, drop, map, slice_index, length-append, length-drop, refl, sym, ap, ◌∙◌, arith, inl, inr, ⊎_elim, take_all}
 use Rattle.std.specs.Prelude.{◌&&◌}
 use Rattle.std.proofs.lemmas.Bool.{cases_Bool, cond-true, cond-false, eq-eqb, eqb-true, ne_eqb, and_parts, and_from, and_right}
@@ -12,7 +12,7 @@ use Rattle.mailmap_entries.specs.Folding.{Text}
 use Rattle.mailmap_grammar.specs.Lines.{Reading, reading_by, unless_blank, readings_from, pieces, with_first}
 use Rattle.mailmap_grammar.proofs.Trimmed.{trim-white_end}
 
--- the first piece, and the bytes that its line takes
+-- the first piece, and the bytes of the first line
 record FirstPiece (bs : List ℕ) : Type 0 where
   piece : List ℕ
   line : (take (line_len bs) bs ≡ piece ++ 10 ∷ []) ⊎ ((take (line_len bs) bs ≡ piece) × (slice_index piece (length piece - 1) ≢ 10))
@@ -56,13 +56,13 @@ first_piece (b ∷ c ∷ s) some = ⊎_elim
     })
     (cases_Bool (b == 10))
 
--- a carriage return at the end says nothing to a reader that trims
+-- a reader that trims ignores a carriage return at the end
 pub reading_by-cr : (says : ℕ → Text → Reading) (n : ℕ) (z : Text) → reading_by says n (z ++ 13 ∷ []) ≡ reading_by says n z
 unfolding encode_utf8
 reading_by-cr says n [] = ap (unless_blank says n) (trim-white_end 13 [] refl)
 reading_by-cr says n (b ∷ z) = ap (λ t. cond (b == 35) None (unless_blank says n t)) (trim-white_end 13 (b ∷ z) refl)
 
--- a reader that a carriage return at the end says nothing to
+-- a reader that ignores a carriage return at the end
 module _ (read : ℕ → Text → Option Reading) (reading-cr : (n : ℕ) (z : Text) → read n (z ++ 13 ∷ []) ≡ read n z) where
   reading-no_cr : (n : ℕ) (z : List ℕ) → read n (no_cr z) ≡ read n z
   reading-no_cr n z = ⊎_elim
@@ -78,7 +78,7 @@ module _ (read : ℕ → Text → Option Reading) (reading-cr : (n : ℕ) (z : T
       (λ no. ap (read n) (cond-false _ _ _ no))
       (cases_Bool (nat_lt 0 (length z) && slice_index z (length z - 1) == 13))
 
-  -- a line without its end says what its piece says
+  -- a line without its line ending is read as its piece is
   reading-line : (n : ℕ) (x z : List ℕ) → (x ≡ z ++ 10 ∷ []) ⊎ ((x ≡ z) × (slice_index z (length z - 1) ≢ 10)) → read n (without_terminator x) ≡ read n z
   reading-line n x z h = ⊎_elim
       (λ e.
@@ -116,7 +116,7 @@ length-with_first : (b : ℕ) (ps : List Text) → length (with_first b ps) ≤ 
 length-with_first b [] = omega arith
 length-with_first b (p ∷ ps) = omega arith
 
--- no more lines than bytes
+-- there are no more lines than bytes
 pub length-pieces : (s : Text) → length (pieces s) ≤ length s
 unfolding pieces
 length-pieces [] = omega arith

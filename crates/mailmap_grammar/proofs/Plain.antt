@@ -1,4 +1,4 @@
--- What the bytes at the ends of a text say of its trimming.
+-- What the bytes at the ends of a text tell about trimming it.
 use Rattle.std.proofs.Common.{◌≡◌, ◌⊎◌, ◌+◌, ◌-◌, ◌/◌, ◌<◌, ◌≤◌, ℕ, suc, true, List, [], ◌∷◌, ◌++◌, length, take, drop, get_or, length-append, refl, sym, ap, ap₂, subst, ◌∙◌, arith, ⊎_elim}
 use Rattle.std.proofs.Common.{append_assoc}
 use Rattle.std.proofs.lemmas.Bool.{cases_lt}
@@ -27,7 +27,7 @@ first_at s i j x lt next is =
 pub last_at : (s : List ℕ) (i j x : ℕ) → i < length s → j ≡ i + 1 → get_or s i 0 ≡ x → take j s ≡ take i s ++ x ∷ []
 last_at s i j x lt next is = ap (λ k. take k s) next ∙ take_more s i 0 lt ∙ ap (λ y. take i s ++ y ∷ []) is
 
--- white space at the front goes
+-- white space at the start is trimmed
 white-first : (c : ℕ) (white s rest : List ℕ) → is_whitespace c ≡ true → encode_utf8 c ≡ white → s ≡ white ++ rest → trim rest ≡ trim s
 white-first c white s rest is spelled whole = sym (trim-white_start c rest is) ∙ ap trim (ap (λ e. e ++ rest) spelled ∙ sym whole)
 
@@ -40,7 +40,7 @@ first-wide s i lt a b c =
     (first_at s i (i + 1) 227 (omega arith) refl a
     ∙ ap (λ r. 227 ∷ r) (first_at s (i + 1) (i + 2) 128 (omega arith) (omega arith) b ∙ ap (λ r. 128 ∷ r) (first_at s (i + 2) (i + 3) 128 lt (omega arith) c)))
 
--- white space at the end goes
+-- white space at the end is trimmed
 white-last : (c : ℕ) (white s rest : List ℕ) → is_whitespace c ≡ true → encode_utf8 c ≡ white → s ≡ rest ++ white → trim rest ≡ trim s
 white-last c white s rest is spelled whole = sym (trim-white_end c rest is) ∙ ap trim (ap (λ e. rest ++ e) spelled ∙ sym whole)
 
@@ -55,7 +55,7 @@ last-wide s n some within a b c =
     ∙ ap (λ r. r ++ 128 ∷ []) (last_at s (n - 2) (n - 1) 128 (omega arith) (omega arith) b ∙ ap (λ r. r ++ 128 ∷ []) (last_at s (n - 3) (n - 2) 227 (omega arith) (omega arith) a))
     ∙ append_assoc (front ++ 227 ∷ []) (128 ∷ []) (128 ∷ []) ∙ append_assoc front (227 ∷ []) (128 ∷ 128 ∷ []))
 
--- past ASCII, characters begin and end with bytes past ASCII
+-- characters outside ASCII begin and end with bytes outside ASCII
 high-last : (c : ℕ) → 128 ≤ c → 128 ≤ get_or (encode_utf8 c) (length (encode_utf8 c) - 1) 0
 unfolding encode_utf8
 high-last c high = grind (arith, nat_tests)
@@ -112,7 +112,7 @@ no-end s low high h =
     (λ big. omega (arith, high-last c big))
     (cases_lt c 128)
 
--- if both ends are of ASCII and no white space, nothing goes
+-- if the first byte can't begin white space, and the last is visible ASCII, trimming changes nothing
 pub plain : (s : List ℕ) → IsVisibleLead (get_or s 0 0) → 32 < get_or s (length s - 1) 0 → get_or s (length s - 1) 0 < 128 → trim s ≡ s
 unfolding trim
 plain s a d e = ap (trim_end_by is_whitespace) (start-other s (no-begin s a)) ∙ end-other s (no-end s d e)

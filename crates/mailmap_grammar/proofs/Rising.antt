@@ -1,4 +1,4 @@
--- The lines of faults rise, and a line gives at most one item.
+-- The line numbers of faults ascend, and a line yields at most one item.
 use Rattle.std.proofs.Common.{◌≡◌, ◌+◌, ◌<◌, ◌≤◌, ℕ, suc, true, false, cond, Option, Some, None, option_to_list, Ok, Err, List, [], ◌∷◌, ◌++◌, length, refl, sym, arith, Less}
 use Rattle.std.specs.List.{AllByRecursion}
 use Rattle.std.specs.List.Sorted.{IsStrictlySortedBy}
@@ -37,7 +37,7 @@ first-line both n t is Unclosed = refl
 first-line both n t is (Closed name [] rest) = refl
 first-line both n t is (Closed name (x ∷ email) rest) = is name (x ∷ email) rest
 
--- a fault is on the line that is read, under either strictness
+-- a fault is on the line that is read, with either strictness
 line_reader-line : (s : Strictness) (n : ℕ) (t : Text) → LineIs n (line_reader s n t)
 line_reader-line Lenient n t = first-line _ n t (λ name email rest. two-line n t name email (trimmed_contact (cut rest))) (trimmed_contact (cut t))
 line_reader-line Strict n t = first-line _ n t (λ name email rest. strict-line n t name email rest (trimmed_contact (cut rest))) (trimmed_contact (cut t))
@@ -49,7 +49,7 @@ blank-line says n (x ∷ t) is = is n (x ∷ t)
 reading_by-line : (says : ℕ → Text → Reading) (n : ℕ) (l : Text) → ((m : ℕ) (s : Text) → LineIs m (says m s)) → IfLine n (reading_by says n l)
 reading_by-line says n l is = elim (is_comment l) as (λ b. IfLine n (cond b None (unless_blank says n (trim l)))) [ true ↦ tt | false ↦ blank-line says n (trim l) is ]
 
--- the reader of a walk
+-- this holds for a reader of whole lines, too
 pub walk-line : (s : Strictness) (n : ℕ) (l : Text) → IfLine n (reading_by (line_reader s) n l)
 walk-line s n l = reading_by-line (line_reader s) n l (line_reader-line s)
 
@@ -77,7 +77,7 @@ at_most_one : (o : Option Reading) (rs : List Reading) → length (option_to_lis
 at_most_one None rs = omega arith
 at_most_one (Some r) rs = omega arith
 
--- a reader whose faults are on the line that is read
+-- for any reader whose faults are on the line that is read
 module _ (read : ℕ → Text → Option Reading) (line : (n : ℕ) (l : Text) → IfLine n (read n l)) where
   above : (n : ℕ) (ls : List Text) → Above n (fault_lines (readings_from read n ls))
   unfolding readings_from fault_lines IsStrictlySortedBy

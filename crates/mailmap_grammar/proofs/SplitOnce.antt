@@ -1,4 +1,4 @@
--- Where the first of a byte is, and what is around it.
+-- The text before and after the first occurrence of a byte.
 use Rattle.std.proofs.Common.{◌≡◌, ◌≢◌, ◌+◌, ◌-◌, ◌<◌, ℕ, zero, suc, Some, None, option_map, List, [], ◌∷◌, length, take, drop, take_all, length-drop, slice_index, add-one, refl, sym, ap, ◌∙◌, arith}
 use Rattle.std.proofs.lemmas.Bool.{cond-true, cond-false, ne_eqb, eq-eqb, eqb-true}
 use Rattle.bstr.specs.Find.{is_byte, IsFirstByte}
@@ -23,7 +23,7 @@ at_some b (c ∷ s) (suc k) l is before =
 pub split_once-none : (b : ℕ) (s : List ℕ) → IsFirstByte (is_byte b) s None → split_once b s ≡ None
 split_once-none b s h = at_none b s (λ k l is. h k (omega arith) l (eq-eqb _ _ is))
 
--- the slice after the byte, as the code takes it
+-- as the code slices the text after the byte
 pub split_once-some : (b : ℕ) (s : List ℕ) (k : ℕ) → IsFirstByte (is_byte b) s (Some k)
     → split_once b s ≡ Some (take k s, take (length s - (k + 1)) (drop (k + 1) s))
 split_once-some b s k h =

@@ -1,4 +1,4 @@
--- What the trims do to white space at either end, and to other bytes.
+-- Trimming removes white space at both ends, and leaves other bytes.
 use Rattle.std.proofs.Common.{◌≡◌, ◌⊎◌, ◌<◌, ◌≤◌, ℕ, zero, suc, true, Option, Some, List, [], ◌∷◌, ◌++◌, length, take, drop, length-append, refl, sym, ap, subst, ◌∙◌, arith, inl, inr, ⊎_elim}
 use Rattle.std.proofs.lemmas.Bool.{cases_Bool}
 use Rattle.std.proofs.lemmas.Bool.Decides.{nat_tests}
@@ -33,7 +33,7 @@ clean = trims.clean is_whitespace white-scalar refl
 end-cases : (bs : List ℕ) → EndsWhite bs ⊎ (trim_end_by is_whitespace bs ≡ bs)
 end-cases = trims.end-cases is_whitespace white-scalar refl
 
--- white space at either end goes
+-- white space at either end is removed
 start-white : (c : ℕ) (rest : List ℕ) → is_whitespace c ≡ true → trim_start_by is_whitespace (encode_utf8 c ++ rest) ≡ trim_start_by is_whitespace rest
 start-white = trims.start-passed is_whitespace white-scalar refl
 
@@ -47,7 +47,7 @@ start-other = trims.start-other is_whitespace white-scalar refl
 pub end-other : (bs : List ℕ) → (EndsWhite bs → ⊥) → trim_end_by is_whitespace bs ≡ bs
 end-other = trims.end-other is_whitespace white-scalar refl
 
--- ---- the trims are those that take the most
+-- ---- trimming removes the longest run
 
 AllByRecursion-snoc : (cs : List ℕ) (c : ℕ) → AreWhite cs → is_whitespace c ≡ true → AreWhite (cs ++ c ∷ [])
 AllByRecursion-snoc [] c all is = (is, tt)
@@ -146,13 +146,13 @@ trimmed-made s t e =
     let same : end.0 ≡ t = trimmed-same s end.0 (start.0, start.1, end.1) ∙ sym e in
     (start.0, start.1, subst (λ x. IsTrimmedEnd start.0 x) same end.1)
 
--- ---- white space at either end is no matter
+-- ---- white space at either end doesn't matter
 
 pub trim-white_start : (c : ℕ) (s : List ℕ) → is_whitespace c ≡ true → trim (encode_utf8 c ++ s) ≡ trim s
 unfolding trim
 trim-white_start c s white = ap (trim_end_by is_whitespace) (start-white c s white)
 
--- the first character stays where white space follows
+-- white space after a text doesn't change the text's first character
 first-stays : (c : ℕ) (s : List ℕ) → is_whitespace c ≡ true → 0 < length s → decoded (s ++ encode_utf8 c) ≡ decoded s
 first-stays c s white some =
     let long = length-append s (encode_utf8 c) in

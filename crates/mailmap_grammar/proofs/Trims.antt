@@ -1,5 +1,5 @@
--- What trims by a test do to characters at either end. The test passes only characters, and not the one that stands for
--- bytes that are no UTF-8.
+-- Trimming by a predicate removes characters at either end. The predicate holds only for characters, and not for the
+-- replacement character, which stands for invalid UTF-8.
 use Rattle.std.proofs.Common.{◌≡◌, ◌⊎◌, ◌+◌, ◌-◌, ◌<◌, ◌≤◌, ℕ, zero, suc, Bool, true, false, cond, Option, Some, None, List, [], ◌∷◌, ◌++◌, length, take, drop, slice_index, length-append, length-drop, refl, sym, ap, subst, ◌∙◌, arith, inl, inr, ⊎_elim, add_assoc}
 use Rattle.std.proofs.lemmas.Bool.{cases_Bool, cond-true, cond-false, cases_lt}
 use Rattle.std.proofs.lemmas.Bool.Decides.{nat_tests}
@@ -16,11 +16,11 @@ use Rattle.bstr.proofs.lemmas.SoundLemmas.{SpellsChar-decoded}
 use Rattle.bstr.proofs.lemmas.TrimLemmas.{kept-skip, kept-stop, kept-nil, kept_end-nil, kept_end-snoc}
 use Rattle.mailmap_entries.specs.Folding.{Text}
 
--- the text begins with the UTF-8 of a character that passes
+-- the text begins with the UTF-8 of a character for which the predicate holds
 abbrev pub BeginsBy : (ℕ → Bool) → Text → Type 0
 BeginsBy t s = (c : ℕ) × (rest : Text) × (t c ≡ true) × (s ≡ encode_utf8 c ++ rest)
 
--- the text ends with one
+-- the text ends with the UTF-8 of such a character
 abbrev pub EndsBy : (ℕ → Bool) → Text → Type 0
 EndsBy t s = (c : ℕ) × (front : Text) × (t c ≡ true) × (s ≡ front ++ encode_utf8 c)
 
@@ -48,7 +48,7 @@ module _ (t : ℕ → Bool) (scalars : (c : ℕ) → t c ≡ true → scalar c �
   nonempty : (c : ℕ) (rest : List ℕ) → 0 < length (encode_utf8 c ++ rest)
   nonempty c rest = omega (arith, length-append (encode_utf8 c) rest, some_bytes c)
 
-  -- a character that passes goes at the front
+  -- such a character is removed at the start
   pub start-passed : (c : ℕ) (rest : List ℕ) → t c ≡ true → trim_start_by t (encode_utf8 c ++ rest) ≡ trim_start_by t rest
   start-passed c rest passes =
       let bs = encode_utf8 c ++ rest in
@@ -73,7 +73,7 @@ module _ (t : ℕ → Bool) (scalars : (c : ℕ) → t c ≡ true → scalar c �
   pub start-nil : trim_start_by t [] ≡ []
   start-nil = ap (λ n. drop n []) (ap (kept_start t 0) (spans-nil [] 0 refl) ∙ kept-nil t 0)
 
-  -- what the first character spells
+  -- if the predicate holds for the first decoded character, the text begins with its UTF-8
   pub begins : (bs : List ℕ) (o : Option ℕ) → (decoded bs).char ≡ o → t (or_replacement o) ≡ true → BeginsBy t bs
   begins bs None is passes = absurd (cc)
   begins bs (Some c) is passes = (c, drop (decoded bs).size bs, passes, (SpellsChar-decoded bs c is).bytes)
@@ -138,7 +138,7 @@ module _ (t : ℕ → Bool) (scalars : (c : ℕ) → t c ≡ true → scalar c �
       let rest : kept_end t next (spans_from (off + p.size) (pieces (drop p.size bs))) ≤ off + p.size + length (drop p.size bs) = kept_end-bound f (drop p.size bs) (off + p.size) next (omega arith) within in
       rw (spans-first bs off (omega arith)) (omega arith)
 
-  -- a character that passes goes at the end
+  -- such a character is removed at the end
   pub end-passed : (front : List ℕ) (c : ℕ) → t c ≡ true → trim_end_by t (front ++ encode_utf8 c) ≡ trim_end_by t front
   end-passed front c passes =
       let bs = front ++ encode_utf8 c in
@@ -154,7 +154,7 @@ module _ (t : ℕ → Bool) (scalars : (c : ℕ) → t c ≡ true → scalar c �
       let bound = kept_end-bound (length front) front 0 0 (omega arith) (omega arith) in
       ap (λ i. take i bs) kept ∙ take-append-le (kept_end t 0 (spans_from 0 (pieces front))) front (encode_utf8 c) (omega arith)
 
-  -- the last character passes
+  -- a text that is one such character ends with it
   ends : (bs : List ℕ) (o : Option ℕ) → (decoded bs).char ≡ o → t (or_replacement o) ≡ true → drop (decoded bs).size bs ≡ [] → EndsBy t bs
   ends bs None is passes none = absurd (cc)
   ends bs (Some c) is passes none =
@@ -163,7 +163,7 @@ module _ (t : ℕ → Bool) (scalars : (c : ℕ) → t c ≡ true → scalar c �
   ends-more : (bs : List ℕ) (n : ℕ) → EndsBy t (drop n bs) → EndsBy t bs
   ends-more bs n h = (h.0, take n bs ++ h.1, h.2, sym (take-append-drop n bs) ∙ ap (λ r. take n bs ++ r) h.3 ∙ sym (append_assoc (take n bs) h.1 (encode_utf8 h.0)))
 
-  -- the bytes end in a character that passes, or all of them stay
+  -- the bytes end with such a character, or all of them stay
   end-kept : (f : ℕ) (bs : List ℕ) (off end : ℕ) → length bs ≤ f → 0 < length bs
       → EndsBy t bs ⊎ (kept_end t end (spans_from off (pieces bs)) ≡ off + length bs)
   unfolding kept_end

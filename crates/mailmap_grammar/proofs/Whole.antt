@@ -1,17 +1,16 @@
--- Texts that trimming leaves whole.
+-- A text that trimming doesn't shorten is unchanged.
 use Rattle.std.proofs.Common.{◌≡◌, [], ◌∷◌, ◌++◌, length, length-append, append-nil, refl, sym, ap, ◌∙◌, arith}
 use Rattle.std.specs.Str.{encode_utf8_all}
 use Rattle.mailmap_entries.specs.Folding.{Text}
 use Rattle.mailmap_grammar.specs.Trimming.{trim, IsTrimmed}
 use Rattle.mailmap_grammar.proofs.Trimmed.{trimmed-made}
 
--- no bytes before or after a text of the same length
+-- if a part has the length of the whole, it is the whole
 nothing_round : (a b t : Text) → length ((a ++ (t ++ b))) ≡ length t → a ++ (t ++ b) ≡ t
 nothing_round [] [] t e = append-nil t
 nothing_round [] (x ∷ b) t e = absurd (omega (arith, e, length-append t (x ∷ b)))
 nothing_round (x ∷ a) b t e = absurd (omega (arith, e, length-append (x ∷ a) (t ++ b), length-append t b))
 
--- a text that trimming doesn't shorten is trimmed
 pub whole : (s : Text) → length (trim s) ≡ length s → s ≡ trim s
 whole s e =
     let made : IsTrimmed s (trim s) = trimmed-made s (trim s) refl in

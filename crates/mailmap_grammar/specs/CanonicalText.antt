@@ -1,4 +1,4 @@
--- What a snapshot is written as, and which entries a line of a mailmap can hold.
+-- The text that a snapshot is written as, and the entries that a line of a mailmap can hold.
 use Rattle.std.specs.Prelude.{◌≡◌, ◌≢◌, List, [], ◌∷◌, ◌++◌, Option, Some, None, IsSome, IfSome, IfNone, OnSome}
 use Rattle.std.specs.List.{flat_map}
 use Rattle.mailmap_entries.specs.Entries.{Mapping}
@@ -6,21 +6,21 @@ use Rattle.mailmap_entries.specs.Folding.{Text}
 use Rattle.mailmap_grammar.specs.Lines.{HoldsNo}
 use Rattle.mailmap_grammar.specs.Trimming.{trim}
 
--- an email that stays as it is between brackets: trimmed, without `>` and without a line feed
+-- an email that is parsed unchanged between brackets: trimmed, without `>` and without a line feed
 pub record IsWritableEmail (email : Text) : Type 0 where
   pub trimmed : email ≡ trim email
   pub no_closing : HoldsNo 62 email
   pub one_line : HoldsNo 10 email
 
--- a name that stays as it is before a bracket: not empty, trimmed, without `<` and without a line feed
+-- a name that is parsed unchanged in front of a bracket: not empty, trimmed, without `<` and without a line feed
 pub record IsWritableName (name : Text) : Type 0 where
   pub some : name ≢ []
   pub trimmed : name ≡ trim name
   pub no_opening : HoldsNo 60 name
   pub one_line : HoldsNo 10 name
 
--- an entry that a line can hold: its texts stay as they are, the first email is not empty, and an old name has a new
--- email beside it
+-- an entry that a line can hold: its texts are parsed unchanged, the first email is not empty, and an old name comes
+-- with a new email
 pub record IsWritable (e : Mapping) : Type 0 where
   pub names : IfSome e.new_name IsWritableName × IfSome e.old_name IsWritableName
   pub emails : IfSome e.new_email IsWritableEmail × IsWritableEmail e.old_email
@@ -28,25 +28,23 @@ pub record IsWritable (e : Mapping) : Type 0 where
   pub some_old : IfNone e.new_email (e.old_email ≢ [])
   pub beside : OnSome e.old_name (IsSome e.new_email)
 
--- a name and a blank, if there is a name
+-- a name and a space, if there is a name
 abbrev pub name_part : Option Text → Text
 name_part None = []
 name_part (Some name) = name ++ 32 ∷ []
 
--- an email between `<` and `>`
 abbrev pub bracketed_email : Text → Text
 bracketed_email email = 60 ∷ (email ++ 62 ∷ [])
 
--- an email in brackets and a blank, if there is an email
+-- an email in brackets and a space, if there is an email
 abbrev pub email_part : Option Text → Text
 email_part None = []
 email_part (Some email) = bracketed_email email ++ 32 ∷ []
 
--- a blank, the new name, the new email, the old name, the old email and a line feed
+-- a space, the new name, the new email, the old name, the old email and a line feed
 abbrev pub line : Mapping → Text
 line e = 32 ∷ (name_part e.new_name ++ email_part e.new_email ++ name_part e.old_name
     ++ bracketed_email e.old_email ++ 10 ∷ [])
 
--- one line for each entry
 abbrev pub text : List Mapping → Text
 text es = flat_map line es

@@ -16,21 +16,22 @@ use Rattle.mailmap_entries.specs.Folding.{Text}
 use Rattle.mailmap_entries.specs.Entries.{Mapping, mapping_of}
 use Rattle.mailmap_grammar.specs.Trimming.{trim, IsTrimmed}
 
--- the five faults; only strict reading gives the last one
-pub data Kind : Type 0 where
-  no_email : Kind
-  missing_closing_bracket : Kind
-  empty_email : Kind
-  nothing_to_map : Kind
-  unclosed_second : Kind
+-- the five faults; the last one comes only from strict parsing
+pub data FaultKind : Type 0 where
+  no_email : FaultKind
+  missing_closing_bracket : FaultKind
+  empty_email : FaultKind
+  nothing_to_map : FaultKind
+  unclosed_second : FaultKind
 
--- a fault, the number of its line, and that line trimmed; of an unclosed second contact the rest after the first `>`
+-- a fault, the number of its line, and its input: the trimmed line, or for an unclosed second contact the text after
+-- the first `>`
 pub record Fault : Type 0 where
-  pub kind : Kind
+  pub kind : FaultKind
   pub line : ℕ
   pub input : Text
 
--- the code's fault
+-- the fault that a value of the type `Error` represents
 abbrev pub fault_of : Error → Fault
 fault_of (NoEmail line input) = record { kind = no_email; line = line; input = input.now }
 fault_of (MissingClosingBracket line input) = record { kind = missing_closing_bracket; line = line; input = input.now }
@@ -42,28 +43,28 @@ fault_of (UnclosedSecond line input) = record { kind = unclosed_second; line = l
 abbrev pub Reading : Type 0
 Reading = Result Mapping Fault
 
--- the code's item
+-- what an item of a line iterator says
 abbrev pub reading_of : Result Entry Error → Reading
 reading_of (Ok e) = Ok (mapping_of e)
 reading_of (Err e) = Err (fault_of e)
 
--- the same, of an entry with the rest of its line
+-- what an item says if the trailing text is ignored
 abbrev pub reading_with_trailing : Result WithTrailing Error → Reading
 reading_with_trailing (Ok w) = Ok (mapping_of w.entry)
 reading_with_trailing (Err e) = Err (fault_of e)
 
--- what is before the first byte b and what after it, or None if there is no b
+-- the text before the first byte b and the text after it, or None without b
 unfoldable pub split_once : ℕ → Text → Option (Text × Text)
 split_once b [] = None
 split_once b (c ∷ s) = if c == b then Some ([], s) else option_map (λ p. (c ∷ p.0, p.1)) (split_once b s)
 
--- a text by its first `<` and the first `>` after it: what is before, between and after
+-- a text split at its first `<` and the first `>` after it: the parts before, between and after
 pub data ParsedContact : Type 0 where
   Absent : ParsedContact
   Unclosed : ParsedContact
   Closed : Text → Text → Text → ParsedContact
 
--- the two cuts of `cut`: at `>` after the `<`, and at `<`
+-- the two steps of `cut`: split at `>` after the `<`, and split at `<`
 abbrev pub closed : Text → Option (Text × Text) → ParsedContact
 closed a None = Unclosed
 closed a (Some p) = Closed a p.0 p.1
@@ -72,11 +73,10 @@ abbrev pub opened : Option (Text × Text) → ParsedContact
 opened None = Absent
 opened (Some p) = closed p.0 (split_once 62 p.1)
 
--- a text cut at the first `<` and the first `>` after it; IsCut, IsUnclosed and HoldsNo say which contact it is
+-- splits a text at the first `<` and the first `>` after it; IsCut, IsUnclosed and HoldsNo describe the three results
 abbrev pub cut : Text → ParsedContact
 cut s = opened (split_once 60 s)
 
--- a text, or None if it is empty
 abbrev pub non_empty : Text → Option Text
 non_empty [] = None
 non_empty (b ∷ s) = Some (b ∷ s)
@@ -87,7 +87,11 @@ trimmed_contact Absent = Absent
 trimmed_contact Unclosed = Unclosed
 trimmed_contact (Closed a b c) = Closed (trim a) (trim b) c
 
--- what is after the last email that counts: that of the second contact, if `rest` has one
+-- the contact at the start of a line, which is trimmed first
+abbrev pub contact_in : Text → ParsedContact
+contact_in line = trimmed_contact (cut (trim line))
+
+-- the text after the last email that counts, which is that of the second contact if `rest` has one
 abbrev pub after_second : Text → ParsedContact → Text
 after_second rest Absent = rest
 after_second rest Unclosed = rest
@@ -98,17 +102,16 @@ trailing_text Absent = []
 trailing_text Unclosed = []
 trailing_text (Closed name email rest) = after_second rest (cut rest)
 
--- the code's contact
+-- the contact that a value of the code's type represents
 abbrev pub parsed_contact_of : the_contact.ParsedContact → ParsedContact
 parsed_contact_of variant.Absent = Absent
 parsed_contact_of variant.Unclosed = Unclosed
 parsed_contact_of (variant.Closed name email rest) = Closed name.now email.now rest.now
 
--- the fault of this kind on this line
-abbrev pub fault : Kind → ℕ → Text → Reading
+abbrev pub fault : FaultKind → ℕ → Text → Reading
 fault kind line input = Err (record { kind = kind; line = line; input = input })
 
--- what a line with two contacts maps: their names and emails; an empty name is none
+-- what a line with two contacts maps; an empty name counts as missing
 abbrev pub by_both : Text → Text → Text → Text → Mapping
 by_both name email old_name old_email = record {
   new_name = non_empty name;
@@ -117,11 +120,11 @@ by_both name email old_name old_email = record {
   old_email = old_email;
 }
 
--- what a name and an email map: the name replaces that of the email
+-- what a name and an email map: commits with this email get the name
 abbrev pub by_name : Text → Text → Mapping
 by_name name email = record { new_name = Some name; new_email = None; old_name = None; old_email = email }
 
--- a line whose first contact is a name and an email, and what its second contact is
+-- what a line with this name and email in its first contact says, depending on its second contact
 abbrev pub two_contacts : ℕ → Text → Text → Text → ParsedContact → Reading
 two_contacts n t [] email Absent = fault nothing_to_map n t
 two_contacts n t [] email Unclosed = fault nothing_to_map n t
@@ -129,25 +132,25 @@ two_contacts n t (b ∷ name) email Absent = Ok (by_name (b ∷ name) email)
 two_contacts n t (b ∷ name) email Unclosed = Ok (by_name (b ∷ name) email)
 two_contacts n t name email (Closed old_name old_email rest) = Ok (by_both name email old_name old_email)
 
--- the same, but a second contact that has its `<` and not its `>` is a fault, and the rest is shown
+-- strict parsing: a second `<` without its `>` is a fault, with the rest of the line as input
 abbrev pub strict_contacts : ℕ → Text → Text → Text → Text → ParsedContact → Reading
 strict_contacts n t name email rest Absent = two_contacts n t name email Absent
 strict_contacts n t name email rest Unclosed = fault unclosed_second n rest
 strict_contacts n t name email rest (Closed a b c) = two_contacts n t name email (Closed a b c)
 
--- what a line says by its first contact; if that has an email, `both` says it by name, email and rest
+-- what a line says by its first contact; `both` goes on if that contact has an email
 abbrev pub first_contact : (Text → Text → Text → Reading) → ℕ → Text → ParsedContact → Reading
 first_contact both n t Absent = fault no_email n t
 first_contact both n t Unclosed = fault missing_closing_bracket n t
 first_contact both n t (Closed name [] rest) = fault empty_email n t
 first_contact both n t (Closed name (b ∷ email) rest) = both name (b ∷ email) rest
 
--- what the trimmed line t says, as line n
+-- what the trimmed line t says as line n
 abbrev pub line_reading : ℕ → Text → Reading
 line_reading n t = first_contact (λ name email rest. two_contacts n t name email (trimmed_contact (cut rest))) n t
     (trimmed_contact (cut t))
 
--- the same, read strictly
+-- what t says in strict parsing
 abbrev pub strict_line_reading : ℕ → Text → Reading
 strict_line_reading n t = first_contact
     (λ name email rest. strict_contacts n t name email rest (trimmed_contact (cut rest))) n t (trimmed_contact (cut t))
@@ -157,70 +160,68 @@ abbrev pub is_comment : Text → Bool
 is_comment [] = false
 is_comment (b ∷ s) = b == 35
 
--- what `says` says of a trimmed line, None if that is empty
+-- what `says` makes of a trimmed line, None if the line is empty
 abbrev pub unless_blank : (ℕ → Text → Reading) → ℕ → Text → Option Reading
 unless_blank says n [] = None
 unless_blank says n (b ∷ t) = Some (says n (b ∷ t))
 
--- what a line says, if `says` reads trimmed lines; None for a comment and for a blank line
+-- what a line says if `says` reads trimmed lines; None for a comment and for a blank line
 abbrev pub reading_by : (ℕ → Text → Reading) → ℕ → Text → Option Reading
 reading_by says n line = if is_comment line then None else unless_blank says n (trim line)
 
--- what a line says, as line n
+-- what a line says as line n
 abbrev pub reading : ℕ → Text → Option Reading
 reading = reading_by line_reading
 
--- the same, read strictly
 abbrev pub strict_reading : ℕ → Text → Option Reading
 strict_reading = reading_by strict_line_reading
 
--- the reader of trimmed lines that the code chooses
+-- how trimmed lines are read with this strictness
 abbrev pub line_reader : Strictness → ℕ → Text → Reading
 line_reader Lenient = line_reading
 line_reader Strict = strict_line_reading
 
--- what the lines say by the reader `read` of one line, the first of them being line n
+-- what the lines say if `read` reads one line, and the first of them is line n
 unfoldable pub readings_from : (ℕ → Text → Option Reading) → ℕ → List Text → List Reading
 readings_from read n [] = []
 readings_from read n (l ∷ ls) = option_to_list (read n l) ++ readings_from read (n + 1) ls
 
--- the pieces with one more byte at the front of the first
+-- puts one more byte in front of the first piece
 abbrev pub with_first : ℕ → List Text → List Text
 with_first b [] = (b ∷ []) ∷ []
 with_first b (p ∷ ps) = (b ∷ p) ∷ ps
 
--- the lines of a buffer: the texts between its line feeds, without a last one that is empty
+-- the lines of a buffer: the texts between its line feeds, but no empty one at the end
 unfoldable pub pieces : Text → List Text
 pieces [] = []
 pieces (b ∷ s) = if b == 10 then [] ∷ pieces s else with_first b (pieces s)
 
--- lines, each with a line feed after it
+-- lines, each followed by a line feed
 abbrev pub fed : List Text → Text
 fed ls = flat_map (λ l. l ++ 10 ∷ []) ls
 
--- what a buffer says: its lines are numbered from 1, comments and blank lines too
+-- what a buffer says; its lines are numbered from 1, and comments and blank lines count
 abbrev pub readings : Text → List Reading
 readings buf = readings_from reading 1 (pieces buf)
 
--- the same, read strictly
 abbrev pub strict_readings : Text → List Reading
 strict_readings buf = readings_from strict_reading 1 (pieces buf)
 
--- only the mappings
-unfoldable pub good_of : List Reading → List Mapping
-good_of [] = []
-good_of (r ∷ rs) = option_to_list (result_ok r) ++ good_of rs
+-- the mappings among the readings
+unfoldable pub mappings_in : List Reading → List Mapping
+mappings_in [] = []
+mappings_in (r ∷ rs) = option_to_list (result_ok r) ++ mappings_in rs
 
--- what a buffer maps: the mappings of its lines, in order, without the faults
-abbrev pub good : Text → List Mapping
-good buf = good_of (readings buf)
+-- the mappings of a buffer's lines, in order, without the faults
+abbrev pub mappings_of : Text → List Mapping
+mappings_of buf = mappings_in (readings buf)
 
--- no number of the text is b
+-- b doesn't occur in the text
 abbrev pub HoldsNo : ℕ → Text → Type 0
 HoldsNo b = AllByRecursion (λ x. x ≢ b)
 
--- ls are the lines of s: none holds a line feed, and with their line feeds they are s; the last one, if it is not
--- empty, may have none
+-- ls are the lines of s: none contains a line feed, and each followed by a line feed they are s; the last line, if it
+-- is not empty, needs no line feed
 pub record ArePieces (s : Text) (ls : List Text) : Type 0 where
   pub no_feed : AllByRecursion (HoldsNo 10) ls
   pub whole : (s ≡ fed ls)
@@ -232,7 +233,7 @@ pub record IsCut (s a b c : Text) : Type 0 where
   pub no_opening : HoldsNo 60 a
   pub no_closing : HoldsNo 62 b
 
--- s has a first `<` and no `>` after it
+-- s has a `<`, and no `>` after the first one
 pub record IsUnclosed (s : Text) : Type 0 where
   pub before : Text
   pub after : Text
@@ -240,7 +241,7 @@ pub record IsUnclosed (s : Text) : Type 0 where
   pub no_opening : HoldsNo 60 before
   pub no_closing : HoldsNo 62 after
 
--- s begins with a name and an email in brackets, trimmed here, and rest comes after the `>`
+-- s begins with a name and an email in brackets, given here trimmed, and rest comes after the `>`
 pub record IsContact (s name email rest : Text) : Type 0 where
   pub before : Text
   pub between : Text
@@ -248,24 +249,24 @@ pub record IsContact (s name email rest : Text) : Type 0 where
   pub is_name : IsTrimmed before name
   pub is_email : IsTrimmed between email
 
--- s has no such contact: no `<`, or one with no `>` after it
+-- s has no such contact: no `<`, or no `>` after the first one
 abbrev pub NoContact : Text → Type 0
 NoContact s = HoldsNo 60 s ⊎ IsUnclosed s
 
--- what line n, trimmed t, says whose first contact is this name and this email: a second contact, a name alone, or
--- nothing
+-- what line n, trimmed t, says if its first contact has this name and this email: there is a second contact, or only a
+-- name, or neither
 pub data IsSecondRead (n : ℕ) (t name email rest : Text) (r : Reading) : Type 0 where
   second : (old_name old_email tail : Text) → IsContact rest old_name old_email tail
       → r ≡ Ok (by_both name email old_name old_email) → IsSecondRead n t name email rest r
   name_alone : NoContact rest → name ≢ [] → r ≡ Ok (by_name name email) → IsSecondRead n t name email rest r
   neither : NoContact rest → name ≡ [] → r ≡ fault nothing_to_map n t → IsSecondRead n t name email rest r
 
--- the same, read strictly: a second contact that isn't closed is a fault, whose input is the rest
+-- strict parsing: a second contact without `>` is a fault with the rest as input
 pub data IsSecondReadStrictly (n : ℕ) (t name email rest : Text) (r : Reading) : Type 0 where
   open_second : IsUnclosed rest → r ≡ fault unclosed_second n rest → IsSecondReadStrictly n t name email rest r
   as_ever : (IsUnclosed rest → ⊥) → IsSecondRead n t name email rest r → IsSecondReadStrictly n t name email rest r
 
--- what line n, trimmed t, says, if Second says how it goes on after a first contact with an email
+-- what line n, trimmed t, says, if Second describes how it goes on after a first contact with an email
 pub data IsFirstRead (Second : Text → Text → Text → Reading → Type 0) (n : ℕ) (t : Text) (r : Reading) : Type 0 where
   no_bracket : HoldsNo 60 t → r ≡ fault no_email n t → IsFirstRead Second n t r
   open_first : IsUnclosed t → r ≡ fault missing_closing_bracket n t → IsFirstRead Second n t r
@@ -273,26 +274,25 @@ pub data IsFirstRead (Second : Text → Text → Text → Reading → Type 0) (n
   first : (name email rest : Text) → IsContact t name email rest → email ≢ [] → Second name email rest r
       → IsFirstRead Second n t r
 
--- the line begins with `#`
 abbrev pub IsComment : Text → Type 0
 IsComment line = (after : Text) × (line ≡ 35 ∷ after)
 
--- what a line says, or None, if Says gives what its trimmed text says
+-- what a line says, or None, if Says describes what its trimmed text says
 pub data IsReadBy (Says : Text → Reading → Type 0) (line : Text) (o : Option Reading) : Type 0 where
   comment : IsComment line → o ≡ None → IsReadBy Says line o
   blank : (IsComment line → ⊥) → IsTrimmed line [] → o ≡ None → IsReadBy Says line o
   said : (t : Text) (r : Reading) → (IsComment line → ⊥) → IsTrimmed line t → t ≢ [] → Says t r → o ≡ Some r
       → IsReadBy Says line o
 
--- what the line says as line n, by cases of which each line meets one
+-- what the line says as line n, by cases; each line is exactly one of them
 abbrev pub IsRead : ℕ → Text → Option Reading → Type 0
 IsRead n = IsReadBy (λ t. IsFirstRead (IsSecondRead n t) n t)
 
--- the same, read strictly
+-- the cases of strict parsing
 abbrev pub IsReadStrictly : ℕ → Text → Option Reading → Type 0
 IsReadStrictly n = IsReadBy (λ t. IsFirstRead (IsSecondReadStrictly n t) n t)
 
--- the lines that faults are on
+-- the line numbers of the faults
 unfoldable pub fault_lines : List Reading → List ℕ
 fault_lines [] = []
 fault_lines (Ok m ∷ rs) = fault_lines rs

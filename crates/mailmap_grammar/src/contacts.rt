@@ -1,18 +1,18 @@
-//! How a text is cut into a contact: a name, and an email in brackets.
+//! Splits a text into a contact: a name, and an email in brackets.
 ghost use Rattle.std.specs.Prelude.{◌≡◌, ◌<◌, ◌↔◌, IsTrue};
-ghost use Rattle.mailmap_grammar.specs.Lines.{cut, parsed_contact_of, trimmed_contact};
+ghost use Rattle.mailmap_grammar.specs.Lines.{contact_in, cut, parsed_contact_of, trimmed_contact};
 ghost use Rattle.mailmap_grammar.specs.Trimming.{trim as spec_trim, IsVisibleLead};
 
 use bstr::ByteSlice;
 
-/// The contact that a text begins with. Its email is between the first `<` and the first `>` after that.
+/// The contact at the start of a text. Its email is between the first `<` and the first `>` after it.
 #[derive(Clone, Copy)]
 pub enum ParsedContact<'a> {
     /// There is no `<`.
     Absent,
-    /// There is a `<`, and no `>` after it.
+    /// There is a `<`, but no `>` after it.
     Unclosed,
-    /// Name and email are trimmed, and either may be empty. The rest is all text after the `>`, not trimmed.
+    /// Name and email are trimmed, and either can be empty. `rest` is all text after the `>`, not trimmed.
     Closed {
         name: &'a [u8],
         email: &'a [u8],
@@ -20,8 +20,18 @@ pub enum ParsedContact<'a> {
     },
 }
 
-/// Cuts a text at its first `<` and the first `>` after it. Both contacts of a mailmap line are read by this, and the
-/// contacts that a mailmap is asked for.
+/// Parses the contact at the start of a line, after trimming the line.
+///
+/// The line `jd <JD@x> and more` has the name `jd` and the email `JD@x`.
+#[inline(always)]
+pub fn contact_of(line: &[u8]) -> ParsedContact<'_>
+    ensures { parsed_contact_of result ≡ contact_in line.now }
+{
+    parse_name_and_email(trim(line))
+}
+
+/// Splits a text at its first `<` and the first `>` after it. Both contacts of a mailmap line are parsed by this, and
+/// also the contacts to look up.
 #[inline(always)]
 pub fn parse_name_and_email(text: &[u8]) -> ParsedContact<'_>
     ensures { parsed_contact_of result ≡ trimmed_contact (cut text.now) }
@@ -40,21 +50,21 @@ pub fn parse_name_and_email(text: &[u8]) -> ParsedContact<'_>
     }
 }
 
-/// The text without the white space of Unicode at its ends. Bytes that are no UTF-8 stay.
+/// The text without the Unicode white space at its ends. Bytes that aren't valid UTF-8 stay.
 #[inline]
 pub fn trim(text: &[u8]) -> &[u8]
     ensures { result.now ≡ spec_trim text.now }
 {
-    // Most texts have at each end, after some blanks, a byte that shows that there is no more to trim.
-    let inner = without_last_blanks(without_first_blanks(text));
+    // Past the spaces, the first and the last byte of most texts already show that no white space is left.
+    let inner = trim_end_spaces(trim_start_spaces(text));
     if is_plain(inner) {
         return inner;
     }
-    without_last_wide_blanks(without_first_wide_blanks(inner)).trim()
+    trim_end_ideographic_spaces(trim_start_ideographic_spaces(inner)).trim()
 }
 
 #[inline(always)]
-fn without_first_blanks(text: &[u8]) -> &[u8]
+fn trim_start_spaces(text: &[u8]) -> &[u8]
     ensures { spec_trim result.now ≡ spec_trim text.now }
 {
     let mut start = 0;
@@ -65,7 +75,7 @@ fn without_first_blanks(text: &[u8]) -> &[u8]
 }
 
 #[inline(always)]
-fn without_last_blanks(text: &[u8]) -> &[u8]
+fn trim_end_spaces(text: &[u8]) -> &[u8]
     ensures { spec_trim result.now ≡ spec_trim text.now }
 {
     let mut end = text.len();
@@ -75,36 +85,37 @@ fn without_last_blanks(text: &[u8]) -> &[u8]
     &text[..end]
 }
 
-// The same for the ideographic space, U+3000.
-fn without_first_wide_blanks(text: &[u8]) -> &[u8]
+// Ideographic spaces, U+3000, have their own loops as well.
+fn trim_start_ideographic_spaces(text: &[u8]) -> &[u8]
     ensures { spec_trim result.now ≡ spec_trim text.now }
 {
     let mut start = 0;
-    while start + 2 < text.len() && is_wide_blank(text[start], text[start + 1], text[start + 2]) {
+    while start + 2 < text.len()
+        && is_ideographic_space(text[start], text[start + 1], text[start + 2])
+    {
         start += 3;
     }
     &text[start..]
 }
 
-fn without_last_wide_blanks(text: &[u8]) -> &[u8]
+fn trim_end_ideographic_spaces(text: &[u8]) -> &[u8]
     ensures { spec_trim result.now ≡ spec_trim text.now }
 {
     let mut end = text.len();
-    while end > 2 && is_wide_blank(text[end - 3], text[end - 2], text[end - 1]) {
+    while end > 2 && is_ideographic_space(text[end - 3], text[end - 2], text[end - 1]) {
         end -= 3;
     }
     &text[..end]
 }
 
-// Whether three bytes are the UTF-8 of U+3000.
 #[inline(always)]
-fn is_wide_blank(first: u8, second: u8, third: u8) -> bool
+fn is_ideographic_space(first: u8, second: u8, third: u8) -> bool
     ensures { IsTrue result → (first ≡ 0xE3) × (second ≡ 0x80) × (third ≡ 0x80) }
 {
     first == 0xE3 && second == 0x80 && third == 0x80
 }
 
-// Whether the bytes at both ends show that there is nothing to trim.
+// Whether the first and the last byte show that there is nothing to trim.
 #[inline(always)]
 fn is_plain(text: &[u8]) -> bool
     ensures { IsTrue result → spec_trim text.now ≡ text.now }
@@ -113,8 +124,8 @@ fn is_plain(text: &[u8]) -> bool
     len == 0 || begins_visible(text[0]) && is_visible(text[len - 1])
 }
 
-// A byte that is a character of its own and no white space, or one with which no white space begins. Past ASCII white
-// space begins with 194, 225, 226 or 227.
+// An ASCII byte above the space, or a byte outside ASCII with which no white space begins: there, white space begins
+// with 194, 225, 226 or 227.
 #[inline(always)]
 fn begins_visible(byte: u8) -> bool
     ensures { IsTrue result → IsVisibleLead byte }
@@ -122,7 +133,7 @@ fn begins_visible(byte: u8) -> bool
     32 < byte && byte < 128 || 195 <= byte && byte < 225 || 228 <= byte
 }
 
-// A byte that is a character of its own and no white space.
+// An ASCII byte above the space: a whole character, and not white space.
 #[inline(always)]
 fn is_visible(byte: u8) -> bool
     ensures { IsTrue result ↔ (32 < byte) × (byte < 128) }

@@ -1,5 +1,5 @@
-//! The lines of mailmaps: what the lines of a buffer say, and the lines that entries are written as. The crate
-//! `gix_mailmap` passes on what users need of this.
+//! Parses the lines of mailmaps, and writes entries as lines. Users need only `gix_mailmap`, which re-exports the
+//! public parts.
 #![tactic(auto)]
 
 pub mod contacts;

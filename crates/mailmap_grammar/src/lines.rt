@@ -1,19 +1,19 @@
-//! The lines of a mailmap: how a buffer is cut into lines, what each line says, and why one says nothing that can be
-//! used. The grammar is that of git's `.mailmap` files as the crate gix-mailmap reads it.
+//! Parses the lines of a mailmap. The grammar is that of the crate gix-mailmap, which differs from git's in a few
+//! points.
 //!
-//! A buffer is cut after each line feed. A line whose first byte is `#` is a comment; ` # c` is none, since a blank
-//! comes first. A line of only white space is blank. Both give nothing, but they are counted: lines are numbered from
-//! 1.
+//! A buffer is split after each line feed. A line whose first byte is `#` is a comment; ` # c` isn't one, because of
+//! the space in front. A line of only white space is blank. Comments and blank lines map nothing, but they count: the
+//! first line of a buffer is line 1.
 //!
-//! Any other line is trimmed of Unicode's white space and read as one contact or two, each a name and an email in
-//! brackets: `Proper <proper@x> Commit <commit@x>`.
+//! Any other line is trimmed of Unicode white space and parsed as one or two contacts. A contact is a name and an email
+//! in brackets: `Proper <proper@x> Commit <commit@x>` has two.
 //!
-//! - The first `<` opens the email and the first `>` after it closes it; name and email are trimmed, too. So a `>` may
-//!   be in a name and a `<` in an email.
-//! - Either name may be missing, and the second contact as well. The second email may be empty, the first one not.
-//! - What is after the second contact is ignored. So is text after the first contact that has no `<`. A second `<`
-//!   without its `>` is ignored, too, unless lines are read strictly, by [`parse_strict`].
-//! - One email alone maps nothing.
+//! - The first `<` opens the email and the first `>` after it closes it, so a name can contain `>` and an email can
+//!   contain `<`. Name and email are trimmed, too.
+//! - Either name may be missing, and so may the whole second contact. The second email may be empty, the first may not.
+//! - Text after the second contact is ignored, and so is text without `<` after the first contact. A second `<` without
+//!   its `>` is ignored, too, unless lines are parsed strictly, by [`parse_strict`].
+//! - A line with nothing but one email maps nothing.
 ghost use Rattle.std.specs.Prelude.{◌≡◌, ◌≤◌, IfOk, IfSome, option_map, length};
 ghost use Rattle.std.specs.Option.{option_copied};
 ghost use Rattle.std.specs.Iterator.{YieldsFirstBy, item_count};
@@ -22,10 +22,8 @@ ghost use Rattle.std.specs.Ordering.{nat_cmp};
 ghost use Rattle.mailmap_entries.specs.Entries.{mapping_of};
 ghost use Rattle.mailmap_grammar.specs.Lines.{trailing_text, cut, reading_of, reading_with_trailing, reading_by};
 ghost use Rattle.mailmap_grammar.specs.Lines.{line_reader, non_empty as spec_non_empty, by_both, readings};
-ghost use Rattle.mailmap_grammar.specs.Lines.{readings_from, strict_readings, pieces, fault_lines, good};
+ghost use Rattle.mailmap_grammar.specs.Lines.{readings_from, strict_readings, pieces, fault_lines, mappings_of};
 ghost use Rattle.mailmap_grammar.specs.Trimming.{trim as spec_trim};
-
-mod derived;
 
 use crate::contacts::{ParsedContact, parse_name_and_email, trim};
 use crate::trailing::WithTrailing;
@@ -34,60 +32,58 @@ use mailmap_entries::Entry;
 use std::marker::Model;
 use thiserror::Error;
 
-/// Parses `buf` line by line: an item for each line that is neither blank nor a comment, in their order.
+/// Parses `buf` line by line. Yields one item for each line that is neither blank nor a comment, in order.
 ///
-/// A fault concerns only its own line, and the lines after it are read all the same; it is up to the caller to stop at
-/// a fault. Nothing is allocated, and the entries borrow from `buf`: they outlive the iterator.
+/// A fault concerns only its own line, and the lines after it are parsed as usual; callers that want to stop at a fault
+/// do so themselves. Nothing is allocated. The entries borrow from `buf`, so they can outlive the iterator.
 ///
-/// The buffer `# team\nJane <j@x>\nplain\n` gives the entry of `Jane` by `j@x`, and a fault on line 3.
+/// The buffer `# team\nJane <j@x>\nplain\n` yields the entry that maps `j@x` to `Jane`, and a fault on line 3.
 pub fn parse(buf: &[u8]) -> Lines<'_>
     ensures value { result ≡ readings buf.now }
 
-    // A line gives at most one item, and the lines of the faults rise.
+    // there are at most as many items as lines, and the lines of the faults ascend
     ensures at_most_one { length result ≤ length (pieces buf.now) }
     ensures rising { IsStrictlySortedBy nat_cmp (fault_lines result) }
 
-    // The items can be counted.
+    // callers can count the items without overflow
     ensures countable { length result ≤ length buf.now }
 {
     Lines::new(buf, Strictness::Lenient)
 }
 
-/// Parses `buf` as [`parse`] does, but takes a second contact that has its `<` and not its `>` for a fault,
-/// [`Error::UnclosedSecond`].
+/// Parses `buf` as [`parse`] does, but a second contact with `<` and without `>` is a fault, [`Error::UnclosedSecond`].
 ///
-/// Of `Jane <a@x> <b` this makes a fault; [`parse`] gives the entry of `Jane` by `a@x`. Text after a closed
-/// email, as in `Jane <a@x> tail`, is no fault here, either. A line that has another fault in its first contact keeps
-/// that one.
+/// So `Jane <a@x> <b` yields a fault, where [`parse`] yields the entry that maps `a@x` to `Jane`. Text after a closed
+/// email, as in `Jane <a@x> tail`, is no fault here, either. If the first contact has a fault, that one is reported.
 pub fn parse_strict(buf: &[u8]) -> Lines<'_>
     ensures value { result ≡ strict_readings buf.now }
 
-    // A line gives at most one item, and the lines of the faults rise.
+    // there are at most as many items as lines, and the lines of the faults ascend
     ensures at_most_one { length result ≤ length (pieces buf.now) }
     ensures rising { IsStrictlySortedBy nat_cmp (fault_lines result) }
 
-    // The items can be counted.
+    // callers can count the items without overflow
     ensures countable { length result ≤ length buf.now }
 {
     Lines::new(buf, Strictness::Strict)
 }
 
-/// Parses `buf` as [`parse`] does, and leaves out the lines that have a fault. git, too, skips most such lines without
-/// a word, but it takes an email of blanks: `Jane < > <b@x>` maps `b@x` there.
+/// Parses `buf` as [`parse`] does, and skips lines with a fault. Git skips most such lines silently, too, but it
+/// accepts an email of spaces: there, `Jane < > <b@x>` maps `b@x`.
 ///
-/// The buffer `<a@x>\nJane <j@x>\nplain` gives only the entry of `Jane` by `j@x`.
+/// The buffer `<a@x>\nJane <j@x>\nplain` yields only the entry that maps `j@x` to `Jane`.
 pub fn parse_ignore_errors(buf: &[u8]) -> GoodLines<'_>
-    ensures value { result ≡ good buf.now }
+    ensures value { result ≡ mappings_of buf.now }
 
-    // The items can be counted.
+    // callers can count the items without overflow
     ensures countable { length result ≤ length buf.now }
 {
     GoodLines { lines: parse(buf) }
 }
 
-/// The lines of a mailmap, parsed on demand: the iterator that [`parse`] and [`parse_strict`] make.
+/// An iterator over the lines of a mailmap, made by [`parse`] and [`parse_strict`]. It parses on demand.
 ///
-/// To a contract it is the list of the items that are left.
+/// Contracts see it as the list of the items that are left.
 #[derive(Drop)]
 pub struct Lines<'a> {
     lines: bstr::Lines<'a>,
@@ -95,12 +91,12 @@ pub struct Lines<'a> {
     strictness: Strictness,
 }
 
-/// Whether a second contact that has its `<` and not its `>`, as in `Jane <a@x> <b`, is a fault.
+/// Whether a second contact with `<` and without `>`, as in `Jane <a@x> <b`, is a fault.
 #[derive(Clone, Copy, Debug)]
 pub enum Strictness {
-    /// It is ignored, as [`parse`] does.
+    /// No: it is ignored, as by [`parse`].
     Lenient,
-    /// It is [`Error::UnclosedSecond`], as of [`parse_strict`].
+    /// Yes: it is an [`Error::UnclosedSecond`], as in [`parse_strict`].
     Strict,
 }
 
@@ -148,9 +144,9 @@ impl<'a> Iterator for Lines<'a> {
     }
 }
 
-/// The entries of a mailmap, without its faults: the iterator that [`parse_ignore_errors`] makes.
+/// An iterator over the entries of a mailmap that skips faults, made by [`parse_ignore_errors`].
 ///
-/// To a contract it is the list of the mappings that are left.
+/// Contracts see it as the list of the mappings that are left.
 #[derive(Drop)]
 pub struct GoodLines<'a> {
     lines: Lines<'a>,
@@ -159,11 +155,11 @@ pub struct GoodLines<'a> {
 impl<'a> Model for GoodLines<'a> {
     ghost use Rattle.std.specs.Prelude.{List};
     ghost use Rattle.mailmap_entries.specs.Entries.{Mapping};
-    ghost use Rattle.mailmap_grammar.specs.Lines.{good_of};
+    ghost use Rattle.mailmap_grammar.specs.Lines.{mappings_in};
 
     ghost Value = { List Mapping };
 
-    ghost view = { λ s. good_of s.lines };
+    ghost view = { λ s. mappings_in s.lines };
 }
 
 impl<'a> Iterator for GoodLines<'a> {
@@ -185,26 +181,25 @@ impl<'a> Iterator for GoodLines<'a> {
 
 /// Why a line maps nothing.
 ///
-/// Each fault has the number of its line, from 1, and as `input` the whole line without the white space at its ends;
-/// [`Error::UnclosedSecond`] has the rest of the line. Its text names the line and the defect, and doesn't show
-/// `input`, which need not be UTF-8.
+/// Each fault has the number of its line, from 1, and as `input` the line without the white space at its ends.
+/// [`Error::UnclosedSecond`] has only the rest of the line. The message names the line and the problem, but doesn't
+/// show `input`, which need not be UTF-8.
 #[derive(Debug, PartialEq, Eq, Drop, Error)]
 pub enum Error<'a> {
-    /// The line has no `<`, as `plain`.
+    /// There is no `<`, as in `plain`.
     #[error("Line {line} does not contain an email")]
     NoEmail { line: usize, input: &'a [u8] },
-    /// The first `<` has no `>` after it, as in `Jane <a@x`.
+    /// There is no `>` after the first `<`, as in `Jane <a@x`.
     #[error("{line}: Missing closing bracket '>' in email")]
     MissingClosingBracket { line: usize, input: &'a [u8] },
     /// The first email is empty or white space, as in `Jane < > <b@x>`.
     #[error("{line}: Email must not be empty")]
     EmptyEmail { line: usize, input: &'a [u8] },
-    /// The line has only an email, as in `<a@x>`: there is nothing that it could be mapped to.
+    /// The line has only an email, as in `<a@x>`, and nothing to map it to.
     #[error("{line}: Emails without a name or email to map to are invalid")]
     NothingToMap { line: usize, input: &'a [u8] },
-    /// The second `<` has no `>` after it, as in `Jane <a@x> <b`. `input` is what is after the `>` that closes the
-    /// first contact, with its white space. Only what is read strictly has this fault: by [`parse_strict`] or
-    /// [`read_line`].
+    /// There is no `>` after the second `<`, as in `Jane <a@x> <b`. `input` is the text after the `>` of the first
+    /// contact, up to the end of the trimmed line. Only strict parsing reports this fault: [`parse_strict`], or [`read_line`] if called so.
     #[error("{line}: Missing closing bracket '>' in second email")]
     UnclosedSecond { line: usize, input: &'a [u8] },
 }
@@ -212,7 +207,7 @@ pub enum Error<'a> {
 impl<'a> Error<'a> {
     ghost use Rattle.mailmap_grammar.specs.Lines.{fault_of};
 
-    /// The number of the line that the fault is on. The first line of a buffer is 1.
+    /// The number of the line with the fault. The first line of a buffer is 1.
     pub fn line(&self) -> usize
         ensures { result ≡ (fault_of self.now).line }
     {
@@ -225,7 +220,8 @@ impl<'a> Error<'a> {
         }
     }
 
-    /// The trimmed line, or the rest of it for [`Error::UnclosedSecond`]. It is lent for as long as the buffer lives.
+    /// The trimmed line, or the rest of it for [`Error::UnclosedSecond`]. It borrows from the buffer, not from the
+    /// fault.
     pub fn input(&self) -> &'a [u8]
         ensures { result.now ≡ (fault_of self.now).input }
     {
@@ -239,10 +235,10 @@ impl<'a> Error<'a> {
     }
 }
 
-/// What the line `text` says, as it is in its buffer; `None` for a comment and for a blank line.
+/// Parses one line. `None` means a comment or a blank line.
 ///
-/// `line` is the number that a fault shows. A line feed or a carriage return at the end of `text` says nothing, like
-/// other white space there. Of `Jane <j@x>` this gives the entry of `Jane` by `j@x`.
+/// `line` is the number that a fault shows. `text` may end with a line feed or a carriage return, which are trimmed
+/// like other white space. `Jane <j@x>` gives the entry that maps `j@x` to `Jane`.
 #[inline(always)]
 pub fn read_line(
     text: &[u8],
@@ -257,7 +253,7 @@ pub fn read_line(
     }
 }
 
-/// What the line `text` says, and beside its entry what is after the last email that counts.
+/// Parses one line, and keeps the text after the last email that counts.
 #[inline(always)]
 pub(crate) fn read_with_trailing(
     text: &[u8],
@@ -277,7 +273,7 @@ pub(crate) fn read_with_trailing(
     Some(parse_line(input, line, strictness))
 }
 
-/// What the trimmed line `input` says. A fault shows it as its input, under the number `line`.
+/// Parses a line that is already trimmed and not empty.
 #[inline(always)]
 fn parse_line(
     input: &[u8],
@@ -318,7 +314,7 @@ fn parse_line(
     })
 }
 
-/// The entry of a line with two contacts. Either name may be empty, and is none then.
+/// The entry of a line with two contacts. An empty name counts as missing.
 fn change_by_both<'a>(
     name: &'a [u8],
     email: &'a [u8],
@@ -337,7 +333,6 @@ fn change_by_both<'a>(
     }
 }
 
-/// The text, or `None` if it is empty.
 fn non_empty(text: &[u8]) -> Option<&[u8]>
     ensures { option_copied result ≡ spec_non_empty text.now }
 {

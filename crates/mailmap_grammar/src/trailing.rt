@@ -1,7 +1,7 @@
-//! The entry of a line with its trailing text, which says nothing. Users of the crate `gix_mailmap` don't see this.
+//! The entry of a line with its trailing text, which parsing ignores. `gix_mailmap` doesn't re-export this.
 use mailmap_entries::Entry;
 
-/// The entry of a line and the trailing text: all that follows the second contact, or the first one if the line has no
+/// The entry of a line and its trailing text: all that follows the second contact, or the first one if the line has no
 /// second contact with a `>`. The text is not trimmed.
 #[derive(Clone, Copy, Debug)]
 pub struct WithTrailing<'a> {

@@ -1,4 +1,4 @@
-//! How an entry is written: as a line, which [reads](crate::parse()) as the same entry again if a line can hold it.
+//! Writes entries as lines that [parse](crate::parse()) as the same entries again, if a line can hold them.
 ghost use Rattle.std.specs.Prelude.{◌≡◌, ◌≢◌, ◌++◌, ◌∷◌, ◌+◌, ◌≤◌, ◌^◌, ◌↔◌, [], length, IsTrue, OnOk, IfSome, IfNone};
 ghost use Rattle.std.specs.Prelude.{MatchOption, option_map, unwrap_or};
 ghost use Rattle.std.specs.Option.{option_copied};
@@ -13,7 +13,7 @@ use bstr::ByteSlice;
 use mailmap_entries::Entry;
 use std::alloc::AllocError;
 
-/// Whether a line can hold the entry: read back, it is the same.
+/// Whether a line can hold the entry, so that parsing the line gives the same entry again.
 pub fn is_writable(entry: &Entry<'_>) -> bool
     ensures { IsTrue result ↔ IsWritable (mapping_of entry.now) }
 {
@@ -22,7 +22,7 @@ pub fn is_writable(entry: &Entry<'_>) -> bool
         && are_writable_emails(entry.new_email(), entry.old_email())
 }
 
-// Whether a name, if there is one, stays as it is before a `<`.
+// Whether a name is parsed unchanged in front of a `<`.
 fn is_writable_name(name: Option<&[u8]>) -> bool
     ensures { IsTrue result ↔ IfSome (option_copied name.entry) IsWritableName }
 {
@@ -32,7 +32,7 @@ fn is_writable_name(name: Option<&[u8]>) -> bool
     }
 }
 
-// Whether the emails stay as they are between brackets, and the first of them is not empty.
+// Whether the emails are parsed unchanged between brackets, and the first one isn't empty.
 fn are_writable_emails(new_email: Option<&[u8]>, old_email: &[u8]) -> bool
     ensures { let new = option_copied new_email.entry in
         let old = old_email.now in
@@ -47,39 +47,39 @@ fn are_writable_emails(new_email: Option<&[u8]>, old_email: &[u8]) -> bool
     }
 }
 
-// Whether an email stays as it is between brackets.
+// Whether an email is parsed unchanged between brackets.
 fn is_writable_email(email: &[u8]) -> bool
     ensures { IsTrue result ↔ IsWritableEmail email.now }
 {
     is_trimmed(email) && is_line_without(email, b'>')
 }
 
-// Whether a text has no white space at its ends.
 fn is_trimmed(text: &[u8]) -> bool
     ensures { IsTrue result ↔ (text.now ≡ spec_trim text.now) }
 {
     trim(text).len() == text.len()
 }
 
-// Whether no byte of the text is this one or a line feed.
+// Whether the text has neither this byte nor a line feed.
 fn is_line_without(text: &[u8], byte: u8) -> bool
     ensures { IsTrue result ↔ (HoldsNo byte text.now × HoldsNo 10 text.now) }
 {
     text.find_byteset(&[byte, b'\n']).is_none()
 }
 
-/// The sum of `len` and the length of the entry's line, `None` if it is too large for a length.
+/// The sum of `len` and the length of the entry's line, `None` if it overflows.
 pub fn len_with_line(len: usize, entry: &Entry<'_>) -> Option<usize>
     ensures { let all = len + length (line (mapping_of entry.now)) in MatchOption result (2 ^ 64 ≤ all) (λ n. n ≡ all) }
 {
-    // What is beside each text: a blank; brackets and a blank; a blank; brackets, the blank in front and the line feed.
+    // What is written beside the texts: a space; brackets and a space; a space; brackets, the space at the start of the
+    // line and the line feed.
     let len = len_with_part(len, entry.new_name(), 1)?;
     let len = len_with_part(len, entry.new_email(), 3)?;
     let len = len_with_part(len, entry.old_name(), 1)?;
     len_with_part(len, Some(entry.old_email()), 4)
 }
 
-// The sum of `len` and, if there is a text, of its length and `beside`. `None` if it is too large for a length.
+// Adds `beside` and the length of the text to `len`, if there is a text. `None` if the sum overflows.
 fn len_with_part(len: usize, text: Option<&[u8]>, beside: usize) -> Option<usize>
     ensures { let all = len + unwrap_or (option_map (λ t. length t + beside) (option_copied text.entry)) 0
         in MatchOption result (2 ^ 64 ≤ all) (λ n. n ≡ all) }
@@ -90,7 +90,7 @@ fn len_with_part(len: usize, text: Option<&[u8]>, beside: usize) -> Option<usize
     }
 }
 
-/// Puts the line of an entry after what is written.
+/// Appends the line of an entry to the output.
 pub fn push_line(out: &mut Vec<u8>, entry: &Entry<'_>) -> Result<(), AllocError>
     ensures { OnOk result (out.new.items ≡ out.old.items ++ line (mapping_of entry.now)) }
 {
@@ -98,7 +98,7 @@ pub fn push_line(out: &mut Vec<u8>, entry: &Entry<'_>) -> Result<(), AllocError>
     push_old_fields(out, entry)
 }
 
-// Puts a blank and the new fields of an entry after what is written.
+// Starts the line with a space, so that a name that begins with `#` doesn't make it a comment.
 fn push_new_fields(out: &mut Vec<u8>, entry: &Entry<'_>) -> Result<(), AllocError>
     ensures { let e = mapping_of entry.now
         in OnOk result (out.new.items ≡ out.old.items ++ 32 ∷ (name_part e.new_name ++ email_part e.new_email)) }
@@ -112,7 +112,6 @@ fn push_new_fields(out: &mut Vec<u8>, entry: &Entry<'_>) -> Result<(), AllocErro
     Ok(())
 }
 
-// Puts the old fields of an entry and a line feed after what is written.
 fn push_old_fields(out: &mut Vec<u8>, entry: &Entry<'_>) -> Result<(), AllocError>
     ensures { let e = mapping_of entry.now
         in OnOk result (out.new.items
@@ -124,7 +123,7 @@ fn push_old_fields(out: &mut Vec<u8>, entry: &Entry<'_>) -> Result<(), AllocErro
     Ok(())
 }
 
-/// Puts a name and a blank after what is written, if there is a name.
+/// Appends a name and a space to the output, if there is a name.
 pub fn push_name(out: &mut Vec<u8>, name: Option<&[u8]>) -> Result<(), AllocError>
     ensures { OnOk result (out.new.items ≡ out.old.items ++ name_part (option_copied name.entry)) }
 {
@@ -135,7 +134,7 @@ pub fn push_name(out: &mut Vec<u8>, name: Option<&[u8]>) -> Result<(), AllocErro
     Ok(())
 }
 
-/// Puts an email in brackets after what is written.
+/// Appends an email in brackets to the output.
 pub fn push_email(out: &mut Vec<u8>, email: &[u8]) -> Result<(), AllocError>
     ensures { OnOk result (out.new.items ≡ out.old.items ++ bracketed_email email.now) }
 {

@@ -1,4 +1,4 @@
--- An index of answers, and one more.
+-- Adding an answer to the index.
 use Rattle.std.proofs.Common.{◌≡◌, ◌∙◌, ◌+◌, ◌<◌, ◌==◌, ◌&&◌, ℕ, Bool, true, false, cond, not, Option, None, Some, List, [], ◌∷◌, ◌++◌, IfSome, IsSome, ap, arith, bytes_eq, length, refl, subst, sym, unwrap_or, Less, Equal, Greater, Ordering, ⊎_elim}
 use Rattle.std.specs.Prelude.{position}
 use Rattle.std.specs.BTreeMap.{BTreeMap, ContainsKey}
@@ -24,18 +24,17 @@ inside_of : (o : Option ℕ) (len : ℕ) → ((k : ℕ) → o ≡ Some k → k <
 inside_of None len h = tt
 inside_of (Some k) len h = h k refl
 
--- a number that is not the one of this email
+-- an email's number is another one
 numbers_apart : (len : ℕ) (its : Option ℕ) (email : ℕ) → email < len → (its ≡ Some email → ⊥) → unwrap_or its len ≡ email → ⊥
 numbers_apart len None email lt other e = omega (arith, lt, e)
 numbers_apart len (Some j) email lt other e = other (ap Some e)
 
--- two orders, one after the other, are equal if both are
+-- equal if both parts are
 pub then_eq : (a b : Ordering) → is_eq (ordering_then a b) ≡ (is_eq a && is_eq b)
 then_eq Less b = refl
 then_eq Equal b = refl
 then_eq Greater b = refl
 
--- keys are equal if their bytes are
 pub same_bytes : (a b : Bytes) → is_eq (bytes_cmp a b) ≡ bytes_eq a.items b.items
 same_bytes a b = is_eq-slice_cmp a.items b.items
 
@@ -48,9 +47,9 @@ turned a b = nat_list_eq_equiv.symm a b
 itself : (n : ℕ) → (n == n) ≡ true
 itself n = ⊎_elim (λ yes. yes.0) (λ no. absurd (no.1 refl)) (eqb_tells n n)
 
--- ---- the answers of a name, and one more
+-- ---- the answers with one name
 
--- one more with another name changes nothing
+-- an answer with another name changes nothing
 other_later : (len : ℕ) (mine : Option ℕ) (same : Bool) (r : Option Namesakes) → IfSome r (λ n. n.email < len)
     → other_of mine r ≡ other_of (or_else mine (last_one same len)) r
 other_later len (Some k) same r within = refl
@@ -58,7 +57,7 @@ other_later len None false r within = refl
 other_later len None true None within = refl
 other_later len None true (Some n) within = sym (ap (λ b. cond b n.other (Some n.first)) (ne_eqb len n.email (λ e. omega (arith, within, e))))
 
--- one more with this name and this email
+-- an answer with this name and this email
 alike_more : (len : ℕ) (mine : Option ℕ) (r : Option Namesakes) → IfSome r (λ n. n.email < len)
     → or_else (other_of mine r) None ≡ other_of (or_else mine (Some len)) (Some (with_answer r (unwrap_or mine len) len))
 alike_more len None None within = sym (ap (λ b. cond b None (Some len)) (itself len))
@@ -68,7 +67,7 @@ alike_more len None (Some n) within =
 alike_more len (Some k) (Some n) within =
     elim (k == n.email) as (λ b. or_else (cond b n.other (Some n.first)) None ≡ cond b (or_else n.other (cond b None (Some len))) (Some n.first)) [ true ↦ refl | false ↦ refl ]
 
--- one more with this name and another email
+-- an answer with this name and another email
 apart_more : (len : ℕ) (mine its : Option ℕ) (r : Option Namesakes) → IfSome mine (λ k. k < len) → IfSome r (λ n. n.email < len)
     → ((k : ℕ) → mine ≡ Some k → its ≡ Some k → ⊥)
     → or_else (other_of mine r) (Some len) ≡ other_of mine (Some (with_answer r (unwrap_or its len) len))
@@ -84,7 +83,7 @@ apart_more len (Some k) its (Some n) inside within apart =
     (λ no. subst (λ b. Goal b (number == n.email)) (sym no.0) refl)
     (eqb_tells k n.email)
 
--- one more, whatever its name and its email
+-- any answer
 pub one_more : (len : ℕ) (mine its : Option ℕ) (named same : Bool) (r : Option Namesakes) → IfSome mine (λ k. k < len) → IfSome r (λ n. n.email < len)
     → (same ≡ true → mine ≡ its)
     → ((k : ℕ) → same ≡ false → mine ≡ Some k → its ≡ Some k → ⊥)
@@ -95,7 +94,7 @@ one_more len mine its true true r inside within alike apart =
 one_more len mine its true false r inside within alike apart =
     apart_more len mine its r inside within (λ k. apart k refl) ∙ ap (λ o. other_of o (Some (with_answer r (unwrap_or its len) len))) (sym (or_none mine))
 
--- the number of an email is that of an answer up to the last one
+-- numbers of emails stay below the number of answers
 within_more : (len : ℕ) (its : Option ℕ) (named : Bool) (r : Option Namesakes) → IfSome its (λ k. k < len) → IfSome r (λ n. n.email < len)
     → IfSome (cond named (Some (with_answer r (unwrap_or its len) len)) r) (λ n. n.email < len + 1)
 within_more len its false None inside within = tt
@@ -104,7 +103,7 @@ within_more len None true None inside within = omega arith
 within_more len (Some k) true None inside within = omega (arith, inside)
 within_more len its true (Some n) inside within = omega (arith, within)
 
--- ---- an index, and one more answer
+-- ---- the whole index
 
 cond_when : {X : Type 0} (b : Bool) (x y : X) (z : Option X) → (b ≡ true → x ≡ y) → cond b (Some x) z ≡ cond b (Some y) z
 cond_when true x y z h = ap Some (h refl)
@@ -116,7 +115,7 @@ length-push xs x = length-append xs (x ∷ []) ∙ (omega arith)
 position_inside : (p : Answered → Bool) (xs : List Answered) → IfSome (position p xs) (λ k. k < length xs)
 position_inside p xs = inside_of (position p xs) (length xs) (position_within p xs)
 
--- room changes no index
+-- the index depends only on the places of its keys
 pub index_same : (answers : List Answered) (old new : Index)
     → ((q : Bytes × Bytes) → place_of exact_cmp new.exact.rows q ≡ place_of exact_cmp old.exact.rows q)
     → ((q : Bytes) → place_of bytes_cmp new.emails.rows q ≡ place_of bytes_cmp old.emails.rows q)
@@ -129,7 +128,7 @@ index_same answers old new exact emails names is = record {
   numbers = λ q. subst (λ r. IfSome r (λ n. n.email < length answers)) (sym (names q)) (is.numbers q);
 }
 
--- a copy of a key finds what the key finds
+-- a copy of a key finds the same place
 pub room_of_copy : {P : Type 0} (rows : BTreeMap Bytes (Option P)) (k q : Bytes) → k.items ≡ q.items → ContainsKey bytes_cmp rows k → ContainsKey bytes_cmp rows q
 room_of_copy rows k q e room = subst (λ t. IsSome (lookup (λ (z : Bytes). is_eq (slice_cmp nat_cmp t z.items)) rows.entries)) e room
 
@@ -138,7 +137,7 @@ room_of_pair rows k q e f room =
     subst (λ t. IsSome (lookup (λ (z : Bytes × Bytes). is_eq (ordering_then (slice_cmp nat_cmp q.0.items z.0.items) (slice_cmp nat_cmp t z.1.items))) rows.entries)) f
     (subst (λ t. IsSome (lookup (λ (z : Bytes × Bytes). is_eq (ordering_then (slice_cmp nat_cmp t z.0.items) (slice_cmp nat_cmp k.1.items z.1.items))) rows.entries)) e room)
 
--- an index of no answers
+-- the empty index
 pub index_none : (index : Index)
     → ((q : Bytes × Bytes) → place_of exact_cmp index.exact.rows q ≡ None)
     → ((q : Bytes) → place_of bytes_cmp index.emails.rows q ≡ None)
@@ -151,7 +150,7 @@ index_none index exact emails names = record {
   numbers = λ q. subst (λ r. IfSome r (λ n. n.email < 0)) (sym (names q)) tt;
 }
 
--- what an index finds by the keys of a name and an email
+-- looking up the keys of a name and an email finds the answers of the specification
 pub email_found : (answers : List Answered) (name email : Text) (keys : Keys) → AreKeys name email keys → position (is_email keys.email.items) answers ≡ first_with_email email answers
 email_found answers name email keys are = ap (λ t. position (is_email t) answers) are.email_is
 
@@ -197,7 +196,7 @@ module _ (answers : List Answered) (a : Answered) (keys : Keys) (are : AreKeys a
       (λ k e x y. other_text email (folded a.email) (sym e) (position_apart email (folded a.email) answers k x y))
       ∙ (λ i. other_of (sym (position-push (is_email email) answers a) i) (sym is i))
 
-  -- a key's place depends on its bytes alone
+  -- a place depends only on the bytes of its key
   same_place : {P : Type 0} (rows : BTreeMap Bytes (Option P)) (k q : Bytes) → k.items ≡ q.items → place_of bytes_cmp rows k ≡ place_of bytes_cmp rows q
   same_place rows k q e = λ i. unwrap_or (lookup (λ (key : Bytes). is_eq (slice_cmp nat_cmp (e i) key.items)) rows.entries) None
 

@@ -1,4 +1,4 @@
--- The places of keys, when a key gets room or a place.
+-- Reserving and setting the places of keys.
 use Rattle.std.proofs.Common.{◌≡◌, ◌∙◌, Bool, true, false, cond, Option, None, Some, ⊎_elim, Ordering, Equal, ap, refl, sym, unwrap_or}
 use Rattle.std.specs.BTreeMap.{BTreeMap, get}
 use Rattle.std.specs.Cmp.{Equal-is, IsTotalOrder}
@@ -11,13 +11,12 @@ pub or_none : {X : Type 0} (o : Option X) → or_else o None ≡ o
 or_none None = refl
 or_none (Some x) = refl
 
--- a place that is put
 pub put_place : {P : Type 0} (b : Bool) (p : P) (old new : Option (Option P)) → new ≡ cond b (Some (Some p)) old → unwrap_or new None ≡ cond b (Some p) (unwrap_or old None)
 put_place true p old new e = ap (λ o. unwrap_or o None) e
 put_place false p old new e = ap (λ o. unwrap_or o None) e
 
 module _ {K P : Type 0} {cmp : K → K → Ordering} (o : IsTotalOrder cmp) where
-  -- equal keys have one place
+  -- equal keys have the same place
   same_get : (m : BTreeMap K (Option P)) (k q : K) → eq_by_cmp cmp k q ≡ true → get cmp m k ≡ get cmp m q
   same_get m k q e =
       let equal : cmp k q ≡ Equal = (Equal-is (cmp k q)).0 e in
@@ -26,7 +25,7 @@ module _ {K P : Type 0} {cmp : K → K → Ordering} (o : IsTotalOrder cmp) wher
   same_place : (m : BTreeMap K (Option P)) (k q : K) → eq_by_cmp cmp k q ≡ true → place_of cmp m k ≡ place_of cmp m q
   same_place m k q e = ap (λ g. unwrap_or g None) (same_get m k q e)
 
-  -- room changes no place
+  -- reserving changes no place
   pub reserved_place : (m n : BTreeMap K (Option P)) (k q : K) → get cmp m k ≡ None → get cmp n q ≡ cond (eq_by_cmp cmp k q) (Some None) (get cmp m q) → place_of cmp n q ≡ place_of cmp m q
   reserved_place m n k q absent put = ⊎_elim
       (λ yes. ap (λ g. unwrap_or g None) (put ∙ ap (λ b. cond b (Some None) (get cmp m q)) yes) ∙ ap (λ g. unwrap_or g None) (sym absent) ∙ same_place m k q yes)

@@ -1,4 +1,4 @@
--- The first of a list that passes a test, in a list that grows.
+-- The index of the first element that passes a test, as a list grows.
 use Rattle.std.proofs.Common.{◌≡◌, ◌∙◌, ◌+◌, ◌<◌, ℕ, Bool, true, false, cond, Option, None, Some, List, [], ◌∷◌, ◌++◌, add-zero, ap, arith, get_or, length, refl, sym, zero-add}
 use Rattle.std.specs.Prelude.{position}
 use Rattle.std.specs.Cmp.Lexicographic.{same_text}
@@ -10,7 +10,7 @@ use Rattle.mailmap_likeness.specs.Likeness.{Answered}
 use Rattle.mailmap_likeness.specs.Index.{is_email}
 use Rattle.mailmap_likeness.specs.Places.{or_else}
 
--- what one more element is the first at, if it passes
+-- an appended element's index, if it passes
 abbrev pub last_one : Bool → ℕ → Option ℕ
 last_one passes n = cond passes (Some n) None
 
@@ -22,7 +22,7 @@ from-push p i (y ∷ ys) x =
       | false ↦ from-push p (i + 1) ys x ∙ ap (λ n. or_else (position_from p (i + 1) ys) (last_one (p x) n)) (omega arith)
     ]
 
--- one more is the first that passes if none before it does
+-- appending an element finds it only if no element before it passes
 pub position-push : {X : Type 0} (p : X → Bool) (xs : List X) (x : X) → position p (xs ++ x ∷ []) ≡ or_else (position p xs) (last_one (p x) (length xs))
 position-push p xs x =
     position_from-zero p (xs ++ x ∷ [])
@@ -33,11 +33,11 @@ position-push p xs x =
 no_one : Answered
 no_one = record { name = []; email = []; line = 0 }
 
--- where the first is, is in the list
+-- the index is within the list
 pub position_within : (p : Answered → Bool) (xs : List Answered) (k : ℕ) → position p xs ≡ Some k → k < length xs
 position_within p xs k e = (position-Some p xs k no_one e).0
 
--- one answer has one email
+-- an answer has one email
 pub position_apart : (e f : Text) (xs : List Answered) (k : ℕ) → position (is_email e) xs ≡ Some k → position (is_email f) xs ≡ Some k → e ≡ f
 position_apart e f xs k a b =
     let email = folded (get_or xs k no_one).email in

@@ -1,4 +1,4 @@
--- Answers to contacts, and which of them are alike.
+-- Distinct answers to contacts, and which of them are alike.
 use Rattle.std.specs.Prelude.{◌≡◌, ◌&&◌, ℕ, Bool, not, Option, None, IsSome, List, [], ◌∷◌, ◌++◌, position}
 use Rattle.std.specs.Str.{bytes_eq}
 use Rattle.mailmap_entries.specs.Folding.{Text, folded}
@@ -6,38 +6,38 @@ use Rattle.mailmap_likeness.specs.declared.answers.Answer.{Answer}
 use Rattle.mailmap_likeness.specs.declared.answers.Added.{Added}
 use Rattle.mailmap_likeness.specs.declared.answers.Added.TheVariants.{Known, New}
 
--- a name and an email, and the line where they came first
+-- a name and an email, and the line of their first occurrence
 pub record Answered : Type 0 where
   pub name : Text
   pub email : Text
   pub line : ℕ
 
--- what an answer says
+-- the specification's view of an answer
 abbrev pub answered : Answer → Answered
 answered a = record { name = a.name.items; email = a.email.items; line = a.line }
 
--- the answer has this name and this email, byte for byte
+-- equal byte for byte
 abbrev pub is_answer : Text → Text → Answered → Bool
 is_answer name email a = bytes_eq name a.name && bytes_eq email a.email
 
--- the answer has this email, if the case of ASCII letters does not count
+-- equal emails, ASCII case aside
 abbrev pub has_email : Text → Answered → Bool
 has_email email a = bytes_eq (folded email) (folded a.email)
 
--- the answer has this name, if the case of ASCII letters does not count
+-- equal names, ASCII case aside
 abbrev pub has_name : Text → Answered → Bool
 has_name name a = bytes_eq (folded name) (folded a.name)
 
--- the first of these answers that has this email
+-- the index of the first answer with this email
 abbrev pub first_with_email : Text → List Answered → Option ℕ
 first_with_email email answers = position (has_email email) answers
 
--- the first of these answers that has this name and another email; no name is no one's
+-- the index of the first answer with this name and another email; an empty name is like no other
 abbrev pub first_with_name : Text → Text → List Answered → Option ℕ
 first_with_name [] email answers = None
 first_with_name (c ∷ name) email answers = position (λ a. has_name (c ∷ name) a && not (has_email email a)) answers
 
--- An answer is known, or it comes after the others, with what is alike among these.
+-- An equal answer was there, or the answer is appended, and `likeness` has the earlier answers that it is like.
 abbrev pub IsAdded : Answered → List Answered → List Answered → Added → Type 0
 IsAdded a old new Known = IsSome (position (is_answer a.name a.email) old) × (new ≡ old)
 IsAdded a old new (New likeness) = (position (is_answer a.name a.email) old ≡ None) × (new ≡ old ++ a ∷ [])

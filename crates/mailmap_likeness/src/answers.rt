@@ -1,4 +1,4 @@
-//! The different answers to contacts, in the order in which they first come, and which earlier ones each is like.
+//! Distinct answers to contacts, in the order of their first occurrence, and the earlier answers that each is like.
 ghost use Rattle.std.specs.Prelude.{◌≡◌, [], IfOk, List, OnErr, map};
 ghost use Rattle.mailmap_entries.specs.Folding.{Text};
 ghost use Rattle.mailmap_likeness.specs.Index.{AreKeys, IsIndex};
@@ -9,7 +9,7 @@ use crate::keys::Keys;
 use std::alloc::{AllocError, Global};
 use std::marker::Model;
 
-/// A name and an email with which a mailmap answers a contact, and the number of the first such contact's line.
+/// The name and email that a mailmap maps a contact to, and the line number of the first such contact.
 #[derive(Drop)]
 pub struct Answer {
     pub name: Vec<u8>,
@@ -17,26 +17,25 @@ pub struct Answer {
     pub line: usize,
 }
 
-/// Which earlier answers a new one is like. Each field is the index of the first such answer. The case of ASCII letters
-/// doesn't count.
+/// The earlier answers that a new answer is like, by their indices. ASCII case is ignored.
 #[derive(Clone, Copy, Debug, PartialEq, Eq)]
 pub struct Likeness {
-    /// The first answer with the same email. It's most likely the same person.
+    /// The first answer with the same email, most likely the same person.
     pub email: Option<usize>,
-    /// The first answer with the same name, which isn't empty, and another email. Two people may share a name.
+    /// The first answer with the same name, which isn't empty, and another email. Two people can share a name.
     pub name: Option<usize>,
 }
 
-/// What became of an answer.
-#[derive(Clone, Copy, Debug, PartialEq, Eq)]
+/// The result of adding an answer.
+#[derive(PartialEq, Eq, Clone, Copy, Debug)]
 pub enum Added {
-    /// It came before, byte for byte.
+    /// An equal answer, byte for byte, was added before.
     Known,
-    /// It is the last one now.
+    /// The answer was added.
     New(Likeness),
 }
 
-/// The answers that differ, in the order in which they first came.
+/// Distinct answers, in the order of their first occurrence.
 ///
 /// ```text
 /// let mut answers = Answers::new(alloc);
@@ -46,8 +45,8 @@ pub enum Added {
 /// answers.add(b"J", b"JANE@x", 4)?; // new, with the email of the first
 /// ```
 ///
-/// Memory grows with the answers that differ. The time for each grows with the logarithm of their number, whatever
-/// their texts are.
+/// Memory grows with the number of distinct answers, and the time to add one with its logarithm, whatever the texts
+/// are: nothing is hashed.
 #[derive(Drop)]
 pub struct Answers {
     answers: Vec<Answer>,
@@ -67,7 +66,6 @@ impl Model for Answers {
 }
 
 impl Answers {
-    /// No answer yet.
     pub fn new(alloc: Global) -> Answers
         ensures { result ≡ [] }
     {
@@ -77,16 +75,16 @@ impl Answers {
         }
     }
 
-    /// The answers, in the order in which they first came.
+    /// The answers, in the order of their first occurrence.
     pub fn as_slice(&self) -> &[Answer]
         ensures { map answered result.now ≡ self.now }
     {
         self.answers.as_slice()
     }
 
-    /// Adds an answer, unless it is known, and compares it to those before it.
+    /// Adds an answer, unless an equal one is there already, and finds the earlier answers that it is like.
     ///
-    /// `Err` if memory runs out.
+    /// Fails only if memory runs out, and then changes nothing.
     pub fn add(&mut self, name: &[u8], email: &[u8], line: usize) -> Result<Added, AllocError>
         ensures ok { IfOk result
             (IsAdded (record { name = name.now; email = email.now; line = line }) self.old self.new) }
@@ -111,7 +109,7 @@ impl Answers {
     }
 }
 
-// Which of the answers of an index are like one with these keys and this name.
+// Finds the answers that one with these keys and this name is like. An empty name is like no other.
 fn alike(index: &Index, keys: &Keys, name: &[u8]) -> Likeness
     ensures { (answers : List Answered) → IsIndex answers index.now → (email : Text) → AreKeys name.now email keys.now
         → (result.email ≡ first_with_email email answers) × (result.name ≡ first_with_name name.now email answers) }

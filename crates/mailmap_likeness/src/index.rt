@@ -1,4 +1,4 @@
-//! Where each name and each email came first, among answers that are counted from 0.
+//! Finds the first answer with a name or an email. Answers are counted from 0.
 ghost use Rattle.std.specs.Prelude.{◌≡◌, ◌++◌, ◌∷◌, [], List, OnOk, Some, if◌then◌else◌, is_some, length, position};
 ghost use Rattle.std.specs.BTreeMap.{ContainsKey};
 ghost use Rattle.std.specs.Ordering.{eq_by_cmp};
@@ -11,18 +11,18 @@ use crate::keys::{Exact, Keys};
 use crate::places::Places;
 use std::alloc::{AllocError, Global};
 
-/// The answers of one name.
+/// The answers with one name. This is all that has to be kept of them: the first with another email than a given one is
+/// either `first` or `other`.
 #[derive(Clone, Copy)]
 pub(crate) struct Namesakes {
-    /// The first answer with the name.
     pub(crate) first: usize,
-    /// The number of its email, which is the index of the first answer with that email, whatever its name.
+    /// The number of that answer's email: the index of the first answer with that email, whatever its name.
     pub(crate) email: usize,
-    /// The first answer with the name and another email.
+    /// The first answer with the name and an email that differs from that of `first`.
     pub(crate) other: Option<usize>,
 }
 
-/// Where each name and each email of some answers came first.
+/// The first answers with each pair, each email and each name.
 #[derive(Drop)]
 pub(crate) struct Index {
     exact: Places<Exact, usize>,
@@ -31,7 +31,6 @@ pub(crate) struct Index {
 }
 
 impl Index {
-    /// The index of no answers.
     pub(crate) fn new(alloc: Global) -> Index
         ensures { IsIndex [] result }
     {
@@ -53,7 +52,6 @@ impl Index {
         self.exact.get(&keys.exact).is_some()
     }
 
-    /// The first answer with the email.
     pub(crate) fn of_email(&self, keys: &Keys) -> Option<usize>
         ensures { (answers : List Answered) → IsIndex answers self.now
             → result ≡ position (is_email keys.now.email.items) answers }
@@ -61,7 +59,7 @@ impl Index {
         self.emails.get(&keys.email)
     }
 
-    /// The first answer with the name and another email.
+    /// The first answer with the name and an email other than that of `keys`.
     pub(crate) fn of_name(&self, keys: &Keys) -> Option<usize>
         ensures { (answers : List Answered) → IsIndex answers self.now
             → result ≡ position (is_namesake keys.now.name.items keys.now.email.items) answers }
@@ -71,7 +69,7 @@ impl Index {
         other_of(number, namesakes)
     }
 
-    /// Makes room for an answer. The index stays what it is.
+    /// Reserves space for an answer. What the index finds doesn't change.
     pub(crate) fn reserve(&mut self, alloc: Global, keys: &Keys) -> Result<(), AllocError>
         ensures same { (answers : List Answered) → IsIndex answers self.old → IsIndex answers self.new }
         ensures room { OnOk result (HasRoom self.new keys.now) }
@@ -82,7 +80,7 @@ impl Index {
         self.names.reserve(keys.name)
     }
 
-    /// Puts an answer after the others, in room that was made for it.
+    /// Adds an answer, for which space was reserved. This can't fail.
     pub(crate) fn put(&mut self, keys: Keys, at: usize)
         requires { HasRoom self.old keys }
         ensures { (answers : List Answered) → IsIndex answers self.old
@@ -95,7 +93,7 @@ impl Index {
     }
 }
 
-// Of the answers of one name, the first with another email than the one of this number.
+// The first answer with the name whose email has another number than `number`.
 fn other_of(number: Option<usize>, namesakes: Option<Namesakes>) -> Option<usize>
     ensures { result ≡ spec_other_of number namesakes }
 {
@@ -106,7 +104,7 @@ fn other_of(number: Option<usize>, namesakes: Option<Namesakes>) -> Option<usize
     }
 }
 
-// Puts an answer to those of its name, with the number of its email.
+// Adds an answer to those with its name. `number` is that of its email.
 fn put_name(names: &mut Places<Vec<u8>, Namesakes>, name: Vec<u8>, number: usize, at: usize)
     requires { ContainsKey bytes_cmp names.old.rows name }
     ensures { (q : Bytes) → place_of bytes_cmp names.new.rows q
@@ -117,7 +115,7 @@ fn put_name(names: &mut Places<Vec<u8>, Namesakes>, name: Vec<u8>, number: usize
     names.put(name, namesakes);
 }
 
-// The answers of one name, and one more.
+// Adds an answer to those with its name.
 fn with_answer(namesakes: Option<Namesakes>, number: usize, at: usize) -> Namesakes
     ensures { result ≡ spec_with_answer namesakes number at }
 {

@@ -1,20 +1,18 @@
-//! The keys by which alike answers are found.
+//! The keys for finding an answer and those that it is like.
 ghost use Rattle.std.specs.Prelude.{◌≡◌, IfOk};
 ghost use Rattle.mailmap_likeness.specs.Index.{AreKeys};
 
 use std::alloc::{AllocError, Global};
 
-/// A name and an email as they are.
+/// A name and an email, byte for byte.
 pub(crate) type Exact = (Vec<u8>, Vec<u8>);
 
-/// What an answer is found by.
 #[derive(Drop)]
 pub(crate) struct Keys {
-    /// Its name and its email as they are.
     pub(crate) exact: Exact,
-    /// Its name in small letters.
+    /// The name in lower case.
     pub(crate) name: Vec<u8>,
-    /// Its email in small letters.
+    /// The email in lower case.
     pub(crate) email: Vec<u8>,
 }
 

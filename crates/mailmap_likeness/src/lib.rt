@@ -1,7 +1,8 @@
-//! Which answers to contacts are alike: two of them may still be one person.
+//! Finds answers to contacts that are alike, and so may belong to one person.
 #![tactic(auto)]
 
 pub mod answers;
 mod index;
 mod keys;
+pub mod laws;
 mod places;

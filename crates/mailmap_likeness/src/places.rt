@@ -1,4 +1,4 @@
-//! What is known of keys, with room that is made ahead.
+//! A map in which space can be reserved ahead.
 ghost use Rattle.std.specs.Prelude.{◌≡◌, None, OnOk, Some, if◌then◌else◌, unwrap_or};
 ghost use Rattle.std.specs.BTreeMap.{ContainsKey};
 ghost use Rattle.std.specs.Ordering.{eq_by_cmp};
@@ -7,7 +7,7 @@ ghost use Rattle.mailmap_likeness.specs.Places.{place_of, PutsFirst};
 use std::alloc::{AllocError, Global};
 use std::collections::BTreeMap;
 
-/// The places of keys. A key may be there without a place, so that one is put without a step that can fail.
+/// Maps keys to places. A key can be inserted without a place, so that setting its place later can't fail.
 #[derive(Drop)]
 pub(crate) struct Places<K: Ord, P> {
     rows: BTreeMap<K, Option<P>>,
@@ -22,7 +22,6 @@ impl<K: Ord + Drop, P: Copy> Places<K, P> {
         }
     }
 
-    /// The place of a key, if it has one.
     pub(crate) fn get(&self, key: &K) -> Option<P>
         ensures { result ≡ place_of K.cmp self.now.rows key.now }
     {
@@ -32,7 +31,7 @@ impl<K: Ord + Drop, P: Copy> Places<K, P> {
         }
     }
 
-    /// Makes room for the place of a key. No place changes.
+    /// Reserves space for the place of a key. No place changes.
     pub(crate) fn reserve(&mut self, key: K) -> Result<(), AllocError>
         ensures same { (other : K) → place_of K.cmp self.new.rows other ≡ place_of K.cmp self.old.rows other }
         ensures room { OnOk result (ContainsKey K.cmp self.new.rows key) }
@@ -44,7 +43,7 @@ impl<K: Ord + Drop, P: Copy> Places<K, P> {
         Ok(())
     }
 
-    /// Puts the place of a key, in room that was made for it.
+    /// Sets the place of a key, for which space was reserved. This can't fail.
     pub(crate) fn put(&mut self, key: K, place: P)
         requires { ContainsKey K.cmp self.old.rows key }
         ensures { (other : K) → place_of K.cmp self.new.rows other
@@ -52,12 +51,12 @@ impl<K: Ord + Drop, P: Copy> Places<K, P> {
     {
         match self.rows.insert(key, Some(place)) {
             Ok(_) => {}
-            // Only a new key needs memory.
+            // Only a new key allocates.
             Err(_) => {}
         }
     }
 
-    /// Puts the place of a key, in room that was made for it, unless it has one. Its place is given.
+    /// Sets the place of a key, for which space was reserved, unless it has one. Returns the key's place.
     pub(crate) fn put_first(&mut self, key: K, place: P) -> P
         requires { ContainsKey K.cmp self.old.rows key }
         ensures place { result ≡ unwrap_or (place_of K.cmp self.old.rows key) place }

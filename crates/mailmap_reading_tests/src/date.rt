@@ -1,7 +1,6 @@
 use mailmap_signatures::date::Time;
 use std::process::Abort;
 
-/// Wants these seconds and this offset of a text.
 fn assert_read(rt: &impl Abort, text: &str, expected: Option<(i64, i32)>) {
     let read = Time::read(text).map(|time| (time.seconds, time.offset));
     assert_eq!(rt; read, expected, "{text}");

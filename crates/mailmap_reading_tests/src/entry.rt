@@ -2,7 +2,7 @@ use mailmap_entries::Entry;
 use std::cmp::Ordering;
 use std::process::Abort;
 
-/// The fields in the order that entries are compared by.
+/// The fields in the order in which entries compare them.
 type Fields<'a> = [Option<&'a [u8]>; 4];
 
 fn fields<'a>(entry: &Entry<'a>) -> Fields<'a> {
@@ -14,7 +14,6 @@ fn fields<'a>(entry: &Entry<'a>) -> Fields<'a> {
     ]
 }
 
-/// Wants these fields of an entry.
 fn assert_fields(rt: &impl Abort, entry: Entry<'_>, want: Fields<'_>) {
     assert_eq!(rt; fields(&entry), want);
 }
@@ -44,20 +43,18 @@ fn each_constructor_sets_just_its_fields(rt: HostRuntime) {
     assert_fields(&rt, Entry::default(), [None, None, None, Some(b"")]);
 }
 
-/// Wants the first entry to come before the second.
 fn assert_ascends(rt: &impl Abort, less: Entry<'_>, greater: Entry<'_>) {
     let orders = [less.cmp(&greater), greater.cmp(&less)];
     assert_eq!(rt; orders, [Ordering::Less, Ordering::Greater], "{less:?}");
     assert!(rt; less != greater);
 }
 
-/// An entry with all four texts.
 fn full(texts: &[&'static [u8]; 4]) -> Entry<'static> {
     let [new_name, new_email, old_name, old_email] = *texts;
     Entry::change_name_and_email_by_name_and_email(new_name, new_email, old_name, old_email)
 }
 
-/// Entries with all four texts, each with one that comes after it.
+/// Pairs of entries with all four texts. The second of each pair is the greater one.
 static ASCENDING: [[[&[u8]; 4]; 2]; 5] = [
     [[b"A", b"z", b"z", b"z"], [b"B", b"a", b"a", b"a"]],
     [[b"A", b"a", b"z", b"z"], [b"A", b"b", b"a", b"a"]],

@@ -1,11 +1,11 @@
-//! Worked rows of the order, of the search and of the count.
+//! Worked examples of comparing, searching and counting.
 ghost use Rattle.mailmap_entries.specs.Search.{IsPartitioned};
 
 use mailmap_entries::fold::{Probe, Steps, cmp_ignore_ascii_case, search};
 use std::cmp::Ordering;
 use std::process::Abort;
 
-// Answers that are written out, and how often they were asked for.
+// Prepared answers, and how often one was requested.
 #[derive(Drop)]
 struct Written<'a> {
     answers: &'a [Ordering],
@@ -23,12 +23,11 @@ impl Probe for Written<'_> {
     }
 }
 
-// Wants this to be what was found.
 fn assert_found<R: Abort>(rt: &R, found: Result<usize, usize>, want: Result<usize, usize>) {
     assert_eq!(rt; found, want);
 }
 
-// What is found in some answers, with at most so many asks.
+// Asserts what a search finds, and that it makes at most `at_most` comparisons.
 fn finds<R: Abort>(rt: &R, answers: &[Ordering], want: Result<usize, usize>, at_most: usize)
     requires { IsPartitioned answers.now }
 {
@@ -50,12 +49,11 @@ fn search_finds_or_places_within_the_digits_of_the_length(rt: HostRuntime) {
     finds(&rt, &[Less, Less, Greater, Greater], Err(2), 3);
 }
 
-// Wants one order of two texts to be another.
 fn assert_same<R: Abort>(rt: &R, a: &[u8], b: &[u8], order: Ordering, want: Ordering) {
     assert_eq!(rt; order, want, "{a:?} and {b:?}");
 }
 
-// Wants this order of two texts, counted and not.
+// Asserts the order of two texts, counted and uncounted.
 fn assert_order<R: Abort>(rt: &R, a: &[u8], b: &[u8], want: Ordering) {
     assert_same(rt, a, b, cmp_ignore_ascii_case(a, b), want);
     let mut steps = Steps::new();

@@ -1,20 +1,20 @@
 use mailmap_entries::Entry;
-use mailmap_git::{GitReading, git_entries, read_otherwise};
+use mailmap_findings::git::{GitReading, git_entries, read_otherwise};
 use std::alloc::{AllocError, Global};
 use std::process::Abort;
 use std::test::Fail;
 
-/// Wants git to read this in place of what the library reads, and `None` if that is the same.
+/// `None` means that git reads the same as the library.
 fn assert_otherwise(rt: &impl Abort, line: &[u8], want: Option<GitReading<'_>>) {
     assert_eq!(rt; read_otherwise(line), want);
 }
 
-/// The entry of a name only.
+/// An entry that maps an email to a name only.
 fn name<'a>(name: &'a [u8], email: &'a [u8]) -> GitReading<'a> {
     GitReading::Entry(Entry::change_name_by_email(name, email))
 }
 
-// What git 2.39 answers with each of these lines as its mailmap.
+// Verified with git 2.39, with each of these lines as its mailmap.
 #[test]
 fn what_git_reads_otherwise(rt: HostRuntime) {
     let same: [&[u8]; 11] = [
@@ -54,25 +54,25 @@ fn what_git_reads_otherwise(rt: HostRuntime) {
     }
 }
 
-/// `blanks` blanks, and then `text`.
-fn after_blanks(alloc: Global, blanks: usize, text: &[u8]) -> Result<Vec<u8>, AllocError> {
+/// A text after some spaces.
+fn after_spaces(alloc: Global, blanks: usize, text: &[u8]) -> Result<Vec<u8>, AllocError> {
     let mut line = Vec::new(alloc);
     line.resize(blanks, b' ')?;
     line.extend_from_slice(text)?;
     Ok(line)
 }
 
-// git reads 1,023 bytes at once, so an email that ends with byte 1,024 is cut.
+// git reads 1,023 bytes at a time, so an email whose `>` is byte 1,024 is cut off.
 #[test]
 fn a_long_line_is_read_in_parts(rt: HostRuntime) -> Result<(), Fail> {
-    let line = after_blanks(rt.alloc(), 1014, b"Joe <a@x>\n")?;
+    let line = after_spaces(rt.alloc(), 1014, b"Joe <a@x>\n")?;
     assert_otherwise(&rt, line.as_slice(), None);
 
-    let line = after_blanks(rt.alloc(), 1015, b"Joe <a@x>\n")?;
+    let line = after_spaces(rt.alloc(), 1015, b"Joe <a@x>\n")?;
     assert_otherwise(&rt, line.as_slice(), Some(GitReading::Nothing));
 
     let mut line = Vec::from_slice(rt.alloc(), b"Jane <j@x>")?;
-    line.extend_from_slice(after_blanks(rt.alloc(), 1013, b"Joe <a@x>\n")?.as_slice())?;
+    line.extend_from_slice(after_spaces(rt.alloc(), 1013, b"Joe <a@x>\n")?.as_slice())?;
     assert_otherwise(&rt, line.as_slice(), Some(GitReading::Lines(2)));
 
     let mut entries = git_entries(line.as_slice());

@@ -1,4 +1,4 @@
-//! Tests of what the library reads, of entries and signatures, and of the order without case.
+//! Tests of parsing lines, of entries and signatures, and of comparing without ASCII case.
 #![tactic(auto)]
 
 #[cfg(test)]

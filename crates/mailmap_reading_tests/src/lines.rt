@@ -7,12 +7,10 @@ use std::test::Fail;
 
 type Item<'a> = Result<Entry<'a>, Error<'a>>;
 
-/// Wants this item to be the next one.
 fn assert_item(rt: &impl Abort, item: Option<Item<'_>>, want: &Item<'_>) {
     assert_eq!(rt; item.as_ref(), Some(want));
 }
 
-/// Wants these items of `parse`.
 fn assert_parsed(rt: &impl Abort, buf: &[u8], want: &[Item<'_>]) {
     let mut items = parse(buf);
     for want in want {
@@ -21,7 +19,6 @@ fn assert_parsed(rt: &impl Abort, buf: &[u8], want: &[Item<'_>]) {
     assert!(rt; items.next().is_none());
 }
 
-/// Wants these items of `parse_strict`.
 fn assert_parsed_strictly(rt: &impl Abort, buf: &[u8], want: &[Item<'_>]) {
     let mut items = parse_strict(buf);
     for want in want {
@@ -30,7 +27,7 @@ fn assert_parsed_strictly(rt: &impl Abort, buf: &[u8], want: &[Item<'_>]) {
     assert!(rt; items.next().is_none());
 }
 
-/// Wants these items of both.
+/// Asserts the items of both parsers.
 fn assert_parsed_alike(rt: &impl Abort, buf: &[u8], want: &[Item<'_>]) {
     assert_parsed(rt, buf, want);
     assert_parsed_strictly(rt, buf, want);
@@ -152,7 +149,7 @@ fn one_byte_alone_is_blank_a_comment_or_a_fault(rt: HostRuntime) {
     }
 }
 
-/// What the beginning of `Jane <a@x> Bob <b@x>` is read as, if it is not empty.
+/// The item that a prefix of `Jane <a@x> Bob <b@x>` parses to, unless the prefix is empty.
 fn item_of_start(start: &[u8]) -> Item<'_> {
     let both = Entry::change_name_and_email_by_name_and_email;
     match start.len() {
@@ -164,7 +161,7 @@ fn item_of_start(start: &[u8]) -> Item<'_> {
     }
 }
 
-/// Wants what the beginning of `Jane <a@x> Bob <b@x>` is read as.
+/// Asserts how a prefix of `Jane <a@x> Bob <b@x>` is parsed.
 fn assert_start(rt: &impl Abort, start: &[u8]) {
     let item = item_of_start(start);
     match start.len() {
@@ -191,7 +188,6 @@ fn many_opening_brackets_are_one_fault(rt: HostRuntime) {
     assert_parsed_alike(&rt, &buf, &[missing_closing_bracket(1, &buf)]);
 }
 
-/// Wants this text of an item, which is a fault.
 fn assert_fault(
     rt: &impl Abort,
     alloc: Global,
@@ -206,7 +202,7 @@ fn assert_fault(
     Ok(())
 }
 
-/// Wants these texts of the faults of a buffer, between which there may be entries.
+/// Asserts the messages of the faults in a buffer, skipping its entries.
 fn assert_faults(
     rt: &impl Abort,
     alloc: Global,
@@ -254,7 +250,7 @@ fn the_fault_of_an_unclosed_second_contact_has_its_text(rt: HostRuntime) -> Resu
     assert_fault(&rt, rt.alloc(), items.next(), want)
 }
 
-/// Wants a fault of the first line to lend its number and this input.
+/// Asserts that a fault on the first line lends its line number and this input.
 fn assert_lends(rt: &impl Abort, fault: &Error<'_>, input: &[u8]) {
     assert_eq!(rt; (fault.line(), fault.input()), (1, input), "{fault}");
 }
@@ -273,7 +269,6 @@ fn a_fault_lends_its_line_number_and_its_input(rt: HostRuntime) {
     }
 }
 
-/// Wants these entries.
 fn assert_entries(rt: &impl Abort, entries: &[Entry<'_>], want: &[Entry<'_>]) {
     assert_eq!(rt; entries, want);
 }
@@ -285,8 +280,8 @@ fn lines_with_faults_can_be_left_out(rt: HostRuntime) -> Result<(), AllocError> 
         Entry::change_name_by_email(b"Bob", b"b@x"),
     ];
     let lines = parse_ignore_errors(b"<a@x>\nJane <j@x>\nplain\nBob <b@x>");
-    let good: Vec<Entry<'_>> = lines.collect(rt.alloc())?;
-    assert_entries(&rt, &good, &want);
+    let entries: Vec<Entry<'_>> = lines.collect(rt.alloc())?;
+    assert_entries(&rt, &entries, &want);
     Ok(())
 }
 

@@ -38,12 +38,11 @@ fn is_borrowed(text: &CowSlice<'_, u8>) -> bool {
     matches!(text, CowSlice::Borrowed(_))
 }
 
-/// Wants two signatures to be equal.
 fn assert_same(rt: &impl Abort, a: &Signature<'_>, b: &Signature<'_>) {
     assert_eq!(rt; a, b);
 }
 
-/// Wants the copy of a signature to own its name, and to borrow its email.
+/// Asserts that the copy of a signature owns its name and borrows its email.
 fn assert_copied(
     rt: &impl Abort,
     alloc: Global,
@@ -62,12 +61,10 @@ fn a_clone_owns_what_was_owned(rt: HostRuntime) -> Result<(), AllocError> {
     assert_copied(&rt, rt.alloc(), &signature)
 }
 
-/// Wants these bytes.
 fn assert_bytes(rt: &impl Abort, bytes: &[u8], want: &[u8]) {
     assert_eq!(rt; bytes, want);
 }
 
-/// Wants this name, email and time of a signature.
 fn assert_fields(
     rt: &impl Abort,
     signature: &actor::Signature,
@@ -95,13 +92,12 @@ fn owned_and_borrowed_texts_are_equal_and_hash_alike(rt: HostRuntime) -> Result<
     Ok(())
 }
 
-/// Wants two signatures to be equal, and to hash alike.
+/// Asserts that two signatures are equal and have the same hash.
 fn assert_alike(rt: &impl Abort, a: &Signature<'_>, b: &Signature<'_>) {
     assert_same(rt, a, b);
     assert_eq!(rt; hash_of(a), hash_of(b));
 }
 
-/// Wants a signature to borrow its name and its email.
 fn assert_borrowed(rt: &impl Abort, signature: &Signature<'_>) {
     assert!(rt; is_borrowed(&signature.name));
     assert!(rt; is_borrowed(&signature.email));

@@ -1,5 +1,5 @@
--- Three passes leave nothing to drop: in the first pass any entries go, in the second only entries that were the first of
--- their key, in the third only entries that were the first of their email, and in the fourth none.
+-- Three passes leave nothing to drop. The first can drop any entry, the second only entries that were the first of
+-- their key, the third only entries that were the first of their email, and the fourth drops none.
 use Rattle.std.proofs.Common.{◌≡◌, Bool, true, false, true≢false, ◌&&◌, ◌||◌, if◌then◌else◌, List, [], ◌∷◌, ◌++◌, filter, Ordering, Less, Equal, Greater, Option, Some, None, is_some, is_none, append-nil, append_assoc, inl, inr, ⊎_elim, refl, sym, ap, subst, ◌∙◌}
 use Rattle.std.specs.Prelude.{◌⊎◌}
 use Rattle.std.specs.Cmp.{Equal-is}
@@ -9,19 +9,19 @@ use Rattle.std.specs.Ordering.{eq_by_cmp, is_eq, ordering_then}
 use Rattle.std.proofs.lemmas.Bool.{or_left, or_right}
 use Rattle.mailmap_entries.specs.Entries.{Mapping}
 use Rattle.mailmap_entries.specs.Folding.{Text, folded, text_cmp}
-use Rattle.mailmap_histories.specs.Histories.{Fields, Key, accepted, first, is_accepted, key, key_cmp, last, last_given, new_fields, of_key, spelling}
-use Rattle.mailmap_histories.specs.Listings.{same_optional}
-use Rattle.mailmap_histories.proofs.Keys.{keys_exact}
-use Rattle.mailmap_redundancy.specs.Redundancy.{IsPass, IsReduced, IsRedundant, LocatedMapping, again, done, entries, goes, settled, stays}
+use Rattle.mailmap_entries.specs.Semantics.{Fields, Key, accepted, first, is_accepted, key, key_cmp, last, last_given, new_fields, of_key, spelling}
+use Rattle.mailmap_entries.specs.Listings.{same_optional}
+use Rattle.mailmap_entries.proofs.Keys.{keys_exact}
+use Rattle.mailmap_redundancy.specs.Redundancy.{IsPass, AreEffective, IsRedundant, LocatedMapping, again, done, entries, goes, settled, stays}
 use Rattle.mailmap_redundancy.specs.Summaries.{KeySummary, Summary, is_last_unchanged, is_redundant_before, is_value_unchanged, joined_summary, key_summary, later_of, no_summary, same_fields, summary}
-use Rattle.mailmap_redundancy.specs.declared.summary.Later.{Later}
+use Rattle.mailmap_redundancy.specs.declared.passes.Later.{Later}
 use Rattle.mailmap_redundancy.proofs.Kept.{some_pass, unaccepted_redundant}
 use Rattle.mailmap_redundancy.proofs.Redundant.{named_first, redundant_decides}
-use Rattle.mailmap_redundancy.proofs.Rows.{not_prepended, not_spelled_before}
-use Rattle.mailmap_redundancy.proofs.Summaries.{spelling_own, spelling_parts, summary_own, summary_parts, summary_without}
+use Rattle.mailmap_redundancy.proofs.Keyed.{unequal_emails, unequal_keys}
+use Rattle.mailmap_redundancy.proofs.Summaries.{spelling_own, spelling_parts, spelling_without, summary_own, summary_parts, summary_without}
 use Rattle.mailmap_redundancy.proofs.Walked.{entries-more}
 
--- ---- tests
+-- ---- optional values and tests of them
 
 either : {G : Type 0} (b : Bool) → (b ≡ true → G) → (b ≡ false → G) → G
 either true own other = own refl
@@ -36,7 +36,7 @@ and_carry true q true s e f g = g e
 and_carry true q false s e f g = absurd (true≢false (sym (f refl)))
 and_carry false q r s e f g = absurd (true≢false (sym e))
 
--- the new one is the old one, or there is none
+-- unchanged, or gone
 abbrev AsBefore : {X : Type 0} → Option X → Option X → Type 0
 AsBefore old new = (new ≡ old) ⊎ (new ≡ None)
 
@@ -53,9 +53,9 @@ last_carry old new (Some t) given false like more e =
 fields_carry : (f : Fields) (old new : Option Fields) → AsBefore old new → same_fields f new ≡ true → same_fields f old ≡ true
 fields_carry f old new like e = ⊎_elim (λ same. sym (ap (same_fields f) same) ∙ e) (λ none. absurd (true≢false (sym e ∙ ap (same_fields f) none))) like
 
--- ---- what makes an entry redundant makes it redundant elsewhere
+-- ---- an entry that is redundant in one place is redundant in another
 
--- of what is said before and after an entry in a pass, and in the next one
+-- relates the summaries around an entry in one pass to those in the next
 record Carries (old new : Summary) (e : Mapping) (later fewer : Later) : Type 0 where
   lasts : AsBefore old.of_key.last new.of_key.last
   names : AsBefore old.of_key.name new.of_key.name
@@ -66,7 +66,7 @@ record Carries (old new : Summary) (e : Mapping) (later fewer : Later) : Type 0 
   spelled : (is_some new.spelling || fewer.same_old_email) ≡ true → (is_some old.spelling || later.same_old_email) ≡ true
   named : is_some e.old_name ≡ true → (is_some new.of_key.old_name || fewer.same_old_name) ≡ true → (is_some old.of_key.old_name || later.same_old_name) ≡ true
 
--- what is_value_unchanged comes to for an entry with an old name, and for one without
+-- the value of is_value_unchanged, by whether the entry has an old name
 abbrev Value : Mapping → Bool → KeySummary → Later → Bool
 Value e b before l =
     if b then (is_some before.old_name || l.same_old_name) && (l.has_key || same_fields (new_fields e) before.last)
@@ -93,7 +93,7 @@ carry old new e later fewer h all =
     (λ w. or_carry (is_some new.of_key.last) fewer.has_key (is_some old.of_key.last) later.has_key w (some_before old.of_key.last new.of_key.last h.lasts) h.has)
     (λ w. and_carry (is_some new.spelling || fewer.same_old_email) (is_value_unchanged new.of_key e fewer) (is_some old.spelling || later.same_old_email) (is_value_unchanged old.of_key e later) w h.spelled (value_carry old new e later fewer h))
 
--- ---- what was kept in the next pass, as against what was kept in this one
+-- ---- the entries kept in one pass and in the next
 
 record Follows (a b : List Mapping) : Type 0 where
   lasts : (k : Key) → AsBefore (key_summary a k).last (key_summary b k).last
@@ -122,7 +122,7 @@ some_second (Some x) p e = refl
 start : Follows [] []
 start = record { lasts = λ k. inl refl; names = λ k. inl refl; emails = λ k. inl refl; old_names = λ k e. e; spellings = λ email e. e }
 
--- an entry that both keep
+-- both passes keep the entry
 both_keep : (a b : List Mapping) (e : Mapping) → Follows a b → Follows (a ++ e ∷ []) (b ++ e ∷ [])
 both_keep a b e f =
     record {
@@ -146,7 +146,7 @@ both_keep a b e f =
         subst (λ s. AsBefore (read s) (read (key_summary (b ++ e ∷ []) k))) (sym (summary_parts a (e ∷ []) k))
         (subst (λ s. AsBefore (read (joined_summary (key_summary a k) (key_summary (e ∷ []) k))) (read s)) (sym (summary_parts b (e ∷ []) k)) like)
 
--- of a key without an entry nothing is said
+-- a key without entries has an empty summary
 nothing_of : (l : List Mapping) → option_map new_fields (last l) ≡ None → l ≡ []
 nothing_of [] e = refl
 nothing_of (x ∷ l) e = absurd (true≢false (ap is_some e))
@@ -162,7 +162,7 @@ said l = record {
 nothing_said : (h : List Mapping) (k : Key) → (key_summary h k).last ≡ None → key_summary h k ≡ no_summary
 nothing_said h k none = ap said (nothing_of (of_key h k) none)
 
--- an entry that goes, and whose key has no entry before it
+-- the next pass drops the first entry of a key
 one_goes : (a b : List Mapping) (e : Mapping) → Follows a b → (key_summary a (key e)).last ≡ None → Follows (a ++ e ∷ []) b
 one_goes a b e f none =
     record {
@@ -182,10 +182,10 @@ one_goes a b e f none =
         (λ own. inr (ap read (gone k (keys_exact k (key e) ((Equal-is (key_cmp k (key e))).0 own))) ∙ empty))
         (λ other. subst (λ s. AsBefore (read s) (read (key_summary b k))) (sym (summary_without a e [] k other ∙ ap (λ l. key_summary l k) (append-nil a))) like)
 
--- ---- a pass, by what goes and what stays
+-- ---- a pass as a list of kept and dropped entries
 
--- Of the entries after those that were kept, some are left. The entries that the pass began with and that it has seen
--- come first. Each that goes meets Q.
+-- A pass over the fourth list leaves the fifth, having begun with the entries in the first and kept those in the
+-- second. Q holds for each entry that is dropped.
 data Walks (Q : List LocatedMapping → LocatedMapping → Type 0) : List LocatedMapping → List LocatedMapping → List LocatedMapping → List LocatedMapping → Type 0 where
   ends : (seen kept : List LocatedMapping) → Walks Q seen kept [] []
   drops : (seen kept : List LocatedMapping) (x : LocatedMapping) (xs left : List LocatedMapping) → Q seen x → IsRedundant (entries kept) x.entry (entries xs) → Walks Q (seen ++ x ∷ []) kept xs left
@@ -213,7 +213,7 @@ none_drops _ _ _ _ (keeps seen kept x xs left busy w) = ap (λ l. x ∷ l) (none
 accepted_if : (a : List Mapping) (e : Mapping) (c : List Mapping) → (IsRedundant a e c → ⊥) → is_accepted e ≡ true
 accepted_if a e c busy = either (is_accepted e) (λ own. own) (λ other. absurd (busy (unaccepted_redundant a e c other)))
 
--- what is left gives no more than all
+-- what the remaining entries have, all entries had
 record Gives (all left : List Mapping) : Type 0 where
   lasts : (k : Key) → is_some (key_summary left k).last ≡ true → is_some (key_summary all k).last ≡ true
   names : (k : Key) → is_some (key_summary left k).name ≡ true → is_some (key_summary all k).name ≡ true
@@ -246,16 +246,16 @@ walk_gives Q _ _ _ _ (ends seen kept) = record { lasts = λ k e. e; names = λ k
 walk_gives Q _ _ _ _ (drops seen kept x xs left q redundant w) = gives_more x.entry (entries xs) (entries left) (walk_gives Q (seen ++ x ∷ []) kept xs left w)
 walk_gives Q _ _ _ _ (keeps seen kept x xs left busy w) = gives_both x.entry (entries xs) (entries left) (walk_gives Q (seen ++ x ∷ []) (kept ++ x ∷ []) xs left w)
 
--- ---- a pass after a pass
+-- ---- one pass after another
 
--- no entry of its key comes before it; no entry of its email does
+-- the first entry of its key, and of its email
 abbrev FirstOfKey : List LocatedMapping → LocatedMapping → Type 0
 FirstOfKey seen x = (key_summary (entries seen) (key x.entry)).last ≡ None
 
 abbrev FirstOfEmail : List LocatedMapping → LocatedMapping → Type 0
 FirstOfEmail seen x = (spelling (entries seen) (folded x.entry.old_email) ≡ None) × FirstOfKey seen x
 
--- what an entry meets that stays in one pass and goes in the next
+-- R holds for each entry that one pass keeps and the next drops
 module _ (Q R : List LocatedMapping → LocatedMapping → Type 0) (first_of_key : (seen : List LocatedMapping) (x : LocatedMapping) → R seen x → FirstOfKey seen x)
     (meets : (seen kept next : List LocatedMapping) (x : LocatedMapping) (xs left : List LocatedMapping) → Walks Q (seen ++ x ∷ []) (kept ++ x ∷ []) xs left
     → (IsRedundant (entries kept) x.entry (entries xs) → ⊥) → Follows (entries kept) (entries next) → IsRedundant (entries next) x.entry (entries left) → R kept x) where
@@ -273,9 +273,9 @@ module _ (Q R : List LocatedMapping → LocatedMapping → Type 0) (first_of_key
       (subst (λ h. Follows (entries kept ++ x.entry ∷ []) h) (sym (entries-more next x)) (both_keep (entries kept) (entries next) x.entry f)) in
       keeps kept next x left out busy' (next_pass (seen ++ x ∷ []) (kept ++ x ∷ []) (next ++ x ∷ []) xs left out w g v)
 
--- ---- what decides
+-- ---- why an entry is dropped only now
 
--- it would have gone before
+-- otherwise the pass before would have dropped it
 module _ (kept next : List LocatedMapping) (x : LocatedMapping) (xs left : List LocatedMapping) (busy : IsRedundant (entries kept) x.entry (entries xs) → ⊥)
     (follows : Follows (entries kept) (entries next)) (gives : Gives (entries xs) (entries left)) (redundant : IsRedundant (entries next) x.entry (entries left)) where
   abbrev own : Key
@@ -306,7 +306,7 @@ module _ (kept next : List LocatedMapping) (x : LocatedMapping) (xs left : List 
 
 -- ---- the second pass
 
--- a key with an entry: its email is spelled, and if it has a name, so is the name
+-- each key with an entry has a spelling of its email, and of its name if it has one
 key_spelled : (h : List Mapping) (k : Key) → is_some (key_summary h k).last ≡ true → is_some (spelling h k.0) ≡ true
 key_spelled h k some = by (accepted h) some
   where
@@ -375,13 +375,14 @@ own_there seen x good =
     ∙ ap (λ s. is_some s.last) (summary_parts (entries seen) (x.entry ∷ []) (key x.entry))
     ∙ some_first (key_summary (x.entry ∷ []) (key x.entry)).last (key_summary (entries seen) (key x.entry)).last (ap (λ s. is_some s.last) (summary_own x.entry good))
 
--- no entry goes of a key that has come before
+-- a key that was seen loses no entry
 module _ (Q : List LocatedMapping → LocatedMapping → Type 0) (first_of_key : (seen : List LocatedMapping) (x : LocatedMapping) → Q seen x → FirstOfKey seen x) (k : Key) where
   same_of_key : (seen kept xs left : List LocatedMapping) → Walks Q seen kept xs left → is_some (key_summary (entries seen) k).last ≡ true → key_summary (entries left) k ≡ key_summary (entries xs) k
   same_of_key _ _ _ _ (ends seen kept) some = refl
   same_of_key _ _ _ _ (drops seen kept x xs left q redundant w) some =
       same_of_key (seen ++ x ∷ []) kept xs left w (some_stays seen x k some)
-      ∙ sym (not_prepended (entries xs) x.entry k (λ same. true≢false (sym some ∙ ap is_some (ap (λ j. (key_summary (entries seen) j).last) same ∙ first_of_key seen x q))))
+      ∙ sym (summary_without [] x.entry (entries xs) k (unequal_keys k (key x.entry)
+      (λ same. true≢false (sym some ∙ ap is_some (ap (λ j. (key_summary (entries seen) j).last) same ∙ first_of_key seen x q)))))
   same_of_key _ _ _ _ (keeps seen kept x xs left busy w) some =
       summary_parts (x.entry ∷ []) (entries left) k
       ∙ ap (joined_summary (key_summary (x.entry ∷ []) k)) (same_of_key (seen ++ x ∷ []) (kept ++ x ∷ []) xs left w (some_stays seen x k some))
@@ -421,12 +422,13 @@ own_spelled seen x good =
     ∙ ap is_some (spelling_parts (entries seen) (x.entry ∷ []) (folded x.entry.old_email))
     ∙ some_second (spelling (entries seen) (folded x.entry.old_email)) (spelling (x.entry ∷ []) (folded x.entry.old_email)) (ap is_some (spelling_own x.entry good))
 
--- no entry goes of an email that has come before
+-- an email that was seen loses no entry
 same_of_email : (email : Text) (seen kept xs left : List LocatedMapping) → Walks FirstOfEmail seen kept xs left → is_some (spelling (entries seen) email) ≡ true → spelling (entries left) email ≡ spelling (entries xs) email
 same_of_email email _ _ _ _ (ends seen kept) some = refl
 same_of_email email _ _ _ _ (drops seen kept x xs left q redundant w) some =
     same_of_email email (seen ++ x ∷ []) kept xs left w (spelled_stays seen x email some)
-    ∙ sym (not_spelled_before (entries xs) x.entry email (λ same. true≢false (sym some ∙ ap is_some (ap (spelling (entries seen)) same ∙ q.0))))
+    ∙ sym (spelling_without [] x.entry (entries xs) email (unequal_emails email (folded x.entry.old_email)
+    (λ same. true≢false (sym some ∙ ap is_some (ap (spelling (entries seen)) same ∙ q.0)))))
 same_of_email email _ _ _ _ (keeps seen kept x xs left busy w) some =
     spelling_parts (x.entry ∷ []) (entries left) email
     ∙ ap (option_or (spelling (x.entry ∷ []) email)) (same_of_email email (seen ++ x ∷ []) (kept ++ x ∷ []) xs left w (spelled_stays seen x email some))
@@ -465,5 +467,5 @@ fourth_drops_none xs a b c p q r =
     next_pass FirstOfEmail (λ _ _. ⊥) (λ seen x never. absurd never) fourth_meets [] [] [] b c s.0 third start (subst (Walks Any [] [] c) (sym four.1) four.2) in
     subst (IsPass [] c) (none_drops [] [] c s.0 fourth) s.1
 
-pub reduced_by_three : (xs a b c : List LocatedMapping) → IsPass [] xs a → IsPass [] a b → IsPass [] b c → IsReduced xs c
+pub reduced_by_three : (xs a b c : List LocatedMapping) → IsPass [] xs a → IsPass [] a b → IsPass [] b c → AreEffective xs c
 reduced_by_three xs a b c p q r = again xs a c p (again a b c q (again b c c r (settled c (fourth_drops_none xs a b c p q r))))

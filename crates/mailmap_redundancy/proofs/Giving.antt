@@ -1,4 +1,4 @@
--- What the givers of an answer give, and that no other entry is needed.
+-- The origins of an answer determine it, and it needs no other entry.
 use Rattle.std.proofs.Common.{◌≡◌, ◌≢◌, Bool, true, false, true≢false, cond, ◌&&◌, ◌||◌, List, [], ◌∷◌, ◌++◌, map, filter, filter_map, Option, Some, None, IfSome, is_some, unwrap_or, option_to_list, refl, sym, ap, ap₂, subst, ◌∙◌}
 use Rattle.std.specs.Cmp.{tied_itself}
 use Rattle.std.specs.Cmp.Lexicographic.{nat_list_cmp_total}
@@ -8,15 +8,21 @@ use Rattle.std.specs.Ordering.{eq_by_cmp, is_eq}
 use Rattle.std.proofs.lemmas.List.Elements.{All-filter, All-from_recursion, filter_passes, recursion_from_All}
 use Rattle.mailmap_entries.specs.Entries.{Mapping}
 use Rattle.mailmap_entries.specs.Folding.{Text, folded, text_cmp}
-use Rattle.mailmap_histories.specs.Histories.{Fields, Key, accepted, answered, first, is_accepted, key, key_cmp, last, last_given, new_fields, of_email, of_key, respelled, scan, unless_empty}
-use Rattle.mailmap_histories.proofs.Parts.{all_head, all_last, all_mapped, all_tail, and_then-flatten, filter-filter, filter_all, last_of_one}
+use Rattle.mailmap_entries.specs.Semantics.{Fields, Key, accepted, answered, first, is_accepted, key, key_cmp, last, last_given, new_fields, of_email, of_key, respelled, answer_of, unless_empty}
+use Rattle.mailmap_entries.proofs.Parts.{all_head, all_last, all_mapped, all_tail, and_then-flatten, filter-filter, filter_all, last_of_one}
 use Rattle.mailmap_batches.proofs.Stable.{filter-map}
-use Rattle.mailmap_redundancy.specs.Givers.{entries_of_email, given, givers, last_or_all, last_with, needed, those_that_count, with_spelling}
-use Rattle.mailmap_redundancy.specs.Redundancy.{IsReduced, LocatedMapping, entries, entries_of_key}
+use Rattle.mailmap_redundancy.specs.Origins.{entries_of_email, given, origins, last_or_all, last_with, needed, those_that_count, with_spelling}
+use Rattle.mailmap_redundancy.specs.Numbers.{key_origins, said_by}
+use Rattle.mailmap_redundancy.specs.Redundancy.{AreEffective, LocatedMapping, entries, entries_of_key}
+use Rattle.mailmap_redundancy.specs.Summaries.{Summary, summary}
 use Rattle.mailmap_redundancy.proofs.Kept.{reduced_accepted, reduced_scan}
-use Rattle.mailmap_redundancy.proofs.RepeatedKeys.{by_cases, of_other_key}
+use Rattle.mailmap_redundancy.proofs.Keyed.{by_cases, of_other_key}
 
--- ---- the last of a list
+-- ---- the first and the last of a list
+
+first-map : {X Y : Type 0} (f : X → Y) (xs : List X) → first (map f xs) ≡ option_map f (first xs)
+first-map f [] = refl
+first-map f (x ∷ xs) = refl
 
 last-map : {X Y : Type 0} (f : X → Y) (xs : List X) → last (map f xs) ≡ option_map f (last xs)
 last-map f [] = refl
@@ -24,7 +30,6 @@ last-map f (x ∷ xs) =
     ap (λ o. Some (unwrap_or o (f x))) (last-map f xs)
     ∙ (elim (last xs) as (λ o. Some (unwrap_or (option_map f o) (f x)) ≡ Some (f (unwrap_or o x))) [ None ↦ refl | Some y ↦ refl ])
 
--- the last that passes a test passes it
 last_passes : {X : Type 0} (p : X → Bool) (xs : List X) → IfSome (last (filter p xs)) (λ x. p x ≡ true)
 last_passes p xs = of_all (filter p xs) (recursion_from_All _ _ (filter_passes p xs))
   where
@@ -41,7 +46,7 @@ module _ (f : Mapping → Option Text) where
         | Some t ↦ λ is. ap₂ (λ o l. o ∷ l) (sym is) (all_given xs)
       ] refl
 
-  -- a field as it is given last, by the entry that gives it
+  -- the last value of a field, by the entry that sets it
   given_last : (xs : List LocatedMapping) → last_given f (entries xs) ≡ option_and_then (λ x. f x.entry) (last_with f xs)
   given_last xs =
       flat (last_given f (entries xs))
@@ -51,6 +56,16 @@ module _ (f : Mapping → Option Text) where
       flat : (o : Option Text) → o ≡ option_flatten (option_map (λ t. Some t) o)
       flat None = refl
       flat (Some t) = refl
+
+  -- the first value, likewise
+  given_first : (xs : List LocatedMapping)
+      → first (filter_map f (entries xs)) ≡ option_and_then (λ x. f x.entry) (first (filter (λ x. is_some (f x.entry)) xs))
+  given_first [] = refl
+  given_first (x ∷ xs) =
+      elim (f x.entry) as (λ o. f x.entry ≡ o → first (cons_option o (filter_map f (entries xs))) ≡ option_and_then (λ y. f y.entry) (first (cond (is_some o) (x ∷ filter (λ y. is_some (f y.entry)) xs) (filter (λ y. is_some (f y.entry)) xs)))) [
+        | None ↦ λ is. given_first xs
+        | Some t ↦ λ is. sym is
+      ] refl
 
   gives : (xs : List LocatedMapping) → is_some (last_with f xs) ≡ is_some (option_and_then (λ x. f x.entry) (last_with f xs))
   gives xs = by (last_with f xs) (last_passes (λ x. is_some (f x.entry)) xs)
@@ -73,7 +88,7 @@ none_of_key (x ∷ xs) k none =
     ap (λ b. cond b (x ∷ entries_of_key xs k) (entries_of_key xs k)) (of_other_key k x.entry (other_email k.0 (folded x.entry.old_email) other))
     ∙ none_of_key xs k (sym (ap (λ b. cond b (x ∷ entries_of_email xs k.0) (entries_of_email xs k.0)) other) ∙ none))
 
--- ---- what they give is the answer
+-- ---- the fields of the origins are the answer
 
 module _ (kept : List LocatedMapping) (all : AllByRecursion (λ x. is_accepted x.entry ≡ true) kept) where
   all_accepted : accepted (entries kept) ≡ entries kept
@@ -85,11 +100,26 @@ module _ (kept : List LocatedMapping) (all : AllByRecursion (λ x. is_accepted x
   located_email : (email : Text) → of_email (entries kept) email ≡ entries (entries_of_email kept email)
   located_email email = let q : Mapping → Bool = λ e. eq_by_cmp text_cmp email (folded e.old_email) in ap (filter q) all_accepted ∙ filter-map q (λ (x : LocatedMapping). x.entry) kept
 
-first-map : {X Y : Type 0} (f : X → Y) (xs : List X) → first (map f xs) ≡ option_map f (first xs)
-first-map f [] = refl
-first-map f (x ∷ xs) = refl
+  -- a table's summary is the summary of the key's entries
+  pub said_summary : (k : Key) (s : Summary) → s.of_key ≡ said_by (key_origins (entries_of_key kept k))
+      → s.spelling ≡ option_map (λ x. x.entry.old_email) (first (entries_of_email kept k.0)) → s ≡ summary (entries kept) k
+  said_summary k s owned spelled =
+      let xs = entries_of_key kept k in
+      let names : option_and_then (λ x. x.entry.old_name) (first (filter (λ x. is_some x.entry.old_name) xs)) ≡ first (filter_map (λ e. e.old_name) (of_key (entries kept) k)) = sym (given_first (λ e. e.old_name) xs) ∙ ap (λ l. first (filter_map (λ e. e.old_name) l)) (sym (located_key k)) in
+      let fields : (f : Mapping → Option Text) → option_and_then (λ x. f x.entry) (last_with f xs) ≡ last_given f (of_key (entries kept) k) = λ f. sym (given_last f xs) ∙ ap (last_given f) (sym (located_key k)) in
+      let lasts : option_map (λ x. new_fields x.entry) (last xs) ≡ option_map new_fields (last (of_key (entries kept) k)) =
+      mapped (λ x. x.entry) new_fields (last xs) ∙ ap (option_map new_fields) (sym (last-map (λ (x : LocatedMapping). x.entry) xs) ∙ ap last (sym (located_key k))) in
+      λ i. record {
+        of_key = (owned ∙ (λ j. record { old_name = names j; name = fields (λ e. e.new_name) j; email = fields (λ e. e.new_email) j; last = lasts j })) i;
+        spelling = (spelled ∙ mapped (λ x. x.entry) (λ e. e.old_email) (first (entries_of_email kept k.0))
+            ∙ ap (option_map (λ e. e.old_email)) (sym (first-map (λ (x : LocatedMapping). x.entry) (entries_of_email kept k.0)) ∙ ap first (sym (located_email k.0)))) i;
+      }
+    where
+      mapped : {Y : Type 0} (f : LocatedMapping → Mapping) (g : Mapping → Y) (o : Option LocatedMapping) → option_map (λ x. g (f x)) o ≡ option_map g (option_map f o)
+      mapped f g None = refl
+      mapped f g (Some x) = refl
 
--- the fields of those that count
+-- the fields that the counting entries set
 abbrev fields_that_count : List LocatedMapping → Fields
 fields_that_count xs =
     record {
@@ -110,14 +140,14 @@ first_of_two : {X : Type 0} (o p q : Option X) → true ≡ is_some o → option
 first_of_two None p q some = absurd (true≢false some)
 first_of_two (Some x) p q _ = refl
 
--- the spelling of the first counts if no email is given
-spelled : (email : Text) (name : Option Text) (giver head : Option LocatedMapping) → is_some giver ≡ is_some (option_and_then (λ x. x.entry.new_email) giver) → (head ≡ None → (name ≡ None) × (giver ≡ None))
-    → answered email (record { name = name; email = option_and_then (λ x. x.entry.new_email) giver }) (option_map (λ e. e.old_email) (option_map (λ x. x.entry) head))
+-- the first entry's spelling counts if no entry sets an email
+spelled : (email : Text) (name : Option Text) (origin head : Option LocatedMapping) → is_some origin ≡ is_some (option_and_then (λ x. x.entry.new_email) origin) → (head ≡ None → (name ≡ None) × (origin ≡ None))
+    → answered email (record { name = name; email = option_and_then (λ x. x.entry.new_email) origin }) (option_map (λ e. e.old_email) (option_map (λ x. x.entry) head))
     ≡ unless_empty (record {
       name = name;
-      email = option_or (option_and_then (λ x. x.entry.new_email) giver) (option_and_then (λ x. respelled x.entry.old_email email) (cond (is_some giver) None head));
+      email = option_or (option_and_then (λ x. x.entry.new_email) origin) (option_and_then (λ x. respelled x.entry.old_email email) (cond (is_some origin) None head));
     })
-spelled email name giver None _ nobody =
+spelled email name origin None _ nobody =
     let none = nobody refl in
     λ i. unless_empty (record {
       name = sym none.0 i;
@@ -127,8 +157,8 @@ spelled email name None (Some x) _ _ = refl
 spelled email name (Some y) (Some x) does _ =
     ap (λ o. unless_empty (record { name = name; email = o })) (first_of_two y.entry.new_email (respelled x.entry.old_email email) None does)
 
-pub givers_answer : (kept : List LocatedMapping) (name email : Text) → AllByRecursion (λ x. is_accepted x.entry ≡ true) kept → scan (entries kept) name email ≡ given (givers kept name email) email
-givers_answer kept name email all =
+pub origins_answer : (kept : List LocatedMapping) (name email : Text) → AllByRecursion (λ x. is_accepted x.entry ≡ true) kept → answer_of (entries kept) name email ≡ given (origins kept name email) email
+origins_answer kept name email all =
     let n : Key = (folded email, Some (folded name)) in
     let u : Key = (folded email, None) in
     let those = those_that_count kept name email in
@@ -151,10 +181,10 @@ givers_answer kept name email all =
         let nobody_counts : those_that_count kept name email ≡ [] = ap₂ (λ l m. last_or_all (last l) m) (none_of_key kept (folded email, Some (folded name)) nothing) (none_of_key kept (folded email, None) nothing) in
         (ap (λ l. (fields_that_count l).name) nobody_counts, ap (last_with (λ e. e.new_email)) nobody_counts)
 
-pub reduced_givers : (xs kept : List LocatedMapping) (name email : Text) → IsReduced xs kept → given (givers kept name email) email ≡ scan (entries xs) name email
-reduced_givers xs kept name email s = sym (givers_answer kept name email (reduced_accepted xs kept s)) ∙ reduced_scan xs kept name email s
+pub reduced_origins : (xs kept : List LocatedMapping) (name email : Text) → AreEffective xs kept → given (origins kept name email) email ≡ answer_of (entries xs) name email
+reduced_origins xs kept name email s = sym (origins_answer kept name email (reduced_accepted xs kept s)) ∙ reduced_scan xs kept name email s
 
--- ---- no other entry is needed
+-- ---- the answer needs no other entry
 
 module _ {X : Type 0} (p : X → Bool) where
   last_left : (xs : List X) → IfSome (last xs) (λ x. p x ≡ true) → last (filter p xs) ≡ last xs
@@ -194,12 +224,12 @@ module _ (p : LocatedMapping → Bool) (kept : List LocatedMapping) (name email 
   abbrev Passes : LocatedMapping → Type 0
   Passes x = p x ≡ true
 
-  -- those that are left of those that count
+  -- dropping entries that aren't needed keeps the last one that sets a field
   with_left : (f : Mapping → Option Text) (o : Option LocatedMapping) (others : List LocatedMapping) → IfSome (last_with f (last_or_all o others)) Passes → last_with f (last_or_all o (filter p others)) ≡ last_with f (last_or_all o others)
   with_left f None others left = ap last (filter_swapped p (λ x. is_some (f x.entry)) others) ∙ last_left p (filter (λ x. is_some (f x.entry)) others) left
   with_left f (Some x) others _ = refl
 
-  -- an accepted entry that counts alone gives a field
+  -- an accepted entry that alone counts sets a field, so it is needed
   alone : (x : LocatedMapping) → is_accepted x.entry ≡ true → IfSome (last_with (λ e. e.new_name) (x ∷ [])) Passes → IfSome (last_with (λ e. e.new_email) (x ∷ [])) Passes → p x ≡ true
   alone x good by_name by_email =
       by_cases (is_some x.entry.new_name)
@@ -216,11 +246,11 @@ module _ (p : LocatedMapping → Bool) (kept : List LocatedMapping) (name email 
   with_spelling_left n None l left = ap (with_spelling n None) (first_left p l left)
   with_spelling_left n (Some x) l _ = refl
 
-  pub givers_left : AllByRecursion (λ x. is_accepted x.entry ≡ true) kept → AllByRecursion Passes (needed (givers kept name email)) → givers (filter p kept) name email ≡ givers kept name email
-  givers_left all left =
+  pub origins_left : AllByRecursion (λ x. is_accepted x.entry ≡ true) kept → AllByRecursion Passes (needed (origins kept name email)) → origins (filter p kept) name email ≡ origins kept name email
+  origins_left all left =
       let n : Key = (folded email, Some (folded name)) in
       let u : Key = (folded email, None) in
-      let g = givers kept name email in
+      let g = origins kept name email in
       let o = last (entries_of_key kept n) in
       let others = entries_of_key kept u in
       let fields = option_to_list g.name ++ option_to_list g.email in
@@ -244,11 +274,11 @@ module _ (p : LocatedMapping → Bool) (kept : List LocatedMapping) (name email 
       accepted_last : (k : Key) → IfSome (last (entries_of_key kept k)) (λ x. is_accepted x.entry ≡ true)
       accepted_last k = of_last (entries_of_key kept k) (all_filter (λ x. is_accepted x.entry ≡ true) (λ x. eq_by_cmp key_cmp k (key x.entry)) kept all)
 
--- what is answered without the others
-pub needed_answer : (p : LocatedMapping → Bool) (xs kept : List LocatedMapping) (name email : Text) → IsReduced xs kept → AllByRecursion (λ x. p x ≡ true) (needed (givers kept name email))
-    → scan (entries (filter p kept)) name email ≡ scan (entries xs) name email
+-- the answer from the needed entries alone
+pub needed_answer : (p : LocatedMapping → Bool) (xs kept : List LocatedMapping) (name email : Text) → AreEffective xs kept → AllByRecursion (λ x. p x ≡ true) (needed (origins kept name email))
+    → answer_of (entries (filter p kept)) name email ≡ answer_of (entries xs) name email
 needed_answer p xs kept name email s left =
     let all = reduced_accepted xs kept s in
-    givers_answer (filter p kept) name email (all_filter (λ x. is_accepted x.entry ≡ true) p kept all)
-    ∙ ap (λ g. given g email) (givers_left p kept name email all left)
-    ∙ reduced_givers xs kept name email s
+    origins_answer (filter p kept) name email (all_filter (λ x. is_accepted x.entry ≡ true) p kept all)
+    ∙ ap (λ g. given g email) (origins_left p kept name email all left)
+    ∙ reduced_origins xs kept name email s

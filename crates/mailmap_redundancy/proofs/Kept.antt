@@ -1,4 +1,4 @@
--- What passes leave of a history: its normal list, and entries none of which can go.
+-- Effective entries keep the normal list, and none of them is redundant.
 use Rattle.std.proofs.Common.{◌≡◌, ◌≤◌, ◌<◌, ◌+◌, ℕ, zero, suc, Bool, true, false, true≢false, cond, ◌||◌, List, [], ◌∷◌, ◌++◌, length, filter, is_some, append-nil, append_assoc, length-append, arith, refl, sym, ap, subst, ◌∙◌, inl, inr}
 use Rattle.std.specs.Prelude.{◌↔◌, ◌⊎◌, Contains}
 use Rattle.std.specs.Cmp.{tied_itself}
@@ -10,13 +10,13 @@ use Rattle.std.proofs.lemmas.List.{map-append}
 use Rattle.std.proofs.lemmas.List.Elements.{All-contains, All-from_recursion, filter-append}
 use Rattle.mailmap_entries.specs.Entries.{Mapping}
 use Rattle.mailmap_entries.specs.Folding.{Text}
-use Rattle.mailmap_histories.specs.Histories.{IsNormal, Key, key, key_cmp, last, is_accepted, accepted, has_key, scan}
-use Rattle.mailmap_histories.proofs.Alike.{alike_accepted, same_scan}
-use Rattle.mailmap_histories.proofs.Exists.{normal, is_normal}
-use Rattle.mailmap_histories.proofs.Keys.{keys_total}
-use Rattle.mailmap_histories.proofs.Normal.{alike_normal}
-use Rattle.mailmap_histories.proofs.Unique.{normal_unique}
-use Rattle.mailmap_redundancy.specs.Redundancy.{IsRedundant, IsPass, done, goes, stays, IsReduced, settled, again, IsSublist, LocatedMapping, entries, last_position}
+use Rattle.mailmap_entries.specs.Semantics.{IsNormal, Key, key, key_cmp, last, is_accepted, accepted, has_key, answer_of}
+use Rattle.mailmap_entries.proofs.Alike.{alike_accepted, same_scan}
+use Rattle.mailmap_entries.proofs.Exists.{normal, is_normal}
+use Rattle.mailmap_entries.proofs.Keys.{keys_total}
+use Rattle.mailmap_entries.proofs.Normal.{alike_normal}
+use Rattle.mailmap_entries.proofs.Unique.{normal_unique}
+use Rattle.mailmap_redundancy.specs.Redundancy.{IsRedundant, IsPass, done, goes, stays, AreEffective, settled, again, IsSublist, LocatedMapping, entries, last_position}
 use Rattle.mailmap_redundancy.specs.Summaries.{is_redundant, summary}
 use Rattle.mailmap_redundancy.proofs.Redundant.{alike_redundant, redundant_decides}
 use Rattle.mailmap_redundancy.proofs.Sublists.{sublist_itself, sublist_keep, sublist_skip, sublist_trans}
@@ -24,7 +24,7 @@ use Rattle.mailmap_redundancy.proofs.Sublists.{sublist_itself, sublist_keep, sub
 abbrev pub IndexedEntry : Type 0
 IndexedEntry = List LocatedMapping
 
--- an entry that is kept, with what comes after it
+-- an entry moves from those still to come to those kept
 pub entries_kept : (kept : IndexedEntry) (x : LocatedMapping) (xs : IndexedEntry) → entries (kept ++ x ∷ []) ++ entries xs ≡ entries kept ++ x.entry ∷ entries xs
 entries_kept kept x xs = ap (λ l. l ++ entries xs) (map-append (λ (y : LocatedMapping). y.entry) kept (x ∷ [])) ∙ append_assoc (entries kept) (x.entry ∷ []) (entries xs)
 
@@ -40,33 +40,33 @@ pass_normal _ _ _ n (stays kept x xs out busy p) =
     let e = entries_kept kept x xs in
     (λ d. rest.0 (subst (λ h. IsNormal h n) (sym e) d), λ d. subst (λ h. IsNormal h n) e (rest.1 d))
 
-pub reduced_normal : (xs kept : IndexedEntry) (n : List Mapping) → IsReduced xs kept → IsNormal (entries xs) n ↔ IsNormal (entries kept) n
+pub reduced_normal : (xs kept : IndexedEntry) (n : List Mapping) → AreEffective xs kept → IsNormal (entries xs) n ↔ IsNormal (entries kept) n
 reduced_normal _ _ n (settled xs p) = (λ d. d, λ d. d)
 reduced_normal _ _ n (again xs some kept p s) =
     let first = pass_normal [] xs some n p in
     let rest = reduced_normal some kept n s in
     (λ d. rest.0 (first.0 d), λ d. first.1 (rest.1 d))
 
--- and so is what is mapped
-pub reduced_scan : (xs kept : IndexedEntry) (name email : Text) → IsReduced xs kept → scan (entries kept) name email ≡ scan (entries xs) name email
+-- so answers are the same
+pub reduced_scan : (xs kept : IndexedEntry) (name email : Text) → AreEffective xs kept → answer_of (entries kept) name email ≡ answer_of (entries xs) name email
 reduced_scan xs kept name email s =
     let n = normal (entries xs) in
     let d = is_normal (entries xs) in
     same_scan (entries kept) n name email (alike_normal (entries kept) n ((reduced_normal xs kept n s).0 d)) ∙ sym (same_scan (entries xs) n name email (alike_normal (entries xs) n d))
 
--- ---- a pass that lets nothing go
+-- ---- a pass that drops nothing
 
 pub pass_length : (kept xs out : IndexedEntry) → IsPass kept xs out → length out ≤ length kept + length xs
 pass_length _ _ _ (done kept) = omega arith
 pass_length _ _ _ (goes kept x xs out redundant p) = omega (arith, pass_length kept xs out p)
 pass_length _ _ _ (stays kept x xs out busy p) = omega (arith, pass_length (kept ++ x ∷ []) xs out p, length-append kept (x ∷ []))
 
--- after those that were kept, none of xs can go
+-- no entry of the second list is redundant, once those before it are kept
 abbrev pub NoneRedundant : IndexedEntry → IndexedEntry → Type 0
 NoneRedundant kept [] = Unit {0}
 NoneRedundant kept (x ∷ xs) = (IsRedundant (entries kept) x.entry (entries xs) → ⊥) × NoneRedundant (kept ++ x ∷ []) xs
 
--- as long as both together, what a pass leaves is both, and none could go
+-- a pass that shortens nothing dropped nothing
 pub pass_whole : (kept xs out : IndexedEntry) → IsPass kept xs out → length kept + length xs ≤ length out → (out ≡ kept ++ xs) × NoneRedundant kept xs
 pass_whole _ _ _ (done kept) long = (sym (append-nil kept), tt)
 pass_whole _ _ _ (goes kept x xs out redundant p) long = absurd (omega (arith, pass_length kept xs out p, long))
@@ -74,7 +74,7 @@ pass_whole _ _ _ (stays kept x xs out busy p) long =
     let rest = pass_whole (kept ++ x ∷ []) xs out p (omega (arith, long, length-append kept (x ∷ []))) in
     (rest.0 ∙ append_assoc kept (x ∷ []) xs, (busy, rest.1))
 
-reduced_none_redundant : (xs kept : IndexedEntry) → IsReduced xs kept → NoneRedundant [] kept
+reduced_none_redundant : (xs kept : IndexedEntry) → AreEffective xs kept → NoneRedundant [] kept
 reduced_none_redundant _ _ (settled xs p) = (pass_whole [] xs xs p (omega arith)).1
 reduced_none_redundant _ _ (again xs some kept p s) = reduced_none_redundant some kept s
 
@@ -86,8 +86,7 @@ pub unaccepted_redundant : (a : List Mapping) (e : Mapping) (c : List Mapping) �
 unaccepted_redundant a e c bad =
     alike_redundant a e c (alike_accepted (a ++ e ∷ c) (a ++ c) (filter-append is_accepted a (e ∷ c) ∙ ap (λ b. accepted a ++ cond b (e ∷ accepted c) (accepted c)) bad ∙ sym (filter-append is_accepted a c)))
 
--- all that stay are accepted
-pub reduced_accepted : (xs kept : IndexedEntry) → IsReduced xs kept → AllByRecursion (λ x. is_accepted x.entry ≡ true) kept
+pub reduced_accepted : (xs kept : IndexedEntry) → AreEffective xs kept → AllByRecursion (λ x. is_accepted x.entry ≡ true) kept
 reduced_accepted xs kept s = by [] kept (reduced_none_redundant xs kept s)
   where
     by : (before after : IndexedEntry) → NoneRedundant before after → AllByRecursion (λ x. is_accepted x.entry ≡ true) after
@@ -100,11 +99,10 @@ reduced_accepted xs kept s = by [] kept (reduced_none_redundant xs kept s)
       by (before ++ x ∷ []) after none.1,
     )
 
-pub none_can_go : (xs a c : IndexedEntry) (x : LocatedMapping) → IsReduced xs (a ++ x ∷ c) → IsRedundant (entries a) x.entry (entries c) → ⊥
+pub none_can_go : (xs a c : IndexedEntry) (x : LocatedMapping) → AreEffective xs (a ++ x ∷ c) → IsRedundant (entries a) x.entry (entries c) → ⊥
 none_can_go xs a c x s = none_redundant_at [] a x c (reduced_none_redundant xs (a ++ x ∷ c) s)
 
--- without one of those that stay, the normal list differs
-pub listing_differs : (xs a c : IndexedEntry) (x : LocatedMapping) (n m : List Mapping) → IsReduced xs (a ++ x ∷ c) → IsNormal (entries xs) n → IsNormal (entries (a ++ c)) m → n ≡ m → ⊥
+pub listing_differs : (xs a c : IndexedEntry) (x : LocatedMapping) (n m : List Mapping) → AreEffective xs (a ++ x ∷ c) → IsNormal (entries xs) n → IsNormal (entries (a ++ c)) m → n ≡ m → ⊥
 listing_differs xs a c x n m s d d' same =
     let with_x : IsNormal (entries a ++ x.entry ∷ entries c) n =
     subst (λ h. IsNormal h n) (map-append (λ (y : LocatedMapping). y.entry) a (x ∷ c)) ((reduced_normal xs (a ++ x ∷ c) n s).0 d) in
@@ -116,20 +114,20 @@ listing_differs xs a c x n m s d d' same =
       λ is. subst (IsNormal (entries a ++ x.entry ∷ entries c)) (normal_unique (entries a ++ entries c) n l without is) with_x,
     ))
 
--- ---- what stays is some of the entries
+-- ---- the effective entries are a sublist
 
 pass_sublist : (kept xs out ys : IndexedEntry) → IsPass kept xs out → IsSublist kept ys → IsSublist out (ys ++ xs)
 pass_sublist _ _ _ ys (done kept) s = subst (IsSublist kept) (sym (append-nil ys)) s
 pass_sublist _ _ _ ys (goes kept x xs out redundant p) s = subst (IsSublist out) (append_assoc ys (x ∷ []) xs) (pass_sublist kept xs out (ys ++ x ∷ []) p (sublist_skip kept ys x s))
 pass_sublist _ _ _ ys (stays kept x xs out busy p) s = subst (IsSublist out) (append_assoc ys (x ∷ []) xs) (pass_sublist (kept ++ x ∷ []) xs out (ys ++ x ∷ []) p (sublist_keep kept ys x s))
 
-pub reduced_sublist : (xs kept : IndexedEntry) → IsReduced xs kept → IsSublist kept xs
+pub reduced_sublist : (xs kept : IndexedEntry) → AreEffective xs kept → IsSublist kept xs
 reduced_sublist _ _ (settled xs p) = sublist_itself xs
 reduced_sublist _ _ (again xs some kept p s) = sublist_trans kept some xs (reduced_sublist some kept s) (pass_sublist [] xs some [] p (sublist_itself []))
 
--- ---- each key stays
+-- ---- each key keeps an entry
 
-pub reduced_keys : (xs kept : IndexedEntry) (k : Key) → IsReduced xs kept → has_key (accepted (entries kept)) k ≡ has_key (accepted (entries xs)) k
+pub reduced_keys : (xs kept : IndexedEntry) (k : Key) → AreEffective xs kept → has_key (accepted (entries kept)) k ≡ has_key (accepted (entries xs)) k
 reduced_keys xs kept k s =
     let d = is_normal (entries xs) in
     sym (((reduced_normal xs kept (normal (entries xs)) s).0 d).keys k) ∙ d.keys k
@@ -160,12 +158,12 @@ last_there (x ∷ xs) k has =
           | false ↦ λ has. has
         ]
 
-pub last_stays : (xs kept : IndexedEntry) (x : LocatedMapping) → IsReduced xs kept → Contains xs x → is_accepted x.entry ≡ true → is_some (last_position kept (key x.entry)) ≡ true
+pub last_stays : (xs kept : IndexedEntry) (x : LocatedMapping) → AreEffective xs kept → Contains xs x → is_accepted x.entry ≡ true → is_some (last_position kept (key x.entry)) ≡ true
 last_stays xs kept x s =
     let stays : LocatedMapping → Type 0 = λ y. is_accepted y.entry ≡ true → is_some (last_position kept (key y.entry)) ≡ true in
     All-contains stays xs x (All-from_recursion stays xs (own_there (λ k. is_some (last_position kept k) ≡ true) xs (λ k has. last_there kept k (reduced_keys xs kept k s ∙ has))))
 
--- ---- passes leave one list
+-- ---- the effective entries are unique
 
 same_pass : (kept xs out other : IndexedEntry) → IsPass kept xs out → IsPass kept xs other → out ≡ other
 same_pass _ _ _ _ (done kept) (done _) = refl
@@ -174,19 +172,19 @@ same_pass _ _ _ _ (goes kept x xs out redundant p) (stays _ _ _ other busy q) = 
 same_pass _ _ _ _ (stays kept x xs out busy p) (goes _ _ _ other redundant q) = absurd (busy redundant)
 same_pass _ _ _ _ (stays kept x xs out _ p) (stays _ _ _ other _ q) = same_pass (kept ++ x ∷ []) xs out other p q
 
--- what a pass doesn't change stays
-reduced_stays : (xs kept : IndexedEntry) → IsReduced xs kept → IsPass [] xs xs → kept ≡ xs
+-- a pass that drops nothing is the last one
+reduced_stays : (xs kept : IndexedEntry) → AreEffective xs kept → IsPass [] xs xs → kept ≡ xs
 reduced_stays _ _ (settled xs _) p = refl
 reduced_stays _ _ (again xs some kept q s) p =
     let same = same_pass [] xs some xs q p in
     reduced_stays some kept s (subst (λ l. IsPass [] l l) (sym same) p) ∙ same
 
-pub one_reduced : (xs kept other : IndexedEntry) → IsReduced xs kept → IsReduced xs other → kept ≡ other
+pub one_reduced : (xs kept other : IndexedEntry) → AreEffective xs kept → AreEffective xs other → kept ≡ other
 one_reduced _ _ other (settled xs p) s = sym (reduced_stays xs other s p)
 one_reduced _ _ _ (again xs some kept p s) (settled _ q) = reduced_stays xs kept (again xs some kept p s) q
-one_reduced _ _ _ (again xs some kept p s) (again _ some' other q t) = one_reduced some kept other s (subst (λ l. IsReduced l other) (same_pass [] xs some' some q p) t)
+one_reduced _ _ _ (again xs some kept p s) (again _ some' other q t) = one_reduced some kept other s (subst (λ l. AreEffective l other) (same_pass [] xs some' some q p) t)
 
-pub reduced_again : (xs kept : IndexedEntry) → IsReduced xs kept → IsReduced kept kept
+pub reduced_again : (xs kept : IndexedEntry) → AreEffective xs kept → AreEffective kept kept
 reduced_again _ _ (settled xs p) = settled xs p
 reduced_again _ _ (again xs some kept p s) = reduced_again some kept s
 
@@ -209,7 +207,7 @@ some_pass kept (x ∷ xs) =
       | inr busy ↦ let rest = some_pass (kept ++ x ∷ []) xs in (rest.0, stays kept x xs rest.0 busy rest.1)
     ]
 
-reduced_by : (xs : IndexedEntry) → ((some : IndexedEntry) → length some < length xs → (kept : IndexedEntry) × IsReduced some kept) → (kept : IndexedEntry) × IsReduced xs kept
+reduced_by : (xs : IndexedEntry) → ((some : IndexedEntry) → length some < length xs → (kept : IndexedEntry) × AreEffective some kept) → (kept : IndexedEntry) × AreEffective xs kept
 reduced_by xs shorter_reduced =
     let first = some_pass [] xs in
     elim (cases_lt (length first.0) (length xs)) [
@@ -217,9 +215,9 @@ reduced_by xs shorter_reduced =
       | inr whole ↦ (xs, settled xs (subst (IsPass [] xs) (pass_whole [] xs first.0 first.1 (omega (arith, whole))).0 first.1))
     ]
 
-reduced_within : (n : ℕ) (xs : IndexedEntry) → length xs ≤ n → (kept : IndexedEntry) × IsReduced xs kept
+reduced_within : (n : ℕ) (xs : IndexedEntry) → length xs ≤ n → (kept : IndexedEntry) × AreEffective xs kept
 reduced_within zero xs short = reduced_by xs (λ some shorter. absurd (omega (arith, short, shorter)))
 reduced_within (suc n) xs short = reduced_by xs (λ some shorter. reduced_within n some (omega (arith, short, shorter)))
 
-pub some_reduced : (xs : IndexedEntry) → (kept : IndexedEntry) × IsReduced xs kept
+pub some_reduced : (xs : IndexedEntry) → (kept : IndexedEntry) × AreEffective xs kept
 some_reduced xs = reduced_within (length xs) xs (omega arith)

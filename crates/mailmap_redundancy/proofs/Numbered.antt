@@ -1,4 +1,4 @@
--- A walk over sorted entries that numbers them.
+-- The loop that numbers entries in key order.
 use Rattle.std.proofs.Common.{◌≡◌, ◌≢◌, ◌<◌, ◌≤◌, ◌+◌, ◌==◌, ℕ, true, false, List, [], ◌∷◌, map, drop, length, get_or, set, Some, refl, sym, ap, subst, ◌∙◌, arith}
 use Rattle.std.specs.Prelude.{All, Contains}
 use Rattle.std.specs.List.{slice_get, AllByRecursion, enumerate_from}
@@ -12,7 +12,7 @@ use Rattle.std.proofs.lemmas.List.Sorted.{Contains-permutation, IsPermutation-sy
 use Rattle.std.proofs.Math.Seq.{map-set_same}
 use Rattle.std.proofs.lemmas.Option.{slice_get-get_or, slice_get_within, get_or_from_slice_get}
 use Rattle.mailmap_entries.specs.Entries.{Mapping, mapping_of}
-use Rattle.mailmap_histories.specs.Histories.{Key, key, key_cmp, is_accepted}
+use Rattle.mailmap_entries.specs.Semantics.{Key, key, key_cmp, is_accepted}
 use Rattle.mailmap_batches.specs.Batches.{IsAscending, IsSorted, indexed_mapping}
 use Rattle.mailmap_batches.specs.declared.indexed.IndexedEntry.{IndexedEntry}
 use Rattle.mailmap_redundancy.specs.Redundancy.{located_of}
@@ -24,14 +24,13 @@ use Rattle.mailmap_redundancy.proofs.Keyed.{some_out}
 abbrev Indexed : Type 0
 Indexed = ℕ × Mapping
 
--- what the entries of a history say
 abbrev pub said : List LocatedEntry → List Mapping
 said history = map (λ x. mapping_of x.entry) history
 
--- ---- an order of entries
+-- ---- sorted entries with their indices
 
 module _ (ms : List Mapping) (ps : List Indexed) (moved : IsPermutation (enumerate_from 0 ms) ps) where
-  -- each is where it says
+  -- an entry is found at its index
   pub at_its_index : (p : Indexed) → Contains ps p → slice_get ms p.0 ≡ Some p.1
   at_its_index p has =
       let here = Contains-permutation ps (enumerate_from 0 ms) p (IsPermutation-sym (enumerate_from 0 ms) ps moved) has in
@@ -41,7 +40,7 @@ module _ (ms : List Mapping) (ps : List Indexed) (moved : IsPermutation (enumera
       let position : p.0 ≡ here.0 = sym (ap (λ q. q.0) is) ∙ none_before in
       ap (slice_get ms) position ∙ slice_get-get_or ms here.0 p.1 within ∙ ap (λ q. Some q.1) is
 
-  -- and each index comes
+  -- each index occurs
   pub comes : (i : ℕ) (m : Mapping) → slice_get ms i ≡ Some m → Contains ps (i, m)
   comes i m is =
       let within : i < length ms = slice_get_within ms i m is in
@@ -50,7 +49,7 @@ module _ (ms : List Mapping) (ps : List Indexed) (moved : IsPermutation (enumera
       let read : get_or (enumerate_from 0 ms) i (i, m) ≡ (i, m) = get_or-enumerate_from 0 ms i (i, m) within ∙ (λ k. (none_before k, get_or_from_slice_get ms i m m is k)) in
       Contains-permutation (enumerate_from 0 ms) ps (i, m) moved (i, counted, read)
 
--- what is at an index of an order
+-- the entry at position i of the order
 pub record IsFound (history : List LocatedEntry) (ps : List Indexed) (i : ℕ) (p : Indexed) : Type 0 where
   pub within : i < length ps
   pub at : p ≡ get_or ps i p
@@ -64,7 +63,7 @@ found_at history order i at sorted inside is =
     let p : Indexed = indexed_mapping at in
     let within : i < length ps = omega (arith, length-map order indexed_mapping) in
     let read : get_or ps i p ≡ p = get_or-map indexed_mapping order i at p inside ∙ ap indexed_mapping (sym is) in
-    let at_index : slice_get (said history) p.0 ≡ Some p.1 = at_its_index (said history) ps sorted.moved p (i, within, read) in
+    let at_index : slice_get (said history) p.0 ≡ Some p.1 = at_its_index (said history) ps sorted.keeps.moved p (i, within, read) in
     let counted : p.0 < length (said history) = slice_get_within (said history) p.0 p.1 at_index in
     let there : p.0 < length history = omega (arith, length-map history (λ (x : LocatedEntry). mapping_of x.entry)) in
     record {
@@ -74,9 +73,10 @@ found_at history order i at sorted inside is =
       says = λ x. sym (get_or-map (λ (y : LocatedEntry). mapping_of y.entry) history p.0 x p.1 there) ∙ get_or_from_slice_get (said history) p.0 p.1 p.1 at_index;
     }
 
--- ---- the walk
+-- ---- the loop
 
--- before the one at i of an order: the keys are those of the ones before it, which are numbered, and no other key is below
+-- Before position i: the keys are those of the earlier entries, which are numbered, and none of the others is below
+-- them.
 pub record IsNumbering (history : List LocatedEntry) (ps : List Indexed) (i : ℕ) (keys : List Key) (email : ℕ) (xs : List KeyNumbers) : Type 0 where
   pub whole : length xs ≡ length history
   pub keyed : AreAscending keys email
@@ -84,7 +84,7 @@ pub record IsNumbering (history : List LocatedEntry) (ps : List Indexed) (i : �
   pub reached : AllByRecursion (λ p. IsReached keys (key p.1)) (drop i ps)
   pub numbered : (j : ℕ) (p : Indexed) (d : KeyNumbers) → j < i → get_or ps j p ≡ p → AreNumbers keys (key p.1) (get_or xs p.0 d)
 
--- how far an order was walked, whose entries have rows
+-- the state of the loop at position i, with the rows of the entries
 pub record IsWalk (history : List LocatedEntry) (order : List IndexedEntry) (i : ℕ) (keys : List Key) (email : ℕ) (rows : List NumberedEntry) : Type 0 where
   pub sorted : IsSorted (said history) (map indexed_mapping order)
   pub so : IsNumbering history (map indexed_mapping order) i keys email (map numbers_of rows)
@@ -125,8 +125,8 @@ module _ (history : List LocatedEntry) (ps : List Indexed) (i : ℕ) (keys : Lis
     where
       same_mapping : (j : ℕ) (q : Indexed) → j < i + 1 → get_or ps j q ≡ q → q.0 ≡ p.0 → q.1 ≡ p.1
       same_mapping j q lt at here =
-          let first : slice_get (said history) q.0 ≡ Some q.1 = at_its_index (said history) ps sorted.moved q (j, omega arith, at) in
-          let second : slice_get (said history) p.0 ≡ Some p.1 = at_its_index (said history) ps sorted.moved p (i, within, sym is) in
+          let first : slice_get (said history) q.0 ≡ Some q.1 = at_its_index (said history) ps sorted.keeps.moved q (j, omega arith, at) in
+          let second : slice_get (said history) p.0 ≡ Some p.1 = at_its_index (said history) ps sorted.keeps.moved p (i, within, sym is) in
           some_out q.1 p.1 (sym first ∙ ap (slice_get (said history)) here ∙ second)
 
       by : (j : ℕ) (q : Indexed) → j < i + 1 → get_or ps j q ≡ q → q.0 ≢ p.0 → j < i
@@ -140,7 +140,6 @@ module _ (history : List LocatedEntry) (ps : List Indexed) (i : ℕ) (keys : Lis
             | false ↦ λ e. let other : j ≢ i = eqb-false j i e in omega arith
           ] refl
 
--- a row that gets other numbers
 rows_stay : (history : List LocatedEntry) (rows : List NumberedEntry) (i : ℕ) (row : NumberedEntry) (d : LocatedEntry) → mappings rows ≡ map located_of history → i < length history
     → located_entry_of row ≡ located_of (get_or history i d) → mappings (set rows i row) ≡ map located_of history
 rows_stay history rows i row d same inside is =
@@ -149,7 +148,7 @@ rows_stay history rows i row d same inside is =
     sym (get_or-map located_entry_of rows i row (located_of d) within) ∙ ap (λ l. get_or l i (located_of d)) same ∙ get_or-map located_of history i d (located_of d) inside in
     map-set_same located_entry_of rows i row row (is ∙ sym read) ∙ same
 
--- the entry at an index of an order gets its numbers
+-- one step: the entry at position i gets its numbers
 pub walked : (history : List LocatedEntry) (order : List IndexedEntry) (i : ℕ) (keys : List Key) (email : ℕ) (rows : List NumberedEntry) (walk : IsWalk history order i keys email rows)
     (p : Indexed) → IsFound history (map indexed_mapping order) i p → (keys' : List Key) (email' : ℕ) (row : NumberedEntry) (d : LocatedEntry) → AreAscending keys' email' → last_key keys' ≡ Some (key p.1)
     → ((k : Key) (n : ℕ) → IsNumber keys k n → IsNumber keys' k n) → AreNumbers keys' (key p.1) (numbers_of row) → located_entry_of row ≡ located_of (get_or history p.0 d)
@@ -169,7 +168,7 @@ none_keyed : (email : ℕ) → AreAscending [] email
 unfolding IsStrictlySortedBy
 none_keyed email = record { ascending = tt; of_email = λ l is. absurd (cc) }
 
--- none was walked
+-- before the first step
 pub none_walked : (history : List LocatedEntry) (order : List IndexedEntry) (keys : List Key) (email : ℕ) (rows : List NumberedEntry) → keys ≡ [] → mappings rows ≡ map located_of history
     → IsSorted (said history) (map indexed_mapping order) → IsWalk history order 0 keys email rows
 none_walked history order keys email rows none located sorted =
@@ -190,7 +189,7 @@ none_walked history order keys email rows none located sorted =
     all [] = tt
     all (q ∷ qs) = (λ l is. absurd (cc), all qs)
 
--- at the end all are numbered
+-- after the last step, all entries are numbered
 pub all_numbered : (history : List LocatedEntry) (order : List IndexedEntry) (i : ℕ) (keys : List Key) (email : ℕ) (rows : List NumberedEntry) → length order ≤ i → IsWalk history order i keys email rows
     → All (λ (x : LocatedEntry). is_accepted (mapping_of x.entry) ≡ true) history → All (IsNumbered keys) rows
 all_numbered history order i keys email rows over walk accepted m d within =
@@ -204,7 +203,7 @@ all_numbered history order i keys email rows over walk accepted m d within =
     let is : slice_get (said history) m ≡ Some (entry_of y) =
     slice_get-get_or (said history) m (entry_of y) (omega (arith, length-map history (λ (x : LocatedEntry). mapping_of x.entry)))
     ∙ ap (λ x. Some x) (get_or-map (λ (x : LocatedEntry). mapping_of x.entry) history m e (entry_of y) inside ∙ sym says) in
-    let has = comes (said history) ps walk.sorted.moved m (entry_of y) is in
+    let has = comes (said history) ps walk.sorted.keeps.moved m (entry_of y) is in
     let read : get_or (map numbers_of rows) m (numbers_of d) ≡ numbers_of y = get_or-map numbers_of rows m d (numbers_of d) within in
     let before : has.0 < i = omega (arith, has.1, length-map order indexed_mapping) in
     let ns : AreNumbers keys (key (entry_of y)) (numbers_of y) = subst (AreNumbers keys (key (entry_of y))) read (walk.so.numbered has.0 (m, entry_of y) (numbers_of d) before has.2) in

@@ -1,4 +1,4 @@
--- When an entry changes nothing: by what is said before it and after it of its own key and email.
+-- Whether an entry is redundant, decided by the summaries of its key and email before and after it.
 use Rattle.std.proofs.Common.{◌≡◌, Bool, true, false, true≢false, ◌&&◌, ◌||◌, if◌then◌else◌, List, [], ◌∷◌, ◌++◌, Option, Some, None, is_some, refl, sym, ap, subst, ◌∙◌}
 use Rattle.std.specs.Bool.{Decides}
 use Rattle.std.specs.Cmp.{Equal-is}
@@ -10,20 +10,20 @@ use Rattle.std.proofs.lemmas.List.Elements.{filter_passes, recursion_from_All}
 use Rattle.std.proofs.lemmas.Map.Lookups.{exact_bytes}
 use Rattle.mailmap_entries.specs.Entries.{Mapping}
 use Rattle.mailmap_entries.specs.Folding.{Text, folded, text_cmp}
-use Rattle.mailmap_histories.specs.Alike.{Alike, first_name}
-use Rattle.mailmap_histories.specs.Histories.{Fields, Key, key, key_cmp, first, last, is_accepted, accepted, has_key, new_fields, of_key, last_fields, spelling}
-use Rattle.mailmap_histories.specs.Listings.{same_optional}
-use Rattle.mailmap_histories.proofs.Alike.{same_normal, alike_back, key_parts}
-use Rattle.mailmap_histories.proofs.EqualListings.{optional_decides}
-use Rattle.mailmap_histories.proofs.Exists.{normal, is_normal}
-use Rattle.mailmap_histories.proofs.Joined.{alike_trans}
-use Rattle.mailmap_histories.proofs.Keys.{keys_exact}
-use Rattle.mailmap_histories.proofs.Normal.{alike_normal, known}
+use Rattle.mailmap_entries.specs.Alike.{Alike, first_name}
+use Rattle.mailmap_entries.specs.Semantics.{Fields, Key, key, key_cmp, first, last, is_accepted, accepted, has_key, new_fields, of_key, last_fields, spelling}
+use Rattle.mailmap_entries.specs.Listings.{same_optional}
+use Rattle.mailmap_entries.proofs.Alike.{same_normal, alike_back, key_parts}
+use Rattle.mailmap_entries.proofs.EqualListings.{optional_decides}
+use Rattle.mailmap_entries.proofs.Exists.{normal, is_normal}
+use Rattle.mailmap_entries.proofs.Joined.{alike_trans}
+use Rattle.mailmap_entries.proofs.Keys.{keys_exact}
+use Rattle.mailmap_entries.proofs.Normal.{alike_normal, known}
 use Rattle.mailmap_redundancy.specs.Redundancy.{IsRedundant}
 use Rattle.mailmap_redundancy.specs.Summaries.{KeySummary, Summary, later_of, key_summary, summary, own_summary, joined_summary, is_last_unchanged, same_fields, is_value_unchanged, is_redundant}
 use Rattle.mailmap_redundancy.proofs.Summaries.{summary_parts, spelling_parts, of_key_without, summary_without, spelling_without, summary_around, spelling_around}
 
--- ---- redundant entries leave an alike history
+-- ---- dropping a redundant entry leaves equivalent entries
 
 pub redundant_alike : (a : List Mapping) (e : Mapping) (c : List Mapping) → IsRedundant a e c → Alike (a ++ e ∷ c) (a ++ c)
 redundant_alike a e c redundant =
@@ -56,7 +56,7 @@ last_fields_decide : (before : Option Fields) (own : Fields) (after : Option Fie
 last_fields_decide before own (Some x) = (λ e. refl, λ e. refl)
 last_fields_decide before own None = fields_decide own before
 
--- what the value of a key has of the key's summary
+-- the parts of a key's summary that its value depends on
 abbrev SameValue : Option Text → KeySummary → KeySummary → Type 0
 SameValue None s t = (s.name ≡ t.name) × (s.email ≡ t.email)
 SameValue (Some name) s t = (s.old_name ≡ t.old_name) × (s.last ≡ t.last)
@@ -71,9 +71,9 @@ value_decides s e after = by after.of_key e.old_name
     by t None = Decides-and (is_last_unchanged s.name e.new_name (is_some t.name)) (is_last_unchanged s.email e.new_email (is_some t.email)) (last_decides s.name e.new_name t.name) (last_decides s.email e.new_email t.email)
     by t (Some w) = Decides-and (is_some s.old_name || same_optional (Some w) t.old_name) (is_some t.last || same_fields (new_fields e) s.last) (first_decides s.old_name w t.old_name) (last_fields_decide s.last (new_fields e) t.last)
 
--- ---- what is alike at one key
+-- ---- equivalence at one key
 
--- with an old name, each entry of the key has one, so the first of the key has the first of them
+-- if a key has an old name, so has each of its entries, so the first entry has the first old name
 pub named_first : (h : List Mapping) (email name : Text) → first_name h (email, Some name) ≡ option_map (λ t. Some t) (key_summary h (email, Some name)).old_name
 named_first h email name =
     by (of_key h (email, Some name)) (recursion_from_All _ _ (filter_passes (λ e. eq_by_cmp key_cmp (email, Some name) (key e)) (accepted h)))
@@ -92,7 +92,7 @@ some_out None (Some y) e = cc
 some_out (Some x) None e = cc
 some_out (Some x) (Some y) e = ap (λ o. option_flatten o) e
 
--- alike histories have the same value there
+-- equivalent entries give the key the same value
 alike_value : (h g : List Mapping) → Alike h g → (email : Text) (o : Option Text) → SameValue o (key_summary h (email, option_map folded o)) (key_summary g (email, option_map folded o))
 alike_value h g alike email None = (ap (λ f. f.name) (alike.given email), ap (λ f. f.email) (alike.given email))
 alike_value h g alike email (Some w) =
@@ -113,7 +113,7 @@ module _ (a : List Mapping) (e : Mapping) (c : List Mapping) (good : is_accepted
       some_of x None = refl
       some_of x (Some z) = refl
 
-  -- what is_redundant decides
+  -- the condition that is_redundant decides
   abbrev Same : Type 0
   Same =
       ((is_some (last_fields a (key e)) || is_some (last_fields c (key e))) ≡ true)
@@ -185,7 +185,7 @@ module _ (a : List Mapping) (e : Mapping) (c : List Mapping) (good : is_accepted
       named s t None name is v = cc
       named s t (Some w) name is v = v
 
-  -- the test decides whether an accepted entry changes nothing
+  -- is_redundant decides it for an accepted entry
   pub redundant_decides : Decides (is_redundant (summary a (key e)) e (summary c (key e))) (IsRedundant a e c)
   redundant_decides =
       Decides-like (is_redundant (summary a (key e)) e (summary c (key e))) (λ same. alike_redundant a e c (same_alike same)) (λ redundant. alike_same (redundant_alike a e c redundant)) same_decides

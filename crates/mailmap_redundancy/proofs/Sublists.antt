@@ -1,4 +1,4 @@
--- Lists that are some of others, in their order.
+-- Sublists.
 use Rattle.std.proofs.Common.{◌≡◌, Less, List, [], ◌∷◌, ◌++◌, map, Ordering}
 use Rattle.std.specs.List.{AllByRecursion, Contains}
 use Rattle.std.specs.List.Sorted.{IsStrictlySortedBy}

@@ -1,8 +1,7 @@
 pub use Rattle.mailmap_entries.specs.Folding
 pub use Rattle.mailmap_entries.specs.Entries
-pub use Rattle.mailmap_histories.specs.Histories
+pub use Rattle.mailmap_entries.specs.Semantics
 pub mod Summaries
 pub mod Redundancy
-pub mod Givers
+pub mod Origins
 pub mod Numbers
-pub mod Repeats

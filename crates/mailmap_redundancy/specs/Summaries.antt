@@ -1,16 +1,16 @@
--- A summary of what a stretch of a history says of a key and of its email: enough to decide whether an entry before or
--- after the stretch is redundant.
+-- Summaries of a range of entries for a key and for its email. A summary is enough to decide whether an entry before or
+-- after the range is redundant.
 use Rattle.std.specs.Prelude.{Bool, false, ◌&&◌, ◌||◌, if◌then◌else◌, List, Option, Some, None, is_some, is_none}
 use Rattle.std.specs.List.{filter_map}
 use Rattle.std.specs.Option.{option_or}
 use Rattle.mailmap_entries.specs.Entries.{Mapping}
 use Rattle.mailmap_entries.specs.Folding.{Text}
-use Rattle.mailmap_histories.specs.Histories.{Fields, Key, first, last_given, of_key, last_fields, spelling, new_fields}
-use Rattle.mailmap_histories.specs.Listings.{same_optional}
-use Rattle.mailmap_redundancy.specs.declared.summary.Later.{Later}
+use Rattle.mailmap_entries.specs.Semantics.{Fields, Key, first, last_given, of_key, last_fields, spelling, new_fields}
+use Rattle.mailmap_entries.specs.Listings.{same_optional}
+use Rattle.mailmap_redundancy.specs.declared.passes.Later.{Later}
 
--- of the entries of a key: the first old name, the new name and the new email as they were given last, and both new
--- fields of the last entry
+-- for the entries of a key: the first old name, the last new name, the last new email, and both new fields of the last
+-- entry
 pub record KeySummary : Type 0 where
   pub old_name : Option Text
   pub name : Option Text
@@ -26,7 +26,7 @@ key_summary h k =
       last = last_fields h k;
     }
 
--- of the entries of a key, and the spelling of the first entry of its email
+-- the summary of a key, and the spelling of its email by the email's first entry
 pub record Summary : Type 0 where
   pub of_key : KeySummary
   pub spelling : Option Text
@@ -34,7 +34,7 @@ pub record Summary : Type 0 where
 abbrev pub summary : List Mapping → Key → Summary
 summary h k = record { of_key = key_summary h k; spelling = spelling h k.0 }
 
--- of no entry
+-- of an empty range
 abbrev pub no_summary : KeySummary
 no_summary = record { old_name = None; name = None; email = None; last = None }
 
@@ -42,7 +42,7 @@ no_summary = record { old_name = None; name = None; email = None; last = None }
 abbrev pub own_summary : Mapping → KeySummary
 own_summary e = record { old_name = e.old_name; name = e.new_name; email = e.new_email; last = Some (new_fields e) }
 
--- of a stretch a with b after it
+-- of range a followed by range b
 abbrev pub joined_summary : KeySummary → KeySummary → KeySummary
 joined_summary a b =
     record {
@@ -52,9 +52,9 @@ joined_summary a b =
       last = option_or b.last a.last;
     }
 
--- ---- whether an entry between two stretches changes anything
+-- ---- whether an entry between two ranges is redundant
 
--- what decides, of the stretch after the entry, whether the entry changes anything
+-- what the redundancy of e depends on in the range after it
 abbrev pub later_of : Mapping → Summary → Later
 later_of e s =
     record {
@@ -65,8 +65,8 @@ later_of e s =
       same_old_email = same_optional (Some e.old_email) s.spelling;
     }
 
--- the text that was given last is the same without the entry: a later entry gives one, the entry gives none, or the
--- same one was given before
+-- The field keeps its last value without the entry: a later entry overrides it, the entry has none, or the last earlier
+-- value is the same.
 abbrev pub is_last_unchanged : Option Text → Option Text → Bool → Bool
 is_last_unchanged before field given_later = given_later || (is_none field || same_optional field before)
 
@@ -74,9 +74,9 @@ abbrev pub same_fields : Fields → Option Fields → Bool
 same_fields fields None = false
 same_fields fields (Some last) = same_optional fields.name last.name && same_optional fields.email last.email
 
--- The value of the key is the same without the entry, apart from the spelling of its email. With an old name: an
--- earlier entry gives the old name, or the next one spells it alike; and a later entry gives the fields, or the last
--- earlier one gave the same.
+-- The key's value, apart from the spelling of its email, is the same without the entry. For a key with an old name: an
+-- earlier entry has the old name, or the next one spells it alike; and a later entry overrides the fields, or the last
+-- earlier entry has the same.
 abbrev pub is_value_unchanged : KeySummary → Mapping → Later → Bool
 is_value_unchanged before e later =
     if is_some e.old_name then
@@ -86,7 +86,7 @@ is_value_unchanged before e later =
     (is_last_unchanged before.name e.new_name later.gives_name
     && is_last_unchanged before.email e.new_email later.gives_email)
 
--- the key is there without the entry, its email is spelled the same, and its value is the same
+-- Without the entry, the key still exists, its email is spelled the same, and its value is the same.
 abbrev pub is_redundant_before : Summary → Mapping → Later → Bool
 is_redundant_before before e later =
     (is_some before.of_key.last || later.has_key)

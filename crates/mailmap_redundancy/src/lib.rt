@@ -1,25 +1,16 @@
-//! Which entries of a history are redundant: without them nothing would change. The crate `gix_mailmap` builds on this,
-//! and doesn't show it to users.
+//! Finds redundant entries: those whose removal changes nothing. An internal crate of `gix_mailmap`, which re-exports
+//! what users need.
 #![tactic(auto)]
 
-mod answers;
-mod fields;
-mod givers;
-mod guesses;
-mod hashes;
-mod key_summary;
+mod effective;
 mod keys;
 pub mod laws;
 mod located;
 mod numbers;
+mod origins;
 mod passes;
-mod reduced;
-mod repeated;
-mod search;
-mod summary;
 mod table;
 
-pub use fields::Fields;
-pub use givers::Givers;
+pub use effective::{Effective, without_redundant};
 pub use located::{LocatedEntry, Position};
-pub use reduced::{Reduced, without_redundant};
+pub use origins::{Fields, Origins};

@@ -1,169 +1,175 @@
-//! Passes over a history, each of which drops redundant entries.
-ghost use Rattle.std.specs.Prelude.{◌≡◌, ◌≤◌, All, [], IfOk, OnOk, length, take};
+//! Passes over the entries, each of which drops redundant ones.
+ghost use Rattle.std.specs.Prelude.{◌≡◌, All, [], IfOk};
+ghost use Rattle.std.specs.Option.{option_copied, option_map};
 ghost use Rattle.std.specs.List.Sorted.{IsStrictlySortedBy};
-ghost use Rattle.mailmap_histories.specs.Histories.{key_cmp};
-ghost use Rattle.mailmap_redundancy.specs.Repeats.{AreUnrepeated, of_repeated};
-ghost use Rattle.mailmap_redundancy.specs.Redundancy.{IsPass, IsReduced, entries as spec_entries};
-ghost use Rattle.mailmap_redundancy.specs.Numbers.{AreGivers, IsNumbered, IsTable, later_of_each, mappings};
+ghost use Rattle.mailmap_entries.specs.Entries.{mapping_of};
+ghost use Rattle.mailmap_entries.specs.Semantics.{key_cmp, new_fields};
+ghost use Rattle.mailmap_entries.specs.Listings.{same_optional};
+ghost use Rattle.mailmap_redundancy.specs.Redundancy.{IsPass, AreEffective};
+ghost use Rattle.mailmap_redundancy.specs.Summaries as spec;
+ghost use Rattle.mailmap_redundancy.specs.Numbers.{IsNumbered, key_origins_of, later_of_each, mappings, referred, said_by, summary_of};
 
-use crate::keys::KeptKey;
+use crate::keys::Key;
+use crate::located::{LocatedEntry, new_email, new_name, old_email, old_name};
 use crate::numbers::NumberedEntry;
-use crate::repeated::emails_with_repeats;
-use crate::summary::{Later, is_redundant};
-use crate::table::Table;
+use crate::table::{KeySummary, Summary, Table};
+use mailmap_entries::Entry;
 use std::alloc::{AllocError, Global};
 
-/// Makes passes over the entries until one drops none. The entries that stay are moved to the start, and their number
-/// is returned. The table begins empty, and ends with the entries that stay. Emails are marked anew before each pass,
-/// since fewer and fewer of them have a key that comes twice.
-pub(crate) fn settle<'p, 'a>(
+/// Repeats passes over the entries until one drops nothing, and returns the entries that are left.
+pub(crate) fn drop_until_stable<'p, 'a>(
     alloc: Global,
-    keys: &[KeptKey<'_, '_>],
-    entries: &mut [NumberedEntry<'p, 'a>],
-    table: &mut Table<'p, 'a>,
-) -> Result<usize, AllocError>
+    keys: &[Key<'_>],
+    entries: &[NumberedEntry<'p, 'a>],
+) -> Result<Vec<NumberedEntry<'p, 'a>>, AllocError>
     requires ascending { IsStrictlySortedBy key_cmp keys.now }
-    requires numbered { All (IsNumbered keys.now) entries.old }
-    requires table { IsTable keys.now [] table.old }
-    ensures within { IfOk result (λ kept. kept ≤ length entries.new) }
-    ensures reduced { IfOk result (λ kept. IsReduced (mappings entries.old) (mappings (take kept entries.new))) }
-    ensures numbered { IfOk result (λ kept. All (IsNumbered keys.now) (take kept entries.new)) }
-    ensures table { IfOk result (λ kept. IsTable keys.now (spec_entries (mappings (take kept entries.new))) table.new) }
-    ensures givers { IfOk result (λ kept. AreGivers keys.now (mappings (take kept entries.new)) table.new) }
+    requires numbered { All (IsNumbered keys.now) entries.now }
+    ensures effective { IfOk result (λ kept. AreEffective (mappings entries.now) (mappings kept.items)) }
+    ensures numbered { IfOk result (λ kept. All (IsNumbered keys.now) kept.items) }
 {
     let mut len = entries.len();
-    let mut repeated = emails_with_repeats(alloc, keys, entries)?;
-    let mut kept = pass(alloc, keys, &repeated, entries, len, table)?;
-    while kept < len {
-        len = kept;
-        forget_repeated(keys, &repeated, &entries[..len], table);
-        repeated = emails_with_repeats(alloc, keys, &entries[..len])?;
-        kept = pass(alloc, keys, &repeated, entries, len, table)?;
-    }
-    append_others(keys, &repeated, &entries[..kept], table);
-    Ok(kept)
-}
-
-// One pass over the first `len` entries. Those that stay are moved to the start, and their number is returned. The
-// table begins empty, and ends with those that stay whose emails have repeats.
-fn pass<'p, 'a>(
-    alloc: Global,
-    keys: &[KeptKey<'_, '_>],
-    repeated: &[bool],
-    entries: &mut [NumberedEntry<'p, 'a>],
-    len: usize,
-    table: &mut Table<'p, 'a>,
-) -> Result<usize, AllocError>
-    requires ascending { IsStrictlySortedBy key_cmp keys.now }
-    requires within { len ≤ length entries.old }
-    requires numbered { All (IsNumbered keys.now) (take len entries.old) }
-    requires rows { length repeated.now ≡ length keys.now }
-    requires unrepeated { AreUnrepeated keys.now repeated.now (spec_entries (mappings (take len entries.old))) }
-    requires table { IsTable keys.now [] table.old }
-    ensures len { IfOk result (λ kept. kept ≤ len) }
-    ensures whole { OnOk result (length entries.new ≡ length entries.old) }
-    ensures passed { IfOk result
-        (λ kept. IsPass [] (mappings (take len entries.old)) (mappings (take kept entries.new))) }
-    ensures numbered { IfOk result (λ kept. All (IsNumbered keys.now) (take kept entries.new)) }
-    ensures unrepeated { IfOk result
-        (λ kept. AreUnrepeated keys.now repeated.now (spec_entries (mappings (take kept entries.new)))) }
-    ensures table { IfOk result (λ kept. IsTable keys.now
-        (spec_entries (of_repeated keys.now repeated.now (mappings (take kept entries.new)))) table.new) }
-    ensures givers { IfOk result (λ kept. AreGivers keys.now
-        (of_repeated keys.now repeated.now (mappings (take kept entries.new))) table.new) }
-{
-    let mut later_ones = each_later(alloc, keys, repeated, &entries[..len], table)?;
-    forget_repeated(keys, repeated, &entries[..len], table);
-    let mut kept = 0;
-    for index in 0..len {
-        let x = entries[index];
-        if repeated[x.email] {
-            let Some(later) = later_ones.pop() else {
-                unreachable!()
-            };
-            if is_redundant(&table.summary(&x), &x.located.entry, later) {
-                continue;
-            }
-            table.append(&x);
-        }
-        entries[kept] = x;
-        kept += 1;
+    let mut kept = drop_redundant_once(alloc, keys, entries)?;
+    while kept.len() < len {
+        len = kept.len();
+        kept = drop_redundant_once(alloc, keys, &kept)?;
     }
     Ok(kept)
 }
 
-// For each entry whose email has repeats, what the entries after it say that decides whether it is redundant. In
-// reverse: the last entry's comes first. The table begins empty, and ends with all of these entries.
-fn each_later<'p, 'a>(
+// Makes one pass, and returns the entries that are left.
+fn drop_redundant_once<'p, 'a>(
     alloc: Global,
-    keys: &[KeptKey<'_, '_>],
-    repeated: &[bool],
+    keys: &[Key<'_>],
     entries: &[NumberedEntry<'p, 'a>],
-    table: &mut Table<'p, 'a>,
+) -> Result<Vec<NumberedEntry<'p, 'a>>, AllocError>
+    requires ascending { IsStrictlySortedBy key_cmp keys.now }
+    requires numbered { All (IsNumbered keys.now) entries.now }
+    ensures passed { IfOk result (λ kept. IsPass [] (mappings entries.now) (mappings kept.items)) }
+    ensures numbered { IfOk result (λ kept. All (IsNumbered keys.now) kept.items) }
+{
+    let mut later_ones = each_later(alloc, keys, entries)?;
+    let mut table = Table::none(alloc, keys)?;
+    let mut kept = Vec::with_capacity(alloc, entries.len())?;
+    for x in entries {
+        let Some(later) = later_ones.pop() else {
+            unreachable!()
+        };
+        if !is_redundant(&table.summary(x), &x.located.entry, later) {
+            table.append(x);
+            kept.push(*x)?;
+        }
+    }
+    Ok(kept)
+}
+
+// For each entry, what its redundancy depends on in the entries after it. In reverse: the last entry's comes first, so
+// that a pass can pop them.
+fn each_later(
+    alloc: Global,
+    keys: &[Key<'_>],
+    entries: &[NumberedEntry<'_, '_>],
 ) -> Result<Vec<Later>, AllocError>
     requires ascending { IsStrictlySortedBy key_cmp keys.now }
     requires numbered { All (IsNumbered keys.now) entries.now }
-    requires rows { length repeated.now ≡ length keys.now }
-    requires table { IsTable keys.now [] table.old }
-    ensures later_ones { IfOk result (λ later_ones. later_ones.items
-        ≡ later_of_each (of_repeated keys.now repeated.now (mappings entries.now))) }
-    ensures table { IfOk result (λ later_ones. IsTable keys.now
-        (spec_entries (of_repeated keys.now repeated.now (mappings entries.now))) table.new) }
+    ensures { IfOk result (λ later_ones. later_ones.items ≡ later_of_each (mappings entries.now)) }
 {
+    let mut table = Table::none(alloc, keys)?;
     let mut later_ones = Vec::with_capacity(alloc, entries.len())?;
     let mut left = entries.len();
     while left > 0 {
         left -= 1;
         let x = &entries[left];
-        if repeated[x.email] {
-            later_ones.push(Later::of(&x.located.entry, &table.summary(x)))?;
-            table.prepend(x);
-        }
+        later_ones.push(Later::of(&x.located.entry, &table.summary(x)))?;
+        table.prepend(x);
     }
     Ok(later_ones)
 }
 
-// Empties a table of the entries whose emails have repeats. Only the rows of these entries are touched.
-fn forget_repeated<'p, 'a>(
-    keys: &[KeptKey<'_, '_>],
-    repeated: &[bool],
-    entries: &[NumberedEntry<'p, 'a>],
-    table: &mut Table<'p, 'a>,
-)
-    requires ascending { IsStrictlySortedBy key_cmp keys.now }
-    requires numbered { All (IsNumbered keys.now) entries.now }
-    requires rows { length repeated.now ≡ length keys.now }
-    requires table { IsTable keys.now (spec_entries (of_repeated keys.now repeated.now (mappings entries.now)))
-        table.old }
-    ensures table { IsTable keys.now [] table.new }
-    ensures givers { AreGivers keys.now [] table.new }
-{
-    for x in entries {
-        if repeated[x.email] {
-            table.forget(x);
+/// What the redundancy of an entry depends on in the entries after it.
+#[derive(Clone, Copy)]
+pub(crate) struct Later {
+    /// Whether a later entry has the same key.
+    pub(crate) has_key: bool,
+    /// Whether a later entry of the key has a new name.
+    pub(crate) gives_name: bool,
+    /// Whether a later entry of the key has a new email.
+    pub(crate) gives_email: bool,
+    /// Whether the first old name among the later entries of the key is byte for byte this entry's, or both have none.
+    pub(crate) same_old_name: bool,
+    /// Whether the next entry of the email spells it as this entry does.
+    pub(crate) same_old_email: bool,
+}
+
+impl Later {
+    /// Takes what matters for `entry` from a summary of the entries after it.
+    fn of(entry: &Entry, summary: &Summary) -> Later
+        ensures { result ≡ spec.later_of (mapping_of entry.now) (summary_of summary.now) }
+    {
+        let of_key = &summary.of_key;
+        Later {
+            has_key: of_key.last.is_some(),
+            gives_name: new_name(of_key.name).is_some(),
+            gives_email: new_email(of_key.email).is_some(),
+            same_old_name: is_same_text(entry.old_name(), old_name(of_key.old_name)),
+            same_old_email: is_same_text(
+                Some(entry.old_email()),
+                old_email(summary.of_email.first),
+            ),
         }
     }
 }
 
-// Adds the entries whose emails have no repeats to a table of the others.
-fn append_others<'p, 'a>(
-    keys: &[KeptKey<'_, '_>],
-    repeated: &[bool],
-    entries: &[NumberedEntry<'p, 'a>],
-    table: &mut Table<'p, 'a>,
-)
-    requires ascending { IsStrictlySortedBy key_cmp keys.now }
-    requires numbered { All (IsNumbered keys.now) entries.now }
-    requires rows { length repeated.now ≡ length keys.now }
-    requires table { IsTable keys.now (spec_entries (of_repeated keys.now repeated.now (mappings entries.now)))
-        table.old }
-    requires givers { AreGivers keys.now (of_repeated keys.now repeated.now (mappings entries.now)) table.old }
-    ensures table { IsTable keys.now (spec_entries (mappings entries.now)) table.new }
-    ensures givers { AreGivers keys.now (mappings entries.now) table.new }
+// Whether an entry is redundant between the entries kept before it and those after it. Without it, its key must still
+// exist, its email must be spelled the same, and its key must map to the same fields.
+fn is_redundant(before: &Summary, entry: &Entry, later: Later) -> bool
+    ensures { result ≡ spec.is_redundant_before (summary_of before.now) (mapping_of entry.now) later }
 {
-    for x in entries {
-        if !repeated[x.email] {
-            table.append(x);
-        }
+    (before.of_key.last.is_some() || later.has_key)
+        && (before.of_email.first.is_some() || later.same_old_email)
+        && is_value_unchanged(&before.of_key, entry, later)
+}
+
+// Whether the key keeps its fields, and the spelling of its old name, without the entry. If the key has an old name,
+// its last entry decides both fields; else the last entry with a new name or a new email decides that field.
+fn is_value_unchanged(before: &KeySummary, entry: &Entry, later: Later) -> bool
+    ensures { result ≡ spec.is_value_unchanged (said_by (key_origins_of before.now)) (mapping_of entry.now) later }
+{
+    if entry.old_name().is_some() {
+        (old_name(before.old_name).is_some() || later.same_old_name)
+            && (later.has_key || are_same_fields(entry, before.last))
+    } else {
+        is_last_unchanged(new_name(before.name), entry.new_name(), later.gives_name)
+            && is_last_unchanged(
+                new_email(before.email),
+                entry.new_email(),
+                later.gives_email,
+            )
     }
+}
+
+// Whether a field keeps its last value without this entry, whose value is `field`: a later entry overrides it, this
+// entry has none, or an earlier entry already set the same.
+fn is_last_unchanged(before: Option<&[u8]>, field: Option<&[u8]>, given_later: bool) -> bool
+    ensures { result ≡ spec.is_last_unchanged (option_copied before.entry) (option_copied field.entry) given_later }
+{
+    given_later || field.is_none() || is_same_text(field, before)
+}
+
+fn are_same_fields(entry: &Entry, last: Option<&LocatedEntry>) -> bool
+    ensures { result ≡ spec.same_fields (new_fields (mapping_of entry.now))
+        (option_map (λ x. new_fields x.entry) (referred last.entry)) }
+{
+    match last {
+        Some(located) => {
+            is_same_text(entry.new_name(), located.entry.new_name())
+                && is_same_text(entry.new_email(), located.entry.new_email())
+        }
+        None => false,
+    }
+}
+
+fn is_same_text(a: Option<&[u8]>, b: Option<&[u8]>) -> bool
+    ensures { result ≡ same_optional (option_copied a.entry) (option_copied b.entry) }
+{
+    a == b
 }

@@ -1,83 +1,150 @@
-//! A table with a summary for each key and each email of a history, by their numbers.
-ghost use Rattle.std.specs.Prelude.{◌≡◌, ◌<◌, ◌++◌, [], ◌∷◌, List, IfOk, vec_len};
+//! Summaries of a range of entries, for each key and each email, as references to the entries that matter.
+ghost use Rattle.std.specs.Prelude.{◌≡◌, ◌<◌, ◌++◌, [], ◌∷◌, IfOk, List, vec_len};
 ghost use Rattle.std.specs.List.Sorted.{IsStrictlySortedBy};
-ghost use Rattle.mailmap_entries.specs.Entries.{Mapping};
-ghost use Rattle.mailmap_histories.specs.Histories.{Key, key, key_cmp};
+ghost use Rattle.mailmap_entries.specs.Semantics.{Key as HistoryKey, key, key_cmp};
+ghost use Rattle.mailmap_redundancy.specs.Redundancy.{LocatedMapping, entries as spec_entries, located_of};
 
-use crate::key_summary::KeySummary;
-use crate::keys::KeptKey;
+use crate::keys::Key;
+use crate::located::LocatedEntry;
 use crate::numbers::NumberedEntry;
-use crate::summary::{EmailSummary, Summary};
 use std::alloc::{AllocError, Global};
 
-/// A summary for each key, and one for each email.
+/// The entries that matter for a key: the first with an old name, the last with a new name, the last with a new email,
+/// and the last of all.
+#[derive(Clone, Copy)]
+pub(crate) struct KeySummary<'p, 'a> {
+    pub(crate) old_name: Option<&'p LocatedEntry<'a>>,
+    pub(crate) name: Option<&'p LocatedEntry<'a>>,
+    pub(crate) email: Option<&'p LocatedEntry<'a>>,
+    pub(crate) last: Option<&'p LocatedEntry<'a>>,
+}
+
+impl<'p, 'a> KeySummary<'p, 'a> {
+    ghost use Rattle.mailmap_redundancy.specs.Numbers.{joined_origins, key_origins, key_origins_of};
+
+    pub(crate) fn none() -> KeySummary<'p, 'a>
+        ensures { key_origins_of result ≡ key_origins [] }
+    {
+        KeySummary {
+            old_name: None,
+            name: None,
+            email: None,
+            last: None,
+        }
+    }
+
+    pub(crate) fn of(located: &'p LocatedEntry<'a>) -> KeySummary<'p, 'a>
+        ensures { key_origins_of result ≡ key_origins (located_of located.now ∷ []) }
+    {
+        KeySummary {
+            old_name: located.entry.old_name().and(Some(located)),
+            name: located.entry.new_name().and(Some(located)),
+            email: located.entry.new_email().and(Some(located)),
+            last: Some(located),
+        }
+    }
+
+    /// The summary of this range followed by another.
+    pub(crate) fn then(self, after: KeySummary<'p, 'a>) -> KeySummary<'p, 'a>
+        ensures { key_origins_of result ≡ joined_origins (key_origins_of self.entry) (key_origins_of after.entry) }
+    {
+        KeySummary {
+            old_name: self.old_name.or(after.old_name),
+            name: after.name.or(self.name),
+            email: after.email.or(self.email),
+            last: after.last.or(self.last),
+        }
+    }
+}
+
+/// The first entry of an email, whose spelling counts.
+#[derive(Clone, Copy)]
+pub(crate) struct EmailSummary<'p, 'a> {
+    pub(crate) first: Option<&'p LocatedEntry<'a>>,
+}
+
+/// Summaries for an entry's key and for its email.
+#[derive(Clone, Copy)]
+pub(crate) struct Summary<'p, 'a> {
+    pub(crate) of_key: KeySummary<'p, 'a>,
+    pub(crate) of_email: EmailSummary<'p, 'a>,
+}
+
+/// A summary for each key and one for each email, indexed by their numbers.
 #[derive(Drop)]
 pub(crate) struct Table<'p, 'a> {
-    pub(crate) summaries: Vec<KeySummary<'p, 'a>>,
-    pub(crate) spellings: Vec<EmailSummary<'p, 'a>>,
+    pub(crate) keys: Vec<KeySummary<'p, 'a>>,
+    pub(crate) emails: Vec<EmailSummary<'p, 'a>>,
 }
 
 impl<'p, 'a> Table<'p, 'a> {
     ghost use Rattle.mailmap_redundancy.specs.Summaries.{summary};
-    ghost use Rattle.mailmap_redundancy.specs.Numbers.{AreGivers, IsForgetting, IsTable, IsNumbered, summary_of, entry_of, located_entry_of};
-    ghost use Rattle.mailmap_redundancy.specs.Redundancy.{LocatedMapping};
+    ghost use Rattle.mailmap_redundancy.specs.Numbers.{IsTable, IsNumbered, entry_of, located_entry_of, mappings, summary_of};
+    ghost use Rattle.std.specs.Prelude.{All};
 
-    /// The table of no entry.
-    pub(crate) fn none(alloc: Global, keys: &[KeptKey<'_, '_>]) -> Result<Table<'p, 'a>, AllocError>
+    /// The table of an empty range.
+    pub(crate) fn none(alloc: Global, keys: &[Key<'_>]) -> Result<Table<'p, 'a>, AllocError>
         ensures { IfOk result (IsTable keys.now []) }
     {
         Ok(Table {
-            summaries: vec![in alloc; KeySummary::none(); keys.len()]?,
-            spellings: vec![in alloc; EmailSummary::none(); keys.len()]?,
+            keys: vec![in alloc; KeySummary::none(); keys.len()]?,
+            emails: vec![in alloc; EmailSummary { first: None }; keys.len()]?,
         })
     }
 
-    /// Empties the rows of an entry's key and email.
-    pub(crate) fn forget(&mut self, x: &NumberedEntry)
-        requires key { x.now.key < vec_len self.old.summaries }
-        requires email { x.now.email < vec_len self.old.spellings }
-        ensures { (keys : List Key) (h : List Mapping) → IsStrictlySortedBy key_cmp keys → IsNumbered keys x.now
-            → IsForgetting keys (entry_of x.now ∷ h) self.old → IsForgetting keys h self.new }
+    pub(crate) fn of(
+        alloc: Global,
+        keys: &[Key<'_>],
+        entries: &[NumberedEntry<'p, 'a>],
+    ) -> Result<Table<'p, 'a>, AllocError>
+        requires ascending { IsStrictlySortedBy key_cmp keys.now }
+        requires numbered { All (IsNumbered keys.now) entries.now }
+        ensures { IfOk result (IsTable keys.now (mappings entries.now)) }
     {
-        self.summaries[x.key] = KeySummary::none();
-        self.spellings[x.email] = EmailSummary::none();
+        let mut table = Table::none(alloc, keys)?;
+        for x in entries {
+            table.append(x);
+        }
+        Ok(table)
     }
 
-    /// The summaries of an entry's key and of its email.
     pub(crate) fn summary(&self, x: &NumberedEntry) -> Summary<'p, 'a>
-        requires key { x.now.key < vec_len self.now.summaries }
-        requires email { x.now.email < vec_len self.now.spellings }
-        ensures { (keys : List Key) (h : List Mapping) → IsNumbered keys x.now → IsTable keys h self.now
-            → summary_of result ≡ summary h (key (entry_of x.now)) }
+        requires key { x.now.key < vec_len self.now.keys }
+        requires email { x.now.email < vec_len self.now.emails }
+        ensures { (keys : List HistoryKey) (xs : List LocatedMapping) → IsNumbered keys x.now → IsTable keys xs self.now
+            → summary_of result ≡ summary (spec_entries xs) (key (entry_of x.now)) }
     {
         Summary {
-            of_key: self.summaries[x.key],
-            of_email: self.spellings[x.email],
+            of_key: self.keys[x.key],
+            of_email: self.emails[x.email],
         }
     }
 
-    /// Adds an entry after the others.
+    /// Extends the range at its end.
     pub(crate) fn append(&mut self, x: &NumberedEntry<'p, 'a>)
-        requires key { x.now.key < vec_len self.old.summaries }
-        requires email { x.now.email < vec_len self.old.spellings }
-        ensures table { (keys : List Key) (h : List Mapping) → IsStrictlySortedBy key_cmp keys → IsNumbered keys x.now
-            → IsTable keys h self.old → IsTable keys (h ++ entry_of x.now ∷ []) self.new }
-        ensures givers { (keys : List Key) (xs : List LocatedMapping) → IsStrictlySortedBy key_cmp keys
-            → IsNumbered keys x.now → AreGivers keys xs self.old
-            → AreGivers keys (xs ++ located_entry_of x.now ∷ []) self.new }
+        requires key { x.now.key < vec_len self.old.keys }
+        requires email { x.now.email < vec_len self.old.emails }
+        ensures { (keys : List HistoryKey) (xs : List LocatedMapping) → IsStrictlySortedBy key_cmp keys
+            → IsNumbered keys x.now → IsTable keys xs self.old
+            → IsTable keys (xs ++ located_entry_of x.now ∷ []) self.new }
     {
-        self.summaries[x.key] = self.summaries[x.key].then(KeySummary::of(x.located));
-        self.spellings[x.email] = self.spellings[x.email].then(EmailSummary::of(x.located));
+        self.keys[x.key] = self.keys[x.key].then(KeySummary::of(x.located));
+        self.emails[x.email] = EmailSummary {
+            first: self.emails[x.email].first.or(Some(x.located)),
+        };
     }
 
-    /// Adds an entry before the others.
+    /// Extends the range at its start.
     pub(crate) fn prepend(&mut self, x: &NumberedEntry<'p, 'a>)
-        requires key { x.now.key < vec_len self.old.summaries }
-        requires email { x.now.email < vec_len self.old.spellings }
-        ensures { (keys : List Key) (h : List Mapping) → IsStrictlySortedBy key_cmp keys → IsNumbered keys x.now
-            → IsTable keys h self.old → IsTable keys (entry_of x.now ∷ h) self.new }
+        requires key { x.now.key < vec_len self.old.keys }
+        requires email { x.now.email < vec_len self.old.emails }
+        ensures { (keys : List HistoryKey) (xs : List LocatedMapping) → IsStrictlySortedBy key_cmp keys
+            → IsNumbered keys x.now → IsTable keys xs self.old
+            → IsTable keys (located_entry_of x.now ∷ xs) self.new }
     {
-        self.summaries[x.key] = KeySummary::of(x.located).then(self.summaries[x.key]);
-        self.spellings[x.email] = EmailSummary::of(x.located);
+        self.keys[x.key] = KeySummary::of(x.located).then(self.keys[x.key]);
+        self.emails[x.email] = EmailSummary {
+            first: Some(x.located),
+        };
     }
 }

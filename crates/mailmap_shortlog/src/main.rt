@@ -1,30 +1,30 @@
-//! Counts contacts by mailmaps, as `git shortlog -s` counts commits by their authors.
+//! Counts contacts using mailmaps, as `git shortlog -s` counts commits by author.
 //!
-//! `mailmap_shortlog MAILMAP..` counts the contacts of standard input by the names that the mailmaps give them. With
-//! `-e` it counts by names and emails, and with `-n` the greatest count comes first. `mailmap_shortlogs::task` says how
-//! the arguments are read.
+//! `mailmap_shortlog MAILMAP..` counts the contacts on standard input by the names that the mailmaps map them to. With
+//! `-e` it counts by names and emails, and with `-n` the greatest count comes first. `shortlog_command::task` parses
+//! the arguments.
 //!
-//! A failure is said on standard error, and ends the program with status 2.
+//! A failure prints a line on standard error, and the exit status is 2.
 #![tactic(auto)]
 
-use mailmap_io::arguments::arguments;
-use mailmap_io::files::System;
-use mailmap_io::messages::{self, failure_line, misuse_lines};
-use mailmap_io::outcome::{Outcome, exit_code};
-use mailmap_io::run_error::RunError;
-use mailmap_shortlogs::task::{Task, UnknownOption, perform, task_of};
+use command_line::arguments::arguments;
+use command_line::failure::Failure;
+use command_line::files::System;
+use command_line::messages::{self, failure_line, misuse_lines};
+use command_line::outcome::{Outcome, exit_code};
+use shortlog_command::task::{Task, UnknownOption, perform, task_of};
 use std::alloc::AllocError;
 use std::process::ExitCode;
 
 const PROGRAM: &[u8] = b"mailmap_shortlog";
 
-// What follows the name of an option that isn't known.
+// Follows the message for an unknown option.
 const USAGE_LINE: &str = "usage: mailmap_shortlog [-n] [-e] [-s] [--] [MAILMAP..]\n";
 
 fn main(rt: HostRuntime) -> ExitCode {
     let arguments = match arguments(&rt, rt.alloc()) {
         Ok(arguments) => arguments,
-        Err(_) => return ended(&rt, &[], Err(RunError::Memory)),
+        Err(_) => return ended(&rt, &[], Err(Failure::Memory)),
     };
     match task_of(arguments.as_slice()) {
         Ok(task) => done(&rt, task),
@@ -39,22 +39,21 @@ fn main(rt: HostRuntime) -> ExitCode {
     }
 }
 
-// Does a task.
 fn done(rt: &HostRuntime, task: Task<'_>) -> ExitCode {
     let system = System { files: rt };
     let end = perform(&system, rt.alloc(), task, &mut rt.stdin(), &mut rt.stdout());
     ended(rt, task.paths, end)
 }
 
-// Says a failure, if there is one. The status reports it, too.
-fn ended(rt: &HostRuntime, paths: &[Vec<u8>], end: Result<(), RunError>) -> ExitCode {
+// Reports a failure, if there is one, also by the exit status.
+fn ended(rt: &HostRuntime, paths: &[Vec<u8>], end: Result<(), Failure>) -> ExitCode {
     if let Err(failure) = end {
         say(rt, failure_line(rt.alloc(), PROGRAM, paths, failure));
     }
     exit_code(end.map(|()| Outcome::Clean))
 }
 
-// Says what ended the program. If that fails as well, only the status reports it.
+// If standard error fails as well, the exit status still reports the failure.
 fn say(rt: &HostRuntime, lines: Result<Vec<u8>, AllocError>) {
     let _ = messages::say(
         &mut rt.stderr(),

@@ -1,4 +1,4 @@
--- The orders of times and of signatures are total, and tell apart all that differ.
+-- The orders of times and of signatures are total, and no two different ones compare as equal.
 use Rattle.std.proofs.Common.{◌≡◌, ℤ, Ordering, Less, Equal, Greater, refl, subst}
 use Rattle.std.specs.Prelude.{◌↔◌, ◌<ℤ◌}
 use Rattle.std.specs.Cmp.{IsTotalOrder, int_ranked, tied_itself}
@@ -11,7 +11,7 @@ use Rattle.mailmap_signatures.specs.SignatureFields.{SignatureFields, signature_
 use Rattle.mailmap_signatures.specs.Times.{time_cmp}
 use Rattle.mailmap_signatures.specs.declared.date.Time.{Time}
 
--- two answers, of which the second counts if the first is `Equal`
+-- two comparisons in a row give `Equal` only if both do
 both : (o p : Ordering) → ordering_then o p ≡ Equal → (o ≡ Equal) × (p ≡ Equal)
 both Less p e = absurd (cc)
 both Equal p e = (refl, e)

@@ -1,4 +1,4 @@
--- Signatures, whoever owns their texts, and their times.
+-- The fields of signatures, independent of who owns the texts.
 use Rattle.std.specs.Prelude.{◌≡◌, ◌++◌, ℕ, []}
 use Rattle.std.specs.Cow.{cow_slice_items, IsOwnedSlice, IsBorrowedSlice}
 use Rattle.std.specs.Hash as fed
@@ -13,7 +13,7 @@ use Rattle.mailmap_signatures.specs.declared.actor.SignatureRef.{SignatureRef}
 use Rattle.mailmap_signatures.specs.declared.cow.Signature.{Signature}
 use Rattle.mailmap_signatures.specs.declared.date.Time.{Time}
 
--- the name, the email and the time of a signature, whoever owns its texts
+-- the name, the email and the time of a signature
 pub record SignatureFields : Type 0 where
   pub name : Text
   pub email : Text
@@ -29,28 +29,28 @@ cow_fields s = record { name = cow_slice_items s.name; email = cow_slice_items s
 abbrev pub empty_fields : SignatureFields
 empty_fields = record { name = []; email = []; time = epoch }
 
--- by name, email and time, the texts byte by byte and the time by its seconds and then its offset
+-- by name, then email, then time; texts byte by byte, times by seconds and then offset
 abbrev pub signature_cmp : SignatureFields → SignatureFields → Ordering
 signature_cmp a b = ordering_then (text_cmp a.name b.name)
     (ordering_then (text_cmp a.email b.email) (time_cmp a.time b.time))
 
--- what a hash takes in
+-- what a hasher gets
 abbrev pub signature_writes : SignatureFields → fed.HashWrites
 signature_writes s = fed.slice fed.u8 s.name ++ fed.slice fed.u8 s.email
     ++ (fed.i64 s.time.seconds ++ fed.i32 s.time.offset)
 
--- no text is a copy
+-- both texts are borrowed
 pub record BorrowsBoth (s : Signature) : Type 0 where
   pub name : IsBorrowedSlice s.name
   pub email : IsBorrowedSlice s.email
 
--- the texts of a signature as it lends them, and its time
+-- a signature that borrows the texts of `from`, with its time
 pub record IsTakenFrom (from : SignatureRef) (s : Signature) : Type 0 where
   pub borrowed : BorrowsBoth s
   pub name : cow_slice_items s.name ≡ from.name.now
   pub email : cow_slice_items s.email ≡ from.email.now
   pub time : IsTimeOf from.time.now s.time
 
--- one is owned if the other is
+-- b is owned if a is, and borrowed if a is
 abbrev pub IsHeldAs : CowSlice ℕ Global → CowSlice ℕ Global → Type 0
 IsHeldAs a b = (IsOwnedSlice a → IsOwnedSlice b) × (IsBorrowedSlice a → IsBorrowedSlice b)

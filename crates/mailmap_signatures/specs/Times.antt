@@ -1,4 +1,4 @@
--- The time that a text spells, as `1711398853 +0800`.
+-- The time that a text such as `1711398853 +0800` spells.
 use Rattle.std.specs.Prelude.{◌≡◌, ◌⊎◌, ◌+◌, ◌*◌, ◌-◌, ◌^◌, ◌<◌, ◌<ℤ◌, ℕ, ℤ, pos, neg_ℤ, Bool, if◌then◌else◌, Option}
 use Rattle.std.specs.Prelude.{MatchOption, [], ◌∷◌, ◌++◌, length, FitsSigned}
 use Rattle.std.specs.Char.{IsAsciiDigit}
@@ -13,16 +13,15 @@ use Rattle.mailmap_signatures.specs.declared.date.Time.{Time}
 abbrev pub AreDigits : Text → Type 0
 AreDigits = AllByRecursion IsAsciiDigit
 
--- the number that decimal digits write: each counts by its place
+-- the number that decimal digits spell
 abbrev pub number : Text → ℕ
 number [] = 0
 number (d ∷ ds) = (d - 48) * 10 ^ length ds + number ds
 
--- a number with its sign
 abbrev pub signed : Bool → ℕ → ℤ
 signed negative n = if negative then neg_ℤ (pos n) else pos n
 
--- one digit or more, however many zeros lead them, with a `-` in front or nothing; the value fits 64 bits
+-- one or more digits, with any number of leading zeros, and a `-` in front or nothing; the value fits 64 bits
 pub record SpellsSeconds (text : Text) (seconds : ℤ) : Type 0 where
   pub negative : Bool
   pub digits : Text
@@ -31,7 +30,7 @@ pub record SpellsSeconds (text : Text) (seconds : ℤ) : Type 0 where
   pub value : seconds ≡ signed negative (number digits)
   pub fits : FitsSigned w64 seconds
 
--- a `-` or a `+`, two digits of hours and two digits of minutes, whatever they are
+-- a `-` or a `+`, any two digits of hours and any two digits of minutes
 pub record SpellsOffset (text : Text) (offset : ℤ) : Type 0 where
   pub negative : Bool
   pub hours : Text
@@ -41,7 +40,7 @@ pub record SpellsOffset (text : Text) (offset : ℤ) : Type 0 where
   pub are_minutes : AreDigits minutes × (length minutes ≡ 2)
   pub value : offset ≡ signed negative ((number hours * 60 + number minutes) * 60)
 
--- seconds, one blank and an offset
+-- seconds, one space and an offset
 pub record Spells (text : Text) (time : Time) : Type 0 where
   pub front : Text
   pub back : Text
@@ -49,22 +48,22 @@ pub record Spells (text : Text) (time : Time) : Type 0 where
   pub seconds : SpellsSeconds front time.seconds
   pub offset : SpellsOffset back time.offset
 
--- what reading a text gives: the time that it spells, and None if it spells none
+-- parsing a text gives the time that it spells, or None if it spells none
 abbrev pub Reads : Text → Option Time → Type 0
 Reads text read = MatchOption read ((time : Time) → ¬ Spells text time) (Spells text)
 
--- zero in both fields: the beginning of 1970, by a clock set to UTC
+-- zero in both fields: the beginning of 1970, on a clock set to UTC
 abbrev pub epoch : Time
 epoch = record { seconds = pos 0; offset = pos 0 }
 
--- the time of a signature whose time text is this one: the time that it spells, and the epoch if it spells none
+-- the time of a signature: the one that its text spells, or the epoch if that spells none
 abbrev pub IsTimeOf : Text → Time → Type 0
 IsTimeOf text time = Spells text time ⊎ (((other : Time) → ¬ Spells text other) × (time ≡ epoch))
 
--- the seconds decide, and if they are equal the offsets
+-- the seconds decide, and the offsets if the seconds are equal
 abbrev pub IsEarlier : Time → Time → Type 0
 IsEarlier a b = (a.seconds <ℤ b.seconds) ⊎ ((a.seconds ≡ b.seconds) × (a.offset <ℤ b.offset))
 
--- the same as an answer of `cmp`
+-- this order as the result of `cmp`
 abbrev pub time_cmp : Time → Time → Ordering
 time_cmp a b = ordering_then (int_cmp a.seconds b.seconds) (int_cmp a.offset b.offset)

@@ -1,33 +1,30 @@
-//! Who signed a commit, and when.
+//! The author or committer of a commit: a name, an email and a time.
 ghost use Rattle.mailmap_signatures.specs.Times.{IsTimeOf, Reads};
-
-mod derived;
 
 use crate::date::Time;
 
-/// The author or committer of a commit, as its three texts are in the commit.
+/// The author or committer of a commit, with its three texts as the commit has them.
 ///
-/// It is made by naming its three fields: cutting them out of the line of a commit is left to the caller. Two are equal
-/// if all three texts are, so two spellings of one time are different.
+/// It is made from its fields; callers split the commit's line themselves. Signatures are equal if all three texts are,
+/// so two spellings of the same time differ.
 #[derive(Clone, Copy, PartialEq, Eq, Debug)]
 pub struct SignatureRef<'a> {
-    /// The name, as it was recorded.
+    /// The name, as recorded.
     pub name: &'a [u8],
-    /// The email, as it was recorded, without its brackets.
+    /// The email, as recorded, without its brackets.
     pub email: &'a [u8],
-    /// When it was signed: seconds since the epoch, a blank and the offset to UTC, as in `1711398853 +0800`.
+    /// The time: seconds since the epoch, a space and the offset to UTC, as in `1711398853 +0800`.
     pub time: &'a str,
 }
 
 impl SignatureRef<'_> {
-    /// Reads the time, as [`Time::read`] does: `None` if the text is not as git writes it.
+    /// Parses the time as [`Time::read`] does: `None` if the text isn't in git's format.
     pub fn time(&self) -> Option<Time>
         ensures { Reads self.now.time.now result }
     {
         Time::read(self.time)
     }
 
-    // The time, and zero in both fields if the text can't be read.
     pub(crate) fn time_or_default(&self) -> Time
         ensures { IsTimeOf self.now.time.now result }
     {
@@ -35,15 +32,15 @@ impl SignatureRef<'_> {
     }
 }
 
-/// The author or committer of a commit, with texts of its own, so that it may outlive the commit and the mailmap.
+/// The author or committer of a commit. It owns its texts, so it can outlive the commit and the mailmap.
 ///
-/// Two are equal if the bytes of both texts and the times are.
+/// Signatures are equal if the bytes of both texts and the times are.
 #[derive(PartialEq, Eq, Debug, Drop)]
 pub struct Signature {
-    /// The name.
+    /// The name, as bytes that need not be UTF-8.
     pub name: Vec<u8>,
     /// The email, without its brackets.
     pub email: Vec<u8>,
-    /// When it was signed.
+    /// The time of the signature.
     pub time: Time,
 }

@@ -1,10 +1,8 @@
-//! Signatures whose texts are lent if nothing was mapped, and owned if something was.
+//! Signatures that own only the texts that were mapped, and borrow the others.
 ghost use Rattle.std.specs.Prelude.{◌≡◌, ◌⊎◌, IfOk, OnErr};
 ghost use Rattle.std.specs.Cow.{cow_slice_items, IsOwnedSlice, IsBorrowedSlice};
 ghost use Rattle.mailmap_signatures.specs.SignatureFields.{owned_fields, cow_fields, empty_fields, BorrowsBoth};
 ghost use Rattle.mailmap_signatures.specs.SignatureFields.{IsTakenFrom, IsHeldAs};
-
-mod derived;
 
 use crate::actor;
 use crate::actor::SignatureRef;
@@ -12,18 +10,18 @@ use crate::date::Time;
 use std::alloc::{AllocError, Global};
 use std::borrow::CowSlice;
 
-/// A signature like [`actor::Signature`], but each text is a copy only if it has to be: a mapped one is owned, one
-/// that is kept as it was is borrowed from the signature that was looked up.
+/// A signature like [`actor::Signature`] that copies only what changed: a mapped text is owned, and a text that stayed
+/// as it was is borrowed from the signature that was looked up.
 ///
-/// Signatures are ordered by name, email and time. Order, equality and hash look at the bytes of the texts, whether
-/// they are owned or borrowed. The default has two empty texts, both borrowed, and the default time.
+/// Signatures are ordered by name, email and time. Comparisons and hashes depend on the bytes of the texts, owned or
+/// borrowed. The default has two empty borrowed texts and the default time.
 #[derive(PartialEq, Eq, PartialOrd, Ord, Hash, Debug, Drop)]
 pub struct Signature<'a> {
-    /// The name, mapped or kept.
+    /// The name, mapped or unchanged.
     pub name: CowSlice<'a, u8>,
-    /// The email, mapped or kept, without its brackets.
+    /// The email, mapped or unchanged, without its brackets.
     pub email: CowSlice<'a, u8>,
-    /// When it was signed.
+    /// The time of the signature.
     pub time: Time,
 }
 
@@ -39,7 +37,7 @@ impl Default for Signature<'_> {
     }
 }
 
-/// Takes the texts as they are, and reads the time: the default time if it can't be read.
+/// Borrows the texts, and parses the time. A time that can't be parsed becomes the default time.
 impl<'a> From<SignatureRef<'a>> for Signature<'a> {
     ghost from_gives = { IsTakenFrom };
 
@@ -53,9 +51,9 @@ impl<'a> From<SignatureRef<'a>> for Signature<'a> {
 }
 
 impl<'a> Signature<'a> {
-    /// A signature that is equal to this one, with each text owned or borrowed as it is here.
+    /// A copy of the signature, in which a text is owned if it is owned here.
     ///
-    /// Memory runs out only for an owned text: a signature with two borrowed ones is always copied.
+    /// Only owned texts need memory, so copying a signature with two borrowed texts always succeeds.
     pub fn try_clone(&self, alloc: Global) -> Result<Signature<'a>, AllocError>
         ensures equal { IfOk result (λ copy. cow_fields copy ≡ cow_fields self.now) }
         ensures name { IfOk result (λ copy. IsHeldAs self.now.name copy.name) }
@@ -71,10 +69,10 @@ impl<'a> Signature<'a> {
 }
 
 impl actor::Signature {
-    /// The same signature, with texts of its own.
+    /// Makes a signature that owns its texts.
     ///
-    /// Memory runs out only for a borrowed text, so this can't fail if both are owned. The signature is dropped if it
-    /// does.
+    /// Only borrowed texts need memory, so this can't fail if both texts are owned. If it fails, the signature is
+    /// dropped.
     pub fn from_cow(alloc: Global, s: Signature<'_>) -> Result<actor::Signature, AllocError>
         ensures same { IfOk result (λ owned. owned_fields owned ≡ cow_fields s.entry) }
         ensures out_of_memory { OnErr result (IsBorrowedSlice s.entry.name ⊎ IsBorrowedSlice s.entry.email) }
@@ -87,7 +85,6 @@ impl actor::Signature {
     }
 }
 
-// A copy of an owned text, and a borrowed text as it is.
 fn clone_text<'a>(alloc: Global, text: &CowSlice<'a, u8>) -> Result<CowSlice<'a, u8>, AllocError>
     ensures equal { IfOk result (λ copy. cow_slice_items copy ≡ cow_slice_items text.now) }
     ensures held { IfOk result (IsHeldAs text.now) }

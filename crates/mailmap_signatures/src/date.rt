@@ -4,26 +4,25 @@ ghost use Rattle.std.specs.Option.{SomeIff};
 ghost use Rattle.std.specs.Char.{IsAsciiDigit};
 ghost use Rattle.mailmap_signatures.specs.Times.{AreDigits, number, SpellsSeconds, SpellsOffset, Reads};
 
-mod order;
-/// A moment, and how far from UTC the clock was set that showed it.
+/// A point in time, and the offset to UTC of the clock that it was read from.
 ///
-/// Times are ordered by `seconds`, and if these are equal by `offset`. The default is zero in both.
+/// Times are ordered by `seconds`, then by `offset`. The default is zero in both.
 #[derive(Clone, Copy, Default, Debug, PartialEq, Eq, PartialOrd, Ord, Hash)]
 pub struct Time {
-    /// The seconds since the beginning of 1970 in UTC, below zero before it.
+    /// Seconds since the beginning of 1970 in UTC, negative before it.
     pub seconds: i64,
-    /// The seconds by which the clock was ahead of UTC, below zero if it was behind. It does not move the moment.
+    /// The seconds that the clock was ahead of UTC, negative if it was behind. This doesn't affect `seconds`.
     pub offset: i32,
 }
 
 impl Time {
-    /// Reads the time of a commit as git stores it, as in `1711398853 +0800`: the seconds, one blank, and the offset as
-    /// a sign, two digits of hours and two of minutes. That one is (1711398853, 28800).
+    /// Parses a time as git stores it: the seconds, one space, and the offset as a sign, two digits of hours and two of
+    /// minutes. `1711398853 +0800` is (1711398853, 28800).
     ///
-    /// The seconds are one decimal digit or more, with leading zeros if any and a `-` in front if they are below
-    /// zero, and have to fit an `i64`. Hours and minutes may be any two digits, so that the offset is between -362340
-    /// and 362340. Any other text is `None`, also one with white space round it: this is the form that git itself
-    /// writes, and of the many further forms of dates that it understands none is read.
+    /// The seconds are one or more decimal digits, possibly with leading zeros, with a `-` in front if they are
+    /// negative. They must fit an `i64`. Hours and minutes can be any two digits, so the offset is between -362340 and
+    /// 362340. Any other text is `None`, even one with white space around it. Git understands many more formats of
+    /// dates, but writes only this one.
     pub fn read(text: &str) -> Option<Time>
         ensures { Reads text.now result }
     {
@@ -35,7 +34,7 @@ impl Time {
     }
 }
 
-/// Reads a whole number as `parse` does, but takes no `+` in front.
+/// Parses a whole number as `parse` does, but doesn't accept a `+` in front.
 fn read_seconds(text: &str) -> Option<i64>
     ensures { MatchOption result ((seconds : ℤ) → ¬ SpellsSeconds text.now seconds) (SpellsSeconds text.now) }
 {
@@ -45,7 +44,7 @@ fn read_seconds(text: &str) -> Option<i64>
     text.parse().ok()
 }
 
-/// Reads a sign, hours and minutes, as in `-0730`, as a number of seconds.
+/// Parses a sign, hours and minutes, as in `-0730`, and returns seconds.
 fn read_offset(text: &str) -> Option<i32>
     ensures { MatchOption result ((offset : ℤ) → ¬ SpellsOffset text.now offset) (SpellsOffset text.now) }
 {
@@ -60,7 +59,7 @@ fn read_offset(text: &str) -> Option<i32>
     }
 }
 
-/// Reads two digits of hours and two of minutes as a number of seconds.
+/// Parses two digits of hours and two of minutes, and returns seconds.
 fn read_clock(hour_tens: u8, hour_ones: u8, minute_tens: u8, minute_ones: u8) -> Option<i32>
     ensures { SomeIff result (AreDigits (hour_tens ∷ hour_ones ∷ []) × AreDigits (minute_tens ∷ minute_ones ∷ []))
         (pos ((number (hour_tens ∷ hour_ones ∷ []) * 60 + number (minute_tens ∷ minute_ones ∷ [])) * 60)) }
@@ -68,14 +67,12 @@ fn read_clock(hour_tens: u8, hour_ones: u8, minute_tens: u8, minute_ones: u8) ->
     Some((read_pair(hour_tens, hour_ones)? * 60 + read_pair(minute_tens, minute_ones)?) * 60)
 }
 
-/// Reads two decimal digits.
 fn read_pair(tens: u8, ones: u8) -> Option<i32>
     ensures { SomeIff result (AreDigits (tens ∷ ones ∷ [])) (pos (number (tens ∷ ones ∷ []))) }
 {
     Some(read_digit(tens)? * 10 + read_digit(ones)?)
 }
 
-/// Reads one decimal digit.
 fn read_digit(byte: u8) -> Option<i32>
     ensures { SomeIff result (IsAsciiDigit byte) (pos (byte - 48)) }
 {

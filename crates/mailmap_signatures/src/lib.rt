@@ -1,4 +1,4 @@
-//! The signatures of commits and their times. The crate `gix_mailmap` passes on what users need of this.
+//! Signatures of commits, and their times. Users need only `gix_mailmap`, which re-exports the public parts.
 #![tactic(auto)]
 
 pub mod actor;

@@ -1,10 +1,10 @@
--- What a merge of an iterator's entries makes of a snapshot.
+-- The snapshot that merging an iterator's entries gives.
 use Rattle.std.proofs.Common.{◌≡◌, ◌≢◌, List, [], ◌∷◌, ◌++◌, map, Result, Ok, Err, refl, sym, ap, ◌∙◌}
 use Rattle.std.specs.Iterator.{Yields, YieldsFirstBy}
 use Rattle.std.specs.Result.{OnErr, OnOk}
 use Rattle.std.proofs.lemmas.List.Elements.{filter-append}
 use Rattle.mailmap_entries.specs.Entries.{Mapping}
-use Rattle.mailmap_histories.specs.Histories.{accepted, is_accepted}
+use Rattle.mailmap_entries.specs.Semantics.{accepted, is_accepted}
 
 -- ---- an iterator over a list
 

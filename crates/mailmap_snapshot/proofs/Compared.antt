@@ -1,4 +1,4 @@
--- Two iterators whose items are compared, and entries that are compared or hashed by what they say.
+-- Comparing two iterators item by item, and comparing and hashing entries by their texts.
 use Rattle.std.proofs.Common.{◌≡◌, ◌&&◌, Bool, true, false, List, [], ◌∷◌, Option, Some, None, IfSome, refl, sym, ap, ap₂, subst, ◌∙◌}
 use Rattle.std.specs.Hash as fed
 use Rattle.std.specs.Iterator.{YieldsThen, AlwaysYields, ComparesItemsByEq}
@@ -10,7 +10,7 @@ use denote.Ref.{Bor}
 use lib.Pointwise.{pointwise}
 use Rattle.mailmap_entries.specs.Entries.{text_writes}
 use Rattle.mailmap_entries.specs.Folding.{Text}
-use Rattle.mailmap_histories.specs.Listings.{same_optional}
+use Rattle.mailmap_entries.specs.Listings.{same_optional}
 
 -- ---- `eq` of two iterators
 
@@ -48,14 +48,14 @@ module _ {S T A B : Type 0} (steps : S → Option A → S → Type 0) (others : 
       let tie : true ≡ R x' y' = sym z.0 ∙ agree x y ∙ ap₂ R m.0 n.0 in
       along cs bs o p xs ys a.1.0 u b.1.0 w m.1 n.1 (a.0, a.1.2, a.2) (b.0, b.1.2, b.2) z.1 h ∙ ap (λ c. c && pointwise R xs ys) tie
 
--- `eq` of two iterators is that of their lists, index by index
+-- `eq` of two iterators gives what `eq` of their lists gives
 pub eq_from_yields_List : {S U T A B : Type 0} {steps : S → Option A → S → Type 0} {others : T → Option A → T → Type 0} {v : A → B} {s : S} {eq : A → A → Bool} {xs ys : List B} (becomes : U → T → Type 0) (other : U) (R : B → B → Bool) (r : Bool)
     → ComparesItemsByEq steps becomes others s other eq r
     → YieldsList steps v s xs → ((it : T) → becomes other it → YieldsList others v it ys) → ((x y : A) → eq x y ≡ R (v x) (v y)) → r ≡ pointwise R xs ys
 eq_from_yields_List {steps = steps} {others = others} {v = v} {s = s} {eq = eq} {xs = xs} {ys = ys} becomes other R r d e f agree =
     along steps others v eq R agree r d.1 d.2 d.3 d.4 xs ys s d.5 d.0 d.6 e.runs (f d.0 d.7).runs d.8 d.9 d.10 d.11
 
--- ---- fields that lie in memory, and what they say
+-- ---- fields in memory, and their texts
 
 pub same_fields : (o p : Option (Bor Text)) → option_eq (λ a b. pointwise nat_eq a.now b.now) o p ≡ same_optional (option_copied o) (option_copied p)
 same_fields None None = refl

@@ -1,4 +1,4 @@
--- How many emails a listing has, and how many names one of them.
+-- The number of emails in a listing, and the number of names for one email.
 use Rattle.std.proofs.Common.{◌≡◌, ◌≢◌, ℕ, zero, suc, ◌+◌, Bool, true, false, ◌&&◌, ◌||◌, if◌then◌else◌, cond, is_some, List, [], ◌∷◌, ◌++◌, map, length, None, Some, Ordering, Less, Equal, Greater, is_eq, count_by, refl, sym, subst, ap, ap₂, ◌∙◌, arith}
 use Rattle.std.specs.Cmp.{tied_itself}
 use Rattle.std.specs.Cmp.Lexicographic.{nat_list_cmp_total}
@@ -11,12 +11,12 @@ use Rattle.std.proofs.lemmas.Map.Lookups.{exact_bytes}
 use Rattle.mailmap_entries.specs.Entries.{Mapping}
 use Rattle.mailmap_entries.specs.Folding.{Text, folded, text_cmp}
 use Rattle.mailmap_tables.specs.Groups.{EmailGroup, IsGroup, email_key, name_row, own_rows, rows, listing}
-use Rattle.mailmap_histories.specs.Histories.{mapping_with}
+use Rattle.mailmap_entries.specs.Semantics.{mapping_with}
 use Rattle.mailmap_snapshot.specs.Signatures.{has_email, email_count, name_count}
-use Rattle.mailmap_histories.proofs.Parts.{all_weaker, all_map}
+use Rattle.mailmap_entries.proofs.Parts.{all_weaker, all_map}
 use Rattle.mailmap_tables.proofs.Grouped.{all_rows, rows_spelled, listing_all}
 
--- ---- what all or none of a list pass
+-- ---- predicates that hold for all elements, or for none
 
 none_passes : {X : Type 0} (p : X → Bool) (xs : List X) → AllByRecursion (λ x. p x ≡ false) xs → list_any p xs ≡ false
 none_passes p [] a = refl
@@ -35,7 +35,7 @@ all_slice P [] i x a read = absurd (cc)
 all_slice P (y ∷ xs) zero x a read = let is : y ≡ x = cc in subst P is a.0
 all_slice P (y ∷ xs) (suc i) x a read = all_slice P xs i x a.1 read
 
--- texts that differ do not tie
+-- different texts don't compare as equal
 pub apart : (a b : Text) → (b ≡ a → ⊥) → eq_by_cmp text_cmp a b ≡ false
 apart a b other = by (text_cmp a b) refl
   where
@@ -46,7 +46,7 @@ apart a b other = by (text_cmp a b) refl
 
 -- ---- emails
 
--- entries of one email before entries of others add one
+-- the entries of one more email add one to the count
 rows_add : (k : Text) (r : Mapping) (rs rest : List Mapping) → AllByRecursion (λ x. folded x.old_email ≡ k) (r ∷ rs) → AllByRecursion (λ x. eq_by_cmp text_cmp k (folded x.old_email) ≡ false) rest → email_count (r ∷ rs ++ rest) ≡ email_count rest + 1
 rows_add k r [] rest same other =
     let none : list_any (has_email r.old_email) rest ≡ false = ap (λ t. list_any (λ d. eq_by_cmp text_cmp t (folded d.old_email)) rest) same.0 ∙ none_passes _ rest other in
@@ -59,7 +59,7 @@ some_add : (k : Text) (rs rest : List Mapping) → rs ≢ [] → AllByRecursion 
 some_add k [] rest says same other = absurd (says refl)
 some_add k (r ∷ rs) rest says same other = rows_add k r rs rest same other
 
--- the entries of emails that do not tie with k
+-- the entries for emails other than k
 other_rows : (P : EmailGroup → Type 0) (k : Text) → ((g : EmailGroup) → P g → eq_by_cmp text_cmp k (email_key g) ≡ false) → (gs : List EmailGroup) → AllByRecursion P gs → AllByRecursion (λ x. eq_by_cmp text_cmp k (folded x.old_email) ≡ false) (listing gs)
 other_rows P k f gs a = listing_all _ gs (all_weaker gs (λ g p. all_weaker (rows g) (λ r spelled. ap (λ t. eq_by_cmp text_cmp k (folded t)) spelled ∙ f g p) (rows_spelled g)) a)
 
@@ -88,7 +88,7 @@ rows_counted k g same =
     own true = refl
     own false = refl
 
--- no entry of an email that does not tie with k counts
+-- entries for other emails than k are not counted
 none_of_others : (k : Text) (rs : List Mapping) → AllByRecursion (λ x. eq_by_cmp text_cmp k (folded x.old_email) ≡ false) rs → count_by (is_name_of k) rs ≡ 0
 none_of_others k rs other = none_counted (is_name_of k) rs (all_weaker rs (λ x apart. ap (λ b. is_some x.old_name && b) apart ∙ never (is_some x.old_name)) other)
   where

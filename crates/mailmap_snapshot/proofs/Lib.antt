@@ -4,3 +4,13 @@ pub mod Compared
 pub mod Left
 pub mod Sources
 pub mod Built
+pub mod WhiteEnds
+pub mod WritableLines
+pub mod WritableValues
+pub mod WrittenExamples
+pub mod WrittenLine
+pub mod WrittenText
+pub mod Contacts
+pub mod Dividers
+pub mod ContactLines
+pub mod Streams

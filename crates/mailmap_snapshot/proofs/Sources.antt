@@ -1,4 +1,4 @@
--- What merging an iterator says if it is known which entries it gives, and the history of sources step by step.
+-- Merging an iterator with known entries, and merging several sources step by step.
 use Rattle.std.proofs.Common.{◌≡◌, ◌≢◌, ◌+◌, ◌<◌, ℕ, Bool, true, false, cond, Option, Some, List, [], ◌∷◌, ◌++◌, map, take, drop, length, get_or, Result, Ok, Err, OnOk, OnErr, is_ok, set, slice_get, Bor, ⊎_elim, append-nil, length-set, length-take-le, refl, sym, ap, ap₂, subst, ◌∙◌, arith, append_assoc, take-append-drop, take_all, ◌≤◌}
 use Rattle.std.specs.List.{AllByRecursion, flat_map}
 use Rattle.std.specs.Iterator.{Drains, Yields}
@@ -10,28 +10,28 @@ use Rattle.std.proofs.lemmas.List.{take_more, take_more_set, take-map, map-id, m
 use Rattle.std.proofs.lemmas.Option.{slice_get_read, get_or_from_slice_get}
 use Rattle.std.proofs.lemmas.List.Elements.{filter-append}
 use Rattle.mailmap_entries.specs.Entries.{Mapping, mapping_of}
-use Rattle.mailmap_histories.specs.Building.{IsMerged}
-use Rattle.mailmap_histories.proofs.Building.{is_merged}
-use Rattle.mailmap_histories.specs.Histories.{IsNormal, accepted, is_accepted}
+use Rattle.mailmap_entries.specs.Building.{IsMerged}
+use Rattle.mailmap_entries.proofs.Building.{is_merged}
+use Rattle.mailmap_entries.specs.Semantics.{IsNormal, accepted, is_accepted}
 use Rattle.mailmap_entries.specs.Folding.{Text}
-use Rattle.mailmap_grammar.specs.Lines.{good}
+use Rattle.mailmap_grammar.specs.Lines.{mappings_of}
 use Rattle.mailmap_snapshot.specs.Sources.{history, said_by}
 use Rattle.mailmap_entries.specs.declared.entry.Entry.{Entry}
 use Rattle.mailmap_snapshot.specs.declared.snapshot.sources.Source.{Source}
 
--- the entries that an iterator gives say this list
+-- the entries that an iterator yields say this list
 pub record Gives {S : Type 0} (steps : S → Option Entry → S → Type 0) (s : S) (said : List Mapping) : Type 0 where
   pub whole : (xs : List Entry) → Drains steps s xs → map mapping_of xs ≡ said
   pub front : (xs : List Entry) (t : S) → Yields steps s xs t → map mapping_of xs ≡ take (length xs) said
 
--- an iterator whose list is read by what its entries say
+-- an iterator whose contract gives what its entries say
 pub gives_said : {S : Type 0} {steps : S → Option Entry → S → Type 0} {s : S} {said : List Mapping} → YieldsList steps mapping_of s said → Gives steps s said
 gives_said e = record {
   whole = λ xs d. items_from_drains xs (d.1.0, d.1.1, λ w. (d.0, d.1.2)) e;
   front = λ xs t y. YieldsList-so_far e xs t y;
 }
 
--- an iterator that gives just these entries
+-- an iterator whose contract gives its entries
 pub gives_entries : {S : Type 0} {steps : S → Option Entry → S → Type 0} {s : S} {es : List Entry} → YieldsList steps (λ x. x) s es → Gives steps s (map mapping_of es)
 gives_entries {es = es} e = record {
   whole = λ xs d. ap (map mapping_of) (sym (map-id xs) ∙ items_from_drains xs (d.1.0, d.1.1, λ w. (d.0, d.1.2)) e);
@@ -42,7 +42,7 @@ front_none : (a b : List Mapping) → a ++ b ≡ [] → a ≡ []
 front_none [] b e = refl
 front_none (x ∷ a) b e = cc
 
--- if nothing of a list is accepted, nothing of its front is
+-- if nothing in a list is accepted, nothing in a prefix of it is
 front_ignored : (n : ℕ) (l : List Mapping) → accepted l ≡ [] → accepted (take n l) ≡ []
 front_ignored n l none = front_none _ _ (sym (filter-append is_accepted (take n l) (drop n l)) ∙ ap accepted (take-append-drop n l) ∙ none)
 
@@ -59,7 +59,7 @@ module _ {S E : Type 0} {steps : S → Option Entry → S → Type 0} {s : S} {s
   out_of_memory_some (Ok u) m = tt
   out_of_memory_some (Err e) m = λ none. m.3 (ap accepted (gives.front m.0 m.1 m.2) ∙ front_ignored (length m.0) said none)
 
--- one more source, and whether it was made
+-- one more source, and its mark
 history-push : (ss : List Source) (ms : List Bool) (s : Source) (m : Bool) → length ms ≡ length ss → history (ss ++ s ∷ []) (ms ++ m ∷ []) ≡ history ss ms ++ cond m (said_by s) []
 unfolding history
 history-push [] [] s m e = append-nil (cond m (said_by s) [])
@@ -69,22 +69,22 @@ history-push (x ∷ ss) (n ∷ ms) s m e =
     ap (λ l. cond n (said_by x) [] ++ l) (history-push ss ms s m (omega (arith, e)))
     ∙ sym (append_assoc (cond n (said_by x) []) (history ss ms) (cond m (said_by s) []))
 
--- no source says nothing
+-- before the first source
 pub normal_start : (n : List Mapping) → IsNormal n n → IsNormal (n ++ history [] []) n
 unfolding history
 normal_start n d = subst (λ l. IsNormal l n) (sym (append-nil n)) d
 
--- a merge of one more source is in the history if it was made, and changed nothing else
+-- the entries of one more source are merged if it is marked as made, and otherwise nothing changes
 merged_next : (h n m : List Mapping) (s : Source) (r : Result (Unit {0}) AllocError) → IsNormal h n → OnOk r (IsMerged n (said_by s) m) → OnErr r (m ≡ n) → IsNormal (h ++ cond (is_ok r) (said_by s) []) m
 merged_next h n m s (Ok u) d ok err = ok.history h d
 merged_next h n m s (Err e) d ok err = subst (λ l. IsNormal l m) (sym (append-nil h)) (subst (IsNormal h) (sym err) d)
 
--- no merge of a source without an accepted entry runs out of memory
+-- merging a source without an accepted entry doesn't run out of memory
 unchanged_made : (s : Source) (r : Result (Unit {0}) AllocError) → OnErr r (accepted (said_by s) ≢ []) → accepted (said_by s) ≡ [] → is_ok r ≡ true
 unchanged_made s (Ok u) out_of_memory none = refl
 unchanged_made s (Err e) out_of_memory none = absurd (out_of_memory none)
 
--- the marks up to an index say of each source without an accepted entry that it was made
+-- before an index, every source without an accepted entry is marked as made
 abbrev pub MarksUnchanged : List Source → List Bool → ℕ → Type 0
 MarksUnchanged ss ms i = (k : ℕ) (s : Source) → k < i → slice_get ss k ≡ Some s → accepted (said_by s) ≡ [] → slice_get ms k ≡ Some true
 
@@ -113,14 +113,14 @@ module _ (ss : List Source) (ms : List Bool) (i : ℕ) (s : Source) (r : Result 
       (sym (get_or-set_other ms i k b true other ∙ get_or_from_slice_get ms k true true (before k x low at none))))
       (cases_eq k i)
 
--- the merges of all sources
+-- all sources merged
 pub sources_merged : (ss : List Source) (ms : List Bool) (i : ℕ) (old new : List Mapping) → length ss ≤ i → length ms ≡ length ss → IsNormal old old
     → IsNormal (old ++ history (take i ss) (take i ms)) new → IsMerged old (history ss ms) new
 sources_merged ss ms i old new all same own d =
     let whole : history (take i ss) (take i ms) ≡ history ss ms = ap₂ history (take_all i ss all) (take_all i ms (omega (arith, same))) in
     is_merged old (history ss ms) new own (subst (λ l. IsNormal (old ++ l) new) whole d)
 
--- if none is marked as made, nothing is said
+-- if no source is marked as made, nothing is merged
 pub none_said : (ss : List Source) (ms : List Bool) → AllByRecursion (λ m. m ≡ false) ms → history ss ms ≡ []
 unfolding history
 none_said [] ms none = refl
@@ -129,10 +129,9 @@ none_said (s ∷ ss) (m ∷ ms) none = ap (λ b. cond b (said_by s) [] ++ histor
 
 -- ---- buffers
 
--- what one more buffer says
 pub buffers_more : (bufs : List (Bor Text)) (i : ℕ) (d : Bor Text) → i < length bufs
-    → flat_map good (map (λ x. x.now) (take (i + 1) bufs)) ≡ flat_map good (map (λ x. x.now) (take i bufs)) ++ good (get_or bufs i d).now
+    → flat_map mappings_of (map (λ x. x.now) (take (i + 1) bufs)) ≡ flat_map mappings_of (map (λ x. x.now) (take i bufs)) ++ mappings_of (get_or bufs i d).now
 buffers_more bufs i d within =
-    ap (λ l. flat_map good (map (λ x. x.now) l)) (take_more bufs i d within)
-    ∙ ap (flat_map good) (map_push (λ x. x.now) (take i bufs) (get_or bufs i d))
-    ∙ sym (flat_map_more good [] (map (λ x. x.now) (take i bufs)) (get_or bufs i d).now)
+    ap (λ l. flat_map mappings_of (map (λ x. x.now) l)) (take_more bufs i d within)
+    ∙ ap (flat_map mappings_of) (map_push (λ x. x.now) (take i bufs) (get_or bufs i d))
+    ∙ sym (flat_map_more mappings_of [] (map (λ x. x.now) (take i bufs)) (get_or bufs i d).now)

@@ -1,4 +1,4 @@
--- Signatures as they are answered: three fields, of which a mailmap may change two.
+-- Resolved signatures: three fields, of which a mailmap can change two.
 use Rattle.std.specs.Prelude.{◌≡◌, List, Option, unwrap_or, MatchOption}
 use Rattle.std.specs.Cow.{IsOwnedSlice, IsBorrowedSlice}
 use Rattle.mailmap_entries.specs.Entries.{Mapping}
@@ -6,27 +6,27 @@ use Rattle.mailmap_signatures.specs.SignatureFields.{SignatureFields}
 use Rattle.mailmap_signatures.specs.Times.{IsTimeOf}
 use Rattle.mailmap_signatures.specs.declared.actor.SignatureRef.{SignatureRef}
 use Rattle.mailmap_signatures.specs.declared.cow.Signature.{Signature}
-use Rattle.mailmap_histories.specs.Histories.{Fields, fields_for, scan}
+use Rattle.mailmap_entries.specs.Semantics.{Fields, fields_for, answer_of}
 
--- what a history gives in place of a signature's name and email, if it gives either
+-- the fields that replace a signature's name and email, if there are any
 abbrev pub mapped : List Mapping → SignatureRef → Option Fields
-mapped h signature = scan h signature.name.now signature.email.now
+mapped h signature = answer_of h signature.name.now signature.email.now
 
--- a signature with these fields, if there are any, in place of its own, and its time
+-- a signature with the fields that are there in place of its own, and its time
 pub record IsEnriched (new : Fields) (signature : SignatureRef) (answer : SignatureFields) : Type 0 where
   pub name : answer.name ≡ unwrap_or new.name signature.name.now
   pub email : answer.email ≡ unwrap_or new.email signature.email.now
   pub time : IsTimeOf signature.time.now answer.time
 
--- a text is owned if there is a field for it, and else borrowed
+-- texts for which there is a field are owned, the others borrowed
 pub record OwnsJust (new : Fields) (answer : Signature) : Type 0 where
   pub name : MatchOption new.name (IsBorrowedSlice answer.name) (λ _. IsOwnedSlice answer.name)
   pub email : MatchOption new.email (IsBorrowedSlice answer.email) (λ _. IsOwnedSlice answer.email)
 
--- the answer of a history to a signature: what it maps is replaced, the rest kept, and the time read
+-- the answer of mappings to a signature: mapped fields are replaced, the others stay, and the time is parsed
 abbrev pub IsResolved : List Mapping → SignatureRef → SignatureFields → Type 0
 IsResolved h signature answer = IsEnriched (fields_for h signature.name.now signature.email.now) signature answer
 
--- just what the history maps is owned
+-- exactly the mapped texts are owned
 abbrev pub OwnsMapped : List Mapping → SignatureRef → Signature → Type 0
 OwnsMapped h signature answer = OwnsJust (fields_for h signature.name.now signature.email.now) answer

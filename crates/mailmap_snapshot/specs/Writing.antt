@@ -1,4 +1,4 @@
--- What the writing of a snapshot answers.
+-- Results of writing a snapshot.
 use Rattle.std.specs.Prelude.{◌≡◌, ℕ, List, Some, take, slice_get}
 use Rattle.std.specs.List.{All, flat_map}
 use Rattle.mailmap_snapshot.specs.declared.snapshot.text.WriteError.{WriteError}
@@ -6,21 +6,21 @@ use Rattle.mailmap_snapshot.specs.declared.snapshot.text.WriteError.TheVariants.
 use Rattle.mailmap_grammar.specs.CanonicalText.{IsWritable, text}
 use Rattle.mailmap_entries.specs.Entries.{Mapping}
 use Rattle.mailmap_entries.specs.Folding.{Text}
-use Rattle.mailmap_histories.specs.Histories.{IsNormal}
-use Rattle.mailmap_grammar.specs.Lines.{good}
+use Rattle.mailmap_entries.specs.Semantics.{IsNormal}
+use Rattle.mailmap_grammar.specs.Lines.{mappings_of}
 
--- a line can hold each entry before this index, and not the one at it
+-- lines can hold all entries before this index, but not the one at it
 pub record IsFirstUnwritable (es : List Mapping) (index : ℕ) : Type 0 where
   pub before : All IsWritable (take index es)
   pub entry : Mapping
   pub here : slice_get es index ≡ Some entry
   pub unwritable : ¬ IsWritable entry
 
--- why these entries aren't written: the first that no line can hold, or out of memory if a line can hold each
+-- why entries weren't written: the first that no line can hold, or out of memory if lines can hold all
 abbrev pub IsUnwrittenBy : List Mapping → WriteError → Type 0
 IsUnwrittenBy es (Unwritable index) = IsFirstUnwritable es index
 IsUnwrittenBy es (Memory error) = All IsWritable es
 
--- the bytes are the text of the normal list of what the buffers say, one buffer after another
+-- the bytes are the text of the normal list of what the buffers say, one after another
 abbrev pub IsCompacted : List Text → Text → Type 0
-IsCompacted buffers bytes = (n : List Mapping) × IsNormal (flat_map good buffers) n × (bytes ≡ text n)
+IsCompacted buffers bytes = (n : List Mapping) × IsNormal (flat_map mappings_of buffers) n × (bytes ≡ text n)

@@ -1,6 +1,7 @@
-//! Snapshots of mailmaps. The crate `gix_mailmap` passes them on.
+//! Snapshots of mailmaps, and their answers to contacts. `gix_mailmap` re-exports both.
 #![tactic(auto)]
 
+pub mod check;
 pub mod laws;
 pub mod snapshot;
 

@@ -1,4 +1,4 @@
-//! What a history of entries maps, ready to be looked up, and the names and emails that it gives to signatures.
+//! Mailmaps in memory, ready for lookups.
 ghost use Rattle.std.specs.Prelude.{◌≡◌, []};
 
 mod build;
@@ -18,11 +18,11 @@ use std::alloc::Global;
 use std::marker::Model;
 pub use text::WriteError;
 
-/// What a history of entries maps: for each old email, and for each old name of it, the name and the email that replace
-/// them. The case of ASCII letters is ignored.
+/// A mailmap in memory: for each old email, and for each old name with it, the name and the email that replace them.
+/// The case of ASCII letters is ignored.
 ///
-/// Contracts see a snapshot as the list of its entries in ascending order of their keys, as [`Snapshot::iter`] gives
-/// it. It keeps the allocator that it was made with.
+/// Contracts see a snapshot as the list of its entries in ascending order of their keys, as [`Snapshot::iter`] yields
+/// them. A snapshot keeps the allocator that it was made with.
 #[derive(Drop)]
 pub struct Snapshot {
     tables: Tables,
@@ -42,7 +42,7 @@ impl Model for Snapshot {
 }
 
 impl Snapshot {
-    /// A snapshot without an entry. It takes no memory.
+    /// An empty snapshot. Allocates nothing.
     pub fn empty(alloc: Global) -> Snapshot
         ensures { result ≡ [] }
     {

@@ -1,5 +1,7 @@
--- A batch that is sorted by key, its emails as they are spelled first.
-use Rattle.std.proofs.Common.{◌≡◌, ◌≤◌, ◌<◌, ◌+◌, ℕ, zero, suc, Bool, true, false, cond, List, [], ◌∷◌, ◌++◌, map, filter, length, get_or, All, Contains, Option, Some, None, option_map, is_some, unwrap_or, is_eq, refl, sym, ap, ◌∙◌, arith}
+-- A batch that is sorted by key can stand for the entries as they came, if its emails have their first spellings.
+use Rattle.std.proofs.Common.{◌≡◌, ◌≤◌, ◌<◌, ◌+◌, ℕ, zero, suc, Bool, true, false, cond, List, [], ◌∷◌, ◌++◌, map}
+use Rattle.std.proofs.Common.{filter, length, get_or, All, Contains, Option, Some, None, option_map, is_some, unwrap_or}
+use Rattle.std.proofs.Common.{is_eq, refl, sym, ap, ◌∙◌, arith}
 use Rattle.std.specs.Cmp.{Equal-is, tied_itself}
 use Rattle.std.specs.Cmp.Lexicographic.{nat_list_cmp_total}
 use Rattle.std.specs.List.{AllByRecursion, enumerate_from, list_any}
@@ -13,18 +15,22 @@ use Rattle.std.proofs.lemmas.List.Sorted.{All-permutation, Contains-permutation,
 use Rattle.std.proofs.lemmas.Map.Lookups.{exact_bytes}
 use Rattle.mailmap_entries.specs.Entries.{Mapping}
 use Rattle.mailmap_entries.specs.Folding.{Text, folded, text_cmp}
-use Rattle.mailmap_histories.specs.Histories.{Key, key, key_cmp, first, is_accepted, accepted, of_key, has_key, spelling, value}
-use Rattle.mailmap_histories.proofs.Alike.{Alike, picked-append, first_parts, key_parts}
-use Rattle.mailmap_histories.proofs.Ascending.{each_key, same_any}
-use Rattle.mailmap_histories.proofs.Exists.{speller}
-use Rattle.mailmap_histories.proofs.Parts.{all_mapped, all_weaker, first_alike, first_found, is_some-option_map, list_any-map, some_again}
-use Rattle.mailmap_histories.proofs.Joined.{alike_by_keys, stripped}
-use Rattle.mailmap_histories.proofs.Keys.{keys_total, keys_exact}
-use Rattle.mailmap_histories.proofs.Normal.{known}
+use Rattle.mailmap_entries.specs.Semantics.{Key, key, key_cmp, first, is_accepted, accepted, of_key, has_key, spelling}
+use Rattle.mailmap_entries.specs.Semantics.{value}
+use Rattle.mailmap_entries.proofs.Alike.{Alike, picked-append, first_parts, key_parts}
+use Rattle.mailmap_entries.proofs.Ascending.{each_key, same_any}
+use Rattle.mailmap_entries.proofs.Exists.{speller}
+use Rattle.mailmap_entries.proofs.Parts.{all_mapped, all_weaker, first_alike, first_found, is_some-option_map}
+use Rattle.mailmap_entries.proofs.Parts.{list_any-map, some_again}
+use Rattle.mailmap_entries.proofs.Joined.{alike_by_keys, stripped}
+use Rattle.mailmap_entries.proofs.Keys.{keys_total, keys_exact}
+use Rattle.mailmap_entries.proofs.Normal.{known}
+use Rattle.mailmap_batches.proofs.Numbered.{mapped_twice}
 use Rattle.mailmap_batches.proofs.Stable.{filter-map}
 
--- tests that say the same of each
-filter_alike : {X : Type 0} (p q : X → Bool) (xs : List X) → AllByRecursion (λ x. p x ≡ q x) xs → filter p xs ≡ filter q xs
+-- predicates that agree on each element
+filter_alike : {X : Type 0} (p q : X → Bool) (xs : List X) → AllByRecursion (λ x. p x ≡ q x) xs
+    → filter p xs ≡ filter q xs
 filter_alike p q [] a = refl
 filter_alike p q (x ∷ xs) a = λ i. cond (a.0 i) (x ∷ filter_alike p q xs a.1 i) (filter_alike p q xs a.1 i)
 
@@ -32,13 +38,9 @@ map_alike : {X Y : Type 0} (f g : X → Y) (xs : List X) → AllByRecursion (λ 
 map_alike f g [] a = refl
 map_alike f g (x ∷ xs) a = λ i. a.0 i ∷ map_alike f g xs a.1 i
 
-map-map : {X Y Z : Type 0} (f : Y → Z) (g : X → Y) (xs : List X) → map f (map g xs) ≡ map (λ x. f (g x)) xs
-map-map f g [] = refl
-map-map f g (x ∷ xs) = ap (λ l. f (g x) ∷ l) (map-map f g xs)
+-- ---- the batch with the spellings of its emails
 
--- ---- the batch as its emails are spelled
-
--- the entry with its email as h spells it
+-- the entry with its email spelled as h spells it
 abbrev pub respelled : List Mapping → Mapping → Mapping
 respelled h e = record e { old_email = unwrap_or (spelling h (folded e.old_email)) [] }
 
@@ -52,14 +54,17 @@ module _ (a xs us : List Mapping) (keyed : (k : Key) → of_key xs k ≡ of_key 
   has_same : (k : Key) → has_key (accepted us) k ≡ has_key (accepted xs) k
   has_same k = known us k ∙ ap (λ l. is_some (first l)) (sym (keyed k)) ∙ sym (known xs k)
 
-  -- an email that the batch has keeps its folded form
+  -- the spelling of an email that the batch has folds to that email
   folded_kept : (k : Key) → has_key (accepted us) k ≡ true → folded (unwrap_or (spelling h k.0) []) ≡ k.0
   folded_kept k has =
-      let w = speller h k (key_parts k a xs ∙ or_right (has_key (accepted a) k) (has_key (accepted xs) k) (sym (has_same k) ∙ has)) in
+      let w = speller h k (key_parts k a xs ∙ or_right (has_key (accepted a) k) (has_key (accepted xs) k)
+      (sym (has_same k) ∙ has)) in
       ap (λ o. folded (unwrap_or o [])) w.1 ∙ w.2
 
   kept : AllByRecursion (λ e. folded (respell e).old_email ≡ folded e.old_email) (accepted us)
-  kept = each_key keys_total keys_exact key (value h) (λ k. folded (unwrap_or (spelling h k.0) []) ≡ k.0) (accepted us) folded_kept
+  kept =
+      each_key keys_total keys_exact key (value h) (λ k. folded (unwrap_or (spelling h k.0) []) ≡ k.0) (accepted us)
+      folded_kept
 
   key_kept : (e : Mapping) → folded (respell e).old_email ≡ folded e.old_email → key (respell e) ≡ key e
   key_kept e same = λ i. (same i, option_map folded e.old_name)
@@ -70,60 +75,77 @@ module _ (a xs us : List Mapping) (keyed : (k : Key) → of_key xs k ≡ of_key 
   of_key_kept : (k : Key) → of_key (map respell us) k ≡ map respell (of_key us k)
   of_key_kept k =
       let t : Mapping → Bool = λ e. eq_by_cmp key_cmp k (key e) in
-      ap (filter t) accepted_kept ∙ filter-map t respell (accepted us) ∙ ap (map respell) (filter_alike (λ e. t (respell e)) t (accepted us) (all_weaker (accepted us) (λ e same. ap (eq_by_cmp key_cmp k) (key_kept e same)) kept))
+      ap (filter t) accepted_kept ∙ filter-map t respell (accepted us)
+      ∙ ap (map respell) (filter_alike (λ e. t (respell e)) t (accepted us) (all_weaker (accepted us)
+      (λ e same. ap (eq_by_cmp key_cmp k) (key_kept e same)) kept))
 
   keyed_alike : (k : Key) → map stripped (of_key h k) ≡ map stripped (of_key (a ++ map respell us) k)
   keyed_alike k =
       let t : Mapping → Bool = λ e. eq_by_cmp key_cmp k (key e) in
-      let parts : (l : List Mapping) → map stripped (of_key (a ++ l) k) ≡ map stripped (of_key a k) ++ map stripped (of_key l k) = λ l. ap (map stripped) (picked-append t a l) ∙ map-append stripped (of_key a k) (of_key l k) in
+      let parts : (l : List Mapping) → map stripped (of_key (a ++ l) k) ≡ map stripped (of_key a k) ++ map stripped
+      (of_key l k) = λ l. ap (map stripped) (picked-append t a l) ∙ map-append stripped (of_key a k) (of_key l k) in
       parts xs
-      ∙ ap (λ l. map stripped (of_key a k) ++ l) (ap (map stripped) (keyed k) ∙ sym (ap (map stripped) (of_key_kept k) ∙ map-map stripped respell (of_key us k)))
+      ∙ ap (λ l. map stripped (of_key a k) ++ l) (ap (map stripped) (keyed k) ∙ sym (ap (map stripped) (of_key_kept k)
+      ∙ mapped_twice respell stripped (of_key us k)))
       ∙ sym (parts (map respell us))
 
-  -- the batch spells an email as the whole does
-  spelling_kept : (email : Text) → spelling (map respell us) email ≡ cond (is_some (spelling xs email)) (Some (unwrap_or (spelling h email) [])) None
+  -- the batch spells an email as the whole list does
+  spelling_kept : (email : Text) → spelling (map respell us) email ≡ cond (is_some (spelling xs email))
+      (Some (unwrap_or (spelling h email) [])) None
   spelling_kept email =
       let p : Key → Bool = λ k. eq_by_cmp text_cmp email k.0 in
       let s : Text = unwrap_or (spelling h email) [] in
       let all_s : AllByRecursion (λ e. p (key e) ≡ true → e.old_email ≡ s) (map respell (accepted us)) =
       all_mapped respell (λ e. p (key e) ≡ true → e.old_email ≡ s) (accepted us)
-      (all_weaker (accepted us) (λ e same is. ap (λ t. unwrap_or (spelling h t) []) (sym (exact_bytes email (folded (respell e).old_email) ((Equal-is (text_cmp email (folded (respell e).old_email))).0 is) ∙ same))) kept) in
-      let keys : map key (map respell (accepted us)) ≡ map key (accepted us) = map-map key respell (accepted us) ∙ map_alike (λ e. key (respell e)) key (accepted us) (all_weaker (accepted us) key_kept kept) in
+      (all_weaker (accepted us) (λ e same is. ap (λ t. unwrap_or (spelling h t) [])
+      (sym (exact_bytes email (folded (respell e).old_email)
+      ((Equal-is (text_cmp email (folded (respell e).old_email))).0 is) ∙ same))) kept) in
+      let keys : map key (map respell (accepted us)) ≡ map key (accepted us) = mapped_twice respell key (accepted us)
+      ∙ map_alike (λ e. key (respell e)) key (accepted us) (all_weaker (accepted us) key_kept kept) in
       let any : list_any (λ e. p (key e)) (map respell (accepted us)) ≡ is_some (spelling xs email) =
-      sym (list_any-map p key (map respell (accepted us))) ∙ ap (list_any p) keys ∙ same_any keys_total keys_exact p (map key (accepted us)) (map key (accepted xs)) has_same
-      ∙ list_any-map p key (accepted xs) ∙ first_found (λ e. p (key e)) (accepted xs) ∙ is_some-option_map (λ e. e.old_email) (first (filter (λ e. p (key e)) (accepted xs))) in
+      sym (list_any-map p key (map respell (accepted us))) ∙ ap (list_any p) keys ∙ same_any keys_total keys_exact p
+      (map key (accepted us)) (map key (accepted xs)) has_same
+      ∙ list_any-map p key (accepted xs) ∙ first_found (λ e. p (key e)) (accepted xs)
+      ∙ is_some-option_map (λ e. e.old_email) (first (filter (λ e. p (key e)) (accepted xs))) in
       ap (λ l. option_map (λ e. e.old_email) (first (filter (λ e. p (key e)) l))) accepted_kept
       ∙ first_alike (λ e. e.old_email) (λ e. p (key e)) s (map respell (accepted us)) all_s
       ∙ ap (λ b. cond b (Some s) None) any
 
   spelled_alike : (email : Text) → spelling h email ≡ spelling (a ++ map respell us) email
   spelled_alike email =
-      let parts : (l : List Mapping) → spelling (a ++ l) email ≡ option_or (spelling a email) (spelling l email) = λ l. first_parts (λ e. e.old_email) (λ e. eq_by_cmp text_cmp email (folded e.old_email)) a l in
-      by (spelling a email) (spelling xs email) (spelling h email) (parts xs) ∙ ap (option_or (spelling a email)) (sym (spelling_kept email)) ∙ sym (parts (map respell us))
+      let parts : (l : List Mapping) → spelling (a ++ l) email ≡ option_or (spelling a email) (spelling l email) =
+      λ l. first_parts (λ e. e.old_email) (λ e. eq_by_cmp text_cmp email (folded e.old_email)) a l in
+      by (spelling a email) (spelling xs email) (spelling h email) (parts xs) ∙ ap (option_or (spelling a email))
+      (sym (spelling_kept email)) ∙ sym (parts (map respell us))
     where
       by : (o p s : Option Text) → s ≡ option_or o p → s ≡ option_or o (cond (is_some p) (Some (unwrap_or s [])) None)
       by None p s e = e ∙ sym (some_again p []) ∙ ap (λ z. cond (is_some p) (Some (unwrap_or z [])) None) (sym e)
       by (Some z) p s e = e
 
-  -- a batch may be in another order of its keys, each email as the whole spells it
+  -- a batch can be sorted by its keys, if each email is spelled as in the whole list
   pub alike_respelled : Alike (a ++ xs) (a ++ map (respelled (a ++ xs)) us)
   alike_respelled = alike_by_keys h (a ++ map respell us) keyed_alike spelled_alike
 
--- ---- who spells an email
+-- ---- the entry that spells an email
 
-spelling_skips : (email : Text) (y : Mapping) (ys : List Mapping) → eq_by_cmp text_cmp email (folded y.old_email) ≡ false → spelling (y ∷ ys) email ≡ spelling ys email
+spelling_skips : (email : Text) (y : Mapping) (ys : List Mapping) → eq_by_cmp text_cmp email (folded y.old_email)
+    ≡ false → spelling (y ∷ ys) email ≡ spelling ys email
 spelling_skips email y ys other =
     let t : Mapping → Bool = λ e. eq_by_cmp text_cmp email (folded e.old_email) in
-    elim (is_accepted y) as (λ b. option_map (λ e. e.old_email) (first (filter t (cond b (y ∷ accepted ys) (accepted ys)))) ≡ spelling ys email) [
-      | true ↦ ap (λ b. option_map (λ e. e.old_email) (first (cond b (y ∷ filter t (accepted ys)) (filter t (accepted ys))))) other
+    elim (is_accepted y) as (λ b. option_map (λ e. e.old_email)
+    (first (filter t (cond b (y ∷ accepted ys) (accepted ys)))) ≡ spelling ys email) [
+      | true ↦ ap (λ b. option_map (λ e. e.old_email)
+          (first (cond b (y ∷ filter t (accepted ys)) (filter t (accepted ys))))) other
       | false ↦ refl
     ]
 
-spelling_first : (y : Mapping) (ys : List Mapping) → is_accepted y ≡ true → spelling (y ∷ ys) (folded y.old_email) ≡ Some y.old_email
+pub spelling_first : (y : Mapping) (ys : List Mapping) → is_accepted y ≡ true → spelling (y ∷ ys) (folded y.old_email)
+    ≡ Some y.old_email
 spelling_first y ys good =
     let t : Mapping → Bool = λ e. eq_by_cmp text_cmp (folded y.old_email) (folded e.old_email) in
     ap (λ b. option_map (λ e. e.old_email) (first (filter t (cond b (y ∷ accepted ys) (accepted ys))))) good
-    ∙ ap (λ o. option_map (λ e. e.old_email) (first (cond (is_eq o) (y ∷ filter t (accepted ys)) (filter t (accepted ys))))) (tied_itself nat_list_cmp_total (folded y.old_email))
+    ∙ ap (λ o. option_map (λ e. e.old_email) (first (cond (is_eq o) (y ∷ filter t (accepted ys))
+    (filter t (accepted ys))))) (tied_itself nat_list_cmp_total (folded y.old_email))
 
 module _ {X : Type 0} (f : X → Mapping) where
   abbrev IsLeast : ℕ × X → ℕ × X → Type 0
@@ -131,33 +153,48 @@ module _ {X : Type 0} (f : X → Mapping) where
 
   numbered : (n : ℕ) (xs : List X) → AllByRecursion (λ q. n ≤ q.0) (enumerate_from n xs)
   numbered n [] = tt
-  numbered n (x ∷ xs) = (omega arith, all_weaker (enumerate_from (n + 1) xs) (λ q le. omega (arith, le)) (numbered (n + 1) xs))
+  numbered n (x ∷ xs) =
+      (omega arith, all_weaker (enumerate_from (n + 1) xs) (λ q le. omega (arith, le)) (numbered (n + 1) xs))
 
-  spells_from : (n : ℕ) (xs : List X) (p : ℕ × X) (k : ℕ) → AllByRecursion (λ e. is_accepted (f e) ≡ true) xs → k < length (enumerate_from n xs) → get_or (enumerate_from n xs) k p ≡ p
-      → AllByRecursion (IsLeast p) (enumerate_from n xs) → spelling (map f xs) (folded (f p.1).old_email) ≡ Some (f p.1).old_email
+  spells_from : (n : ℕ) (xs : List X) (p : ℕ × X) (k : ℕ) → AllByRecursion (λ e. is_accepted (f e) ≡ true) xs
+      → k < length (enumerate_from n xs) → get_or (enumerate_from n xs) k p ≡ p
+      → AllByRecursion (IsLeast p) (enumerate_from n xs) → spelling (map f xs) (folded (f p.1).old_email) ≡ Some
+      (f p.1).old_email
   spells_from n [] p k good lt is least = absurd (omega arith)
-  spells_from n (x ∷ xs) p zero good lt is least = ap (λ q. spelling (map f (x ∷ xs)) (folded (f q.1).old_email)) (sym is) ∙ spelling_first (f x) (map f xs) good.0 ∙ ap (λ q. Some (f q.1).old_email) is
+  spells_from n (x ∷ xs) p zero good lt is least =
+      ap (λ q. spelling (map f (x ∷ xs)) (folded (f q.1).old_email)) (sym is) ∙ spelling_first (f x) (map f xs) good.0
+      ∙ ap (λ q. Some (f q.1).old_email) is
   spells_from n (x ∷ xs) p (suc k) good lt is least =
       let rest : List (ℕ × X) = enumerate_from (n + 1) xs in
-      let more : n + 1 ≤ p.0 = All-contains (λ q. n + 1 ≤ q.0) rest p (All-from_recursion _ rest (numbered (n + 1) xs)) (k, omega arith, is) in
+      let more : n + 1 ≤ p.0 = All-contains (λ q. n + 1 ≤ q.0) rest p (All-from_recursion _ rest (numbered (n + 1) xs))
+      (k, omega arith, is) in
       let email : Text = folded (f p.1).old_email in
-      spelling_skips email (f x) (map f xs) (false_from_ne_true (eq_by_cmp text_cmp email (folded (f x).old_email)) (λ same. absurd (let le : p.0 ≤ n = least.0 (sym (exact_bytes email (folded (f x).old_email) ((Equal-is (text_cmp email (folded (f x).old_email))).0 same))) in omega arith)))
+      spelling_skips email (f x) (map f xs) (false_from_ne_true (eq_by_cmp text_cmp email (folded (f x).old_email))
+      (λ same. absurd (let le : p.0 ≤ n =
+      least.0 (sym (exact_bytes email (folded (f x).old_email)
+      ((Equal-is (text_cmp email (folded (f x).old_email))).0 same))) in omega arith)))
       ∙ spells_from (n + 1) xs p k good.1 (omega arith) is least.1
 
-  -- of the items of an email the one with the least place spells it
-  pub least_spells_by : (xs : List X) (ps : List (ℕ × X)) (p : ℕ × X) → AllByRecursion (λ e. is_accepted (f e) ≡ true) xs → IsPermutation (enumerate_from 0 xs) ps → Contains ps p
-      → All (λ q. folded (f q.1).old_email ≡ folded (f p.1).old_email → p.0 ≤ q.0) ps → spelling (map f xs) (folded (f p.1).old_email) ≡ Some (f p.1).old_email
+  -- the item with the least index spells its email
+  pub least_spells_by : (xs : List X) (ps : List (ℕ × X)) (p : ℕ × X) → AllByRecursion (λ e. is_accepted (f e) ≡ true)
+      xs → IsPermutation (enumerate_from 0 xs) ps → Contains ps p
+      → All (λ q. folded (f q.1).old_email ≡ folded (f p.1).old_email → p.0 ≤ q.0) ps
+      → spelling (map f xs) (folded (f p.1).old_email) ≡ Some (f p.1).old_email
   least_spells_by xs ps p good moved among least =
       let all : List (ℕ × X) = enumerate_from 0 xs in
       let back : IsPermutation ps all = IsPermutation-sym all ps moved in
       let here = Contains-permutation ps all p back among in
-      spells_from 0 xs p here.0 good here.1 here.2 (recursion_from_All (IsLeast p) all (All-permutation (IsLeast p) ps all back least))
+      spells_from 0 xs p here.0 good here.1 here.2 (recursion_from_All (IsLeast p) all (All-permutation (IsLeast p) ps
+      all back least))
 
 map-itself : {X : Type 0} (xs : List X) → map (λ x. x) xs ≡ xs
 map-itself [] = refl
 map-itself (x ∷ xs) = ap (λ l. x ∷ l) (map-itself xs)
 
--- the same of entries
-pub least_spells : (xs : List Mapping) (ps : List (ℕ × Mapping)) (p : ℕ × Mapping) → AllByRecursion (λ e. is_accepted e ≡ true) xs → IsPermutation (enumerate_from 0 xs) ps → Contains ps p
-    → All (λ q. folded q.1.old_email ≡ folded p.1.old_email → p.0 ≤ q.0) ps → spelling xs (folded p.1.old_email) ≡ Some p.1.old_email
-least_spells xs ps p good moved among least = ap (λ l. spelling l (folded p.1.old_email)) (sym (map-itself xs)) ∙ least_spells_by (λ e. e) xs ps p good moved among least
+pub least_spells : (xs : List Mapping) (ps : List (ℕ × Mapping)) (p : ℕ × Mapping)
+    → AllByRecursion (λ e. is_accepted e ≡ true) xs → IsPermutation (enumerate_from 0 xs) ps → Contains ps p
+    → All (λ q. folded q.1.old_email ≡ folded p.1.old_email → p.0 ≤ q.0) ps → spelling xs (folded p.1.old_email)
+    ≡ Some p.1.old_email
+least_spells xs ps p good moved among least =
+    ap (λ l. spelling l (folded p.1.old_email)) (sym (map-itself xs)) ∙ least_spells_by (λ e. e) xs ps p good moved
+    among least

@@ -1,5 +1,7 @@
--- What a search after an index says of the whole list.
-use Rattle.std.proofs.Common.{◌≡◌, ℕ, zero, suc, ◌+◌, ◌-◌, ◌<◌, ◌≤◌, List, [], ◌∷◌, length, map, drop, get_or, Some, Ordering, Less, Equal, Greater, Result, Ok, Err, IfOk, IfErr, sym, ap, subst, ◌∙◌, arith, option_map, refl}
+-- A search in the rest of a list, after some index, gives an index in the whole list.
+use Rattle.std.proofs.Common.{◌≡◌, ℕ, zero, suc, ◌+◌, ◌-◌, ◌<◌, ◌≤◌, List, [], ◌∷◌, length, map, drop, get_or, Some}
+use Rattle.std.proofs.Common.{Ordering, Less, Equal, Greater, Result, Ok, Err, IfOk, IfErr, sym, ap, subst, ◌∙◌, arith}
+use Rattle.std.proofs.Common.{option_map, refl}
 use Rattle.std.specs.List.{slice_get}
 use Rattle.std.specs.List.Sorted.{IsStrictlySortedBy, IsPartitionPoint, IsSearchInRange}
 use Rattle.std.specs.Cmp.Lexicographic.{nat_list_cmp_total}
@@ -13,14 +15,15 @@ use Rattle.mailmap_batches.specs.Given.{NameGroup}
 use Rattle.mailmap_tables.specs.Groups.{name_key}
 use Rattle.mailmap_tables.specs.KeySearch.{IsFound, IsMissing}
 use Rattle.mailmap_tables.specs.Pool.{spelled, name_group}
-use Rattle.mailmap_tables.specs.Texts.{old_span}
-use Rattle.mailmap_tables.specs.declared.texts.Texts.{Texts}
+use Rattle.mailmap_tables.specs.RowTexts.{old_span}
+use Rattle.mailmap_tables.specs.declared.texts.RowTexts.{RowTexts}
 use Rattle.mailmap_entries.proofs.Lookups.{IsPartitioned-from_ascending, found-at, missing-below, missing-above}
 use Rattle.mailmap_entries.proofs.Search.{less_before}
 
--- ---- a list without its head
+-- ---- a list without its first elements
 
-pub sorted_drop : {K : Type 0} (R : K → K → Ordering) (n : ℕ) (ks : List K) → IsStrictlySortedBy R ks → IsStrictlySortedBy R (drop n ks)
+pub sorted_drop : {K : Type 0} (R : K → K → Ordering) (n : ℕ) (ks : List K) → IsStrictlySortedBy R ks
+    → IsStrictlySortedBy R (drop n ks)
 unfolding IsStrictlySortedBy
 sorted_drop R zero ks up = up
 sorted_drop R (suc n) [] up = tt
@@ -32,8 +35,9 @@ slice_get-drop (suc n) [] i j is = refl
 slice_get-drop (suc n) (x ∷ xs) i zero is = absurd (omega arith)
 slice_get-drop (suc n) (x ∷ xs) i (suc j) is = slice_get-drop n xs i j (omega arith)
 
--- what is read after the head, and a function of it
-pub read_after : {X Y Z : Type 0} (f : X → Y) (h : Y → Z) (n : ℕ) (xs : List X) (i j : ℕ) (y : Y) → j ≡ n + i → slice_get (map f xs) j ≡ Some y → slice_get (map (λ x. h (f x)) (drop n xs)) i ≡ Some (h y)
+-- an element after the first ones, and a function of it
+pub read_after : {X Y Z : Type 0} (f : X → Y) (h : Y → Z) (n : ℕ) (xs : List X) (i j : ℕ) (y : Y) → j ≡ n + i
+    → slice_get (map f xs) j ≡ Some y → slice_get (map (λ x. h (f x)) (drop n xs)) i ≡ Some (h y)
 read_after {X = X} f h n xs i j y is read =
     slice_get-map (λ x. h (f x)) (drop n xs) i ∙ ap (option_map (λ x. h (f x))) (slice_get-drop n xs i j is)
     ∙ sym (slice_get-map (λ x. h (f x)) xs j) ∙ composed xs j ∙ ap (option_map h) read
@@ -43,13 +47,18 @@ read_after {X = X} f h n xs i j y is read =
     composed (x ∷ ys) zero = refl
     composed (x ∷ ys) (suc k) = composed ys k
 
--- ---- an index after the head
+-- ---- an index after the first elements
 
 module _ {X : Type 0} (f : X → Text) (k : Text) (xs : List X) (start i j : ℕ) (is : j ≡ start + i) where
-  -- the key is found there
-  pub found_from : X → IsStrictlySortedBy text_cmp (map f xs) → slice_get (map (λ x. text_cmp (f x) k) (drop start xs)) i ≡ Some Equal → IsFound f k start xs j
+  -- the key is there
+  pub found_from : X → IsStrictlySortedBy text_cmp (map f xs) → slice_get (map (λ x. text_cmp (f x) k) (drop start xs))
+      i ≡ Some Equal → IsFound f k start xs j
   found_from d up found =
-      let within : j < length xs = omega (arith, (found-at text_cmp f k (drop start xs) i found).0, length-drop start xs) in
+      let within : j < length xs = omega (
+        arith,
+        (found-at text_cmp f k (drop start xs) i found).0,
+        length-drop start xs,
+      ) in
       let here : (e : X) → get_or (map f xs) j (f e) ≡ k = λ e.
       get_or-map f xs j e (f e) within
       ∙ ap (λ m. f (get_or xs m e)) is
@@ -66,44 +75,59 @@ module _ {X : Type 0} (f : X → Text) (k : Text) (xs : List X) (start i j : ℕ
         key = slice_get-get_or (map f xs) j (f d) inside ∙ ap (λ t. Some t) (here d);
       }
 
-  -- no key is it
-  pub missing_from : start ≤ length xs → i ≤ length xs - start → IsPartitionPoint (λ a. a ≡ Less) (λ a. a ≡ Greater) (map (λ x. text_cmp (f x) k) (drop start xs)) i → IsMissing f k start xs j
+  -- the key is missing
+  pub missing_from : start ≤ length xs → i ≤ length xs - start → IsPartitionPoint (λ a. a ≡ Less) (λ a. a ≡ Greater)
+      (map (λ x. text_cmp (f x) k) (drop start xs)) i → IsMissing f k start xs j
   missing_from low_start le missing =
       let left : length (drop start xs) ≡ length xs - start = length-drop start xs in
-      let at : (m : ℕ) (e : X) → start ≤ m → text_cmp (f (get_or xs m e)) k ≡ text_cmp (f (get_or (drop start xs) (m - start) e)) k = λ m e low.
+      let at : (m : ℕ) (e : X) → start ≤ m → text_cmp (f (get_or xs m e)) k ≡ text_cmp
+      (f (get_or (drop start xs) (m - start) e)) k = λ m e low.
       let index : m ≡ start + (m - start) = omega arith in
-      ap (λ l. text_cmp (f (get_or xs l e)) k) index ∙ ap (λ x. text_cmp (f x) k) (sym (get_or-drop start xs (m - start) e)) in
+      ap (λ l. text_cmp (f (get_or xs l e)) k) index ∙ ap (λ x. text_cmp (f x) k)
+      (sym (get_or-drop start xs (m - start) e)) in
       record {
         after_start = omega arith;
         within = omega arith;
-        below = λ m e low high. at m e low ∙ missing-below text_cmp f k (drop start xs) i (omega arith) missing (m - start) e (omega arith) (omega arith);
-        above = λ m e low high. at m e (omega arith) ∙ missing-above text_cmp f k (drop start xs) i missing (m - start) e (omega arith) (omega arith);
+        below =
+            λ m e low high. at m e low ∙ missing-below text_cmp f k (drop start xs) i (omega arith) missing (m - start)
+            e (omega arith) (omega arith);
+        above =
+            λ m e low high. at m e (omega arith) ∙ missing-above text_cmp f k (drop start xs) i missing (m - start) e
+            (omega arith) (omega arith);
       }
 
--- the last key is below k, so no key is k
-pub missing_after : {X : Type 0} (f : X → Text) (k : Text) (xs : List X) (start i j : ℕ) → j ≡ start + i → length xs ≡ j + 1 → IsStrictlySortedBy text_cmp (map f xs) → slice_get (map (λ x. text_cmp (f x) k) (drop start xs)) i ≡ Some Less → IsMissing f k start xs (length xs)
+-- if the last key is below k, then k is missing
+pub missing_after : {X : Type 0} (f : X → Text) (k : Text) (xs : List X) (start i j : ℕ) → j ≡ start + i
+    → length xs ≡ j + 1 → IsStrictlySortedBy text_cmp (map f xs)
+    → slice_get (map (λ x. text_cmp (f x) k) (drop start xs)) i ≡ Some Less → IsMissing f k start xs (length xs)
 missing_after f k xs start i j is last up below =
     let answers : List Ordering = map (λ x. text_cmp (f x) k) (drop start xs) in
     let parted : IsPartitioned answers = IsPartitioned-from_ascending nat_list_cmp_total f k (drop start xs)
     (subst (IsStrictlySortedBy text_cmp) (drop-map f start xs) (sorted_drop text_cmp start (map f xs) up)) in
-    let all : length answers ≡ i + 1 = omega (arith, length-map (drop start xs) (λ x. text_cmp (f x) k), length-drop start xs) in
+    let all : length answers ≡ i + 1 = omega (
+      arith,
+      length-map (drop start xs) (λ x. text_cmp (f x) k),
+      length-drop start xs,
+    ) in
     missing_from f k xs start (i + 1) (length xs) (omega arith) (omega arith) (omega arith)
     (λ m d low high. less_before answers i m d parted below (omega arith), λ m d low high. absurd (omega arith))
 
--- ---- what holds of a result
+-- ---- weaker statements about a result
 
 pub if_ok : {A B : Type 0} (P Q : A → Type 0) → ((x : A) → P x → Q x) → (r : Result A B) → IfOk r P → IfOk r Q
 if_ok P Q f (Ok x) p = f x p
 if_ok P Q f (Err e) p = tt
 
-pub if_missing : (n : ℕ) (P Q : ℕ → Type 0) → ((i : ℕ) → i ≤ n → P i → Q i) → (r : Result ℕ ℕ) → IsSearchInRange r n → IfErr r P → IfErr r Q
+pub if_missing : (n : ℕ) (P Q : ℕ → Type 0) → ((i : ℕ) → i ≤ n → P i → Q i) → (r : Result ℕ ℕ) → IsSearchInRange r n
+    → IfErr r P → IfErr r Q
 if_missing n P Q f (Ok i) le p = tt
 if_missing n P Q f (Err i) le p = f i le p
 
 -- ---- the names of an email
 
--- how the name at an index compares, where t is its text
-pub name_at : (pool k : Text) (ns : List Texts) (i : ℕ) (d : Texts) (t : Text) → i < length ns → t ≡ spelled pool (old_span (get_or ns i d))
+-- the comparison of the name at an index, if t is its text
+pub name_at : (pool k : Text) (ns : List RowTexts) (i : ℕ) (d : RowTexts) (t : Text) → i < length ns
+    → t ≡ spelled pool (old_span (get_or ns i d))
     → slice_get (map (λ n. text_cmp (name_key n) k) (map (name_group pool) ns)) i ≡ Some (text_cmp (folded t) k)
 name_at pool k ns i d t lt is =
     let compare : NameGroup → Ordering = λ n. text_cmp (name_key n) k in

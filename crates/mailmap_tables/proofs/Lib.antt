@@ -1,7 +1,7 @@
 pub mod Batches
 pub mod Grouped
 pub mod Merging
-pub mod RowTexts
+pub mod TextsOfRows
 pub mod Pooled
 pub mod Together
 pub mod KeySearch
@@ -14,9 +14,9 @@ pub mod NamesLoop
 pub mod RowCount
 pub mod Given
 pub mod Passing
-pub mod EmailPuts
+pub mod EmailsAppended
 pub mod OwnTexts
-pub mod GroupPuts
+pub mod GroupsAppended
 pub mod EmailsLoop
 pub mod SortedGroups
 pub mod WholeMerge

@@ -1,5 +1,6 @@
--- What is left of a listing, step by step.
-use Rattle.std.proofs.Common.{◌≡◌, ℕ, ◌+◌, ◌<◌, true, List, [], ◌∷◌, ◌++◌, map, drop, length, Some, refl, ap, ◌∙◌, append_assoc, arith}
+-- The entries of a listing that are left, step by step.
+use Rattle.std.proofs.Common.{◌≡◌, ℕ, ◌+◌, ◌<◌, true, List, [], ◌∷◌, ◌++◌, map, drop, length, Some, refl, ap, ◌∙◌}
+use Rattle.std.proofs.Common.{append_assoc, arith}
 use Rattle.std.specs.List.{slice_get}
 use Rattle.std.specs.Prelude.{nat_eq}
 use Rattle.std.proofs.lemmas.Bool.{eqb-true}
@@ -9,13 +10,14 @@ use Rattle.mailmap_entries.specs.Folding.{Text}
 use Rattle.mailmap_tables.specs.Groups.{Contents, EmailGroup, name_row, own_rows, listing}
 use Rattle.mailmap_tables.specs.Remaining.{left_to_list}
 use Rattle.mailmap_tables.specs.Pool.{spelled, group_of}
-use Rattle.mailmap_tables.specs.Texts.{old_span}
-use Rattle.mailmap_tables.specs.declared.texts.Texts.{Texts}
+use Rattle.mailmap_tables.specs.RowTexts.{old_span}
+use Rattle.mailmap_tables.specs.declared.texts.RowTexts.{RowTexts}
 
-module _ (t : Contents) (email : Text) (ns : List Texts) (i : ℕ) (none : ns ≡ []) where
-  -- if no name is left, the next email begins
-  pub next_email : (r : Texts) (rest : List Texts) → slice_get t.groups i ≡ Some (group_of t.pool r rest)
-      → left_to_list t email ns i ≡ own_rows (group_of t.pool r []) ++ left_to_list t (spelled t.pool (old_span r)) rest (i + 1)
+module _ (t : Contents) (email : Text) (ns : List RowTexts) (i : ℕ) (none : ns ≡ []) where
+  -- without a name left, the next email follows
+  pub next_email : (r : RowTexts) (rest : List RowTexts) → slice_get t.groups i ≡ Some (group_of t.pool r rest)
+      → left_to_list t email ns i ≡ own_rows (group_of t.pool r []) ++ left_to_list t (spelled t.pool (old_span r)) rest
+      (i + 1)
   next_email r rest read =
       let g : EmailGroup = group_of t.pool r rest in
       let lt : i < length t.groups = slice_get_within t.groups i g read in
@@ -24,7 +26,6 @@ module _ (t : Contents) (email : Text) (ns : List Texts) (i : ℕ) (none : ns �
       ∙ ap (λ x. listing (x ∷ drop (i + 1) t.groups)) (get_or_from_slice_get t.groups i g g read)
       ∙ append_assoc (own_rows g) (map (name_row g.old_email) g.names) (listing (drop (i + 1) t.groups))
 
--- a list of no length
 pub empty : {X : Type 0} (xs : List X) → nat_eq (length xs) 0 ≡ true → xs ≡ []
 empty [] e = refl
 empty (x ∷ xs) e = let none : length (x ∷ xs) ≡ 0 = eqb-true _ _ e in absurd (omega arith)

@@ -1,21 +1,23 @@
 -- The groups of a sorted batch, email by email.
-use Rattle.std.proofs.Common.{◌≡◌, ◌≢◌, ◌<◌, ◌≤◌, ◌==◌, ℕ, zero, suc, true, false, List, [], ◌∷◌, ◌++◌, map, take, drop, get_or, length, HoldsAt, sym, ap, subst, ◌∙◌, arith, take-append-drop, eqb-true}
+use Rattle.std.proofs.Common.{◌≡◌, ◌≢◌, ◌<◌, ◌≤◌, ◌==◌, ℕ, zero, suc, true, false, List, [], ◌∷◌, ◌++◌, map, take, drop}
+use Rattle.std.proofs.Common.{get_or, length, HoldsAt, sym, ap, subst, ◌∙◌, arith, take-append-drop, eqb-true}
 use Rattle.std.specs.List.{AllByRecursion}
 use Rattle.std.proofs.lemmas.List.{map-append, nil_from_length}
 use Rattle.mailmap_entries.specs.Entries.{Mapping}
 use Rattle.mailmap_entries.specs.Folding.{Text, text_cmp}
 use Rattle.mailmap_tables.specs.Groups.{EmailGroup, AreGroups, Contents}
-use Rattle.mailmap_histories.specs.Histories.{is_accepted, key, key_cmp}
+use Rattle.mailmap_entries.specs.Semantics.{is_accepted, key, key_cmp}
 use Rattle.mailmap_batches.specs.Batches.{IsAscending, email_text, first_email, mapping_at, indexed_mapping}
-use Rattle.mailmap_tables.specs.Merging.{EmailEntries, GroupPut}
+use Rattle.mailmap_tables.specs.Merging.{EmailEntries, GroupAppended}
 use Rattle.mailmap_batches.specs.Given.{StartsOther}
 use Rattle.mailmap_batches.specs.declared.indexed.IndexedEntry.{IndexedEntry}
 use Rattle.mailmap_batches.proofs.Numbered.{mapped_twice}
-use Rattle.mailmap_tables.proofs.EmailsLoop.{Item, by, EmailsState, emails_step, emails_ascend, group_ascends, ascending_head}
+use Rattle.mailmap_tables.proofs.EmailsLoop.{Item, by, EmailsState, emails_step, emails_ascend, group_ascends}
+use Rattle.mailmap_tables.proofs.EmailsLoop.{ascending_head}
 use Rattle.mailmap_batches.proofs.LeadingNames.{starts_other}
-use Rattle.mailmap_histories.proofs.Parts.{all_mapped, all_head, all_tail}
+use Rattle.mailmap_entries.proofs.Parts.{all_mapped, all_head, all_tail}
 
--- a batch that is in order, its entries accepted
+-- a sorted batch of accepted entries
 pub record IsBatch (xs : List IndexedEntry) : Type 0 where
   pub accepted : AllByRecursion (λ m. is_accepted m ≡ true) (map mapping_at xs)
   pub ascending : IsAscending key_cmp (map key (map mapping_at xs))
@@ -28,49 +30,61 @@ ascending_back [] ys up = up
 ascending_back (x ∷ xs) ys up = ascending_back xs ys up.1
 
 ascending_group : (xs ys : List Mapping) → IsAscending key_cmp (map key (xs ++ ys)) → IsAscending key_cmp (map key xs)
-ascending_group xs ys up = ascending_head key_cmp (map key xs) (map key ys) (subst (IsAscending key_cmp) (map-append key xs ys) up)
+ascending_group xs ys up =
+    ascending_head key_cmp (map key xs) (map key ys) (subst (IsAscending key_cmp) (map-append key xs ys) up)
 
 pub batch_after : (xs : List IndexedEntry) (n : ℕ) → IsBatch xs → IsBatch (drop n xs)
 batch_after xs n b =
     record {
-      accepted = all_tail _ (map mapping_at (take n xs)) (map mapping_at (drop n xs)) (subst (AllByRecursion (λ m. is_accepted m ≡ true)) (parted xs n) b.accepted);
-      ascending = ascending_back (map mapping_at (take n xs)) (map mapping_at (drop n xs)) (subst (λ l. IsAscending key_cmp (map key l)) (parted xs n) b.ascending);
+      accepted =
+          all_tail _ (map mapping_at (take n xs)) (map mapping_at (drop n xs))
+          (subst (AllByRecursion (λ m. is_accepted m ≡ true)) (parted xs n) b.accepted);
+      ascending =
+          ascending_back (map mapping_at (take n xs)) (map mapping_at (drop n xs))
+          (subst (λ l. IsAscending key_cmp (map key l)) (parted xs n) b.ascending);
     }
 
-pub batch_group : (xs : List IndexedEntry) (n : ℕ) (f : Text) → IsBatch xs → AllByRecursion (λ p. email_text (mapping_at p) ≡ f) (take n xs) → EmailEntries (map mapping_at (take n xs))
+pub batch_group : (xs : List IndexedEntry) (n : ℕ) (f : Text) → IsBatch xs
+    → AllByRecursion (λ p. email_text (mapping_at p) ≡ f) (take n xs) → EmailEntries (map mapping_at (take n xs))
 batch_group xs n f b same =
     record {
-      accepted = all_head _ (map mapping_at (take n xs)) (map mapping_at (drop n xs)) (subst (AllByRecursion (λ m. is_accepted m ≡ true)) (parted xs n) b.accepted);
-      ascending = group_ascends f (map mapping_at (take n xs)) (all_mapped mapping_at (λ m. email_text m ≡ f) (take n xs) same)
-          (ascending_group (map mapping_at (take n xs)) (map mapping_at (drop n xs)) (subst (λ l. IsAscending key_cmp (map key l)) (parted xs n) b.ascending));
+      accepted =
+          all_head _ (map mapping_at (take n xs)) (map mapping_at (drop n xs))
+          (subst (AllByRecursion (λ m. is_accepted m ≡ true)) (parted xs n) b.accepted);
+      ascending =
+          group_ascends f (map mapping_at (take n xs)) (all_mapped mapping_at (λ m. email_text m ≡ f) (take n xs) same)
+          (ascending_group (map mapping_at (take n xs)) (map mapping_at (drop n xs))
+          (subst (λ l. IsAscending key_cmp (map key l)) (parted xs n) b.ascending));
     }
 
 pub batch_emails : (xs : List IndexedEntry) → IsBatch xs → IsAscending text_cmp (map by (map indexed_mapping xs))
-batch_emails xs b = subst (IsAscending text_cmp) (mapped_twice mapping_at email_text xs ∙ sym (mapped_twice indexed_mapping by xs)) (emails_ascend (map mapping_at xs) b.ascending)
+batch_emails xs b =
+    subst (IsAscending text_cmp) (mapped_twice mapping_at email_text xs ∙ sym (mapped_twice indexed_mapping by xs))
+    (emails_ascend (map mapping_at xs) b.ascending)
 
--- a group begins with the entry whose email it has
-pub group_some : (xs : List IndexedEntry) (n : ℕ) (d : IndexedEntry) (f : Text) → 0 < length xs → email_text (mapping_at (get_or xs 0 d)) ≡ f → n ≤ length xs → (n < length xs → HoldsAt (λ p. email_text (mapping_at p) ≢ f) xs n) → 0 < n
-group_some [] n d f some is le other = absurd (omega arith)
-group_some (x ∷ xs) zero d f some is le other = absurd (other (omega arith) x is)
-group_some (x ∷ xs) (suc n) d f some is le other = omega arith
+pub step_at : (gs0 : List EmailGroup) (ps0 : List Item) (pool0 : Text) (are : AreGroups gs0)
+    (good0 : AllByRecursion (λ p. is_accepted p.1 ≡ true) ps0) (gs left : List EmailGroup) (xs : List IndexedEntry)
+    (n : ℕ) (c out : Contents)
+    → EmailsState gs0 ps0 pool0 gs (map indexed_mapping xs) c → 0 < n → n ≤ length xs
+    → AllByRecursion (λ p. email_text (mapping_at p) ≡ first_email (map mapping_at xs)) (take n xs)
+    → (n < length xs → HoldsAt (λ p. email_text (mapping_at p) ≢ first_email (map mapping_at xs)) xs n)
+    → GroupAppended gs left (map indexed_mapping (take n xs)) (first_email (map mapping_at (take n xs))) c out
+    → EmailsState gs0 ps0 pool0 left (map indexed_mapping (drop n xs)) out
+step_at gs0 ps0 pool0 are good0 gs left xs zero c out st some le same other put = absurd (omega arith)
+step_at gs0 ps0 pool0 are good0 gs left [] (suc n) c out st some le same other put = absurd (omega arith)
+step_at gs0 ps0 pool0 are good0 gs left (x ∷ xs) (suc n) c out st some le same other put =
+    let members = map indexed_mapping (take n xs) in
+    let later = map indexed_mapping (drop n xs) in
+    let whole : map indexed_mapping (x ∷ xs) ≡ indexed_mapping x ∷ members ++ later =
+    ap (λ l. indexed_mapping x ∷ l)
+    (ap (map indexed_mapping) (sym (take-append-drop n xs)) ∙ map-append indexed_mapping (take n xs) (drop n xs)) in
+    emails_step gs0 ps0 pool0 are good0 gs left (map indexed_mapping (x ∷ xs)) (indexed_mapping x) members later c out
+    st
+    whole (all_mapped indexed_mapping (λ p. by p ≡ by (indexed_mapping x)) (take n xs) same.1)
+    (starts_other indexed_mapping (λ p. by p ≡ by (indexed_mapping x)) (x ∷ xs) (suc n) other) put
 
-pub step_at : (gs0 : List EmailGroup) (ps0 : List Item) (pool0 : Text) (are : AreGroups gs0) (good0 : AllByRecursion (λ p. is_accepted p.1 ≡ true) ps0) (gs left : List EmailGroup) (xs : List IndexedEntry) (n : ℕ) (d : IndexedEntry) (f : Text) (c out : Contents)
-    → EmailsState gs0 ps0 pool0 gs (map indexed_mapping xs) c → 0 < length xs → email_text (mapping_at (get_or xs 0 d)) ≡ f → n ≤ length xs → AllByRecursion (λ p. email_text (mapping_at p) ≡ f) (take n xs)
-    → (n < length xs → HoldsAt (λ p. email_text (mapping_at p) ≢ f) xs n)
-    → GroupPut gs left (map indexed_mapping (take n xs)) (first_email (map mapping_at (take n xs))) c out → EmailsState gs0 ps0 pool0 left (map indexed_mapping (drop n xs)) out
-step_at gs0 ps0 pool0 are good0 gs left [] n d f c out st some is le same other put = absurd (omega arith)
-step_at gs0 ps0 pool0 are good0 gs left (x ∷ xs) zero d f c out st some is le same other put = absurd (other (omega arith) x is)
-step_at gs0 ps0 pool0 are good0 gs left (x ∷ xs) (suc n) d f c out st some is le same other put =
-    let whole : map indexed_mapping (x ∷ xs) ≡ indexed_mapping x ∷ map indexed_mapping (take n xs) ++ map indexed_mapping (drop n xs) = ap (λ l. indexed_mapping x ∷ l) (ap (map indexed_mapping) (sym (take-append-drop n xs)) ∙ map-append indexed_mapping (take n xs) (drop n xs)) in
-    let here : email_text (mapping_at x) ≡ f = is in
-    let same_group = subst (λ t. AllByRecursion (λ p. email_text (mapping_at p) ≡ t) (take n xs)) (sym here) same.1 in
-    let others = starts_other indexed_mapping (λ p. by p ≡ f) (x ∷ xs) (suc n) other in
-    emails_step gs0 ps0 pool0 are good0 gs left (map indexed_mapping (x ∷ xs)) (indexed_mapping x) (map indexed_mapping (take n xs)) (map indexed_mapping (drop n xs)) c out st whole
-    (all_mapped indexed_mapping (λ p. by p ≡ by (indexed_mapping x)) (take n xs) same_group)
-    (subst (λ t. StartsOther (λ p. by p ≡ t) (map indexed_mapping (drop n xs))) (sym here) others)
-    put
-
-pub good_items : (xs : List IndexedEntry) → AllByRecursion (λ m. is_accepted m ≡ true) (map mapping_at xs) → AllByRecursion (λ p. is_accepted p.1 ≡ true) (map indexed_mapping xs)
+pub good_items : (xs : List IndexedEntry) → AllByRecursion (λ m. is_accepted m ≡ true) (map mapping_at xs)
+    → AllByRecursion (λ p. is_accepted p.1 ≡ true) (map indexed_mapping xs)
 good_items [] a = tt
 good_items (x ∷ xs) a = (a.0, good_items xs a.1)
 

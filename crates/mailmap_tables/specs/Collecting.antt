@@ -1,11 +1,11 @@
--- Entries on their way into tables, of which the first may be joined already.
+-- Entries that are being merged into tables, possibly with the first ones already joined.
 use Rattle.std.specs.Prelude.{◌≡◌, ◌++◌, List, Option, unwrap_or}
 use Rattle.mailmap_entries.specs.Entries.{Mapping}
-use Rattle.mailmap_histories.specs.Histories.{IsNormal, accepted}
+use Rattle.mailmap_entries.specs.Semantics.{IsNormal, accepted}
 use Rattle.mailmap_tables.specs.Groups.{Contents, IsComplete, listing}
 
--- Of the accepted entries of a history after tables, the first are joined with these, if tables were made of them,
--- and the others are in the batch.
+-- the accepted entries among h are split: the first ones are joined with the old tables, if new tables have been made,
+-- and the others are in the batch
 pub record IsCollected (old_tables : Contents) (h : List Mapping) (joined : Option Contents) (batch : List Mapping)
     : Type 0 where
   pub head : List Mapping

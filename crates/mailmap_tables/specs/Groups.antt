@@ -1,13 +1,14 @@
--- A normal list by emails: what the tables of a snapshot denote.
-use Rattle.std.specs.Prelude.{◌≡◌, ◌≢◌, ◌+◌, ◌||◌, ◌++◌, ℕ, if◌then◌else◌, is_some, Some, None, List, [], ◌∷◌, length, map, sum_by}
+-- A normal list grouped by email: what the tables of a snapshot represent.
+use Rattle.std.specs.Prelude.{◌≡◌, ◌≢◌, ◌+◌, ◌||◌, ◌++◌, ℕ, if◌then◌else◌, is_some, Some, None, List, [], ◌∷◌}
+use Rattle.std.specs.Prelude.{length, map, sum_by}
 use Rattle.std.specs.List.{AllByRecursion, flat_map}
 use Rattle.std.specs.List.Sorted.{IsStrictlySortedBy}
 use Rattle.mailmap_entries.specs.Entries.{Mapping}
 use Rattle.mailmap_entries.specs.Folding.{Text, folded, text_cmp}
-use Rattle.mailmap_histories.specs.Histories.{Fields, mapping_with}
+use Rattle.mailmap_entries.specs.Semantics.{Fields, mapping_with}
 use Rattle.mailmap_batches.specs.Given.{NameGroup}
 
--- an old email as it is kept, the fields that were given without an old name, and the old names of the email
+-- an old email as it is stored, the new fields for all other names, and the old names of the email
 pub record EmailGroup : Type 0 where
   pub old_email : Text
   pub own : Fields
@@ -25,18 +26,18 @@ name_fields n = record { name = n.new_name; email = Some n.new_email }
 abbrev pub name_row : Text → NameGroup → Mapping
 name_row email n = mapping_with (name_fields n) (Some n.old_name) email
 
--- an email's own entry, if a field was given without an old name
+-- the entry of an email for all other names, if it has a field for them
 abbrev pub own_rows : EmailGroup → List Mapping
 own_rows g = if is_some g.own.name || is_some g.own.email then mapping_with g.own None g.old_email ∷ [] else []
 
--- the entries of an email
+-- all entries for an email
 abbrev pub rows : EmailGroup → List Mapping
 rows g = own_rows g ++ map (name_row g.old_email) g.names
 
 abbrev pub listing : List EmailGroup → List Mapping
 listing gs = flat_map rows gs
 
--- an email that says something, its names strictly ascending
+-- an email with at least one entry, its names strictly ascending
 pub record IsGroup (g : EmailGroup) : Type 0 where
   pub ascending : IsStrictlySortedBy text_cmp (map name_key g.names)
   pub says : rows g ≢ []
@@ -46,17 +47,17 @@ pub record AreGroups (gs : List EmailGroup) : Type 0 where
   pub ascending : IsStrictlySortedBy text_cmp (map email_key gs)
   pub each : AllByRecursion IsGroup gs
 
--- what tables hold: the bytes of their texts, the emails, and names that no email has taken yet
+-- what tables hold: the bytes of their texts, the emails, and names that belong to no email yet
 pub record Contents : Type 0 where
   pub pool : Text
   pub groups : List EmailGroup
-  pub pending : List NameGroup
+  pub unassigned_names : List NameGroup
 
 -- the number of emails and names
 abbrev pub row_count : Contents → ℕ
-row_count t = length t.groups + (sum_by (λ g. length g.names) t.groups + length t.pending)
+row_count t = length t.groups + (sum_by (λ g. length g.names) t.groups + length t.unassigned_names)
 
--- the tables of a snapshot: each name has been taken by an email, and the emails are groups
+-- the tables of a snapshot: every name belongs to an email, and the emails are groups
 pub record IsComplete (t : Contents) : Type 0 where
   pub groups : AreGroups t.groups
-  pub none_pending : t.pending ≡ []
+  pub none_unassigned : t.unassigned_names ≡ []

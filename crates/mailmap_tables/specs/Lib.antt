@@ -4,11 +4,10 @@ pub use Rattle.mailmap_entries.specs.Search
 pub use Rattle.mailmap_entries.specs.Prefixes
 pub use Rattle.mailmap_batches.specs.Given
 pub mod Groups
-pub mod Texts
+pub mod RowTexts
 pub mod Pool
 pub mod KeySearch
 pub mod Merging
-pub mod Named
 pub mod Remaining
 pub mod Reserved
 pub mod Collecting

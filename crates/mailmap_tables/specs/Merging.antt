@@ -1,43 +1,28 @@
--- How a sorted batch is joined with old groups.
+-- What joining a sorted batch with old groups does.
 use Rattle.std.specs.Prelude.{◌≡◌, ◌≤◌, ◌++◌, ℕ, true, List, [], ◌∷◌, All, Contains, map}
 use Rattle.std.specs.List.{AllByRecursion}
 use Rattle.std.specs.List.Sorted.{IsStrictlySortedBy}
 use Rattle.std.specs.Option.{option_cmp, option_map}
 use Rattle.std.specs.declared.cmp.Ordering.TheVariants.{Less}
-use Rattle.mailmap_histories.specs.Alike.{Alike}
+use Rattle.mailmap_entries.specs.Alike.{Alike}
 use Rattle.mailmap_entries.specs.Entries.{Mapping}
 use Rattle.mailmap_entries.specs.Folding.{Text, folded, text_cmp}
 use Rattle.mailmap_batches.specs.Given.{NameGroup, IsEarliest}
 use Rattle.mailmap_tables.specs.Groups.{EmailGroup, AreGroups, Contents, email_key, name_key, name_row, rows, listing}
-use Rattle.mailmap_histories.specs.Histories.{is_accepted, no_fields}
+use Rattle.mailmap_entries.specs.Semantics.{is_accepted, no_fields}
 use Rattle.mailmap_batches.specs.Batches.{IsAscending, email_text}
-
--- each of these texts is below each of those
-abbrev pub AreBelowAll : List Text → List Text → Type 0
-AreBelowAll xs ys = AllByRecursion (λ x. AllByRecursion (λ y. text_cmp x y ≡ Less) ys) xs
-
--- the keys that have come out of two ascending lists lie below what is left of them,
--- and so do the keys that were taken from the second below what is left of the first
-pub record InOrder (out remaining batch taken : List Text) : Type 0 where
-  pub out_ascends : IsStrictlySortedBy text_cmp out
-  pub remaining_ascend : IsStrictlySortedBy text_cmp remaining
-  pub batch_ascends : IsAscending text_cmp batch
-  pub out_remaining : AreBelowAll out remaining
-  pub out_batch : AreBelowAll out batch
-  pub taken_remaining : AreBelowAll taken remaining
-  pub taken_batch : AreBelowAll taken batch
 
 -- ---- names
 
--- the entry with its old email spelled so
+-- the entry with this spelling of its old email
 abbrev pub with_email : Text → Mapping → Mapping
 with_email e m = record m { old_email = e }
 
--- the pool has grown at its end
+-- the pool has only grown at its end
 abbrev pub Extends : Text → Text → Type 0
 Extends old new = (more : Text) × (new ≡ old ++ more)
 
--- how a name comes out: as it is, or as it comes first, at its index among the names that were there before
+-- the lookup of a name among the names `ks`: `kept` is its spelling there, or `name` itself if it is not there
 pub data NameLookup (ks passed : List NameGroup) (name kept : Text) (left : List NameGroup) : Type 0 where
   known : (k : NameGroup) → ks ≡ passed ++ k ∷ left → name_key k ≡ folded name → kept ≡ k.old_name
       → NameLookup ks passed name kept left
@@ -45,54 +30,55 @@ pub data NameLookup (ks passed : List NameGroup) (name kept : Text) (left : List
       → AllByRecursion (λ k. text_cmp (folded name) (name_key k) ≡ Less) left → kept ≡ name
       → NameLookup ks passed name kept left
 
--- one name came out, after those that come before it
-pub record NamePut (ks left : List NameGroup) (n : NameGroup) (old new : Contents) : Type 0 where
+-- one name was appended, after the old names that come before it
+pub record NameAppended (ks left : List NameGroup) (n : NameGroup) (old new : Contents) : Type 0 where
   pub passed : List NameGroup
   pub kept : Text
   pub pool : Extends old.pool new.pool
   pub groups : new.groups ≡ old.groups
-  pub pending : new.pending ≡ old.pending ++ (passed ++ record n { old_name = kept } ∷ [])
+  pub unassigned_names : new.unassigned_names ≡ old.unassigned_names ++ (passed ++ record n { old_name = kept } ∷ [])
   pub lookup : NameLookup ks passed n.old_name kept left
 
--- the names that come out say the same as the names that were there before and the named entries of the batch
+-- the names of the output are equivalent to the old names and the entries of the batch for them
 pub record NamesJoined (ks : List NameGroup) (ms : List Mapping) (ns : List NameGroup) : Type 0 where
   pub ascending : IsStrictlySortedBy text_cmp (map name_key ns)
   pub alike : (e : Text) → Alike (map (name_row e) ks ++ map (with_email e) ms) (map (name_row e) ns)
 
--- the names that came out after those that were pending
-pub record NamesPut (ks : List NameGroup) (ms : List Mapping) (old new : Contents) : Type 0 where
+-- the names were appended to the unassigned ones
+pub record NamesAppended (ks : List NameGroup) (ms : List Mapping) (old new : Contents) : Type 0 where
   pub names : List NameGroup
   pub pool : Extends old.pool new.pool
   pub groups : new.groups ≡ old.groups
-  pub pending : new.pending ≡ old.pending ++ names
+  pub unassigned_names : new.unassigned_names ≡ old.unassigned_names ++ names
   pub joined : NamesJoined ks ms names
 
 -- ---- emails
 
--- the email that comes out says the same as the email that was there before and the entries of the batch for it
+-- the email of the output is equivalent to the old email and the entries of the batch for it
 pub record EmailJoined (g : EmailGroup) (ms : List Mapping) (c : EmailGroup) : Type 0 where
   pub old_email : c.old_email ≡ g.old_email
   pub ascending : IsStrictlySortedBy text_cmp (map name_key c.names)
   pub alike : Alike (rows g ++ map (with_email g.old_email) ms) (rows c)
 
--- an email that came out, with no name left pending
-pub record EmailPut (g : EmailGroup) (ms : List Mapping) (old new : Contents) : Type 0 where
+-- an email was appended, and no name is unassigned
+pub record EmailAppended (g : EmailGroup) (ms : List Mapping) (old new : Contents) : Type 0 where
   pub group : EmailGroup
   pub pool : Extends old.pool new.pool
   pub groups : new.groups ≡ old.groups ++ group ∷ []
-  pub none_pending : new.pending ≡ []
+  pub none_unassigned : new.unassigned_names ≡ []
   pub joined : EmailJoined g ms group
 
--- the accepted entries of one email, those without an old name first, the others ascending by it
+-- accepted entries for one email: those without an old name first, then the others in ascending order of it
 pub record EmailEntries (ms : List Mapping) : Type 0 where
   pub accepted : AllByRecursion (λ m. is_accepted m ≡ true) ms
   pub ascending : IsAscending (option_cmp text_cmp) (map (λ m. option_map folded m.old_name) ms)
 
--- an email of which nothing is known but its spelling
+-- an email with nothing but its spelling
 abbrev pub bare : Text → EmailGroup
 bare email = record { old_email = email; own = no_fields; names = [] }
 
--- how an email comes out: as it is, or as its earliest entry spells it
+-- the lookup of an email among the groups `gs`: g is its group there, or if it is not there a bare one, with the
+-- spelling of its earliest entry
 pub data EmailLookup (gs passed : List EmailGroup) (ps : List (ℕ × Mapping)) (email : Text) (g : EmailGroup)
     (left : List EmailGroup) : Type 0 where
   known : gs ≡ passed ++ g ∷ left → email_key g ≡ email → EmailLookup gs passed ps email g left
@@ -100,21 +86,21 @@ pub data EmailLookup (gs passed : List EmailGroup) (ps : List (ℕ × Mapping)) 
       → AllByRecursion (λ k. text_cmp email (email_key k) ≡ Less) left
       → (p : ℕ × Mapping) → IsEarliest ps p → g ≡ bare p.1.old_email → EmailLookup gs passed ps email g left
 
--- one email came out for a group of the batch, after those that come before it
-pub record GroupPut (gs left : List EmailGroup) (ps : List (ℕ × Mapping)) (email : Text) (old new : Contents)
+-- the email for a group of the batch was appended, after the old emails that come before it
+pub record GroupAppended (gs left : List EmailGroup) (ps : List (ℕ × Mapping)) (email : Text) (old new : Contents)
     : Type 0 where
   pub passed : List EmailGroup
   pub existing : EmailGroup
   pub group : EmailGroup
   pub pool : Extends old.pool new.pool
   pub groups : new.groups ≡ old.groups ++ (passed ++ group ∷ [])
-  pub none_pending : new.pending ≡ []
+  pub none_unassigned : new.unassigned_names ≡ []
   pub lookup : EmailLookup gs passed ps email existing left
   pub joined : EmailJoined existing (map (λ p. p.1) ps) group
 
--- ---- the whole
+-- ---- the whole merge
 
--- s spells each email as the groups do, and any other as its earliest entry
+-- s gives the spelling of the groups for their emails, and that of the earliest entry for any other
 pub record IsSpelling (gs : List EmailGroup) (ps : List (ℕ × Mapping)) (s : Text → Text) : Type 0 where
   pub same : AllByRecursion (λ p. folded (s (email_text p.1)) ≡ email_text p.1) ps
   pub existing : AllByRecursion (λ g. s (email_key g) ≡ g.old_email) gs
@@ -124,8 +110,7 @@ pub record IsSpelling (gs : List EmailGroup) (ps : List (ℕ × Mapping)) (s : T
 abbrev pub spelled_by : (Text → Text) → Mapping → Mapping
 spelled_by s m = with_email (s (email_text m)) m
 
--- the emails that come out say the same as those that were there before and the batch, whose emails are spelled as
--- they are kept
+-- the emails of the output are equivalent to the old ones and the batch, once its emails have the stored spellings
 pub record AllJoined (gs : List EmailGroup) (ps : List (ℕ × Mapping)) (cs : List EmailGroup) : Type 0 where
   pub groups : AreGroups cs
   pub alike : (s : Text → Text) → IsSpelling gs ps s → Alike (listing gs ++ map (λ p. spelled_by s p.1) ps) (listing cs)

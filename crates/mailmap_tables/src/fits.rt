@@ -1,4 +1,5 @@
-//! Whether a batch is so small beside the tables that it is to be put in place, and the room that this takes.
+//! Decides whether a batch is small enough, compared to the tables, to be merged [in place](crate::in_place), and how
+//! much memory that needs.
 ghost use Rattle.std.specs.Prelude.{◌≡◌, ◌≤◌, ◌<◌, length, map};
 ghost use Rattle.std.specs.Option.{ForSome};
 ghost use Rattle.std.specs.List.{AllByRecursion};
@@ -7,42 +8,42 @@ ghost use Rattle.mailmap_entries.specs.Entries.{mapping_of};
 ghost use Rattle.mailmap_entries.specs.Folding.{text_cmp};
 ghost use Rattle.mailmap_tables.specs.Groups.{AreGroups, EmailGroup, email_key, name_key};
 ghost use Rattle.mailmap_batches.specs.Batches.{email_text};
-ghost use Rattle.mailmap_tables.specs.Pool.{NameLies, name_group};
+ghost use Rattle.mailmap_tables.specs.Pool.{NameInPool, name_group};
 ghost use Rattle.mailmap_tables.specs.Reserved.{HasReserved, OwnWithin, own_bytes};
 
 use crate::lengths::texts_len;
 use crate::rows::NameRow;
 use crate::search::{find_email_last_first, find_name};
 use crate::tables::Tables;
-use crate::texts::Texts;
+use crate::texts::RowTexts;
 use crate::view::View;
 use mailmap_entries::Entry;
 
-// More entries are joined aside: one by one they would move the rows of large tables more often than a copy does.
+// With more entries, moving the rows of large tables for each entry costs more than one copy.
 const MOST_IN_PLACE: usize = 16;
 
-// What tables have for the keys of entries.
+// What tables have already for the keys of entries.
 #[derive(Clone, Copy)]
 struct Existing {
-    // how many bytes the entries replace at most
+    // the bytes that the entries replace, at most
     replaced: usize,
-    // how many bytes the fields of one of their emails have at most
+    // the bytes of the texts of any of their emails, at most
     own_len: usize,
 }
 
-/// How many bytes of the pool are enough to put entries in place, one by one. `None` if there are so many entries,
-/// beside the rows of the tables, that a copy moves less, or if half of the pool could be unused after that.
+/// The number of bytes in the pool that is enough to merge entries in place, one by one. `None` if a copy would be
+/// cheaper, because there are too many entries or too few rows, or if half of the pool could become unused.
 pub(crate) fn bytes_in_place(tables: &Tables, entries: &[Entry<'_>]) -> Option<usize>
     requires { AreGroups tables.now.groups }
     ensures { ForSome result (HasReserved tables.now.groups (map mapping_of entries.now)) }
 {
-    // so nothing is put in place in empty tables
+    // this rules out empty tables, too
     if MOST_IN_PLACE < entries.len() || tables.view().row_count() <= entries.len() {
         return None;
     }
     let existing = existing_of(&tables.view(), entries);
     let len = texts_len(entries);
-    // each entry may copy the fields that its email has by then: its own ones and those that the entries give
+    // each entry may copy the fields that its email has by then, including those that the entries before it added
     let copied = entries
         .len()
         .saturating_mul(existing.own_len.saturating_add(len));
@@ -54,7 +55,6 @@ pub(crate) fn bytes_in_place(tables: &Tables, entries: &[Entry<'_>]) -> Option<u
     Some(bytes)
 }
 
-// What tables have for the keys of entries.
 fn existing_of(tables: &View<'_>, entries: &[Entry<'_>]) -> Existing
     requires { AreGroups tables.now.groups }
     ensures { OwnWithin result.own_len tables.now.groups (map mapping_of entries.now) }
@@ -69,7 +69,6 @@ fn existing_of(tables: &View<'_>, entries: &[Entry<'_>]) -> Existing
     Existing { replaced, own_len }
 }
 
-// What tables have for the key of an entry.
 fn existing_for(tables: &View<'_>, entry: &Entry<'_>) -> Existing
     requires { AreGroups tables.now.groups }
     ensures { AllByRecursion (λ (g : EmailGroup). email_key g ≡ email_text (mapping_of entry.now)
@@ -80,7 +79,7 @@ fn existing_for(tables: &View<'_>, entry: &Entry<'_>) -> Existing
             let (texts, names) = tables.email(index);
             Existing {
                 replaced: replaced_len(tables, texts, names, entry.old_name()),
-                own_len: tables.fields_len(texts),
+                own_len: tables.row_len(texts),
             }
         }
         Err(_) => Existing {
@@ -90,14 +89,14 @@ fn existing_for(tables: &View<'_>, entry: &Entry<'_>) -> Existing
     }
 }
 
-// How many bytes the texts of an email have, or those of one of its names.
+// The number of bytes of an email's texts, or of the texts of one of its names.
 fn replaced_len(
     tables: &View<'_>,
-    texts: Texts,
+    texts: RowTexts,
     names: &[NameRow],
     old_name: Option<&[u8]>,
 ) -> usize
-    requires lie { AllByRecursion (NameLies (length tables.now.pool)) names.now }
+    requires lie { AllByRecursion (NameInPool (length tables.now.pool)) names.now }
     requires ascending { IsStrictlySortedBy text_cmp (map name_key (map (name_group tables.now.pool) names.now)) }
 {
     match old_name {

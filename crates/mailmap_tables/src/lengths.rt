@@ -1,4 +1,4 @@
-//! How many bytes texts and entries have.
+//! The number of bytes in texts and entries.
 ghost use Rattle.std.specs.Prelude.{◌≡◌, map, min, sum_by};
 ghost use Rattle.std.specs.Option.{option_copied};
 ghost use Rattle.mailmap_entries.specs.Entries.{mapping_of};
@@ -6,7 +6,7 @@ ghost use Rattle.mailmap_tables.specs.Reserved.{entry_bytes, optional_bytes};
 
 use mailmap_entries::Entry;
 
-/// How many bytes a text has, if there is one.
+/// The number of bytes of a text, 0 without one.
 pub(crate) fn text_len(text: Option<&[u8]>) -> usize
     ensures { result ≡ optional_bytes (option_copied text.entry) }
 {
@@ -16,7 +16,7 @@ pub(crate) fn text_len(text: Option<&[u8]>) -> usize
     }
 }
 
-// How many bytes the texts of an entry have, as far as they can be counted.
+// The number of bytes in the texts of an entry, at most `usize::MAX`.
 fn entry_len(entry: &Entry<'_>) -> usize
     ensures { result ≡ min (entry_bytes (mapping_of entry.now)) usize.MAX }
 {
@@ -25,7 +25,7 @@ fn entry_len(entry: &Entry<'_>) -> usize
     entry.old_email().len().saturating_add(names)
 }
 
-/// How many bytes the texts of entries have, as far as they can be counted.
+/// The number of bytes in the texts of entries, at most `usize::MAX`.
 pub(crate) fn texts_len(entries: &[Entry<'_>]) -> usize
     ensures { result ≡ min (sum_by entry_bytes (map mapping_of entries.now)) usize.MAX }
 {

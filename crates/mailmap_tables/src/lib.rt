@@ -1,7 +1,7 @@
-//! The tables of a snapshot, and how a batch of entries joins them. The crate `gix_mailmap` builds on these, and
-//! doesn't show them to users.
+//! The tables of a snapshot, and merges of entries into them. This is internal to the library.
 #![tactic(auto)]
 
+mod chunks;
 mod fits;
 mod in_place;
 mod join;
@@ -9,7 +9,6 @@ mod lengths;
 pub mod listing;
 mod merge;
 mod pool;
-mod portions;
 mod reserved;
 pub mod rows;
 pub mod search;

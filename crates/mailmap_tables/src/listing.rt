@@ -1,4 +1,4 @@
-//! The entries that tables list.
+//! Lists the entries of tables.
 ghost use Rattle.std.specs.Prelude.{◌≡◌, List, [], length, option_map};
 ghost use Rattle.std.specs.Iterator.{YieldsFirstBy, item_count};
 ghost use Rattle.std.specs.List.{AllByRecursion};
@@ -6,21 +6,22 @@ ghost use Rattle.std.specs.Option.{option_to_list};
 ghost use Rattle.mailmap_entries.specs.Entries.{mapping_of};
 ghost use Rattle.mailmap_tables.specs.Groups.{listing, name_row, own_rows};
 ghost use Rattle.mailmap_tables.specs.Remaining.{left_to_list};
-ghost use Rattle.mailmap_tables.specs.Pool.{NameLies, TextsLie, group_of, name_group};
+ghost use Rattle.mailmap_tables.specs.Pool.{NameInPool, TextsInPool, group_of, name_group, spelled};
+ghost use Rattle.mailmap_tables.specs.RowTexts.{old_span};
 
 use crate::rows::NameRow;
-use crate::texts::Texts;
+use crate::texts::RowTexts;
 use crate::view::View;
 use mailmap_entries::Entry;
 use std::marker::Model;
 
-/// The entries of a snapshot, in ascending order of their keys.
+/// An iterator over the entries of a snapshot, in ascending order of their keys.
 ///
 /// Contracts see it as the list of the entries that are left.
 #[derive(Drop)]
 pub struct Iter<'a> {
     tables: View<'a>,
-    // how many emails were reached, the last of them, and its names that are left
+    // the number of emails reached, the last of these, and those of its names that are left
     reached: usize,
     old_email: &'a [u8],
     names: &'a [NameRow],
@@ -34,15 +35,14 @@ impl<'a> Model for Iter<'a> {
     ghost Value = { List Mapping };
 
     ghost use Rattle.mailmap_tables.specs.Remaining.{left_to_list};
-    ghost use Rattle.mailmap_tables.specs.Pool.{NameLies};
+    ghost use Rattle.mailmap_tables.specs.Pool.{NameInPool};
 
     ghost view = { λ s. left_to_list s.tables s.old_email.now s.names.now s.reached };
 
-    ghost invariant = { λ s. AllByRecursion (NameLies (length s.tables.pool)) s.names.now };
+    ghost invariant = { λ s. AllByRecursion (NameInPool (length s.tables.pool)) s.names.now };
 }
 
 impl<'a> Iter<'a> {
-    /// All entries of the tables.
     pub fn new(tables: View<'a>) -> Self
         ensures { result ≡ listing tables.entry.groups }
     {
@@ -63,12 +63,12 @@ impl<'a> Iterator for Iter<'a> {
     ghost remaining = { item_count (λ s. s) };
 
     fn next(&mut self) -> Option<Entry<'a>> {
-        while self.names.is_empty() && self.reached < self.tables.len() {
+        while self.names.is_empty() && self.reached < self.tables.email_count() {
             let (texts, names) = self.tables.email(self.reached);
             self.reached += 1;
             self.old_email = self.tables.text(texts.old());
             self.names = names;
-            if let Some(entry) = own_entry(&self.tables, texts) {
+            if let Some(entry) = own_entry(&self.tables, self.old_email, texts) {
                 return Some(entry);
             }
         }
@@ -78,12 +78,12 @@ impl<'a> Iterator for Iter<'a> {
     }
 }
 
-// The entry of an email for all its names, if a field was given for them.
-fn own_entry<'a>(tables: &View<'a>, texts: Texts) -> Option<Entry<'a>>
-    requires { TextsLie (length tables.now.pool) texts }
+// The entry of an email that applies to all names, if there is one.
+fn own_entry<'a>(tables: &View<'a>, old_email: &'a [u8], texts: RowTexts) -> Option<Entry<'a>>
+    requires lies { TextsInPool (length tables.now.pool) texts }
+    requires old_email { old_email.now ≡ spelled tables.now.pool (old_span texts) }
     ensures { option_to_list (option_map mapping_of result) ≡ own_rows (group_of tables.now.pool texts []) }
 {
-    let old_email = tables.text(texts.old());
     let (new_name, new_email) = tables.fields(texts);
     match (
         tables.optional_text(new_name),
@@ -98,9 +98,9 @@ fn own_entry<'a>(tables: &View<'a>, texts: Texts) -> Option<Entry<'a>>
     }
 }
 
-// The entry of a name of an email.
+// The entry of one of an email's names.
 fn name_entry<'a>(tables: &View<'a>, old_email: &'a [u8], row: &NameRow) -> Entry<'a>
-    requires { NameLies (length tables.now.pool) row.now }
+    requires { NameInPool (length tables.now.pool) row.now }
     ensures { mapping_of result ≡ name_row old_email.now (name_group tables.now.pool row.now) }
 {
     let old_name = tables.text(row.old());

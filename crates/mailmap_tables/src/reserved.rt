@@ -1,4 +1,5 @@
-//! Tables with memory reserved beforehand: texts and rows go in where they belong, and no step can fail.
+//! Tables with reserved memory, for merges [in place](crate::in_place). Texts and rows are inserted where they belong,
+//! and no call can fail.
 ghost use Rattle.std.specs.Prelude.{List, ℕ, ◌≡◌, ◌≤◌, ◌<◌, ◌+◌, ◌-◌, ◌++◌, [], length, IfOk, IfErr, OnOk, map};
 ghost use Rattle.std.specs.Prelude.{slice_set, vec_len, vec_capacity};
 ghost use Rattle.std.specs.List.{AllByRecursion, HoldsAt, insert};
@@ -7,14 +8,14 @@ ghost use Rattle.mailmap_tables.specs.Reserved.{one_later};
 use crate::pool::Pool;
 use crate::rows::{EmailRow, NameRow};
 use crate::tables::Tables;
-use crate::texts::{Span, Texts};
+use crate::texts::{RowTexts, Span};
 use crate::view::{View, last_end};
-use mailmap_batches::groups::{Given, Named};
+use mailmap_batches::groups::{DefaultFields, NamedFields};
 use mailmap_entries::fold::prefix::key_prefix;
 use std::alloc::AllocError;
 use std::marker::Model;
 
-/// Tables with memory reserved for more. Contracts see how much.
+/// Tables with reserved memory. Contracts see how much is left.
 #[derive(Drop)]
 pub(crate) struct ReservedTables {
     pool: Pool,
@@ -44,15 +45,16 @@ impl Model for ReservedTables {
 impl ReservedTables {
     ghost use Rattle.mailmap_tables.specs.Groups.{EmailGroup};
     ghost use Rattle.mailmap_tables.specs.Merging.{bare};
-    ghost use Rattle.mailmap_tables.specs.Named.{OwnSpells};
+    ghost use Rattle.mailmap_tables.specs.Pool.{OwnSpells};
     ghost use Rattle.mailmap_batches.specs.Given.{fields_given, named_group};
-    ghost use Rattle.mailmap_tables.specs.Pool.{spelled, LiesIn, NameLies, TextsLie, fields_of, group_of, name_group};
-    ghost use Rattle.mailmap_tables.specs.Texts.{old_span};
-    ghost use Rattle.mailmap_tables.specs.Reserved.{Reserved, TookReserved, fields_reserved, own_reserved};
+    ghost use Rattle.mailmap_tables.specs.Pool.{spelled, LiesIn, NameInPool, TextsInPool, fields_of, group_of};
+    ghost use Rattle.mailmap_tables.specs.Pool.{name_group};
+    ghost use Rattle.mailmap_tables.specs.RowTexts.{old_span};
+    ghost use Rattle.mailmap_tables.specs.Reserved.{Reserved, TookReserved, fields_growth, own_growth};
     ghost use Rattle.mailmap_tables.specs.Reserved.{with_email_at};
 
-    /// Reserves memory for `rows` more rows of each table, and for `bytes` more bytes of texts. If memory runs out, the
-    /// tables come back as they were.
+    /// Reserves memory for `rows` more rows in each table and for `bytes` more bytes of texts. If memory runs out,
+    /// returns the tables unchanged.
     pub(crate) fn new(tables: Tables, rows: usize, bytes: usize) -> Result<ReservedTables, Tables>
         ensures held { IfOk result (λ reserved. reserved.held ≡ tables) }
         ensures bytes { IfOk result (λ reserved. bytes ≤ reserved.bytes) }
@@ -78,7 +80,6 @@ impl ReservedTables {
         }
     }
 
-    // Reserves memory in all four vectors.
     fn reserve(&mut self, rows: usize, bytes: usize) -> Result<(), AllocError>
         ensures held { self.new.held ≡ self.old.held }
         ensures bytes { OnOk result (bytes ≤ self.new.bytes) }
@@ -91,7 +92,7 @@ impl ReservedTables {
         self.names.reserve(rows)
     }
 
-    /// The tables, whatever memory they have reserved.
+    /// Returns the tables. Memory that is left stays allocated.
     pub(crate) fn into_tables(self) -> Tables
         ensures { result ≡ self.held }
     {
@@ -109,7 +110,6 @@ impl ReservedTables {
         }
     }
 
-    /// The tables, to be read.
     pub(crate) fn view(&self) -> View<'_>
         ensures { result ≡ self.now.held }
     {
@@ -121,45 +121,45 @@ impl ReservedTables {
         }
     }
 
-    /// Puts a text at the end of the pool. By that `replaced` bytes of the pool go out of use.
-    pub(crate) fn push_text(&mut self, text: &[u8], replaced: usize) -> Span
+    /// Appends a text to the pool.
+    pub(crate) fn push_text(&mut self, text: &[u8]) -> Span
         requires reserved { length text.now ≤ self.old.bytes }
         ensures held { self.new.held ≡ record self.old.held { pool = self.old.held.pool ++ text.now } }
         ensures reserved { TookReserved (length text.now) 0 0 self.old self.new }
         ensures lies { LiesIn (length self.new.held.pool) result }
         ensures spells { spelled self.new.held.pool result ≡ text.now }
     {
-        self.pool.push_text(text, replaced).unwrap()
+        self.pool.push_text(text).unwrap()
     }
 
-    /// The row of a name with the fields that are given for it, in place of fields of `replaced` bytes.
-    pub(crate) fn name_row(&mut self, old_name: Span, named: Named<'_>, replaced: usize) -> NameRow
-        requires lies { LiesIn (length self.old.held.pool) old_name }
-        requires reserved { old_name.len + fields_reserved (named_group named) ≤ self.old.bytes }
+    /// Writes the fields of a name in place of those of its existing row, and returns its new row.
+    pub(crate) fn name_row(&mut self, existing: RowTexts, named: NamedFields<'_>) -> NameRow
+        requires lies { TextsInPool (length self.old.held.pool) existing }
+        requires reserved { existing.old_len + fields_growth (named_group named) ≤ self.old.bytes }
         ensures grown { (more : List ℕ) × (self.new.held ≡ record self.old.held { pool = self.old.held.pool ++ more }) }
-        ensures lies { NameLies (length self.new.held.pool) result }
+        ensures lies { NameInPool (length self.new.held.pool) result }
         ensures spells { name_group self.new.held.pool result
-            ≡ record (named_group named.entry) { old_name = spelled self.old.held.pool old_name } }
-        ensures reserved { TookReserved (old_name.len + fields_reserved (named_group named.entry)) 0 0 self.old
+            ≡ record (named_group named.entry) { old_name = spelled self.old.held.pool (old_span existing) } }
+        ensures reserved { TookReserved (existing.old_len + fields_growth (named_group named.entry)) 0 0 self.old
             self.new }
     {
-        self.pool.name_row(old_name, named, replaced).unwrap()
+        self.pool.name_row(existing, named).unwrap()
     }
 
-    /// The row of an email: each field is the given one, or the present one if none is given.
-    pub(crate) fn own_row(&mut self, texts: Texts, given: Given<'_>) -> Texts
-        requires lies { TextsLie (length self.old.held.pool) texts }
-        requires reserved { own_reserved (group_of self.old.held.pool texts []) (fields_given given) ≤ self.old.bytes }
+    /// Writes the new fields of an email, and returns its new row. A field that isn't given stays as it is.
+    pub(crate) fn email_row(&mut self, texts: RowTexts, given: DefaultFields<'_>) -> RowTexts
+        requires lies { TextsInPool (length self.old.held.pool) texts }
+        requires reserved { own_growth (group_of self.old.held.pool texts []) (fields_given given) ≤ self.old.bytes }
         ensures grown { (more : List ℕ) × (self.new.held ≡ record self.old.held { pool = self.old.held.pool ++ more }) }
-        ensures lies { TextsLie (length self.new.held.pool) result }
+        ensures lies { TextsInPool (length self.new.held.pool) result }
         ensures spells { OwnSpells self.old.held.pool self.new.held.pool texts (fields_given given.entry) result }
         ensures reserved { TookReserved
-            (own_reserved (group_of self.old.held.pool texts []) (fields_given given.entry)) 0 0 self.old self.new }
+            (own_growth (group_of self.old.held.pool texts []) (fields_given given.entry)) 0 0 self.old self.new }
     {
-        self.pool.own_row(texts, given).unwrap()
+        self.pool.email_row(texts, given).unwrap()
     }
 
-    /// Puts an email of which nothing is known yet before the one at an index.
+    /// Inserts an email without new fields and names before the one at an index.
     pub(crate) fn insert_email(&mut self, index: usize, old_email: Span)
         requires index { index ≤ length self.old.held.groups }
         requires lies { LiesIn (length self.old.held.pool) old_email }
@@ -174,7 +174,7 @@ impl ReservedTables {
         let prefix = key_prefix(self.view().text(old_email));
         let end = last_end(&self.emails[..index]);
         let row = EmailRow {
-            texts: Texts::bare(old_email),
+            texts: RowTexts::bare(old_email),
             names_start: end,
             names_end: end,
         };
@@ -182,11 +182,11 @@ impl ReservedTables {
         self.prefixes.insert(index, prefix).unwrap();
     }
 
-    /// Inserts a name among those of an email. The names of later emails are moved by one.
+    /// Inserts a name among those of an email. The names of later emails move by one.
     pub(crate) fn insert_name(&mut self, email: usize, index: usize, row: NameRow)
         requires email { email < length self.old.held.groups }
         requires index { HoldsAt (λ (g : EmailGroup). index ≤ length g.names) self.old.held.groups email }
-        requires lies { NameLies (length self.old.held.pool) row }
+        requires lies { NameInPool (length self.old.held.pool) row }
         requires reserved { 0 < self.old.names }
         ensures held { HoldsAt
             (λ (g : EmailGroup). self.new.held
@@ -202,11 +202,10 @@ impl ReservedTables {
         raise_ranges(&mut self.emails[email + 1..]);
     }
 
-    /// Replaces a name of an email.
     pub(crate) fn replace_name(&mut self, email: usize, index: usize, row: NameRow)
         requires email { email < length self.old.held.groups }
         requires index { HoldsAt (λ (g : EmailGroup). index < length g.names) self.old.held.groups email }
-        requires lies { NameLies (length self.old.held.pool) row }
+        requires lies { NameInPool (length self.old.held.pool) row }
         ensures held { HoldsAt
             (λ (g : EmailGroup). self.new.held
             ≡ with_email_at self.old.held email
@@ -219,10 +218,10 @@ impl ReservedTables {
         self.names[start + index] = row;
     }
 
-    /// Gives an email these texts in place of its own. Its old email is spelled as before.
-    pub(crate) fn replace_texts(&mut self, email: usize, texts: Texts)
+    /// Replaces the texts of an email. The spelling of the old email stays the same.
+    pub(crate) fn replace_texts(&mut self, email: usize, texts: RowTexts)
         requires email { email < length self.old.held.groups }
-        requires lies { TextsLie (length self.old.held.pool) texts }
+        requires lies { TextsInPool (length self.old.held.pool) texts }
         requires same { HoldsAt (λ (g : EmailGroup). spelled self.old.held.pool (old_span texts) ≡ g.old_email)
             self.old.held.groups email }
         ensures held { HoldsAt
@@ -235,7 +234,7 @@ impl ReservedTables {
     }
 }
 
-// Raises the name range of each row by one.
+// Moves the name range of each row by one.
 fn raise_ranges(rows: &mut [EmailRow])
     requires { AllByRecursion (λ (r : EmailRow). (r.names_start < usize.MAX) × (r.names_end < usize.MAX)) rows.old }
     ensures { rows.new ≡ map one_later rows.old }

@@ -1,15 +1,15 @@
-//! The rows of the two tables: where the texts of a name or of an email are, and which names an email has.
+//! The rows of the two tables.
 
-use crate::texts::Texts;
+use crate::texts::RowTexts;
 
-/// The texts of an old name of an email. The new email is always there.
-pub type NameRow = Texts;
+/// The texts of one of an email's names: its old name and the fields that replace it. There is always a new email.
+pub type NameRow = RowTexts;
 
-/// The texts of an email, those that were given for it without an old name, and the range of its names in the table of
-/// names.
+/// The texts of an email: the old email and the new fields for all names without a row. Its names are a range in the
+/// table of names.
 #[derive(Clone, Copy)]
 pub struct EmailRow {
-    pub texts: Texts,
+    pub texts: RowTexts,
     pub names_start: usize,
     pub names_end: usize,
 }

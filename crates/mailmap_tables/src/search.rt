@@ -1,4 +1,4 @@
-//! Searches for emails and names in tables. They compare keys only by [`Steps`], which counts the comparisons.
+//! Binary searches for emails and names in tables. [`Steps`] makes and counts all comparisons of keys.
 ghost use Rattle.std.specs.Prelude.{◌<◌, ◌≤◌, ◌+◌, ◌-◌, ◌^◌, All, length, map, drop, min, IfOk, IfErr};
 ghost use Rattle.std.specs.List.{AllByRecursion};
 ghost use Rattle.std.specs.List.Sorted.{IsStrictlySortedBy};
@@ -6,8 +6,8 @@ ghost use Rattle.mailmap_entries.specs.Folding.{folded, text_cmp};
 ghost use Rattle.mailmap_entries.specs.Search.{digits};
 ghost use Rattle.mailmap_tables.specs.Groups.{email_key, name_key};
 ghost use Rattle.mailmap_tables.specs.KeySearch.{IsFound, IsMissing};
-ghost use Rattle.mailmap_tables.specs.Pool.{LiesIn, NameLies, name_group};
-ghost use Rattle.mailmap_tables.specs.Texts.{old_span};
+ghost use Rattle.mailmap_tables.specs.Pool.{LiesIn, NameInPool, name_group};
+ghost use Rattle.mailmap_tables.specs.RowTexts.{old_span};
 
 use crate::rows::NameRow;
 use crate::view::View;
@@ -16,7 +16,7 @@ use mailmap_entries::fold::{Probe, Steps, search};
 use std::cmp::Ordering;
 use std::mem;
 
-// The emails of tables from one index on, as a list of how each compares to one email.
+// The emails of tables from `start` on, compared to one email.
 #[derive(Drop)]
 struct EmailProbe<'a> {
     tables: &'a View<'a>,
@@ -38,7 +38,7 @@ impl Probe for EmailProbe<'_> {
     }
 }
 
-// The names of an email, as a list of how each compares to one name.
+// The names of an email, compared to one name.
 #[derive(Drop)]
 struct NameProbe<'a> {
     tables: &'a View<'a>,
@@ -60,24 +60,24 @@ impl Probe for NameProbe<'_> {
     }
 }
 
-/// The index of an email among those of the tables from `start` on, or the index where it would be.
+/// The index of an email among those of the tables from `start` on, or the index to insert it at.
 pub(crate) fn find_email(tables: &View<'_>, start: usize, email: &[u8]) -> Result<usize, usize>
     requires start { start ≤ length tables.now.groups }
     requires ascending { IsStrictlySortedBy text_cmp (map email_key tables.now.groups) }
     ensures found { IfOk result (IsFound email_key (folded email.now) start tables.now.groups) }
     ensures missing { IfErr result (IsMissing email_key (folded email.now) start tables.now.groups) }
 {
-    search_email(tables, start, email, &mut Steps::new())
+    find_email_counted(tables, start, email, &mut Steps::new())
 }
 
-/// As [`find_email`] among all emails, but looks at the last one first: in a sorted map each email comes after all that
-/// are there, or is the last of them.
+/// Does what [`find_email`] does among all emails, but compares to the last email first. If a mailmap is sorted, each
+/// entry's email is the last one or comes after it.
 pub(crate) fn find_email_last_first(tables: &View<'_>, email: &[u8]) -> Result<usize, usize>
     requires { IsStrictlySortedBy text_cmp (map email_key tables.now.groups) }
     ensures found { IfOk result (IsFound email_key (folded email.now) 0 tables.now.groups) }
     ensures missing { IfErr result (IsMissing email_key (folded email.now) 0 tables.now.groups) }
 {
-    let len = tables.len();
+    let len = tables.email_count();
     if 0 < len {
         let sought = Prefixed::new(email);
         match Steps::new().compare_prefixed(tables.email_text(len - 1), sought) {
@@ -89,9 +89,9 @@ pub(crate) fn find_email_last_first(tables: &View<'_>, email: &[u8]) -> Result<u
     find_email(tables, 0, email)
 }
 
-/// The index of a name among the names of an email, or the index where it would be.
+/// The index of a name among the names of an email, or the index to insert it at.
 pub(crate) fn find_name(tables: &View<'_>, names: &[NameRow], name: &[u8]) -> Result<usize, usize>
-    requires lie { AllByRecursion (NameLies (length tables.now.pool)) names.now }
+    requires lie { AllByRecursion (NameInPool (length tables.now.pool)) names.now }
     requires ascending { IsStrictlySortedBy text_cmp
         (map name_key (map (name_group tables.now.pool) names.now)) }
     ensures found { IfOk result
@@ -99,12 +99,12 @@ pub(crate) fn find_name(tables: &View<'_>, names: &[NameRow], name: &[u8]) -> Re
     ensures missing { IfErr result
         (IsMissing name_key (folded name.now) 0 (map (name_group tables.now.pool) names.now)) }
 {
-    search_name(tables, names, name, &mut Steps::new())
+    find_name_counted(tables, names, name, &mut Steps::new())
 }
 
-/// As [`find_email`], and counts the comparisons: at most as many as the number of emails from `start` on has binary
-/// digits.
-pub fn search_email(
+/// Does what [`find_email`] does, and counts the comparisons. There are at most as many as the number of emails from
+/// `start` on has binary digits.
+pub fn find_email_counted(
     tables: &View<'_>,
     start: usize,
     email: &[u8],
@@ -119,7 +119,7 @@ pub fn search_email(
     ensures few { steps.new ≤ steps.old + 64 }
     ensures at_least { steps.old + min 1 (length tables.now.groups - start) ≤ steps.new }
 {
-    let len = tables.len();
+    let len = tables.email_count();
     let mut probe = EmailProbe {
         tables,
         start,
@@ -134,14 +134,15 @@ pub fn search_email(
     }
 }
 
-/// As [`find_name`], and counts the comparisons: at most as many as the number of the names has binary digits.
-pub fn search_name(
+/// Does what [`find_name`] does, and counts the comparisons. There are at most as many as the number of names has
+/// binary digits.
+pub fn find_name_counted(
     tables: &View<'_>,
     names: &[NameRow],
     name: &[u8],
     steps: &mut Steps,
 ) -> Result<usize, usize>
-    requires lie { AllByRecursion (NameLies (length tables.now.pool)) names.now }
+    requires lie { AllByRecursion (NameInPool (length tables.now.pool)) names.now }
     requires ascending { IsStrictlySortedBy text_cmp
         (map name_key (map (name_group tables.now.pool) names.now)) }
     requires countable { steps.old ≤ usize.MAX - 64 }

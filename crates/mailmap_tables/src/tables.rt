@@ -1,5 +1,5 @@
-//! The tables of a snapshot: one pool of bytes that holds each text, a flat table of emails and a flat table of names,
-//! whose rows say where their texts are in the pool.
+//! The tables of a snapshot: a pool with the bytes of all texts, and flat tables of emails and of names, whose rows say
+//! where their texts are in the pool.
 ghost use Rattle.std.specs.Prelude.{◌≡◌, ◌≤◌, ◌<◌, ◌++◌, [], ◌∷◌, length, ◌-◌, List, ℕ, OnOk, OnErr, IfOk, map, take};
 ghost use Rattle.std.specs.Prelude.{drop};
 ghost use Rattle.std.specs.List.{AllByRecursion};
@@ -8,22 +8,23 @@ ghost use Rattle.mailmap_entries.specs.Prefixes.{IsKeyPrefix};
 
 use crate::pool::Pool;
 use crate::rows::{EmailRow, NameRow};
-use crate::texts::{Span, Texts};
+use crate::texts::{RowTexts, Span};
 use crate::view::{View, last_end};
-use mailmap_batches::groups::{Given, Named};
+use mailmap_batches::groups::{DefaultFields, NamedFields};
 use mailmap_entries::fold::prefix::key_prefix;
 use std::alloc::{AllocError, Global};
 use std::marker::Model;
 
-/// The pool and the two tables. While tables are built, names come before the email that takes them.
+/// The pool and the two tables. While tables are built, the names of an email are pushed before the email itself.
 ///
-/// To a contract it is the pool, a group for each email, and the names that no email has taken yet (`pending`).
+/// Contracts see the pool, a group for each email, and the names that were pushed but don't belong to an email yet
+/// (`unassigned_names`).
 #[derive(Drop)]
 pub struct Tables {
     pub(crate) pool: Pool,
     pub(crate) emails: Vec<EmailRow>,
     pub(crate) names: Vec<NameRow>,
-    // the first bytes of each email as a number, side by side: a search seldom reads more
+    // the key prefix of each email, contiguous in memory: a search rarely reads more
     pub(crate) prefixes: Vec<u128>,
 }
 
@@ -41,14 +42,14 @@ impl Model for Tables {
 
 impl Tables {
     ghost use Rattle.mailmap_tables.specs.Groups.{Contents};
-    ghost use Rattle.mailmap_tables.specs.Named.{OwnSpells};
+    ghost use Rattle.mailmap_tables.specs.Pool.{OwnSpells};
     ghost use Rattle.mailmap_batches.specs.Given.{fields_given, named_group};
-    ghost use Rattle.mailmap_tables.specs.Pool.{spelled, LiesIn, NameLies, TextsLie, name_group, group_of};
-    ghost use Rattle.mailmap_tables.specs.Texts.{old_span};
+    ghost use Rattle.mailmap_tables.specs.Pool.{spelled, LiesIn, NameInPool, TextsInPool, name_group, group_of};
+    ghost use Rattle.mailmap_tables.specs.RowTexts.{old_span};
 
-    /// No email and no name, and no memory taken.
+    /// Empty tables. Allocates nothing.
     pub fn new(alloc: Global) -> Tables
-        ensures { result ≡ record { pool = []; groups = []; pending = [] } }
+        ensures { result ≡ record { pool = []; groups = []; unassigned_names = [] } }
     {
         Tables {
             pool: Pool::new(alloc),
@@ -58,15 +59,17 @@ impl Tables {
         }
     }
 
-    /// The pool of `old_tables` with its texts where they are, and no email and no name. There is room for the rows of
-    /// `old_tables` and for up to `rows` more, and in the pool for `bytes` more.
-    pub fn over_pool(
+    /// Tables with a copy of the pool of `old_tables`, in which texts keep their positions, but without emails and
+    /// names. There is capacity for the rows of `old_tables` and up to `rows` more, and for `bytes` more bytes in the
+    /// pool.
+    pub(crate) fn over_pool(
         alloc: Global,
         old_tables: &Tables,
         rows: usize,
         bytes: usize,
     ) -> Result<Tables, AllocError>
-        ensures { IfOk result (λ made. made ≡ record { pool = old_tables.now.pool; groups = []; pending = [] }) }
+        ensures { IfOk result
+            (λ made. made ≡ record { pool = old_tables.now.pool; groups = []; unassigned_names = [] }) }
     {
         Ok(Tables {
             pool: old_tables.pool.try_clone(alloc, bytes)?,
@@ -76,91 +79,97 @@ impl Tables {
         })
     }
 
-    /// Puts a text at the end of the pool. By that `replaced` bytes of the pool go out of use.
-    pub fn push_text(&mut self, text: &[u8], replaced: usize) -> Result<Span, AllocError>
+    /// Appends a text to the pool.
+    pub(crate) fn push_text(&mut self, text: &[u8]) -> Result<Span, AllocError>
         ensures grown { OnOk result (self.new ≡ record self.old { pool = self.old.pool ++ text.now }) }
         ensures lies { IfOk result (LiesIn (length self.new.pool)) }
         ensures spells { IfOk result (λ span. spelled self.new.pool span ≡ text.now) }
     {
-        self.pool.push_text(text, replaced)
+        self.pool.push_text(text)
     }
 
-    /// The row of a name with the fields that are given for it. They replace fields of `replaced` bytes.
+    /// Writes the fields of a name to the pool, in place of those of its existing row, and returns its new row.
     pub(crate) fn name_row(
         &mut self,
-        old_name: Span,
-        named: Named<'_>,
-        replaced: usize,
+        existing: RowTexts,
+        named: NamedFields<'_>,
     ) -> Result<NameRow, AllocError>
-        requires { LiesIn (length self.old.pool) old_name }
+        requires { TextsInPool (length self.old.pool) existing }
         ensures grown { (more : List ℕ) × (self.new ≡ record self.old { pool = self.old.pool ++ more }) }
-        ensures lies { IfOk result (NameLies (length self.new.pool)) }
+        ensures lies { IfOk result (NameInPool (length self.new.pool)) }
         ensures spells { IfOk result (λ row. name_group self.new.pool row
-            ≡ record (named_group named.entry) { old_name = spelled self.old.pool old_name }) }
+            ≡ record (named_group named.entry) { old_name = spelled self.old.pool (old_span existing) }) }
     {
-        self.pool.name_row(old_name, named, replaced)
+        self.pool.name_row(existing, named)
     }
 
-    /// The row of an email: each field is the given one, or the present one if none is given.
-    pub(crate) fn own_row(&mut self, texts: Texts, given: Given<'_>) -> Result<Texts, AllocError>
-        requires { TextsLie (length self.old.pool) texts }
+    /// Writes the new fields of an email to the pool, and returns its new row. A field that isn't given stays as it is.
+    pub(crate) fn email_row(
+        &mut self,
+        texts: RowTexts,
+        given: DefaultFields<'_>,
+    ) -> Result<RowTexts, AllocError>
+        requires { TextsInPool (length self.old.pool) texts }
         ensures grown { (more : List ℕ) × (self.new ≡ record self.old { pool = self.old.pool ++ more }) }
-        ensures lies { IfOk result (TextsLie (length self.new.pool)) }
+        ensures lies { IfOk result (TextsInPool (length self.new.pool)) }
         ensures spells { IfOk result (OwnSpells self.old.pool self.new.pool texts (fields_given given.entry)) }
     {
-        self.pool.own_row(texts, given)
+        self.pool.email_row(texts, given)
     }
 
-    /// Puts a name after those that no email has taken.
-    pub fn push_name(&mut self, row: NameRow) -> Result<(), AllocError>
-        requires { NameLies (length self.old.pool) row }
-        ensures { OnOk result
-            (self.new ≡ record self.old { pending = self.old.pending ++ name_group self.old.pool row ∷ [] }) }
+    /// Appends a name, which belongs to no email yet.
+    pub(crate) fn push_name(&mut self, row: NameRow) -> Result<(), AllocError>
+        requires { NameInPool (length self.old.pool) row }
+        ensures { OnOk result (self.new ≡ record self.old {
+          unassigned_names = self.old.unassigned_names ++ name_group self.old.pool row ∷ [];
+        }) }
     {
         self.names.push(row)?;
         Ok(())
     }
 
-    /// Puts names after those that no email has taken.
-    pub fn push_names(&mut self, rows: &[NameRow]) -> Result<(), AllocError>
-        requires { AllByRecursion (NameLies (length self.old.pool)) rows.now }
-        ensures { OnOk result
-            (self.new ≡ record self.old { pending = self.old.pending ++ map (name_group self.old.pool) rows.now }) }
+    /// Appends names, which belong to no email yet.
+    pub(crate) fn push_names(&mut self, rows: &[NameRow]) -> Result<(), AllocError>
+        requires { AllByRecursion (NameInPool (length self.old.pool)) rows.now }
+        ensures { OnOk result (self.new ≡ record self.old {
+          unassigned_names = self.old.unassigned_names ++ map (name_group self.old.pool) rows.now;
+        }) }
     {
         self.names.extend_from_slice(rows)?;
         Ok(())
     }
 
-    /// Puts an email after the others, which takes the names that no email has taken yet.
+    /// Appends an email. All unassigned names become its names.
     #[inline(always)]
-    pub fn push_email(&mut self, texts: Texts) -> Result<(), AllocError>
-        requires { TextsLie (length self.old.pool) texts }
-        ensures { OnOk result (self.new ≡ record {
-          pool = self.old.pool;
-          groups = self.old.groups ++ record (group_of self.old.pool texts []) { names = self.old.pending } ∷ [];
-          pending = [];
-        }) }
-    {
-        let row = EmailRow {
-            texts,
-            names_start: last_end(&self.emails),
-            names_end: self.names.len(),
-        };
-        let prefix = key_prefix(self.view().text(texts.old()));
-        push_row(&mut self.emails, &mut self.prefixes, row, prefix)?;
-        Ok(())
-    }
-
-    /// Puts an email with its prefix after the others. It takes `count` of the names that no email has taken yet.
-    pub fn pass_email(&mut self, texts: Texts, count: usize, prefix: u128) -> Result<(), AllocError>
-        requires lies { TextsLie (length self.old.pool) texts }
-        requires prefix { IsKeyPrefix prefix (folded (spelled self.old.pool (old_span texts))) }
-        requires pending { count ≤ length self.old.pending }
+    pub(crate) fn push_email(&mut self, texts: RowTexts) -> Result<(), AllocError>
+        requires { TextsInPool (length self.old.pool) texts }
         ensures { OnOk result (self.new ≡ record {
           pool = self.old.pool;
           groups = self.old.groups
-              ++ record (group_of self.old.pool texts []) { names = take count self.old.pending } ∷ [];
-          pending = drop count self.old.pending;
+              ++ record (group_of self.old.pool texts []) { names = self.old.unassigned_names } ∷ [];
+          unassigned_names = [];
+        }) }
+    {
+        let count = self.names.len() - last_end(&self.emails);
+        let prefix = key_prefix(self.view().text(texts.old()));
+        self.push_email_with_prefix(texts, count, prefix)
+    }
+
+    /// Appends an email whose prefix is known. The first `count` unassigned names become its names.
+    pub(crate) fn push_email_with_prefix(
+        &mut self,
+        texts: RowTexts,
+        count: usize,
+        prefix: u128,
+    ) -> Result<(), AllocError>
+        requires lies { TextsInPool (length self.old.pool) texts }
+        requires prefix { IsKeyPrefix prefix (folded (spelled self.old.pool (old_span texts))) }
+        requires unassigned_names { count ≤ length self.old.unassigned_names }
+        ensures { OnOk result (self.new ≡ record {
+          pool = self.old.pool;
+          groups = self.old.groups
+              ++ record (group_of self.old.pool texts []) { names = take count self.old.unassigned_names } ∷ [];
+          unassigned_names = drop count self.old.unassigned_names;
         }) }
     {
         let names_start = last_end(&self.emails);
@@ -174,7 +183,7 @@ impl Tables {
     }
 }
 
-// Puts a row and its prefix after the others, or neither.
+// Appends a row and its prefix, or neither.
 fn push_row(
     emails: &mut Vec<EmailRow>,
     prefixes: &mut Vec<u128>,
@@ -191,8 +200,8 @@ fn push_row(
     Ok(())
 }
 
-// How many rows to take room for: those that are there, and `more`. A large batch may have few keys, so `more` counts
-// only up to the rows that are there and a few.
+// The number of rows to allocate: `len` and `more`. A large batch may have few distinct keys, so `more` counts at most
+// as many rows as there are, plus 64.
 fn with_more(len: usize, more: usize) -> usize {
     len.saturating_add(more.min(len.saturating_add(64)))
 }
@@ -200,7 +209,6 @@ fn with_more(len: usize, more: usize) -> usize {
 impl Tables {
     ghost use Rattle.mailmap_tables.specs.Groups.{Contents};
 
-    /// The tables, to be read.
     pub fn view(&self) -> View<'_>
         ensures { result ≡ self.now }
     {
@@ -212,7 +220,6 @@ impl Tables {
         }
     }
 
-    /// The same tables in memory of their own.
     pub fn try_clone(&self, alloc: Global) -> Result<Tables, AllocError>
         ensures { IfOk result (λ copy. copy ≡ self.now) }
     {
@@ -226,7 +233,6 @@ impl Tables {
 }
 
 impl Tables {
-    /// The allocator that the tables keep.
     pub(crate) fn allocator(&self) -> Global {
         *self.pool.bytes.allocator()
     }

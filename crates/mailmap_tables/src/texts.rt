@@ -1,40 +1,42 @@
-//! The texts of a row: an old one, and the new name and the new email that replace it, one after another in the pool.
+//! The texts of a row: an old text, and the new name and the new email that replace it. They are consecutive in the
+//! pool.
 ghost use Rattle.std.specs.Prelude.{◌≡◌, ◌≤◌, ◌<◌, ◌+◌, ◌++◌, None, Some, ◌-◌, min, IfOk, IsOk, IsSome, IsTrue, OnOk};
 ghost use Rattle.std.specs.Prelude.{OnErr, length, vec_len, vec_capacity};
 ghost use Rattle.std.specs.Option.{ForSome};
 ghost use Rattle.mailmap_tables.specs.Merging.{Extends};
-ghost use Rattle.mailmap_tables.specs.Pool.{LiesIn, RowSpells, TextsLie, bytes_of};
-ghost use Rattle.mailmap_tables.specs.Texts.{AreTogether, IsBare, byte_count, email_span, len_of, name_span, old_span};
-ghost use Rattle.mailmap_tables.specs.Texts.{row_bytes, row_of, span_bytes, span_of};
+ghost use Rattle.mailmap_tables.specs.Pool.{GrowsBy, LiesIn, RowSpells, TextsInPool, bytes_of};
+ghost use Rattle.mailmap_tables.specs.RowTexts.{AreTogether, IsBare, byte_count, email_span, len_of, name_span};
+ghost use Rattle.mailmap_tables.specs.RowTexts.{old_span};
+ghost use Rattle.mailmap_tables.specs.RowTexts.{row_bytes, row_of, span_bytes, span_of};
 
 use std::alloc::AllocError;
 
-/// Where a text is in the pool.
+/// The position of a text in the pool.
 #[derive(Clone, Copy)]
 pub struct Span {
     pub start: usize,
     pub len: usize,
 }
 
-/// A length that no text has. It says that there is no text.
+/// Marks a missing text. No text is this long.
 pub const NO_TEXT: usize = usize::MAX;
 
-/// Where the texts of a row are in the pool: the old one starts at `start`, and after it come the new name and the new
-/// email, each with a length of its own or [`NO_TEXT`].
+/// The texts of a row in the pool: the old one is at `start`, followed by the new name and the new email. The length of
+/// a missing one is [`NO_TEXT`].
 #[derive(Clone, Copy)]
-pub struct Texts {
+pub struct RowTexts {
     pub start: usize,
     pub old_len: usize,
     pub new_name_len: usize,
     pub new_email_len: usize,
 }
 
-impl Texts {
-    /// An old text without a new name or a new email.
-    pub(crate) fn bare(old: Span) -> Texts
+impl RowTexts {
+    /// An old text without a new name and a new email.
+    pub(crate) fn bare(old: Span) -> RowTexts
         ensures { IsBare result old }
     {
-        Texts {
+        RowTexts {
             start: old.start,
             old_len: old.len,
             new_name_len: NO_TEXT,
@@ -42,7 +44,6 @@ impl Texts {
         }
     }
 
-    /// The old text.
     pub fn old(self) -> Span
         ensures { result ≡ old_span self }
     {
@@ -52,8 +53,7 @@ impl Texts {
         }
     }
 
-    /// The new name, if there is one.
-    #[tactic(auto, unfolding(crate::specs::Texts::name_span))]
+    #[tactic(auto, unfolding(crate::specs::RowTexts::name_span))]
     pub(crate) fn new_name(self) -> Option<Span>
         requires { self.start + self.old_len ≤ usize.MAX }
         ensures { result ≡ name_span self }
@@ -61,8 +61,7 @@ impl Texts {
         span_of(self.start + self.old_len, self.new_name_len)
     }
 
-    /// The new email, if there is one.
-    #[tactic(auto, unfolding(crate::specs::Texts::email_span))]
+    #[tactic(auto, unfolding(crate::specs::RowTexts::email_span))]
     pub(crate) fn new_email(self) -> Option<Span>
         requires { self.start + self.old_len + byte_count self.new_name_len ≤ usize.MAX }
         ensures { result ≡ email_span self }
@@ -71,24 +70,18 @@ impl Texts {
         span_of(start, self.new_email_len)
     }
 
-    /// How many bytes the texts have, as far as they can be counted.
+    /// The number of bytes of the texts, at most `usize::MAX`.
     pub(crate) fn len(self) -> usize
         ensures { result ≡ min (row_bytes self) usize.MAX }
     {
-        self.old_len.saturating_add(self.fields_len())
-    }
-
-    /// How many bytes the new name and the new email have, as far as they can be counted.
-    pub(crate) fn fields_len(self) -> usize
-        ensures { result ≡ min (byte_count self.new_name_len + byte_count self.new_email_len) usize.MAX }
-    {
-        byte_count(self.new_name_len).saturating_add(byte_count(self.new_email_len))
+        let fields = byte_count(self.new_name_len).saturating_add(byte_count(self.new_email_len));
+        self.old_len.saturating_add(fields)
     }
 }
 
-/// The new name and the new email of a row of the pool, if there are any.
-pub(crate) fn fields(pool: &[u8], texts: Texts) -> (Option<Span>, Option<Span>)
-    requires { TextsLie (length pool.now) texts }
+/// The new name and the new email of a row in the pool, if there are any.
+pub(crate) fn fields(pool: &[u8], texts: RowTexts) -> (Option<Span>, Option<Span>)
+    requires { TextsInPool (length pool.now) texts }
     ensures new_name { result.0 ≡ name_span texts }
     ensures new_email { result.1 ≡ email_span texts }
 {
@@ -97,18 +90,8 @@ pub(crate) fn fields(pool: &[u8], texts: Texts) -> (Option<Span>, Option<Span>)
     (texts.new_name(), texts.new_email())
 }
 
-/// How many bytes a span has, if there is one.
-pub(crate) fn span_len(span: Option<Span>) -> usize
-    ensures { result ≡ span_bytes span }
-{
-    match span {
-        Some(span) => span.len,
-        None => 0,
-    }
-}
-
-// The text of this length that starts there, `None` if the length is [`NO_TEXT`].
-#[tactic(auto, unfolding(crate::specs::Texts::span_of))]
+// The text of this length at `start`, `None` if the length is [`NO_TEXT`].
+#[tactic(auto, unfolding(crate::specs::RowTexts::span_of))]
 fn span_of(start: usize, len: usize) -> Option<Span>
     ensures { result ≡ span_of start len }
 {
@@ -119,15 +102,15 @@ fn span_of(start: usize, len: usize) -> Option<Span>
     }
 }
 
-// The number of bytes of a text with this length, 0 if there is no text.
-#[tactic(auto, unfolding(crate::specs::Texts::byte_count))]
+// The number of bytes of a text with this length, 0 if it is [`NO_TEXT`].
+#[tactic(auto, unfolding(crate::specs::RowTexts::byte_count))]
 fn byte_count(len: usize) -> usize
     ensures { result ≡ byte_count len }
 {
     if len == NO_TEXT { 0 } else { len }
 }
 
-// The length of a text, if there is one.
+// The length to store for a text, [`NO_TEXT`] without one.
 #[inline(always)]
 fn len_of(span: Option<Span>) -> usize
     ensures { result ≡ len_of span }
@@ -138,25 +121,21 @@ fn len_of(span: Option<Span>) -> usize
     }
 }
 
-/// A row of texts that are in the pool. If they aren't one after another, they are copied to the end of the pool.
+/// Makes a row of texts in the pool. Unless they are consecutive already, copies them to the end of the pool.
 #[inline(always)]
 pub(crate) fn together(
     pool: &mut Vec<u8>,
     old: Span,
     new_name: Option<Span>,
     new_email: Option<Span>,
-) -> Result<Texts, AllocError>
+) -> Result<RowTexts, AllocError>
     requires old { LiesIn (length pool.old.items) old }
     requires new_name { ForSome new_name (LiesIn (length pool.old.items)) }
     requires new_email { ForSome new_email (LiesIn (length pool.old.items)) }
     ensures grown { Extends pool.old.items pool.new.items }
-    ensures lies { IfOk result (TextsLie (length pool.new.items)) }
+    ensures lies { IfOk result (TextsInPool (length pool.new.items)) }
     ensures spells { IfOk result (RowSpells pool.old.items pool.new.items old new_name new_email) }
-    ensures bytes { length pool.new.items ≤ length
-        pool.old.items + (old.len + (span_bytes new_name + span_bytes new_email)) }
-    ensures capacity { vec_capacity pool.old ≤ vec_capacity pool.new }
-    ensures succeeds { vec_len pool.old + (old.len + (span_bytes new_name + span_bytes new_email)) ≤ vec_capacity
-        pool.old → IsOk result }
+    ensures growth { GrowsBy (old.len + (span_bytes new_name + span_bytes new_email)) pool.old pool.new result }
 {
     let len = pool.len();
     if are_together(old, new_name, new_email) {
@@ -168,12 +147,11 @@ pub(crate) fn together(
     Ok(row(len, old, new_name, new_email))
 }
 
-// The row of texts that are one after another from `start` on.
 #[inline(always)]
-fn row(start: usize, old: Span, new_name: Option<Span>, new_email: Option<Span>) -> Texts
+fn row(start: usize, old: Span, new_name: Option<Span>, new_email: Option<Span>) -> RowTexts
     ensures { result ≡ row_of start old new_name new_email }
 {
-    Texts {
+    RowTexts {
         start,
         old_len: old.len,
         new_name_len: len_of(new_name),
@@ -181,7 +159,7 @@ fn row(start: usize, old: Span, new_name: Option<Span>, new_email: Option<Span>)
     }
 }
 
-// Whether texts are one after another.
+// Whether the texts are consecutive.
 #[inline(always)]
 fn are_together(old: Span, new_name: Option<Span>, new_email: Option<Span>) -> bool
     requires old { LiesIn (usize.MAX - 1) old }
@@ -195,7 +173,7 @@ fn are_together(old: Span, new_name: Option<Span>, new_email: Option<Span>) -> b
     end_after(new_email, end).is_some()
 }
 
-// Where a text ends that starts at `start`, and `start` itself if there is no text. `None` if it starts elsewhere.
+// The end of a text that starts at `start`, or `start` itself if there is no text. `None` if the text starts elsewhere.
 #[inline(always)]
 fn end_after(span: Option<Span>, start: usize) -> Option<usize>
     requires { ForSome span (LiesIn (usize.MAX - 1)) }
@@ -209,7 +187,7 @@ fn end_after(span: Option<Span>, start: usize) -> Option<usize>
     }
 }
 
-// Copies a text of the pool to its end, if there is one.
+// Appends a copy of a text of the pool to the pool, if there is one.
 #[inline(never)]
 fn push_again(pool: &mut Vec<u8>, span: Option<Span>) -> Result<(), AllocError>
     requires { ForSome span (LiesIn (length pool.old.items)) }

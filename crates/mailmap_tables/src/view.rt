@@ -1,16 +1,16 @@
-//! Tables as lookups, listings and merges read them.
+//! Read access to tables, for lookups, listings and merges.
 ghost use Rattle.std.specs.Prelude.{[], ◌≡◌, ◌≤◌, ◌<◌, get_or, length, map, Some, slice_get, take, drop, ◌-◌};
 ghost use Rattle.std.specs.Option.{option_map, option_copied, ForSome};
 ghost use Rattle.std.specs.List.{AllByRecursion, flat_map};
 ghost use Rattle.mailmap_tables.specs.Pool.{end_of};
 
 use crate::rows::{EmailRow, NameRow};
-use crate::texts::{Span, Texts, fields};
+use crate::texts::{RowTexts, Span, fields};
 use mailmap_entries::fold::prefix::Prefixed;
 use std::marker::Model;
 
-/// The pool and the tables, to be read: only slices. There is no allocator in it, so what is handed a view and nothing
-/// else that has one can't take memory.
+/// A read-only view of the pool and the tables. It has no allocator, so a function that gets nothing else can't
+/// allocate.
 #[derive(Drop)]
 pub struct View<'a> {
     pub(crate) pool: &'a [u8],
@@ -33,12 +33,13 @@ impl<'a> Model for View<'a> {
 
 impl<'a> View<'a> {
     ghost use Rattle.mailmap_tables.specs.Groups.{Contents, EmailGroup, listing, row_count};
-    ghost use Rattle.mailmap_tables.specs.Pool.{spelled, LiesIn, NameLies, TextsLie, name_group, group_of, RowsLie};
-    ghost use Rattle.mailmap_tables.specs.Texts.{email_span, name_span};
+    ghost use Rattle.mailmap_tables.specs.Pool.{spelled, LiesIn, NameInPool, TextsInPool, name_group, group_of};
+    ghost use Rattle.mailmap_tables.specs.Pool.{RowsInPool};
+    ghost use Rattle.mailmap_tables.specs.RowTexts.{email_span, name_span};
     ghost use Rattle.mailmap_tables.specs.Reserved.{own_bytes};
 
     /// The number of emails.
-    pub fn len(&self) -> usize
+    pub(crate) fn email_count(&self) -> usize
         ensures { result ≡ length self.now.groups }
     {
         self.emails.len()
@@ -52,7 +53,7 @@ impl<'a> View<'a> {
         self.emails.len() + self.names.len()
     }
 
-    /// The text that a span names.
+    /// The text at a span.
     pub fn text(&self, span: Span) -> &'a [u8]
         requires { LiesIn (length self.now.pool) span }
         ensures { result.now ≡ spelled self.now.pool span }
@@ -60,7 +61,7 @@ impl<'a> View<'a> {
         &self.pool[span.start..span.start + span.len]
     }
 
-    /// The text that a span names, if there is one.
+    /// The text at a span, if there is one.
     pub fn optional_text(&self, span: Option<Span>) -> Option<&'a [u8]>
         requires { ForSome span (LiesIn (length self.now.pool)) }
         ensures { option_copied result ≡ option_map (spelled self.now.pool) span }
@@ -71,9 +72,9 @@ impl<'a> View<'a> {
         }
     }
 
-    /// The text of the email at an index, with its prefix.
+    /// The email at an index, with its prefix.
     #[inline(always)]
-    pub fn email_text(&self, index: usize) -> Prefixed<'a>
+    pub(crate) fn email_text(&self, index: usize) -> Prefixed<'a>
         requires { index < length self.now.groups }
         ensures { slice_get (map (λ (g : EmailGroup). g.old_email) self.now.groups) index ≡ Some result.text.now }
     {
@@ -82,41 +83,41 @@ impl<'a> View<'a> {
     }
 
     /// The new name and the new email of a row, if there are any.
-    pub fn fields(&self, texts: Texts) -> (Option<Span>, Option<Span>)
-        requires { TextsLie (length self.now.pool) texts }
+    pub fn fields(&self, texts: RowTexts) -> (Option<Span>, Option<Span>)
+        requires { TextsInPool (length self.now.pool) texts }
         ensures new_name { result.0 ≡ name_span texts }
         ensures new_email { result.1 ≡ email_span texts }
     {
         fields(self.pool, texts)
     }
 
-    /// How many bytes the new name and the new email of a row have.
-    pub(crate) fn fields_len(&self, texts: Texts) -> usize
-        requires { TextsLie (length self.now.pool) texts }
-        ensures { result ≡ own_bytes (group_of self.now.pool texts []) }
+    /// The number of bytes of a row's texts, at most `usize::MAX`.
+    pub(crate) fn row_len(&self, texts: RowTexts) -> usize
+        requires { TextsInPool (length self.now.pool) texts }
+        ensures { own_bytes (group_of self.now.pool texts []) ≤ result }
     {
         let len = self.pool.len();
         prove!(texts.start <= len);
-        texts.fields_len()
+        texts.len()
     }
 
-    /// The texts of the email at an index, and its names.
-    pub fn email(&self, index: usize) -> (Texts, &'a [NameRow])
+    /// The texts of the email at an index, and the rows of its names.
+    pub fn email(&self, index: usize) -> (RowTexts, &'a [NameRow])
         requires { index < length self.now.groups }
         ensures group { slice_get self.now.groups index ≡ Some (group_of self.now.pool result.0 result.1.now) }
-        ensures lie { RowsLie self.now.pool result.0 result.1.now }
+        ensures lie { RowsInPool self.now.pool result.0 result.1.now }
     {
         let row = at(self.emails, index);
         (row.texts, part(self.names, row.names_start, row.names_end))
     }
 
-    /// The names of the emails from one index up to another.
-    pub fn names_between(&self, from: usize, to: usize) -> &'a [NameRow]
+    /// The names of all emails in a range of indices, from `from` up to but not including `to`.
+    pub(crate) fn names_between(&self, from: usize, to: usize) -> &'a [NameRow]
         requires up { from ≤ to }
         requires within { to ≤ length self.now.groups }
         ensures names { map (name_group self.now.pool) result.now
             ≡ flat_map (λ (g : EmailGroup). g.names) (take (to - from) (drop from self.now.groups)) }
-        ensures lie { AllByRecursion (NameLies (length self.now.pool)) result.now }
+        ensures lie { AllByRecursion (NameInPool (length self.now.pool)) result.now }
     {
         part(
             self.names,
@@ -126,7 +127,6 @@ impl<'a> View<'a> {
     }
 }
 
-// The row at an index.
 fn at<T: Copy>(rows: &[T], index: usize) -> T
     requires { index < length rows.now }
     ensures { result ≡ get_or rows.now index result }
@@ -134,7 +134,7 @@ fn at<T: Copy>(rows: &[T], index: usize) -> T
     rows[index]
 }
 
-// Where the range of the last email's names ends.
+// The end of the last email's range of names.
 pub(crate) fn last_end(emails: &[EmailRow]) -> usize
     ensures { result ≡ end_of 0 emails.now }
 {
@@ -144,7 +144,6 @@ pub(crate) fn last_end(emails: &[EmailRow]) -> usize
     }
 }
 
-// The rows from one index up to another.
 fn part(names: &[NameRow], from: usize, to: usize) -> &[NameRow]
     requires up { from ≤ to }
     requires within { to ≤ length names.now }

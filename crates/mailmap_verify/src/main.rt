@@ -1,28 +1,31 @@
-//! Prints what is wrong with mailmaps, line by line, or a mailmap without the lines that have no effect, or which lines
-//! map contacts.
+//! Prints what is wrong with mailmaps line by line, or a mailmap without its redundant lines, or the lines behind the
+//! answers to contacts.
 //!
-//! `mailmap_verify FILE..` reads each FILE as a mailmap, one after the other, and prints a line for each finding; with
-//! `--prune` it prints the one mailmap without the lines that have no effect, unless git reads a line of it otherwise.
-//! Without a FILE standard input is the one mailmap, and so it is if the only FILE is `-`. With `--explain` standard
-//! input has contacts, and a line is printed for each. With `--contacts CONTACTS` it also prints which lines no contact
-//! needs and which contacts are alike. `mailmap_reports::task` says how the arguments are read.
+//! `mailmap_verify FILE..` reads the FILEs as mailmaps, one after the other, and prints a line for each finding. With
+//! `--prune` it prints the one mailmap without the lines that have no effect, unless git reads one of its lines in
+//! another way. With `--contacts CONTACTS` it also prints which lines no contact needs, and which contacts are alike.
+//! Without a FILE, or if `-` is the only one, standard input is the mailmap. With `--explain`, standard input has
+//! contacts, and each gets an output line. `verify_command::task` parses the arguments.
 //!
-//! The status is 0 if nothing was found but notes, and 1 if something else was. A failure is said on standard error,
-//! and ends the program with status 2.
+//! The exit status is 0 if there are no findings but notes, and 1 if there are others. A failure prints a line on
+//! standard error, and the status is 2.
 #![tactic(auto)]
 
-use mailmap_io::arguments::arguments;
-use mailmap_io::files::System;
-use mailmap_io::messages::{self, cause_text};
-use mailmap_io::outcome::{Outcome, exit_code};
-use mailmap_io::shown::push_shown;
-use mailmap_reports::failure::Failure;
-use mailmap_reports::report::push_position;
-use mailmap_reports::task::{Misuse, Task, perform, task_of};
+use command_line::arguments::arguments;
+use command_line::failure::Failure;
+use command_line::files::System;
+use command_line::messages::{self, cause_text, push_failure};
+use command_line::outcome::{Outcome, exit_code};
+use command_line::shown::push_shown;
 use std::alloc::{AllocError, Global};
 use std::process::ExitCode;
+use verify_command::failure::TaskFailure;
+use verify_command::report::push_position;
+use verify_command::task::{Misuse, Task, perform, task_of};
 
-// What follows a line that says what is wrong with the arguments.
+const PROGRAM: &[u8] = b"mailmap_verify";
+
+// Follows the message for a wrong argument.
 const USAGE_LINE: &str = "\
 usage: mailmap_verify [--] [FILE..] | --prune [--] [FILE] | --explain [--] [FILE..]
      | --contacts CONTACTS [--] [FILE..] | --help | --version
@@ -31,7 +34,7 @@ usage: mailmap_verify [--] [FILE..] | --prune [--] [FILE] | --explain [--] [FILE
 fn main(rt: HostRuntime) -> ExitCode {
     let arguments = match arguments(&rt, rt.alloc()) {
         Ok(arguments) => arguments,
-        Err(_) => return failed(&rt, b"", &[], Failure::Memory),
+        Err(_) => return failed(&rt, b"", &[], TaskFailure::Run(Failure::Memory)),
     };
     match task_of(arguments.as_slice()) {
         Ok(task) => done(&rt, task),
@@ -42,7 +45,6 @@ fn main(rt: HostRuntime) -> ExitCode {
     }
 }
 
-// Does a task.
 fn done(rt: &HostRuntime, task: Task<'_>) -> ExitCode {
     let system = System { files: rt };
     let ended = perform(&system, rt.alloc(), task, &mut rt.stdin(), &mut rt.stdout());
@@ -52,69 +54,45 @@ fn done(rt: &HostRuntime, task: Task<'_>) -> ExitCode {
     }
 }
 
-// Says a failure.
-fn failed(rt: &HostRuntime, contacts: &[u8], paths: &[Vec<u8>], failure: Failure) -> ExitCode {
+// Reports a failure.
+fn failed(rt: &HostRuntime, contacts: &[u8], paths: &[Vec<u8>], failure: TaskFailure) -> ExitCode {
     say(rt, failure_line(rt.alloc(), contacts, paths, failure));
-    exit_code(Err::<Outcome, Failure>(failure))
+    exit_code(Err::<Outcome, TaskFailure>(failure))
 }
 
-// Says what ended the program. If that fails as well, only the status reports it.
+// If standard error fails as well, the exit status still reports the failure.
 fn say(rt: &HostRuntime, line: Result<Vec<u8>, AllocError>) {
     let _ = messages::say(&mut rt.stderr(), line, b"mailmap_verify: out of memory\n");
 }
 
-// What is wrong with the arguments, and the usage.
+// The message for a wrong argument, and the usage.
 fn misuse_lines(alloc: Global, misuse: Misuse<'_>) -> Result<Vec<u8>, AllocError> {
-    let mut lines = Vec::from_slice(alloc, b"mailmap_verify: ")?;
-    let option = match misuse {
-        Misuse::UnknownOption(option) => {
-            lines.extend_from_slice(b"unknown option: ")?;
-            option
-        }
-        Misuse::SecondMode(option) => {
-            lines.extend_from_slice(b"a second mode: ")?;
-            option
-        }
-        Misuse::NoFile(option) => {
-            lines.extend_from_slice(b"no file after ")?;
-            option
-        }
+    let (what, option) = match misuse {
+        Misuse::UnknownOption(option) => (b"unknown option: ".as_slice(), option),
+        Misuse::SecondMode(option) => (b"a second mode: ".as_slice(), option),
+        Misuse::NoFile(option) => (b"no file after ".as_slice(), option),
     };
-    push_shown(&mut lines, option)?;
-    lines.push(b'\n')?;
-    lines.extend_from_slice(USAGE_LINE.as_bytes())?;
-    Ok(lines)
+    let usage = USAGE_LINE.as_bytes();
+    messages::misuse_lines(alloc, PROGRAM, what, option, usage)
 }
 
-// The line of a failure: the file or the stream, and what kept it from being read.
+// The message for a failure: the file or stream, and the cause.
 fn failure_line(
     alloc: Global,
     contacts: &[u8],
     paths: &[Vec<u8>],
-    failure: Failure,
+    failure: TaskFailure,
 ) -> Result<Vec<u8>, AllocError> {
     let mut line = Vec::from_slice(alloc, b"mailmap_verify: ")?;
     match failure {
-        Failure::File { number, cause } => {
-            if let Some(path) = paths.get(number.saturating_sub(1)) {
-                push_shown(&mut line, path.as_slice())?;
-            }
-            line.extend_from_slice(b": ")?;
-            line.extend_from_slice(cause_text(cause).as_bytes())?;
-        }
-        Failure::Contacts { cause } => {
+        TaskFailure::Run(failure) => push_failure(&mut line, paths, failure)?,
+        TaskFailure::Contacts { cause } => {
             push_shown(&mut line, contacts)?;
             line.extend_from_slice(b": ")?;
             line.extend_from_slice(cause_text(cause).as_bytes())?;
         }
-        Failure::Input { cause } => {
-            line.extend_from_slice(b"standard input: ")?;
-            line.extend_from_slice(cause_text(cause).as_bytes())?;
-        }
-        Failure::Memory => line.extend_from_slice(b"out of memory")?,
-        Failure::Output => line.extend_from_slice(b"cannot write output")?,
-        Failure::TooManyFiles => line.extend_from_slice(b"--prune takes one FILE at most")?,
-        Failure::ReadOtherwise { position } => {
+        TaskFailure::TooManyFiles => line.extend_from_slice(b"--prune takes one FILE at most")?,
+        TaskFailure::ReadOtherwise { position } => {
             let mut shown = Vec::new(alloc);
             push_position(&mut shown, paths, position)?;
             line.extend_from_slice(b"git reads ")?;

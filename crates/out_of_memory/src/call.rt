@@ -1,8 +1,8 @@
-//! Whose requests for memory are refused.
+//! The calls whose allocations are refused.
 
 use std::fmt;
 
-/// A call, or another one that asks for memory.
+/// A call of the library, or an allocation of this program itself.
 #[derive(Clone, Copy)]
 pub enum Call {
     New,
@@ -13,15 +13,15 @@ pub enum Call {
     Merge,
     /// A small merge, which is made in place.
     MergeInPlace,
-    /// A merge that gives up texts out of use, and so builds the snapshot once more.
+    /// A merge that discards unused texts, and so rebuilds the snapshot.
     MergeAnew,
     MergeSources,
-    /// The merge of the first source, or of the third.
+    /// A merge of the first source, or of the third.
     FirstSource,
     ThirdSource,
     TryResolve,
     Resolve,
-    /// If nothing is mapped.
+    /// Nothing is mapped.
     ResolveNothing,
     ResolveCow,
     SignatureTryClone,
@@ -38,11 +38,11 @@ pub enum Call {
     Explanations,
     Prune,
     Unneeded,
-    /// The calls that accept or write nothing, and so take no memory, and the others that take none.
+    /// Calls that accept or write nothing and so don't allocate, and other calls that don't.
     Nothing,
     Unrefusable,
-    /// A request before all calls, right ahead of those that accept or write nothing, right after them, and right after
-    /// the others that take no memory.
+    /// Allocations of this program: before all calls, just before and just after the calls that accept or write
+    /// nothing, and just after the other calls that don't allocate.
     Before,
     AheadOfNothing,
     AfterNothing,
@@ -91,7 +91,6 @@ impl fmt::Display for Call {
     }
 }
 
-/// As it is displayed.
 impl fmt::Debug for Call {
     fn fmt<W: fmt::Write>(&self, f: &mut fmt::Formatter<W>) -> fmt::Result {
         fmt::Display::fmt(self, f)

@@ -1,10 +1,10 @@
-//! Makes each call of gix_mailmap once, in a run in which at most one request for memory is refused, and judges what it
-//! answers: out of memory, and then the right answer when it is called again, or the right answer at once.
+//! Makes each call of gix_mailmap once, in a run in which at most one allocation is refused, and checks its answer: an
+//! out-of-memory error, followed by the right answer when the call is repeated; or the right answer at once.
 //!
-//! Standard input has a number. So many requests are made before the calls: if it is always the same request of a run
-//! that is refused, as by `rt try --fail-alloc`, each number has another request of the calls refused.
+//! Standard input has a number: how many allocations this program makes before the calls. If the run refuses a fixed
+//! one, as `rt try --fail-alloc` does, each number makes it another allocation of the calls.
 //!
-//! It prints which call was refused, and ends with status 0. If a call did wrong, it prints what, with status 1.
+//! Prints which call was refused, with status 0, or what a call did wrong, with status 1.
 #![tactic(auto)]
 
 mod call;
@@ -37,14 +37,14 @@ fn main(rt: HostRuntime) -> ExitCode {
     }
 }
 
-// The number that a reader begins with.
+// Parses the number at the start of the input.
 fn read_number(input: &mut impl Read) -> Option<usize> {
     let mut text = [0; 20];
     let len = input.read(&mut text).ok()?;
     str::from_utf8(&text[..len]).ok()?.trim().parse().ok()
 }
 
-// Makes so many requests, and then all calls.
+// Allocates `before` times, and then makes all calls.
 fn walk(run: &mut Run, alloc: Global, before: usize) -> Result<(), Wrong> {
     for _ in 0..before {
         run.request(alloc, Call::Before)?;
@@ -54,7 +54,6 @@ fn walk(run: &mut Run, alloc: Global, before: usize) -> Result<(), Wrong> {
     run.request(alloc, Call::AfterAll)
 }
 
-// Makes the calls on the snapshot of the team.
 fn judge(run: &mut Run, alloc: Global, team: &Snapshot) -> Result<(), Wrong> {
     refusable::judge(run, alloc, team)?;
     unrefusable::judge(run, alloc, team)

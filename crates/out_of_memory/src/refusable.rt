@@ -1,4 +1,4 @@
-//! The calls that take memory, one after the other.
+//! The calls that allocate, one after another.
 
 use crate::call::Call;
 use crate::run::{Run, Wrong, lists, wants};
@@ -13,7 +13,6 @@ use gix_mailmap::verify::{prune, verify};
 use gix_mailmap::{Entry, Snapshot, actor, check};
 use std::alloc::{AllocError, Global};
 
-/// The snapshot of the team.
 pub fn build(run: &mut Run, alloc: Global) -> Result<Snapshot, Wrong> {
     run.judge(
         Call::New,
@@ -22,7 +21,7 @@ pub fn build(run: &mut Run, alloc: Global) -> Result<Snapshot, Wrong> {
     )
 }
 
-/// Makes these calls but for the first, which built the team.
+/// Makes these calls except the first, which built the team.
 pub fn judge(run: &mut Run, alloc: Global, team: &Snapshot) -> Result<(), Wrong> {
     read_and_list(run, alloc, team)?;
     copy_and_write(run, alloc, team)?;
@@ -38,7 +37,6 @@ pub fn judge(run: &mut Run, alloc: Global, team: &Snapshot) -> Result<(), Wrong>
     verify_and_prune(run, alloc)
 }
 
-// Reads the snapshot of the team, and lists it.
 fn read_and_list(run: &mut Run, alloc: Global, snapshot: &Snapshot) -> Result<(), Wrong> {
     run.judge_at_once(Call::FromBytes, || {
         Ok(Snapshot::from_bytes(alloc, TEAM)? == *snapshot)
@@ -48,13 +46,11 @@ fn read_and_list(run: &mut Run, alloc: Global, snapshot: &Snapshot) -> Result<()
     })
 }
 
-// Copies the snapshot of the team, and writes it.
 fn copy_and_write(run: &mut Run, alloc: Global, snapshot: &Snapshot) -> Result<(), Wrong> {
     clone(run, alloc, snapshot)?;
     run.judge_at_once(Call::Write, || writes(snapshot, alloc))
 }
 
-// Whether the text of the team's snapshot is the right one.
 fn writes(snapshot: &Snapshot, alloc: Global) -> Result<bool, AllocError> {
     match snapshot.write(alloc) {
         Ok(text) => Ok(text.as_slice() == WRITTEN),
@@ -63,13 +59,12 @@ fn writes(snapshot: &Snapshot, alloc: Global) -> Result<bool, AllocError> {
     }
 }
 
-// A merge into the team.
 fn merge(run: &mut Run, alloc: Global, team: &Snapshot) -> Result<(), Wrong> {
     let mut copy = clone(run, alloc, team)?;
     run.judge_merge(Call::Merge, team, &mut copy, &later(), &all())
 }
 
-// A small merge, which is made in place: a new name and a new email, ahead of existing emails.
+// A small merge, which is made in place: a new name and a new email, before existing emails.
 fn merge_in_place(run: &mut Run, alloc: Global) -> Result<(), Wrong> {
     let stood = run.judge(
         Call::New,
@@ -80,7 +75,7 @@ fn merge_in_place(run: &mut Run, alloc: Global) -> Result<(), Wrong> {
     run.judge_merge(Call::MergeInPlace, &stood, &mut copy, &two(), &five())
 }
 
-// A merge that gives replaced texts up, which builds the snapshot once more.
+// A merge that discards replaced texts, and so rebuilds the snapshot.
 fn merge_anew(run: &mut Run, alloc: Global) -> Result<(), Wrong> {
     let long = [Entry::change_name_by_email(b"A long name", b"a")];
     let short = [Entry::change_name_by_email(b"N", b"a")];
@@ -93,7 +88,6 @@ fn merge_anew(run: &mut Run, alloc: Global) -> Result<(), Wrong> {
     run.judge_merge(Call::MergeAnew, &worn, &mut copy, &short, &short)
 }
 
-/// A copy of a snapshot.
 pub fn clone(run: &mut Run, alloc: Global, snapshot: &Snapshot) -> Result<Snapshot, Wrong> {
     run.judge(
         Call::TryClone,
@@ -102,8 +96,8 @@ pub fn clone(run: &mut Run, alloc: Global, snapshot: &Snapshot) -> Result<Snapsh
     )
 }
 
-// Three sources, of which the one in the middle has no entry, so that it is always made. What the others say is there
-// exactly when they are marked as made.
+// Merges three sources. The one in the middle has no entry, so it is always merged. The entries of the others must be
+// there exactly if they are marked as merged.
 fn merge_sources(run: &mut Run, alloc: Global) -> Result<(), Wrong> {
     let mut snapshot = Snapshot::empty(alloc);
     let made = merge_three(&mut snapshot);
@@ -117,7 +111,6 @@ fn merge_sources(run: &mut Run, alloc: Global) -> Result<(), Wrong> {
     }
 }
 
-// Which of the sources were made.
 fn merge_three(snapshot: &mut Snapshot) -> [bool; 3] {
     let sources = [
         Source::Buffer(b"N <a@x>"),
@@ -134,7 +127,7 @@ fn refused_source(run: &mut Run, call: Call, is_right: bool) -> Result<(), Wrong
     wants(call, is_right)
 }
 
-// Signatures that are mapped, or copied as they are.
+// Resolves signatures that are mapped, and one that is only copied.
 fn resolve(run: &mut Run, alloc: Global, team: &Snapshot) -> Result<(), Wrong> {
     run.judge_at_once(Call::TryResolve, || {
         let answer = team.try_resolve(alloc, JANE)?;
@@ -146,7 +139,7 @@ fn resolve(run: &mut Run, alloc: Global, team: &Snapshot) -> Result<(), Wrong> {
     })
 }
 
-// A signature that owns its texts, copied and turned into one that always does.
+// Copies a signature that owns its texts, and turns it into one that always does.
 fn copy_signatures(run: &mut Run, alloc: Global, team: &Snapshot) -> Result<(), Wrong> {
     let jane = run.judge(
         Call::ResolveCow,
@@ -162,7 +155,7 @@ fn copy_signatures(run: &mut Run, alloc: Global, team: &Snapshot) -> Result<(), 
     })
 }
 
-// Answers to contact lines, and a mailmap written anew.
+// Answers contact lines, and writes a compact mailmap.
 fn check_and_compact(run: &mut Run, alloc: Global) -> Result<(), Wrong> {
     run.judge_at_once(Call::Check, || {
         Ok(check::check(alloc, &[TEAM], CONTACTS)?.as_slice() == ANSWERS)
@@ -172,7 +165,7 @@ fn check_and_compact(run: &mut Run, alloc: Global) -> Result<(), Wrong> {
     })
 }
 
-// A contact that is answered as its line is ended. What is refused leaves the stream as it was.
+// Answers a contact when its line ends. A refused call leaves the stream unchanged.
 fn answer_in_parts(run: &mut Run, alloc: Global) -> Result<(), Wrong> {
     let mut stream = run.judge(
         Call::NewStream,
@@ -189,7 +182,7 @@ fn answer_in_parts(run: &mut Run, alloc: Global) -> Result<(), Wrong> {
     })
 }
 
-// Whether contacts that come in parts are answered as they are at once.
+// Whether contacts in parts get the same answers as all at once.
 fn streams(alloc: Global) -> Result<bool, AllocError> {
     let mut stream = ContactStream::new(alloc, &[TEAM])?;
     let mut text = Vec::new(alloc);
@@ -200,8 +193,7 @@ fn streams(alloc: Global) -> Result<bool, AllocError> {
     Ok(text.as_slice() == ANSWERS)
 }
 
-// What is wrong with two mailmaps, one of them without the lines that have no effect, and the lines that no contact
-// needs.
+// Verifies two mailmaps, prunes one, and finds the lines that no contact needs.
 fn verify_and_prune(run: &mut Run, alloc: Global) -> Result<(), Wrong> {
     run.judge_at_once(Call::Verify, || {
         Ok(are_of_faulty(verify(alloc, &[TEAM, FAULTY])?.as_slice()))

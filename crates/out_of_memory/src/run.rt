@@ -1,4 +1,4 @@
-//! What a run has met so far, and what no call may do in it: at most one request for memory of a run is refused.
+//! The state of a run, in which at most one allocation is refused, and what no call may do.
 
 use crate::call::Call;
 use gix_mailmap::{Entry, Snapshot};
@@ -9,18 +9,18 @@ use thiserror::Error;
 /// What a call did wrong.
 #[derive(Debug, Drop, Error)]
 pub enum Wrong {
-    /// It answered neither as with ample memory nor that it is out of memory.
+    /// The answer was neither the right one nor an out-of-memory error.
     #[error("{0}: not the answer with ample memory")]
     Answer(Call),
-    /// It answered that it is out of memory, and no request of it was refused.
+    /// An out-of-memory error, though none of the call's allocations was refused.
     #[error("{0}: out of memory, but no request was refused")]
     Want(Call),
-    /// It was refused, and left another snapshot than it found.
+    /// A refused call changed the snapshot.
     #[error("{0}: refused, but the snapshot was changed")]
     Change(Call),
 }
 
-/// Wants an answer of a call to be right.
+/// Fails unless the call's answer is right.
 pub fn wants(call: Call, is_right: bool) -> Result<(), Wrong> {
     if is_right {
         Ok(())
@@ -29,24 +29,22 @@ pub fn wants(call: Call, is_right: bool) -> Result<(), Wrong> {
     }
 }
 
-/// Whether a snapshot lists these entries.
 pub fn lists(snapshot: &Snapshot, entries: &[Entry<'_>]) -> bool {
     snapshot.iter().eq(entries.iter().copied())
 }
 
-/// The call that was refused, if one was.
+/// The call that was refused, if any.
 #[derive(Drop)]
 pub struct Run {
     refused: Option<Call>,
 }
 
 impl Run {
-    /// Nothing was refused yet.
     pub fn new() -> Run {
         Run { refused: None }
     }
 
-    /// Notes a call that answered that it is out of memory. After the one refusal of a run that is wrong.
+    /// Records a call that ran out of memory. A second one in a run is wrong, since only one allocation is refused.
     pub fn refuse(&mut self, call: Call) -> Result<(), Wrong> {
         match self.refused.replace(call) {
             None => Ok(()),
@@ -54,12 +52,12 @@ impl Run {
         }
     }
 
-    /// Asks for memory once.
+    /// Allocates once.
     pub fn request(&mut self, alloc: Global, call: Call) -> Result<(), Wrong> {
         self.judge_at_once(call, || Ok(Vec::<u8>::with_capacity(alloc, 1)?.is_empty()))
     }
 
-    /// Makes a call, and once more if memory ran out: then it must answer, and as with ample memory.
+    /// Makes a call, and repeats it if it ran out of memory. It must then succeed, with the right answer.
     pub fn judge<T: Drop, F: FnMut() -> Result<T, AllocError>, P: FnOnce(&T) -> bool>(
         &mut self,
         call: Call,
@@ -81,7 +79,7 @@ impl Run {
         Ok(answer)
     }
 
-    /// As [`Run::judge`], for a call whose answer isn't kept: it is judged where it is made.
+    /// [`Run::judge`] for a call whose answer isn't kept: it is checked inside `is_right`.
     pub fn judge_at_once<F: FnMut() -> Result<bool, AllocError>>(
         &mut self,
         call: Call,
@@ -100,7 +98,8 @@ impl Run {
         }
     }
 
-    /// Merges into a copy of `before`, and once more if memory ran out: then the copy must not have changed.
+    /// Merges into a copy of `before`, and repeats it if it ran out of memory. Until then, the copy must not have
+    /// changed.
     pub fn judge_merge(
         &mut self,
         call: Call,

@@ -1,10 +1,10 @@
-//! What is built, and what each call on it has to answer.
+//! Sample data, and the right answer of each call.
 
 use gix_mailmap::actor::SignatureRef;
 use gix_mailmap::date::Time;
 use gix_mailmap::lines::Error;
 use gix_mailmap::snapshot::Signature;
-use gix_mailmap::verify::{Contact, Finding, Findings, GitReading, Kind, Position};
+use gix_mailmap::verify::{Contact, Finding, FindingKind, Findings, GitReading, Position};
 use gix_mailmap::{Entry, actor};
 use std::borrow::CowSlice;
 
@@ -14,15 +14,15 @@ Joe R. Developer <joe@example.com> <bugs@example.com>
 Jane Doe <jane@example.com> Jane <bugs@example.com>
 ";
 
-/// The mailmap as it is written.
+/// The mailmap as a snapshot writes it.
 pub const WRITTEN: &[u8] = b" Joe R. Developer <joe@example.com> <bugs@example.com>
  Jane Doe <jane@example.com> Jane <bugs@example.com>
 ";
 
-/// Contact lines, and a line that is none.
+/// Contact lines, and a line that is no contact.
 pub const CONTACTS: &[u8] = b"bob <BUGS@example.com>\nJANE <bugs@example.com>\nnot a contact\n";
 
-/// The same in parts. No part ends more than one line, so what is refused of it is its first request.
+/// The same lines in parts. No part ends more than one line, so a refused allocation is always the first of its call.
 pub static PARTS: [&[u8]; 4] = [
     b"bob <BUGS@ex",
     b"ample.com>\n",
@@ -30,16 +30,14 @@ pub static PARTS: [&[u8]; 4] = [
     b"not a contact",
 ];
 
-/// The answers to them.
 pub const ANSWERS: &[u8] = b"Joe R. Developer <joe@example.com>
 Jane Doe <jane@example.com>
 not a contact
 ";
 
-/// A contact line that no line feed ends.
+/// A contact line without a line feed.
 pub const LINE: &[u8] = b"bob <BUGS@example.com>";
 
-/// The answer to it.
 pub const ANSWER: &[u8] = b"Joe R. Developer <joe@example.com>\n";
 
 /// A mailmap with a finding of each kind.
@@ -50,14 +48,14 @@ Bob <ann@example.com> <bob@example.com>
 Eve < eve@example.com >
 ";
 
-/// The same without its line of no effect.
+/// The mailmap without its line that has no effect.
 pub const PRUNED: &[u8] = b"plain
 Ann Lee <ann@example.com> # since May
 Bob <ann@example.com> <bob@example.com>
 Eve < eve@example.com >
 ";
 
-/// Whether this is what is found in that mailmap, as the second of two buffers.
+/// Whether these are the findings of the mailmap, as the second of two buffers.
 pub fn are_of_faulty(findings: &[Finding<'_>]) -> bool {
     let email = b"ann@example.com";
     let [no_effect, fault, ignored, mapped, read_otherwise] = findings else {
@@ -68,26 +66,26 @@ pub fn are_of_faulty(findings: &[Finding<'_>]) -> bool {
         && is_on(ignored, 3)
         && is_on(mapped, 4)
         && is_on(read_otherwise, 5)
-        && no_effect.kind == Kind::NoEffect { beside: at(3) }
+        && no_effect.kind == FindingKind::NoEffect { beside: at(3) }
         && fault.kind
-            == Kind::Fault(Error::NoEmail {
+            == FindingKind::Fault(Error::NoEmail {
                 line: 2,
                 input: b"plain",
             })
-        && ignored.kind == Kind::IgnoredText(b"# since May")
+        && ignored.kind == FindingKind::IgnoredText(b"# since May")
         && mapped.kind
-            == Kind::ItselfMapped {
+            == FindingKind::ItselfMapped {
                 contact: contact(b"Bob", email),
                 to: contact(b"Ann Lee", email),
             }
         && read_otherwise.kind
-            == Kind::GitReads(GitReading::Entry(Entry::change_name_by_email(
+            == FindingKind::GitReads(GitReading::Entry(Entry::change_name_by_email(
                 b"Eve",
                 b" eve@example.com ",
             )))
 }
 
-/// Whether these findings, made one by one, are of the lines of that mailmap, each in its turn.
+/// Whether these findings, computed one by one, are of the mailmap's lines in order.
 pub fn walk_over_faulty(findings: Findings<'_, '_>) -> bool {
     let mut findings = findings;
     for line in [1, 2, 3, 4, 5] {
@@ -99,7 +97,7 @@ pub fn walk_over_faulty(findings: Findings<'_, '_>) -> bool {
     findings.next().is_none()
 }
 
-/// Whether these are the lines of that mailmap that have an effect: the contacts need only those of the first.
+/// Whether these are the mailmap's lines with an effect. The contacts need only lines of the other mailmap.
 pub fn are_unneeded(lines: &[Position]) -> bool {
     lines == [at(3), at(4), at(5)].as_slice()
 }
@@ -119,7 +117,6 @@ fn contact<'a>(name: &'a [u8], email: &'a [u8]) -> Contact<'a> {
     }
 }
 
-/// The entries of the mailmap.
 pub fn team() -> [Entry<'static>; 2] {
     [
         Entry::change_name_and_email_by_email(
@@ -136,8 +133,8 @@ pub fn team() -> [Entry<'static>; 2] {
     ]
 }
 
-/// Entries to merge after those: an email that is new, and one that is known, for which a field is replaced, a name is
-/// replaced and a name is new.
+/// Entries to merge after those: a new email, and a known one with an overridden field, an overridden name and a new
+/// name.
 pub fn later() -> [Entry<'static>; 4] {
     [
         Entry::change_name_by_email(b"Ann", b"ann@example.com"),
@@ -147,7 +144,7 @@ pub fn later() -> [Entry<'static>; 4] {
     ]
 }
 
-/// What is listed of all of them.
+/// The listing after both.
 pub fn all() -> [Entry<'static>; 4] {
     [
         Entry::change_name_by_email(b"Ann", b"ann@example.com"),
@@ -157,7 +154,7 @@ pub fn all() -> [Entry<'static>; 4] {
     ]
 }
 
-/// Entries of three emails.
+/// Entries for three emails.
 pub fn three() -> [Entry<'static>; 3] {
     [
         Entry::change_name_by_email(b"Ann", b"a@x"),
@@ -166,7 +163,7 @@ pub fn three() -> [Entry<'static>; 3] {
     ]
 }
 
-/// Entries to merge after those: a name that is new for the first email, and an email that is new.
+/// Entries to merge after those: a new name for the first email, and a new email.
 pub fn two() -> [Entry<'static>; 2] {
     [
         Entry::change_email_by_name_and_email(b"anna@x", b"Anna", b"A@x"),
@@ -174,7 +171,7 @@ pub fn two() -> [Entry<'static>; 2] {
     ]
 }
 
-/// What is listed of all of them.
+/// The listing after both.
 pub fn five() -> [Entry<'static>; 5] {
     [
         Entry::change_name_by_email(b"Ann", b"a@x"),
@@ -192,7 +189,6 @@ pub const JANE: SignatureRef<'static> = SignatureRef {
     time: "1711398853 +0800",
 };
 
-/// The time of that signature.
 pub const JANES_TIME: Time = Time {
     seconds: 1711398853,
     offset: 28800,
@@ -205,21 +201,21 @@ pub const NOBODY: SignatureRef<'static> = SignatureRef {
     time: "soon",
 };
 
-/// A signature whose email is known in its spelling, for another name only.
+/// A signature whose email has an entry, but only for another name.
 pub const BOB: SignatureRef<'static> = SignatureRef {
     name: b"Bob",
     email: b"x@y",
     time: "5 +0000",
 };
 
-/// Whether this is what the team makes of Jane's signature.
+/// Whether this is the team's answer to Jane's signature.
 pub fn is_jane(answer: &actor::Signature) -> bool {
     answer.name.as_slice() == b"Jane Doe".as_slice()
         && answer.email.as_slice() == b"jane@example.com".as_slice()
         && answer.time == JANES_TIME
 }
 
-/// Whether this is the same, with both texts owned.
+/// Whether this is the same answer, owning both texts.
 pub fn owns_jane(answer: &Signature<'_>) -> bool {
     let (CowSlice::Owned(name), CowSlice::Owned(email)) = (&answer.name, &answer.email) else {
         return false;
@@ -229,7 +225,7 @@ pub fn owns_jane(answer: &Signature<'_>) -> bool {
         && answer.time == JANES_TIME
 }
 
-/// Whether this is a copy of the signature of which nothing is mapped, whose time can't be read.
+/// Whether this is a copy of the unmapped signature, whose time can't be parsed.
 pub fn is_nobody(answer: &actor::Signature) -> bool {
     answer.name.as_slice() == NOBODY.name
         && answer.email.as_slice() == NOBODY.email

@@ -1,6 +1,6 @@
-//! The calls that take no memory. They are between requests that the program makes itself: in the run in which the one
-//! after them is refused, each of them is made with the next request set to fail. No other run has its refusal between
-//! the two, so the calls made no request.
+//! The calls that don't allocate. This program allocates right before and right after them. In the run that refuses the
+//! allocation after them, each of these calls is made when the next allocation will be refused. If one of them
+//! allocated, it would be refused in some run, but no run has its refusal in between.
 
 use crate::call::Call;
 use crate::refusable;
@@ -21,7 +21,7 @@ use std::borrow::CowSlice;
 use std::cmp::Ordering;
 use std::hash::{DefaultHasher, Hash, Hasher};
 
-/// Makes the last requests before these calls, and then the calls.
+/// Makes the last allocations before these calls, and then the calls.
 pub fn judge(run: &mut Run, alloc: Global, team: &Snapshot) -> Result<(), Wrong> {
     let respelled = respelled(run, alloc)?;
     let jane = run.judge(
@@ -53,7 +53,7 @@ pub fn judge(run: &mut Run, alloc: Global, team: &Snapshot) -> Result<(), Wrong>
     wants(Call::Unrefusable, answers)
 }
 
-// A snapshot that knows one email, for one name.
+// A snapshot with an entry for one email and one name.
 fn respelled(run: &mut Run, alloc: Global) -> Result<Snapshot, Wrong> {
     let jane = [Entry::change_email_by_name_and_email(b"n@y", b"Jane", b"x@y")];
     run.judge(
@@ -76,8 +76,7 @@ fn unwritable(run: &mut Run, alloc: Global) -> Result<Snapshot, Wrong> {
     )
 }
 
-// What is built or merged without an accepted entry, and the text of a snapshot that can't be written: between two
-// requests.
+// Builds and merges nothing, and fails to write a snapshot, between two allocations.
 fn accept_and_write_nothing(run: &mut Run, alloc: Global, team: &Snapshot) -> Result<(), Wrong> {
     let mut copy = refusable::clone(run, alloc, team)?;
     let unwritable = unwritable(run, alloc)?;
@@ -90,7 +89,7 @@ fn accept_and_write_nothing(run: &mut Run, alloc: Global, team: &Snapshot) -> Re
     run.request(alloc, Call::AfterNothing)
 }
 
-// Makes the other calls, on a snapshot and on one that knows one email for one name.
+// Makes the other calls. `respelled` has an entry for one email and one name.
 fn are_right(team: &Snapshot, respelled: &Snapshot, alloc: Global) -> bool {
     parses()
         && cuts()
@@ -144,7 +143,7 @@ fn compares() -> bool {
         && steps.count() == 1
 }
 
-// Buffers without a line have no findings, and nothing is left of them.
+// Buffers without lines have no findings, and pruning them leaves nothing.
 fn has_no_line(alloc: Global) -> bool {
     matches!(verify(alloc, &[b"", b""]), Ok(found) if found.is_empty())
         && matches!(prune(alloc, b""), Ok(text) if text.is_empty())
@@ -228,7 +227,7 @@ fn explains(explanations: &Explanations<'_, '_>) -> bool {
         && explanations.needs(JANE.name, JANE.email) == needed
 }
 
-// Texts that are owned are moved.
+// Owned texts are moved, not copied.
 fn moves(jane: Signature<'_>, alloc: Global) -> bool {
     match actor::Signature::from_cow(alloc, jane) {
         Ok(jane) => is_jane(&jane),

@@ -1,10 +1,10 @@
-//! The snapshot of an open handle, lent where it is.
+//! Borrows the snapshot of an open handle in place.
 ghost use Rattle.std.specs.Prelude.{◌≡◌, true};
 ghost use Rattle.std.specs.Borrow.{sem};
 ghost use Rattle.gix_mailmap_c.specs.Lent.{LendsSnapshot};
 
 use crate::held::Mailmap;
-use gix_mailmap::Snapshot;
+use mailmap_snapshot::Snapshot;
 
 pub(crate) fn snapshot(m: &mut Mailmap) -> &mut Snapshot
     requires { m.old.is_open ≡ true }

@@ -1,13 +1,14 @@
-//! Entries listed, and their texts copied, one after another.
+//! Lists entries, and copies their texts one after another.
 ghost use Rattle.std.specs.Prelude.{◌≡◌, ◌≤◌, ◌<◌, ◌+◌, ◌^◌, length, MatchOption};
 ghost use Rattle.std.specs.Option.{option_copied};
 ghost use Rattle.mailmap_entries.specs.Entries.{mapping_of};
 ghost use Rattle.gix_mailmap_c.specs.Listed.{all_text, entry_text, given, AreListed, IsAllWritten, IsAfter};
 
 use crate::listing::Listed;
-use gix_mailmap::{Entry, Snapshot};
+use mailmap_entries::Entry;
+use mailmap_snapshot::Snapshot;
 
-/// A length and that of an entry's texts together, if a length can be that large.
+/// Adds the length of an entry's texts to `len`. `None` if the sum exceeds `usize::MAX`.
 pub(crate) fn len_with_texts(len: usize, entry: &Entry<'_>) -> Option<usize>
     ensures { let all = len + length (entry_text (mapping_of entry.now))
         in MatchOption result (2 ^ 64 ≤ all) (λ n. n ≡ all) }
@@ -18,7 +19,7 @@ pub(crate) fn len_with_texts(len: usize, entry: &Entry<'_>) -> Option<usize>
     len_with_text(len, Some(entry.old_email()))
 }
 
-// A length and that of a text together, if there is a text.
+// A missing text adds nothing.
 fn len_with_text(len: usize, text: Option<&[u8]>) -> Option<usize>
     ensures { let all = len + length (given (option_copied text.entry))
         in MatchOption result (2 ^ 64 ≤ all) (λ n. n ≡ all) }
@@ -29,7 +30,7 @@ fn len_with_text(len: usize, text: Option<&[u8]>) -> Option<usize>
     }
 }
 
-/// Describes each entry of a snapshot, in their order.
+/// Describes the entries of a snapshot in order.
 pub(crate) fn describe(snapshot: &Snapshot, listed: &mut [Listed])
     requires room { length snapshot.now ≤ length listed.old }
     requires countable { length (all_text snapshot.now) < 2 ^ 64 }
@@ -45,7 +46,7 @@ pub(crate) fn describe(snapshot: &Snapshot, listed: &mut [Listed])
     }
 }
 
-// How long the texts of an entry are together.
+// The length of an entry's four texts together.
 fn texts_len(entry: &Entry<'_>) -> usize
     requires { length (entry_text (mapping_of entry.now)) < 2 ^ 64 }
     ensures { result ≡ length (entry_text (mapping_of entry.now)) }
@@ -56,7 +57,7 @@ fn texts_len(entry: &Entry<'_>) -> usize
     }
 }
 
-/// Copies the texts of all entries of a snapshot to the front of a buffer.
+/// Copies the texts of all entries to the front of a buffer.
 pub(crate) fn copy_texts(snapshot: &Snapshot, out: &mut [u8])
     requires { length (all_text snapshot.now) ≤ length out.old }
     ensures { IsAllWritten snapshot.now out.old out.new }
@@ -67,7 +68,7 @@ pub(crate) fn copy_texts(snapshot: &Snapshot, out: &mut [u8])
     }
 }
 
-/// Copies the texts of an entry to an offset in a buffer, and gives the offset after them.
+/// Copies an entry's texts to an offset in a buffer, and returns the offset after them.
 pub(crate) fn copy_entry(entry: &Entry<'_>, out: &mut [u8], start: usize) -> usize
     requires { start + length (entry_text (mapping_of entry.now)) ≤ length out.old }
     ensures { IsAfter (entry_text (mapping_of entry.now)) start out.old out.new result }
@@ -78,7 +79,7 @@ pub(crate) fn copy_entry(entry: &Entry<'_>, out: &mut [u8], start: usize) -> usi
     copy_text(Some(entry.old_email()), out, end)
 }
 
-// Copies a text, if there is one.
+// A missing text copies nothing.
 fn copy_text(text: Option<&[u8]>, out: &mut [u8], start: usize) -> usize
     requires { start + length (given (option_copied text)) ≤ length out.old }
     ensures { IsAfter (given (option_copied text.entry)) start out.old out.new result }

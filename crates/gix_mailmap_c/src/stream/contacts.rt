@@ -1,16 +1,16 @@
-//! Contacts that come in parts, and their answers until these are read.
+//! Buffers the answers to streamed contacts until they are read.
 ghost use Rattle.std.specs.Prelude.{◌≡◌, IfOk, OnErr, OnOk};
 ghost use Rattle.gix_mailmap_c.specs.Streamed.{AreRead, HasTakenOf, IsNew, ended};
 
 use crate::copies::copy;
-use gix_mailmap::check::ContactStream;
+use mailmap_snapshot::check::ContactStream;
 use std::alloc::{AllocError, Global};
 use std::marker::Model;
 
-// More room than this is given back once all answers are read, so that one long answer takes no memory for ever.
+// A capacity above this is freed once all answers are read, so that one long answer doesn't use memory forever.
 const MOST_ROOM: usize = 262144;
 
-/// A stream of contacts, and the answers to them that haven't been read yet.
+/// A stream of contacts, and the answers that haven't been read yet.
 #[derive(Drop)]
 pub struct Contacts {
     stream: ContactStream,
@@ -35,7 +35,7 @@ impl Model for Contacts {
 }
 
 impl Contacts {
-    /// A stream whose contacts are answered by what a mailmap maps.
+    /// A stream whose contacts are answered using a mailmap.
     pub fn new(alloc: Global, mailmap: &[u8]) -> Result<Contacts, AllocError>
         ensures { IfOk result (IsNew mailmap.now) }
     {
@@ -46,7 +46,7 @@ impl Contacts {
         })
     }
 
-    /// Takes bytes from the front of `part`, answers the lines that end in them, and returns how many it took.
+    /// Takes bytes from the front of `part`, answers the lines that end in them, and returns how many bytes it took.
     pub fn push(&mut self, part: &[u8]) -> Result<usize, AllocError>
         ensures ok { IfOk result (λ taken. HasTakenOf part.now taken self.old self.new) }
         ensures err { OnErr result (self.new ≡ self.old) }
@@ -62,7 +62,7 @@ impl Contacts {
         self.stream.finish_line(&mut self.answers)
     }
 
-    /// Copies unread answers to the front of `out`, as many as fit, and returns how many bytes.
+    /// Moves unread answers to the front of `out`, as many bytes as fit, and returns how many.
     pub fn read(&mut self, out: &mut [u8]) -> usize
         ensures { AreRead self.old self.new out.old out.new result }
     {

@@ -1,4 +1,5 @@
-//! A stream that C holds, and the five steps between it and the box that it owns.
+//! The struct behind a stream's handle, and the only functions that look inside: they convert it from and to the box it
+//! owns.
 ghost use Rattle.std.specs.Prelude.{◌≡◌, true, false};
 ghost use Rattle.gix_mailmap_c.specs.Streamed.{Pending};
 ghost use Rattle.gix_mailmap_c.specs.StreamHeld.{streaming};
@@ -10,9 +11,9 @@ use crate::stream::contacts::Contacts;
 use std::alloc::Global;
 use std::marker::{Model, Send};
 
-/// A stream that C holds, open or closed. C makes one as zeros, which is a closed one.
+/// A stream that C holds, open or closed. C initializes it with zeros, which means closed.
 ///
-/// It owns the boxed contacts that it points to while it is open.
+/// While it is open, it owns the boxed contacts that it points to.
 #[repr(C)]
 pub struct Stream {
     at: *mut u8,
@@ -25,7 +26,7 @@ impl Model for Stream {
     ghost also_owns = { λ s. streaming s.alloc s.is_open s.at s.pending };
 }
 
-// It may go to another thread, since the contacts may.
+// Sound, because a handle alone owns its contacts, which are `Send`.
 unsafe impl Send for Stream {}
 
 pub(crate) fn is_open(s: &mut Stream) -> bool

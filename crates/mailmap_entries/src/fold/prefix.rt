@@ -1,4 +1,5 @@
-//! The prefix of a text: its first sixteen bytes as a number. It settles most comparisons without a look at the texts.
+//! Key prefixes: the first sixteen bytes of a text as a number. They decide most comparisons, so the texts are rarely
+//! read.
 ghost use Rattle.std.specs.Prelude.{◌≡◌, ◌+◌, ◌<◌, map, slice_index_or};
 ghost use Rattle.std.specs.Char.{to_ascii_lowercase};
 ghost use Rattle.mailmap_entries.specs.Folding.{folded, text_cmp};
@@ -9,7 +10,7 @@ use crate::fold::{Steps, cmp_ignore_ascii_case};
 use std::cmp::Ordering;
 use std::simd::prelude::*;
 
-/// A text and its prefix.
+/// A text with its prefix.
 #[derive(Clone, Copy)]
 pub struct Prefixed<'a> {
     pub text: &'a [u8],
@@ -18,7 +19,7 @@ pub struct Prefixed<'a> {
 }
 
 impl<'a> Prefixed<'a> {
-    /// The text with its prefix.
+    /// Computes the prefix of the text.
     pub fn new(text: &'a [u8]) -> Prefixed<'a>
         ensures { result.text.now ≡ text.now }
     {
@@ -28,7 +29,7 @@ impl<'a> Prefixed<'a> {
         }
     }
 
-    /// The text with its prefix, which is known already.
+    /// Takes a prefix that was computed before.
     #[inline(always)]
     pub fn with_prefix(text: &'a [u8], prefix: u128) -> Prefixed<'a>
         requires { prefix ≡ key_prefix 16 (folded text.now) }
@@ -40,8 +41,8 @@ impl<'a> Prefixed<'a> {
 }
 
 impl Steps {
-    /// Compares two texts as [`cmp_ignore_ascii_case`] does, and counts it. The texts are read only if their prefixes
-    /// are equal.
+    /// Compares two texts as [`cmp_ignore_ascii_case`] does, and counts it as one comparison. Reads the texts only if
+    /// their prefixes are equal.
     #[inline(always)]
     pub fn compare_prefixed(&mut self, a: Prefixed<'_>, b: Prefixed<'_>) -> Ordering
         requires { self.old < usize.MAX }
@@ -56,9 +57,8 @@ impl Steps {
     }
 }
 
-/// The first sixteen bytes of a text as a number, of which the first byte is worth most. Capital letters count as small
-/// ones, and a byte after the end counts as 0. If the prefixes of two texts differ, the texts are ordered as the
-/// prefixes are.
+/// The first sixteen bytes of a text as a big-endian number. Capital letters count as small ones, and a byte past the
+/// end as 0. Texts whose prefixes differ are in the order of their prefixes.
 pub fn key_prefix(text: &[u8]) -> u128
     ensures { IsKeyPrefix result (folded text.now) }
 {
@@ -68,7 +68,7 @@ pub fn key_prefix(text: &[u8]) -> u128
     u128::from_be_bytes(lowercase(prefix))
 }
 
-// The bytes with the letters `A` to `Z` as `a` to `z`.
+// All sixteen bytes in lower case at once.
 #[inline(always)]
 fn lowercase(bytes: &[u8; 16]) -> [u8; 16]
     ensures { result ≡ map to_ascii_lowercase bytes.now }
@@ -78,7 +78,7 @@ fn lowercase(bytes: &[u8; 16]) -> [u8; 16]
     is_upper.select(lanes + u8x16::splat(32), lanes).to_array()
 }
 
-// The same, byte by byte, for a text that may be shorter.
+// The prefix of a text that may be shorter than sixteen bytes.
 fn short_number(text: &[u8]) -> u128
     ensures { IsKeyPrefix result (folded text.now) }
 {
@@ -89,7 +89,7 @@ fn short_number(text: &[u8]) -> u128
     number
 }
 
-// The byte at an index, without case, and 0 after the end.
+// The byte at the index in lower case, or 0 past the end.
 fn folded_at(text: &[u8], i: usize) -> u8
     ensures { result ≡ slice_index_or (folded text.now) i 0 }
 {
@@ -100,8 +100,7 @@ fn folded_at(text: &[u8], i: usize) -> u8
     }
 }
 
-/// Compares two texts of the same prefix as [`cmp_ignore_ascii_case`] does, but looks only at what follows their first
-/// sixteen bytes.
+/// Compares two texts with equal prefixes as [`cmp_ignore_ascii_case`] does, but skips their first sixteen bytes.
 pub fn compare_after_prefix(a: &[u8], b: &[u8]) -> Ordering
     requires { key_prefix 16 (folded a.now) ≡ key_prefix 16 (folded b.now) }
     ensures { result ≡ text_cmp (folded a.now) (folded b.now) }

@@ -1,4 +1,4 @@
-//! Laws of the equality of findings and explanations.
+//! What is proved of the equality of findings and explanations.
 ghost use Rattle.std.specs.Prelude.{◌≡◌, ◌↔◌, true};
 ghost use Rattle.mailmap_findings.specs.Explanations.{explained, explained_by};
 ghost use Rattle.mailmap_findings.specs.Findings.{contact_of, finding_of, reported_of};
@@ -6,12 +6,12 @@ ghost use Rattle.mailmap_findings.specs.declared.explain.Explanation as the_expl
 ghost use Rattle.mailmap_findings.specs.declared.explain.Needed as the_needed;
 ghost use Rattle.mailmap_findings.specs.declared.verify.Contact as the_contact;
 ghost use Rattle.mailmap_findings.specs.declared.verify.Finding as the_finding;
-ghost use Rattle.mailmap_findings.specs.declared.verify.Kind as the_kind;
+ghost use Rattle.mailmap_findings.specs.declared.verify.FindingKind as the_kind;
 
 use crate::explain::{Explanation, Needed};
-use crate::verify::{Contact, Finding, Kind};
+use crate::verify::{Contact, Finding, FindingKind};
 
-/// Findings are equal exactly if they are of the same line and report the same.
+/// Findings are equal exactly if they are at the same position and report the same.
 pub fn law_equal_findings()
     ensures { (a b : the_finding.Finding)
         → (⟦<Finding<'static> as PartialEq>⟧.eq a b ≡ true) ↔ (finding_of a ≡ finding_of b) }
@@ -19,17 +19,17 @@ pub fn law_equal_findings()
     law_equal_kinds();
 }
 
-/// Kinds are equal exactly if they report the same, which includes the line that a line without effect has none beside.
-/// So are contacts.
+/// Kinds are equal exactly if they report the same, down to the line that a line without effect is beside. Contacts are
+/// equal exactly if their fields are.
 pub fn law_equal_kinds()
-    ensures kinds { (a b : the_kind.Kind)
-        → (⟦<Kind<'static> as PartialEq>⟧.eq a b ≡ true) ↔ (reported_of a ≡ reported_of b) }
+    ensures kinds { (a b : the_kind.FindingKind)
+        → (⟦<FindingKind<'static> as PartialEq>⟧.eq a b ≡ true) ↔ (reported_of a ≡ reported_of b) }
     ensures contacts { (a b : the_contact.Contact)
         → (⟦<Contact<'static> as PartialEq>⟧.eq a b ≡ true) ↔ (contact_of a ≡ contact_of b) }
 {}
 
-/// Explanations are equal exactly if they say the same new fields and are by the same lines. The lines that an answer
-/// needs are equal exactly if the first and the second are.
+/// Explanations are equal exactly if their new fields and the lines behind them are. The lines that an answer needs are
+/// equal exactly if the first and the second are.
 pub fn law_equal_explanations()
     ensures explanations { (a b : the_explanation.Explanation)
         → (⟦<Explanation<'static> as PartialEq>⟧.eq a b ≡ true)

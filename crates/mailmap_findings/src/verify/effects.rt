@@ -1,4 +1,4 @@
-//! What is reported of a line because of what its entry does.
+//! Findings about what the entry of a line does.
 ghost use Rattle.std.specs.Prelude.{◌≡◌, [], unwrap_or};
 ghost use Rattle.std.specs.Option.{option_and_then, option_map};
 ghost use Rattle.mailmap_entries.specs.Entries.{mapping_of};
@@ -6,46 +6,48 @@ ghost use Rattle.mailmap_redundancy.specs.Numbers.{fields_of};
 ghost use Rattle.mailmap_redundancy.specs.Redundancy.{entries};
 ghost use Rattle.mailmap_findings.specs.Findings.{contact as spec_contact, contact_of, mapped as spec_mapped, replaced as spec_replaced, reported_of, reported_of_contact as spec_reported_of_contact, reported_of_entry as spec_reported};
 
-use crate::verify::{Contact, Kind};
+use crate::verify::{Contact, FindingKind};
 use mailmap_entries::Entry;
-use mailmap_redundancy::{Fields, Reduced};
+use mailmap_redundancy::{Effective, Fields};
 
-/// That the entry of a line has no effect, if it is not kept; else that its contact is itself mapped, if it is.
+/// Reports an entry without effect, or one whose contact is itself mapped.
 pub(crate) fn reported_of_entry<'a>(
-    reduced: &Reduced<'_, 'a>,
+    effective: &Effective<'_, 'a>,
     entry: Option<Entry<'a>>,
     is_kept: bool,
-) -> Option<Kind<'a>>
+) -> Option<FindingKind<'a>>
     ensures { option_map reported_of result
-        ≡ option_and_then (spec_reported (entries reduced.now.history) reduced.now.kept is_kept)
+        ≡ option_and_then (spec_reported (entries effective.now.history) effective.now.kept is_kept)
         (option_map mapping_of entry.entry) }
 {
     let entry = entry?;
     if is_kept {
-        return reported_of_contact(reduced, proper_contact(&entry));
+        return reported_of_contact(effective, proper_contact(&entry));
     }
-    let beside = reduced.beside(&entry)?;
-    Some(Kind::NoEffect { beside })
+    let beside = effective.beside(&entry)?;
+    Some(FindingKind::NoEffect { beside })
 }
 
-// That the contact is mapped to another one, if it is.
-fn reported_of_contact<'a>(reduced: &Reduced<'_, 'a>, contact: Contact<'a>) -> Option<Kind<'a>>
+// Reports a contact that is mapped to another one.
+fn reported_of_contact<'a>(
+    effective: &Effective<'_, 'a>,
+    contact: Contact<'a>,
+) -> Option<FindingKind<'a>>
     ensures { option_map reported_of result ≡ spec_reported_of_contact (contact_of contact.entry)
-        (spec_mapped (entries reduced.now.history) (contact_of contact.entry)) }
+        (spec_mapped (entries effective.now.history) (contact_of contact.entry)) }
 {
-    let found = reduced.scan(name_or_empty(&contact), contact.email)?;
+    let found = effective.answer_of(name_or_empty(&contact), contact.email)?;
     reported_of_both(contact, replaced(contact, found))
 }
 
-// The same, if it is known which contact it is mapped to.
-fn reported_of_both<'a>(contact: Contact<'a>, to: Contact<'a>) -> Option<Kind<'a>>
+fn reported_of_both<'a>(contact: Contact<'a>, to: Contact<'a>) -> Option<FindingKind<'a>>
     ensures { option_map reported_of result
         ≡ spec_reported_of_contact (contact_of contact.entry) (contact_of to.entry) }
 {
     if contact == to {
         return None;
     }
-    Some(Kind::ItselfMapped { contact, to })
+    Some(FindingKind::ItselfMapped { contact, to })
 }
 
 // The contact that an entry maps to.
@@ -67,7 +69,7 @@ fn name_or_empty<'a>(contact: &Contact<'a>) -> &'a [u8]
     }
 }
 
-// The contact with these fields, if there are any, in place of its own.
+// The contact with its fields overridden by `fields`. A contact without a name gets none.
 fn replaced<'a>(contact: Contact<'a>, fields: Fields<'a>) -> Contact<'a>
     ensures { contact_of result ≡ spec_replaced (fields_of fields.entry) (contact_of contact.entry) }
 {

@@ -1,21 +1,21 @@
-//! What git reads of lines otherwise than this library.
+//! Findings about lines that git reads in another way.
 ghost use Rattle.std.specs.Prelude.{◌≡◌, is_some, map};
 ghost use Rattle.std.specs.Option.{option_map};
 ghost use Rattle.mailmap_entries.specs.Entries.{mapping_of};
 ghost use Rattle.mailmap_findings.specs.Findings.{first_read_otherwise as spec_first, git_reads, read_otherwise as spec_read_otherwise, reported_of};
 ghost use Rattle.mailmap_findings.specs.Positions.{entry as spec_entry, line_of};
 
-use crate::verify::Kind;
+use crate::git::read_in_place_of;
+use crate::verify::FindingKind;
 use crate::verify::lines::{BufferLines, Line};
 use crate::verify::reading::entry_of;
 use mailmap_entries::Entry;
-use mailmap_git::read_in_place_of;
 use mailmap_redundancy::Position;
 
-/// The position of the first line of the buffers that git reads otherwise than this library. It is `None` if git has
-/// the same entry of each line, and none of a line that gives none here.
+/// The position of the first line that git reads in another way than this library, `None` if git reads the same entry
+/// from each line that has one, and none from the others.
 ///
-/// Of `Jane <jane@x>\nJoe < joe@x >\n` this is line 2, since git trims no email. Nothing is allocated.
+/// For `Jane <jane@x>\nJoe < joe@x >\n` this is line 2, since git doesn't trim emails. Nothing is allocated.
 pub fn first_read_otherwise(buffers: &[&[u8]]) -> Option<Position>
     ensures { result ≡ spec_first (map (λ b. b.now) buffers.now) }
 {
@@ -27,18 +27,20 @@ pub fn first_read_otherwise(buffers: &[&[u8]]) -> Option<Position>
     None
 }
 
-// Whether git reads a line otherwise.
 fn is_read_otherwise(line: &Line<'_>) -> bool
     ensures { result ≡ is_some (spec_read_otherwise (line_of line.now)) }
 {
     read_in_place_of(entry_of(line), line.text).is_some()
 }
 
-/// What git reads of a line in place of its entry, if that is not the same.
+/// Reports what git reads from a line, if that differs from its entry.
 #[inline]
-pub(crate) fn reported_of_git<'a>(line: &Line<'a>, entry: Option<Entry<'_>>) -> Option<Kind<'a>>
+pub(crate) fn reported_of_git<'a>(
+    line: &Line<'a>,
+    entry: Option<Entry<'_>>,
+) -> Option<FindingKind<'a>>
     requires { option_map mapping_of entry ≡ spec_entry (line_of line.now) }
     ensures { option_map reported_of result ≡ option_map git_reads (spec_read_otherwise (line_of line.now)) }
 {
-    read_in_place_of(entry, line.text).map(Kind::GitReads)
+    read_in_place_of(entry, line.text).map(FindingKind::GitReads)
 }

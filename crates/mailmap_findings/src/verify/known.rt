@@ -1,4 +1,4 @@
-//! What is known of lines since they were read for the first time.
+//! Keeps what the first parse found out, so that clean lines are not parsed again.
 ghost use Rattle.std.specs.Prelude.{◌≡◌, ◌<◌, ◌++◌, false, get_or, length, map, option_to_list, true, IfOk, OnOk};
 ghost use Rattle.std.specs.Iterator.{YieldsFirstBy, item_count};
 ghost use Rattle.std.specs.Option.{option_map};
@@ -16,15 +16,14 @@ use mailmap_redundancy::{LocatedEntry, Position};
 use std::alloc::{AllocError, Global};
 use std::marker::Model;
 
-/// The entries of the lines that give one, and of each whether its line is clean: whether nothing is reported of what
-/// the line says.
+/// Entries, and for each whether its line is clean: whether it has no fault and no ignored text.
 #[derive(Drop)]
 pub(crate) struct ReadEntries<'a> {
     pub(crate) entries: Vec<LocatedEntry<'a>>,
     pub(crate) clean: Vec<bool>,
 }
 
-/// Reads the lines of buffers. Only those that give an entry take memory.
+/// Parses the lines of buffers. Only lines that have an entry take memory.
 pub(crate) fn read_entries<'a>(
     alloc: Global,
     buffers: &[&'a [u8]],
@@ -44,7 +43,7 @@ pub(crate) fn read_entries<'a>(
     Ok(read)
 }
 
-// Appends the entry of the line at this position, if it gives one, and whether the line is clean.
+// Appends the line's entry and whether the line is clean. A line without an entry adds nothing.
 #[inline]
 fn push_read<'a>(
     read: &mut ReadEntries<'a>,
@@ -66,13 +65,13 @@ fn push_read<'a>(
     Ok(())
 }
 
-/// The lines of buffers as [`MarkedLines`] gives them, and what is known of each.
+/// The lines that [`MarkedLines`] yields, with what the first parse found out about them.
 ///
-/// To a contract it is the list of what is left.
+/// Contracts see it as the list of the remaining lines.
 #[derive(Drop)]
 pub(crate) struct KnownLines<'v, 'a> {
     lines: MarkedLines<'v, 'a>,
-    // what was read of the lines, and how many of these entries belong to lines that `next` has returned
+    // what the first parse found, and how many of these entries belong to lines that `next` has returned
     entries: &'v [LocatedEntry<'a>],
     clean: &'v [bool],
     passed: usize,
@@ -133,7 +132,6 @@ impl<'v, 'a> Iterator for KnownLines<'v, 'a> {
     }
 }
 
-// Whether the line of the entry at this index is clean.
 #[inline]
 fn is_clean_at(clean: &[bool], index: usize) -> bool
     requires { index < length clean.now }
@@ -142,7 +140,7 @@ fn is_clean_at(clean: &[bool], index: usize) -> bool
     clean[index]
 }
 
-// A line and its entry, which is known if the line is clean.
+// A line with its entry. The entry is only used if the line is clean.
 #[inline]
 fn known_line<'a>(line: Line<'a>, is_kept: bool, is_clean: bool, entry: Entry<'a>) -> KnownLine<'a>
     requires { is_clean ≡ true → SaysOnly (line_of line) (mapping_of entry) }
@@ -158,7 +156,7 @@ fn known_line<'a>(line: Line<'a>, is_kept: bool, is_clean: bool, entry: Entry<'a
     unread(line, is_kept)
 }
 
-// A line that has to be read again.
+// A line that has to be parsed again.
 #[inline]
 fn unread<'a>(line: Line<'a>, is_kept: bool) -> KnownLine<'a>
     ensures { marked_line_of result ≡ (line_of line.entry, is_kept) }

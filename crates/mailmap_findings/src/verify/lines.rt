@@ -1,4 +1,4 @@
-//! The lines of buffers with their positions.
+//! The lines of buffers, with their positions.
 ghost use Rattle.std.specs.Prelude.{◌≡◌, ◌≢◌, ◌<◌, ◌^◌, [], false, length, map, true, IfSome};
 ghost use Rattle.std.specs.Iterator.{YieldsFirstBy, item_count};
 ghost use Rattle.std.proofs.Props.{props};
@@ -11,14 +11,14 @@ use mailmap_entries::Entry;
 use mailmap_redundancy::Position;
 use std::marker::Model;
 
-/// A line of a buffer, with its line feed.
+/// A line of a buffer, including its line feed.
 #[derive(Clone, Copy)]
 pub(crate) struct Line<'a> {
     pub(crate) position: Position,
     pub(crate) text: &'a [u8],
 }
 
-/// A line, whether its entry is kept, and its entry if that is known and nothing is reported of what the line says.
+/// A line, whether its entry is effective, and its entry if the line is known to be clean.
 #[derive(Clone, Copy)]
 pub(crate) struct KnownLine<'a> {
     pub(crate) line: Line<'a>,
@@ -27,15 +27,15 @@ pub(crate) struct KnownLine<'a> {
     ghost is_known: { IfSome known (λ e. SaysOnly (line_of line) (mapping_of e)) } by { Prim.hlevel props },
 }
 
-/// The lines of buffers, one buffer after another.
+/// Iterates over the lines of all buffers in order.
 ///
-/// To a contract it is the list of the lines that are left.
+/// Contracts see it as the list of the remaining lines.
 #[derive(Drop)]
 pub(crate) struct BufferLines<'b, 'a> {
     buffers: &'b [&'a [u8]],
     // how many buffers were reached
     reached: usize,
-    // the last of them, the number of its line that was given last, and the lines of it that are left
+    // the index of the last buffer reached, the number of its last line returned, and its remaining lines
     buffer: usize,
     line: usize,
     lines: LinesWithTerminator<'a>,
@@ -94,7 +94,6 @@ impl<'b, 'a> Iterator for BufferLines<'b, 'a> {
     }
 }
 
-// The lines of one buffer.
 fn lines_in<'a>(text: &'a [u8]) -> LinesWithTerminator<'a>
     ensures value { result ≡ whole_lines text.now }
     ensures countable { length result < 2 ^ 64 }
@@ -102,7 +101,7 @@ fn lines_in<'a>(text: &'a [u8]) -> LinesWithTerminator<'a>
     text.lines_with_terminator()
 }
 
-/// Whether a buffer has a line: whether not all of them are empty.
+/// Whether any buffer has a line, that is, isn't empty.
 pub(crate) fn has_lines(buffers: &[&[u8]]) -> bool
     ensures some { result ≡ true → lines (map (λ b. b.now) buffers.now) ≢ [] }
     ensures none { result ≡ false → lines (map (λ b. b.now) buffers.now) ≡ [] }

@@ -1,4 +1,4 @@
-//! What a line says: its entry, and what is reported of it because of what it says.
+//! Parses lines: their entries, and findings about their text.
 ghost use Rattle.std.specs.Prelude.{◌≡◌, IfSome};
 ghost use Rattle.std.specs.Option.{option_map, option_copied};
 ghost use Rattle.mailmap_grammar.specs.Lines.{strict_reading, non_empty};
@@ -8,14 +8,14 @@ ghost use Rattle.mailmap_findings.specs.Positions.{IsPieceOf, entry as spec_entr
 ghost use Rattle.mailmap_findings.specs.Findings.{reported_of, reported_of_reading as spec_reported};
 ghost use Rattle.mailmap_findings.specs.Clean.{SaysOnly};
 
-use crate::verify::Kind;
+use crate::verify::FindingKind;
 use crate::verify::lines::Line;
 use mailmap_entries::Entry;
 use mailmap_grammar::contacts::trim;
 use mailmap_grammar::lines::{Strictness, read_line};
 use mailmap_grammar::strict;
 
-/// The entry that a line gives, read leniently as for lookups.
+/// The entry of a line, parsed leniently, as lookups do.
 #[inline]
 pub(crate) fn entry_of<'a>(line: &Line<'a>) -> Option<Entry<'a>>
     ensures { option_map mapping_of result ≡ spec_entry (line_of line.now) }
@@ -23,9 +23,9 @@ pub(crate) fn entry_of<'a>(line: &Line<'a>) -> Option<Entry<'a>>
     entry_of_piece(&without_feed(line))
 }
 
-/// The fault of a line that is read strictly, or else the text that is ignored; and the entry that the line gives.
+/// The fault that strict parsing finds in a line, or else its ignored text; and the line's entry.
 #[inline]
-pub(crate) fn read_strictly<'a>(line: &Line<'a>) -> (Option<Kind<'a>>, Option<Entry<'a>>)
+pub(crate) fn read_strictly<'a>(line: &Line<'a>) -> (Option<FindingKind<'a>>, Option<Entry<'a>>)
     ensures reported { option_map reported_of result.0
         ≡ spec_reported line.now.text.now (strict_reading line.now.position.line line.now.text.now) }
     ensures entry { option_map mapping_of result.1 ≡ spec_entry (line_of line.now) }
@@ -33,12 +33,12 @@ pub(crate) fn read_strictly<'a>(line: &Line<'a>) -> (Option<Kind<'a>>, Option<En
     read_piece(&without_feed(line))
 }
 
-/// What [`read_strictly`] gives of a line whose entry may be known.
+/// Parses a line as [`read_strictly`] does, unless its entry is known already.
 #[inline]
 pub(crate) fn read_unless_known<'a>(
     line: &Line<'a>,
     known: Option<Entry<'a>>,
-) -> (Option<Kind<'a>>, Option<Entry<'a>>)
+) -> (Option<FindingKind<'a>>, Option<Entry<'a>>)
     requires { IfSome known (λ e. SaysOnly (line_of line.now) (mapping_of e)) }
     ensures reported { option_map reported_of result.0
         ≡ spec_reported line.now.text.now (strict_reading line.now.position.line line.now.text.now) }
@@ -50,9 +50,12 @@ pub(crate) fn read_unless_known<'a>(
     }
 }
 
-// The same, if the line is known to say nothing but this entry.
+// A clean line has no fault and no ignored text, so its entry is all there is.
 #[inline]
-fn only_entry<'a>(_line: &Line<'a>, entry: Entry<'a>) -> (Option<Kind<'a>>, Option<Entry<'a>>)
+fn only_entry<'a>(
+    _line: &Line<'a>,
+    entry: Entry<'a>,
+) -> (Option<FindingKind<'a>>, Option<Entry<'a>>)
     requires { SaysOnly (line_of _line.now) (mapping_of entry) }
     ensures reported { option_map reported_of result.0
         ≡ spec_reported _line.now.text.now (strict_reading _line.now.position.line _line.now.text.now) }
@@ -61,7 +64,7 @@ fn only_entry<'a>(_line: &Line<'a>, entry: Entry<'a>) -> (Option<Kind<'a>>, Opti
     (None, Some(entry))
 }
 
-// The line without the line feed at its end. The line feed says nothing, and lines are trimmed faster without it.
+// Drops the line feed at the end, which means nothing: trimming is faster without it.
 #[inline]
 fn without_feed<'a>(line: &Line<'a>) -> Line<'a>
     ensures position { result.position ≡ line.now.position }
@@ -78,7 +81,7 @@ fn without_feed<'a>(line: &Line<'a>) -> Line<'a>
     }
 }
 
-// The entry of a line with or without its line feed.
+// The line may have lost its line feed.
 #[inline]
 fn entry_of_piece<'a>(line: &Line<'a>) -> Option<Entry<'a>>
     ensures { option_map mapping_of result ≡ spec_entry (line_of line.now) }
@@ -86,24 +89,25 @@ fn entry_of_piece<'a>(line: &Line<'a>) -> Option<Entry<'a>>
     read_line(line.text, line.position.line, Strictness::Lenient)?.ok()
 }
 
-// The same, and what is reported. If strict reading finds an entry, lenient reading finds the same.
+// The line may have lost its line feed. If strict parsing finds an entry, lenient parsing finds the same one, so the
+// line is parsed once.
 #[inline]
-fn read_piece<'a>(line: &Line<'a>) -> (Option<Kind<'a>>, Option<Entry<'a>>)
+fn read_piece<'a>(line: &Line<'a>) -> (Option<FindingKind<'a>>, Option<Entry<'a>>)
     ensures reported { option_map reported_of result.0
         ≡ spec_reported line.now.text.now (strict_reading line.now.position.line line.now.text.now) }
     ensures entry { option_map mapping_of result.1 ≡ spec_entry (line_of line.now) }
 {
     match strict::read_strictly(line.text, line.position.line) {
         None => (None, None),
-        Some(Err(error)) => (Some(Kind::Fault(error)), entry_of_piece(line)),
+        Some(Err(error)) => (Some(FindingKind::Fault(error)), entry_of_piece(line)),
         Some(Ok(read)) => (
-            visible(read.trailing).map(Kind::IgnoredText),
+            visible(read.trailing).map(FindingKind::IgnoredText),
             Some(read.entry),
         ),
     }
 }
 
-// The text, trimmed; `None` if it is blank.
+// The trimmed text, `None` if it is blank.
 #[inline]
 fn visible(text: &[u8]) -> Option<&[u8]>
     ensures { option_copied result ≡ non_empty (spec_trim text.now) }

@@ -1,4 +1,4 @@
-//! A walk over lines that says of each whether its entry is kept, and what is done with each line.
+//! Iterates over lines with whether their entries are effective, and computes each line's findings.
 ghost use Rattle.std.specs.Prelude.{◌≡◌, ◌||◌, [], map, filter, is_none, IfOk, IfSome};
 ghost use Rattle.std.specs.Iterator.{YieldsFirstBy, item_count};
 ghost use Rattle.std.specs.List.{flat_map};
@@ -14,19 +14,20 @@ use crate::verify::effects::reported_of_entry;
 use crate::verify::git::reported_of_git;
 use crate::verify::lines::{BufferLines, Line};
 use crate::verify::reading::{entry_of, read_unless_known};
-use crate::verify::{Finding, Kind};
+use crate::verify::{Finding, FindingKind};
 use mailmap_entries::Entry;
-use mailmap_redundancy::{LocatedEntry, Position, Reduced};
+use mailmap_redundancy::{Effective, LocatedEntry, Position};
 use std::alloc::{AllocError, Global};
 use std::marker::Model;
 
-/// The lines of buffers, each with whether it has an entry that is kept.
+/// Iterates over the lines of buffers, each with whether it has an effective entry. Both lists are in the order of the
+/// lines, so one index into the entries is enough.
 ///
-/// To a contract it is the list of what is left.
+/// Contracts see it as the list of the remaining lines.
 #[derive(Drop)]
 pub(crate) struct MarkedLines<'v, 'a> {
     lines: BufferLines<'v, 'a>,
-    // the kept entries, and how many of them belong to lines that `next` has returned
+    // the effective entries, and how many of them belong to lines that `next` has returned
     kept: &'v [&'v LocatedEntry<'a>],
     passed: usize,
 }
@@ -79,16 +80,15 @@ impl<'v, 'a> Iterator for MarkedLines<'v, 'a> {
     }
 }
 
-/// Whether an entry is at this position.
 pub(crate) fn is_at(entry: &LocatedEntry<'_>, position: Position) -> bool
     ensures { result ≡ same_position entry.now.position position }
 {
     entry.position == position
 }
 
-/// The findings of a line: by what it says, by what git reads of it, and by what its entry does.
+/// The findings of a line: about its text, about what git reads, and about its entry.
 ///
-/// To a contract it is the list of those that are left.
+/// Contracts see it as the list of the remaining findings.
 #[derive(Drop)]
 pub(crate) struct LineFindings<'a> {
     of_text: Option<Finding<'a>>,
@@ -137,19 +137,19 @@ impl<'a> Iterator for LineFindings<'a> {
     }
 }
 
-/// What is found of a line whose entry may be known.
+/// Computes the findings of a line. `known` is its entry, if the line is known to be clean.
 pub(crate) fn line_findings<'a>(
-    reduced: &Reduced<'_, 'a>,
+    effective: &Effective<'_, 'a>,
     line: &Line<'a>,
     is_kept: bool,
     known: Option<Entry<'a>>,
 ) -> LineFindings<'a>
     requires { IfSome known (λ e. SaysOnly (line_of line.now) (mapping_of e)) }
-    ensures { result ≡ spec_line_findings (entries reduced.now.history) reduced.now.kept is_kept (line_of line.now) }
+    ensures { result ≡ spec_line_findings (entries effective.now.history) effective.now.kept is_kept (line_of line.now) }
 {
     let (of_text, entry) = read_unless_known(line, known);
     let of_git = reported_of_git(line, entry);
-    let of_entry = reported_of_entry(reduced, entry, is_kept);
+    let of_entry = reported_of_entry(effective, entry, is_kept);
     LineFindings {
         of_text: finding_at(line.position, of_text),
         of_git: finding_at(line.position, of_git),
@@ -157,8 +157,7 @@ pub(crate) fn line_findings<'a>(
     }
 }
 
-// The finding of this kind, if there is one.
-fn finding_at<'a>(position: Position, kind: Option<Kind<'a>>) -> Option<Finding<'a>>
+fn finding_at<'a>(position: Position, kind: Option<FindingKind<'a>>) -> Option<Finding<'a>>
     ensures { option_map finding_of result
         ≡ option_map (λ t. record { position = position; reported = t }) (option_map reported_of kind.entry) }
 {
@@ -166,7 +165,7 @@ fn finding_at<'a>(position: Position, kind: Option<Kind<'a>>) -> Option<Finding<
     Some(Finding { position, kind })
 }
 
-/// The text of the lines that give no entry, or one that is kept. `bytes` is room for it.
+/// Copies the lines that have no entry or an effective one. `bytes` is the capacity to reserve.
 pub(crate) fn pruned_text(
     alloc: Global,
     bytes: usize,
@@ -184,7 +183,6 @@ pub(crate) fn pruned_text(
     Ok(text)
 }
 
-// Whether a line is kept: it gives no entry, or one that is kept.
 fn is_line_kept(line: &Line<'_>, is_kept: bool) -> bool
     ensures { result ≡ (is_none (entry (line_of line.now)) || is_kept) }
 {

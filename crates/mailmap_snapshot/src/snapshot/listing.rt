@@ -1,7 +1,7 @@
-//! The listing of a snapshot, and what follows from it: equality, the hash, the debug text and a copy.
+//! The listing of a snapshot, and what depends only on it: equality, the hash, the debug text and a copy.
 ghost use Rattle.std.specs.Prelude.{◌≡◌, ◌↔◌, length, map, IsTrue, IfOk};
 ghost use Rattle.mailmap_entries.specs.Entries.{mapping_of};
-ghost use Rattle.mailmap_histories.specs.Building.{IsListing};
+ghost use Rattle.mailmap_entries.specs.Building.{IsListing};
 ghost use Rattle.mailmap_tables.specs.Groups.{listing};
 
 use crate::snapshot::Snapshot;
@@ -11,28 +11,27 @@ use std::alloc::{AllocError, Global};
 use std::fmt;
 use std::hash::{Hash, Hasher};
 
-/// The listing.
 impl Snapshot {
-    /// The entries that say what the snapshot maps, one for each key: for an old email itself, if a field was given
-    /// without an old name, and for each old name of it.
+    /// Iterates over entries that say all that the snapshot maps, one for each key: for each old email, if it has
+    /// fields for all names, and for each old name with it.
     ///
-    /// They come in ascending order of the old emails and, in each, of the old names, both without regard to the case
-    /// of ASCII letters, an email's own entry first. All entries of an email have its kept spelling. They lend their
-    /// texts from the snapshot. It takes no memory.
+    /// They are in ascending order of the old emails, and for each email of the old names, both without regard to the
+    /// case of ASCII letters. An email's entry for all names comes first. All entries of an email have the stored
+    /// spelling of it. Their texts borrow from the snapshot. Allocates nothing.
     pub fn iter(&self) -> Iter<'_>
         ensures listing { result ≡ self.now }
 
-        // whatever was merged, what a snapshot lists is its own normal list
+        // whatever was merged, the listing is its own normal list
         ensures own { IsListing self.now }
     {
         Iter::new(self.tables.view())
     }
 
-    /// How many entries [`iter`](Snapshot::iter()) gives. It goes over all of them, and takes no memory.
+    /// The number of entries that [`iter`](Snapshot::iter()) yields. Counts them all, and allocates nothing.
     pub fn len(&self) -> usize
         ensures { result ≡ length self.now }
     {
-        // no listing has more entries than the tables have rows, so they can be counted
+        // no listing has more entries than the tables have rows, so the count can't overflow
         let _rows = self.tables.view().row_count();
         let mut count = 0;
         for _entry in self.iter() {
@@ -45,7 +44,7 @@ impl Snapshot {
     pub fn entries(&self, alloc: Global) -> Result<Vec<Entry<'_>>, AllocError>
         ensures listing { IfOk result (λ v. map mapping_of v.items ≡ self.now) }
 
-        // whatever was merged, what a snapshot lists is its own normal list
+        // whatever was merged, the listing is its own normal list
         ensures own { IsListing self.now }
     {
         self.iter().collect(alloc)
@@ -63,14 +62,14 @@ impl Snapshot {
 
 impl PartialEq for Snapshot {
     ghost use Rattle.std.specs.Prelude.{◌≡◌, ◌↔◌, IsTrue};
-    ghost use Rattle.mailmap_histories.specs.Listings.{same_entries};
-    ghost use Rattle.mailmap_histories.proofs.EqualListings.{partly_equal_entries};
+    ghost use Rattle.mailmap_entries.specs.Listings.{same_entries};
+    ghost use Rattle.mailmap_entries.proofs.EqualListings.{partly_equal_entries};
 
     ghost eq = { same_entries };
 
     ghost laws = { partly_equal_entries };
 
-    /// Whether the listings are equal: how the snapshots came about plays no part.
+    /// Whether the listings are equal. It doesn't matter how the snapshots were built.
     fn eq(&self, other: &Snapshot) -> bool
         ensures value { result ≡ same_entries self.now other.now }
         ensures same { IsTrue result ↔ (self.now ≡ other.now) }
@@ -80,14 +79,14 @@ impl PartialEq for Snapshot {
 }
 
 impl Eq for Snapshot {
-    ghost use Rattle.mailmap_histories.proofs.EqualListings.{equal_entries};
+    ghost use Rattle.mailmap_entries.proofs.EqualListings.{equal_entries};
 
     ghost laws = { equal_entries };
 }
 
 impl Hash for Snapshot {
-    ghost use Rattle.mailmap_histories.specs.Listings.{entries_hashed};
-    ghost use Rattle.mailmap_histories.proofs.EqualListings.{equal_hashes};
+    ghost use Rattle.mailmap_entries.specs.Listings.{entries_hashed};
+    ghost use Rattle.mailmap_entries.proofs.EqualListings.{equal_hashes};
 
     ghost hash_input = { entries_hashed };
 

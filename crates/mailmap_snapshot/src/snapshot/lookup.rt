@@ -1,10 +1,10 @@
-//! What a snapshot answers to a signature: a search for its email, and one for its name among the names of that.
+//! Lookups: a binary search for the email, then one for the name among the names of that email.
 ghost use Rattle.std.specs.Prelude.{◌≡◌, ◌≤◌, ◌+◌, ◌-◌, ◌||◌, List, Some, length, min, is_some, option_map, IsTrue};
 ghost use Rattle.std.specs.Prelude.{IfSome};
 ghost use Rattle.std.specs.Option.{ForSome};
 ghost use Rattle.mailmap_entries.specs.Entries.{Mapping};
 ghost use Rattle.mailmap_tables.specs.Groups.{AreGroups, listing};
-ghost use Rattle.mailmap_histories.specs.Histories.{IsNormal, answered, scan};
+ghost use Rattle.mailmap_entries.specs.Semantics.{IsNormal, answered, answer_of};
 ghost use Rattle.mailmap_tables.specs.Pool.{LiesIn, spelled};
 ghost use Rattle.mailmap_entries.specs.Search.{digits};
 ghost use Rattle.mailmap_snapshot.specs.Signatures.{shown, email_count, name_count};
@@ -13,11 +13,11 @@ use crate::snapshot::Snapshot;
 use crate::snapshot::resolved::ResolvedSignature;
 use mailmap_entries::fold::Steps;
 use mailmap_signatures::actor::SignatureRef;
-use mailmap_tables::search::{search_email, search_name};
+use mailmap_tables::search::{find_email_counted, find_name_counted};
 use mailmap_tables::texts::Span;
 use mailmap_tables::view::View;
 
-/// What the emails and names of tables answer to a name and an email.
+/// What tables answer to a name and an email.
 #[inline(always)]
 fn look_up<'a>(
     tables: &View<'a>,
@@ -27,18 +27,18 @@ fn look_up<'a>(
 ) -> Option<ResolvedSignature<'a>>
     requires groups { AreGroups tables.now.groups }
     requires countable { steps.old ≤ usize.MAX - 128 }
-    ensures fields { option_map shown result ≡ scan (listing tables.now.groups) name.now email.now }
+    ensures fields { option_map shown result ≡ answer_of (listing tables.now.groups) name.now email.now }
     ensures says { IfSome result (λ r. IsTrue (is_some r.name || is_some r.email)) }
     ensures at_most { steps.new ≤ steps.old + digits (length tables.now.groups)
         + digits (name_count (listing tables.now.groups) email.now) }
     ensures at_least { steps.old + min 1 (length tables.now.groups)
         + min 1 (name_count (listing tables.now.groups) email.now) ≤ steps.new }
 {
-    let Ok(index) = search_email(tables, 0, email, steps) else {
+    let Ok(index) = find_email_counted(tables, 0, email, steps) else {
         return None;
     };
     let (texts, names) = tables.email(index);
-    match search_name(tables, names, name, steps) {
+    match find_name_counted(tables, names, name, steps) {
         Ok(i) => {
             let (new_name, new_email) = tables.fields(names[i]);
             answer(tables, texts.old(), new_name, new_email, email)
@@ -50,7 +50,7 @@ fn look_up<'a>(
     }
 }
 
-// What two fields that are kept for an email answer to a spelling of it.
+// The answer from the stored fields, for an email that was looked up as `current_email`.
 fn answer<'a>(
     tables: &View<'a>,
     old_email: Span,
@@ -75,46 +75,46 @@ fn answer<'a>(
     )
 }
 
-/// Lookups. They take no memory.
+/// Lookups. They don't allocate.
 impl Snapshot {
     /// The name and the email that replace those of a signature, `None` if nothing is mapped.
     ///
-    /// Entries for the signature's very name count before those for all names of its email, and then for both fields:
-    /// a new name that they lack is not taken from the others. The case of ASCII letters does not count, neither in the
-    /// name nor in the email; if the email differs from the kept spelling in any byte and no new one is given, that
-    /// spelling is the email. git leaves such an email as it is.
+    /// Entries for the signature's name and email take precedence over those for all names with the email, and then
+    /// decide both fields: if they have no new name, the others don't provide one. The case of ASCII letters is ignored
+    /// in names and emails. If there is no new email, and the signature's email differs from the stored spelling in any
+    /// byte, the answer has the stored spelling. Git leaves such an email as it is.
     ///
-    /// What is answered borrows only from the snapshot, and may be kept when the signature is gone.
+    /// The answer borrows only from the snapshot, so it can outlive the signature.
     pub fn try_resolve_ref(&self, signature: SignatureRef<'_>) -> Option<ResolvedSignature<'_>>
-        ensures view { option_map shown result ≡ scan self.now signature.entry.name.now signature.entry.email.now }
+        ensures view { option_map shown result ≡ answer_of self.now signature.entry.name.now signature.entry.email.now }
 
-        // the answer of each history whose normal list the snapshot is
+        // the answer of all mappings with this normal list, such as all merged entries
         ensures history { (h : List Mapping) → IsNormal h self.now →
-            option_map shown result ≡ scan h signature.entry.name.now signature.entry.email.now }
+            option_map shown result ≡ answer_of h signature.entry.name.now signature.entry.email.now }
         ensures says { IfSome result (λ r. IsTrue (is_some r.name || is_some r.email)) }
     {
         self.try_resolve_contact(signature.name, signature.email)
     }
 
-    /// As [`try_resolve_ref`](Snapshot::try_resolve_ref()), for a name and an email that are no signature's.
+    /// Does what [`try_resolve_ref`](Snapshot::try_resolve_ref()) does, for a name and an email without a signature.
     #[inline(always)]
     pub fn try_resolve_contact(&self, name: &[u8], email: &[u8]) -> Option<ResolvedSignature<'_>>
-        ensures view { option_map shown result ≡ scan self.now name.now email.now }
+        ensures view { option_map shown result ≡ answer_of self.now name.now email.now }
 
-        // the answer of each history whose normal list the snapshot is
+        // the answer of all mappings with this normal list, such as all merged entries
         ensures history { (h : List Mapping) → IsNormal h self.now →
-            option_map shown result ≡ scan h name.now email.now }
+            option_map shown result ≡ answer_of h name.now email.now }
         ensures says { IfSome result (λ r. IsTrue (is_some r.name || is_some r.email)) }
     {
         look_up(&self.tables.view(), name, email, &mut Steps::new())
     }
 
-    /// As [`try_resolve_ref`](Snapshot::try_resolve_ref()), and counts the comparisons of emails and of names in
-    /// `steps`.
+    /// Does what [`try_resolve_ref`](Snapshot::try_resolve_ref()) does, and counts the comparisons of emails and names
+    /// in `steps`.
     ///
-    /// With E different emails in the snapshot and N old names of the email that is found, these are at most as many as
-    /// E and N have binary digits together, and at least one for each of the two that is not 0. If no email is found,
-    /// N is 0.
+    /// With E distinct emails in the snapshot and N old names for the email that is found, there are at most as many
+    /// comparisons as E and N have binary digits together. There is at least one for each of E and N that is not 0. If
+    /// the email is not found, N is 0.
     #[inline(always)]
     pub fn try_resolve_ref_counted(
         &self,
@@ -122,11 +122,11 @@ impl Snapshot {
         steps: &mut Steps,
     ) -> Option<ResolvedSignature<'_>>
         requires { steps.old ≤ usize.MAX - 128 }
-        ensures view { option_map shown result ≡ scan self.now signature.entry.name.now signature.entry.email.now }
+        ensures view { option_map shown result ≡ answer_of self.now signature.entry.name.now signature.entry.email.now }
 
-        // the answer of each history whose normal list the snapshot is
+        // the answer of all mappings with this normal list, such as all merged entries
         ensures history { (h : List Mapping) → IsNormal h self.now →
-            option_map shown result ≡ scan h signature.entry.name.now signature.entry.email.now }
+            option_map shown result ≡ answer_of h signature.entry.name.now signature.entry.email.now }
         ensures says { IfSome result (λ r. IsTrue (is_some r.name || is_some r.email)) }
         ensures at_most { steps.new ≤ steps.old + digits (email_count self.now)
             + digits (name_count self.now signature.entry.email.now) }

@@ -1,10 +1,10 @@
-//! Signatures with their mapped names and emails in place, owned or copied on write.
+//! Signatures with mapped names and emails, owned or copied on write.
 ghost use Rattle.std.specs.Prelude.{◌≡◌, ◌↔◌, ◌||◌, List, IsSome, IsTrue, is_some, IfOk, IfSome, OnErr};
 ghost use Rattle.std.specs.Cow.{cow_slice_items, IsOwnedSlice};
 ghost use Rattle.mailmap_signatures.specs.SignatureFields.{owned_fields, cow_fields};
 ghost use Rattle.mailmap_snapshot.specs.Answers.{mapped, IsResolved, OwnsMapped, IsEnriched, OwnsJust};
 ghost use Rattle.mailmap_entries.specs.Entries.{Mapping};
-ghost use Rattle.mailmap_histories.specs.Histories.{IsNormal};
+ghost use Rattle.mailmap_entries.specs.Semantics.{IsNormal};
 ghost use Rattle.mailmap_snapshot.specs.Signatures.{shown};
 
 use crate::snapshot::{ResolvedSignature, Signature, Snapshot};
@@ -13,17 +13,17 @@ use mailmap_signatures::actor::SignatureRef;
 use std::alloc::{AllocError, Global};
 use std::borrow::CowSlice;
 
-/// Resolving signatures: a name or an email that the mailmap gives replaces the recorded one. What it doesn't give
-/// stays as it is. A time that can't be read becomes the default one.
+/// Resolving signatures: names and emails that the mailmap maps are replaced, and others stay as they are. A time that
+/// can't be parsed becomes the default time.
 ///
-/// Each answer is stated twice by the contracts: by the entries of the snapshot, and by any sequence of entries whose
-/// merge gives these, such as all entries that were merged, in their order.
+/// Contracts state each answer twice: by the entries of the snapshot, and by any entries whose merge gives these, such
+/// as all that were merged, in order.
 impl Snapshot {
-    /// The signature as the mailmap maps it, or `None` if it maps neither its name nor its email.
+    /// Resolves the signature. `None` if the mailmap maps neither its name nor its email.
     ///
-    /// Nothing is mapped if no entry is for the email, or if its entries are for other names and the mailmap spells the
-    /// email as the signature does. An email that differs from the mailmap's spelling only in the case of its letters
-    /// is mapped to that spelling. This runs out of memory only if something is mapped.
+    /// That is so if there is no entry for the email, or only entries for other names and the mailmap spells the email
+    /// as the signature does. If the email differs from the mailmap's spelling only in the case of its letters, it is
+    /// mapped to that spelling. This runs out of memory only if something is mapped.
     ///
     /// ```rust
     /// let mailmap = Snapshot::from_bytes(alloc, b"Jane Doe <jane@x> <jd@y>")?;
@@ -38,13 +38,13 @@ impl Snapshot {
         alloc: Global,
         signature: SignatureRef<'_>,
     ) -> Result<Option<actor::Signature>, AllocError>
-        // nothing exactly when nothing is mapped
+        // `None` exactly if nothing is mapped
         ensures none { (result ≡ Ok None) ↔ (mapped self.now signature.entry ≡ None) }
         ensures some { IfOk result
             (λ answer. IfSome answer (λ s. IsResolved self.now signature.entry (owned_fields s))) }
-        // it runs out of memory only if something is mapped
+        // memory runs out only if something is mapped
         ensures out_of_memory { OnErr result (IsSome (mapped self.now signature.entry)) }
-        // the same, by a history whose normal list is the listing
+        // all this holds for any mappings with this normal list
         ensures history_none { (h : List Mapping) → IsNormal h self.now → (result ≡ Ok None)
             ↔ (mapped h signature.entry ≡ None) }
         ensures history_some { (h : List Mapping) → IsNormal h self.now →
@@ -59,7 +59,7 @@ impl Snapshot {
         }
     }
 
-    /// The signature as the mailmap maps it, a copy of `signature` if it maps nothing.
+    /// Resolves the signature. Returns a copy of `signature` if nothing is mapped.
     ///
     /// ```rust
     /// let mailmap = Snapshot::from_bytes(alloc, b"Jane Doe <jane@x> <jd@y>")?;
@@ -74,7 +74,7 @@ impl Snapshot {
         signature: SignatureRef<'_>,
     ) -> Result<actor::Signature, AllocError>
         ensures view { IfOk result (λ s. IsResolved self.now signature.entry (owned_fields s)) }
-        // the same, by a history whose normal list is the listing
+        // this holds for any mappings with this normal list
         ensures history { (h : List Mapping) → IsNormal h self.now
             → IfOk result (λ s. IsResolved h signature.entry (owned_fields s)) }
     {
@@ -84,10 +84,11 @@ impl Snapshot {
         }
     }
 
-    /// The signature as the mailmap maps it, with mapped texts owned and the others borrowed from `signature`.
+    /// Resolves the signature, and copies only what changes: mapped texts are owned, the others borrow from
+    /// `signature`.
     ///
-    /// If nothing is mapped, both are borrowed, and this doesn't run out of memory. It suits views that show many
-    /// signatures, of which a mailmap changes few:
+    /// If nothing is mapped, both texts are borrowed, and this can't run out of memory. Use it to show many signatures
+    /// of which the mailmap changes few:
     ///
     /// ```rust
     /// let mailmap = Snapshot::from_bytes(alloc, b"Jane Doe <jd@y>")?;
@@ -103,9 +104,9 @@ impl Snapshot {
     ) -> Result<Signature<'a>, AllocError>
         ensures view { IfOk result (λ s. IsResolved self.now signature.entry (cow_fields s)) }
         ensures owned { IfOk result (OwnsMapped self.now signature.entry) }
-        // it runs out of memory only if something is mapped
+        // memory runs out only if something is mapped
         ensures out_of_memory { OnErr result (IsSome (mapped self.now signature.entry)) }
-        // the same, by a history whose normal list is the listing
+        // this holds for any mappings with this normal list
         ensures history { (h : List Mapping) → IsNormal h self.now
             → IfOk result (λ s. IsResolved h signature.entry (cow_fields s)) }
         ensures history_owned { (h : List Mapping) → IsNormal h self.now → IfOk result (OwnsMapped h signature.entry) }
@@ -117,8 +118,7 @@ impl Snapshot {
     }
 }
 
-/// The signature with copies of the fields that a lookup found in place of its own. A lookup finds one of them at
-/// least.
+/// The signature, with copies of the fields that a lookup found in place of its own. There is always at least one.
 fn enriched_signature<'a>(
     alloc: Global,
     signature: SignatureRef<'a>,
@@ -149,7 +149,6 @@ fn enriched_signature<'a>(
     }
 }
 
-// A copy of a text.
 fn owned<'a>(alloc: Global, text: &[u8]) -> Result<CowSlice<'a, u8>, AllocError>
     ensures items { IfOk result (λ copy. cow_slice_items copy ≡ text.now) }
     ensures owned { IfOk result IsOwnedSlice }

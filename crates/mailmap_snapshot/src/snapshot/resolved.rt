@@ -1,26 +1,26 @@
-//! What a lookup answers.
+//! The answer to a lookup.
 ghost use Rattle.std.specs.Prelude.{◌≡◌, ◌||◌, is_some, IsTrue, IfSome, option_map};
 ghost use Rattle.std.specs.Option.{option_copied};
 ghost use Rattle.std.specs.Ordering.{eq_by_cmp};
 ghost use Rattle.mailmap_entries.specs.Folding.{text_cmp};
-ghost use Rattle.mailmap_histories.specs.Histories.{answered};
+ghost use Rattle.mailmap_entries.specs.Semantics.{answered};
 ghost use Rattle.mailmap_snapshot.specs.Signatures.{shown};
 
-/// A name and an email that replace those of a signature. They are lent by the snapshot that answered: they may be kept
-/// when the signature is gone, but not over a merge of the snapshot.
+/// A name and an email that replace those of a signature. They borrow from the snapshot: they can outlive the
+/// signature, but not the next merge into the snapshot.
 ///
-/// At least one of them is there in every answer.
+/// Every answer has at least one of the two.
 #[derive(Drop)]
 pub struct ResolvedSignature<'a> {
-    /// The name, `None` if the signature's own is kept.
+    /// The name, `None` if the signature keeps its own.
     pub name: Option<&'a [u8]>,
-    /// The email, `None` if the signature's own is kept.
+    /// The email, `None` if the signature keeps its own.
     pub email: Option<&'a [u8]>,
 }
 
 impl<'a> ResolvedSignature<'a> {
-    /// What the fields that are kept for `matched_email` answer to `current_email`, which is the same email, spelled in
-    /// any case. Without a new email, the kept spelling replaces another one.
+    /// The answer for the stored fields of an email. `matched_email` and `current_email` are the same email, as stored
+    /// and as looked up. Without a new email, the stored spelling replaces a different one.
     pub(crate) fn try_new(
         new_email: Option<&'a [u8]>,
         matched_email: &'a [u8],
@@ -48,7 +48,6 @@ impl<'a> ResolvedSignature<'a> {
     }
 }
 
-// Whether two texts are the same, byte for byte.
 fn is_same(a: &[u8], b: &[u8]) -> bool
     ensures { result ≡ eq_by_cmp text_cmp a.now b.now }
 {

@@ -1,7 +1,7 @@
 use Rattle.std.proofs.Common.{◌++◌, ◌∙◌, ap}
 use Rattle.std.specs.List.{flat_map}
 use Rattle.mailmap_findings.proofs.WholeLines.{lines-whole}
-use Rattle.mailmap_reports.specs.Explained.{explained_line}
+use Rattle.verify_command.specs.Explained.{explained_line}
 use Rattle.gix_mailmap_c.proofs.explain.explained_by.Goals as goal
 
 pub loop-line-init : goal.loop-line-init

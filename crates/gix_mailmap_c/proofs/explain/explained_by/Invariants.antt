@@ -1,7 +1,7 @@
 -- What was said, and what is to be said of the lines that are left.
 use Rattle.std.proofs.Common.{◌≡◌, ◌++◌}
 use Rattle.std.specs.List.{flat_map}
-use Rattle.mailmap_reports.specs.Explained.{each_line, explained_line}
+use Rattle.verify_command.specs.Explained.{each_line, explained_line}
 use Rattle.gix_mailmap_c.proofs.explain.explained_by.Given as goal
 
 abbrev pub invariant-loop-line : goal.invariant-loop-line

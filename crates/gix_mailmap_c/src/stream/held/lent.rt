@@ -1,4 +1,4 @@
-//! The contacts of an open stream, lent where they are.
+//! Borrows the contacts of an open stream in place.
 ghost use Rattle.std.specs.Prelude.{◌≡◌, true};
 ghost use Rattle.std.specs.Borrow.{sem};
 ghost use Rattle.gix_mailmap_c.specs.StreamLent.{LendsContacts};

@@ -4,4 +4,5 @@ use Rattle.mailmap_batches.proofs.LeadingNames.{IsAt}
 use Rattle.mailmap_batches.proofs.groups.earliest.Given as goal
 
 abbrev pub invariant-loop-indexed : goal.invariant-loop-indexed
-invariant-loop-indexed l = IsAt l.batch l.first × AllByRecursion (λ q. l.first.index ≤ q.index) (take l.indexed-index l.batch)
+invariant-loop-indexed l =
+    IsAt l.batch l.first × AllByRecursion (λ q. l.first.index ≤ q.index) (take l.indexed-index l.batch)

@@ -1,5 +1,26 @@
-use Rattle.mailmap_histories.proofs.Parts.{first_alone}
+use Rattle.std.proofs.Common.{◌≡◌, ◌∙◌, ap, arith, length, sym, subst, subst₂, take}
+use Rattle.std.specs.List.{AllByRecursion}
+use Rattle.mailmap_entries.specs.Folding.{folded}
+use Rattle.mailmap_batches.specs.Batches.{email_text, mapping_at}
+use Rattle.mailmap_entries.proofs.Parts.{first_alone}
+use Rattle.mailmap_batches.proofs.LeadingNames.{first_email_at}
 use Rattle.mailmap_batches.proofs.groups.email_group_len.Goals as goal
 
 pub loop-i-init : goal.loop-i-init
-loop-i-init c = first_alone _ c.args.batch.now c.requires
+loop-i-init c =
+    let xs = c.args.batch.now in
+    let first = ap folded c.old_email-email.ensures ∙ first_email_at xs _ c.requires in
+    first_alone _ xs (λ d. first_email_at xs d c.requires ∙ sym first)
+
+pub returns-then-not-differ_only_in_case-clause-same : goal.returns-then-not-differ_only_in_case-clause-same
+returns-then-not-differ_only_in_case-clause-same c =
+    let xs = c.args.batch.now in
+    let first = ap folded c.old_email-email.ensures ∙ first_email_at xs _ c.requires in
+    subst (λ t. AllByRecursion (λ p. email_text (mapping_at p) ≡ t) (take c.loop-i.i xs)) first c.loop-i.invariant
+
+pub returns-clause-same : goal.returns-clause-same
+returns-clause-same c =
+    let xs = c.args.batch.now in
+    let first = ap folded c.old_email-email.ensures ∙ first_email_at xs _ c.requires in
+    let all : c.loop-i.i ≡ length xs = omega (arith, c.requires, c.loop-i-test.false, c.loop-i.auto.i-end) in
+    subst₂ (λ t n. AllByRecursion (λ p. email_text (mapping_at p) ≡ t) (take n xs)) first all c.loop-i.invariant

@@ -1,8 +1,8 @@
 use Rattle.std.proofs.Common.{◌≡◌, ap, nat_eq, subst, true}
 use Rattle.std.proofs.lemmas.Bool.Decides.{Decides-and}
 use lib.Pointwise.{bytes_decides, pointwise}
-use Rattle.mailmap_histories.specs.Listings.{same_optional}
-use Rattle.mailmap_histories.proofs.EqualListings.{optional_decides}
+use Rattle.mailmap_entries.specs.Listings.{same_optional}
+use Rattle.mailmap_entries.proofs.EqualListings.{optional_decides}
 use Rattle.mailmap_findings.specs.Positions.{same_position}
 use Rattle.mailmap_findings.proofs.Walking.{same_is, same_itself}
 use Rattle.mailmap_findings.proofs.laws.law_equal_contacts.Goals as goal

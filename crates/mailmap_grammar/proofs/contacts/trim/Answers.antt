@@ -4,4 +4,4 @@ use Rattle.mailmap_grammar.proofs.contacts.trim.Goals as goal
 
 pub returns : goal.returns
 unfolding spec_trim
-returns c = c.trim.ensures ∙ c.without_last_wide_blanks.ensures ∙ c.without_first_wide_blanks.ensures ∙ c.without_last_blanks-inner.ensures ∙ c.without_first_blanks.ensures
+returns c = c.trim.ensures ∙ c.trim_end_ideographic_spaces.ensures ∙ c.trim_start_ideographic_spaces.ensures ∙ c.trim_end_spaces-inner.ensures ∙ c.trim_start_spaces.ensures

@@ -1,14 +1,12 @@
 use Rattle.std.proofs.Common.{◌≡◌, ◌≤◌, drop, length}
-use Rattle.mailmap_redundancy.specs.Repeats.{of_repeated}
-use Rattle.mailmap_redundancy.specs.Redundancy.{entries}
 use Rattle.mailmap_redundancy.specs.Numbers.{IsTable, later_of_each, mappings}
 use Rattle.mailmap_redundancy.proofs.passes.each_later.Given as goal
 
 abbrev pub invariant-loop-left : goal.invariant-loop-left
 invariant-loop-left l =
     (l.left ≤ length l.entries)
-    × IsTable l.keys (entries (of_repeated l.keys l.fn.repeated (mappings (drop l.left l.entries)))) l.table
-    × (l.later_ones.items ≡ later_of_each (of_repeated l.keys l.fn.repeated (mappings (drop l.left l.entries))))
+    × IsTable l.keys (mappings (drop l.left l.entries)) l.table
+    × (l.later_ones.items ≡ later_of_each (mappings (drop l.left l.entries)))
 
 abbrev pub decreases-loop-left : goal.decreases-loop-left
 decreases-loop-left l = l.left

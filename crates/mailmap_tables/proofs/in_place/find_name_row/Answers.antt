@@ -5,17 +5,17 @@ use Rattle.std.proofs.lemmas.List.{get_or-map, length-map}
 use Rattle.mailmap_entries.specs.Folding.{folded, text_cmp}
 use Rattle.mailmap_tables.specs.Groups.{Contents, EmailGroup, name_key}
 use Rattle.mailmap_tables.specs.KeySearch.{IsFound, IsMissing}
-use Rattle.mailmap_tables.specs.Pool.{NameLies, group_of, name_group, spelled}
-use Rattle.mailmap_tables.specs.declared.texts.Texts.{Texts}
-use Rattle.mailmap_tables.specs.Texts.{old_span}
+use Rattle.mailmap_tables.specs.Pool.{NameInPool, group_of, name_group, spelled}
+use Rattle.mailmap_tables.specs.declared.texts.RowTexts.{RowTexts}
+use Rattle.mailmap_tables.specs.RowTexts.{old_span}
 use Rattle.mailmap_tables.proofs.Bytes.{alike_length}
 use Rattle.mailmap_tables.proofs.Parting.{found_key}
 use Rattle.mailmap_tables.proofs.Pooled.{all_at, slice_get-map_at}
 use Rattle.mailmap_tables.proofs.RowEdits.{at_read, from_read}
-use Rattle.mailmap_tables.proofs.RowTexts.{spelled_len}
+use Rattle.mailmap_tables.proofs.TextsOfRows.{spelled_len}
 use Rattle.mailmap_tables.proofs.in_place.find_name_row.Goals as goal
 
-abbrev none : Texts
+abbrev none : RowTexts
 none = record { start = 0; old_len = 0; new_name_len = 0; new_email_len = 0 }
 
 pub find_name-requires-clause-ascending : goal.find_name-requires-clause-ascending
@@ -30,7 +30,8 @@ returns-in-Ok-clause-found c =
     let v = c.view-view.result in
     let P : EmailGroup → Type 0 = λ h. IsFound name_key (folded c.args.name.now) 0 h.names c.in-Ok.index in
     subst (λ (w : Contents). HoldsAt P w.groups c.args.email) c.view-view.ensures
-    (at_read P v.groups c.args.email (group_of v.pool c.email.result.0 c.email.result.1.now) c.email.ensures.group c.in-Ok.ensures.found)
+    (at_read P v.groups c.args.email (group_of v.pool c.email.result.0 c.email.result.1.now) c.email.ensures.group
+    c.in-Ok.ensures.found)
 
 pub returns-in-Ok-clause-existing : goal.returns-in-Ok-clause-existing
 returns-in-Ok-clause-existing c =
@@ -39,16 +40,20 @@ returns-in-Ok-clause-existing c =
     let names = c.email.result.1.now in
     let row = get_or names i none in
     let lt : i < length names = omega (arith, c.in-Ok.ensures.found.within, length-map names (name_group v.pool)) in
-    let read : slice_get (map (name_group v.pool) names) i ≡ Some (name_group v.pool row) = slice_get-map_at (name_group v.pool) names i none lt in
-    let at = at_read (λ (h : EmailGroup). slice_get h.names i ≡ Some (name_group v.pool row)) v.groups c.args.email (group_of v.pool c.email.result.0 names) c.email.ensures.group read in
-    subst (λ (w : Contents). HoldsAt (λ (h : EmailGroup). slice_get h.names i ≡ Some (name_group w.pool row)) w.groups c.args.email) c.view-view.ensures at
+    let read : slice_get (map (name_group v.pool) names) i ≡ Some (name_group v.pool row) =
+    slice_get-map_at (name_group v.pool) names i none lt in
+    let at = at_read (λ (h : EmailGroup). slice_get h.names i ≡ Some (name_group v.pool row)) v.groups c.args.email
+    (group_of v.pool c.email.result.0 names) c.email.ensures.group read in
+    subst (λ (w : Contents). HoldsAt (λ (h : EmailGroup). slice_get h.names i ≡ Some (name_group w.pool row)) w.groups
+    c.args.email) c.view-view.ensures at
 
 pub returns-in-Err-clause-missing : goal.returns-in-Err-clause-missing
 returns-in-Err-clause-missing c =
     let v = c.view-view.result in
     let P : EmailGroup → Type 0 = λ h. IsMissing name_key (folded c.args.name.now) 0 h.names c.in-Err.index in
     subst (λ (w : Contents). HoldsAt P w.groups c.args.email) c.view-view.ensures
-    (at_read P v.groups c.args.email (group_of v.pool c.email.result.0 c.email.result.1.now) c.email.ensures.group c.in-Err.ensures.missing)
+    (at_read P v.groups c.args.email (group_of v.pool c.email.result.0 c.email.result.1.now) c.email.ensures.group
+    c.in-Err.ensures.missing)
 
 pub returns-in-Ok-clause-len : goal.returns-in-Ok-clause-len
 returns-in-Ok-clause-len c =
@@ -59,6 +64,9 @@ returns-in-Ok-clause-len c =
     let ng = name_group v.pool in
     let found = c.in-Ok.ensures.found in
     let lt : i < length names = omega (arith, found.within, length-map names ng) in
-    let lies = all_at (NameLies (length v.pool)) names i none c.email.ensures.lie.names_lie lt in
-    let same : folded (spelled v.pool (old_span row)) ≡ folded c.args.name.now = found_key name_key (folded c.args.name.now) 0 (map ng names) i (ng row) found (sym (get_or-map ng names i none (ng row) lt)) in
-    sym (spelled_len v.pool (old_span row) lies.texts.old) ∙ alike_length (spelled v.pool (old_span row)) c.args.name.now same
+    let lies = all_at (NameInPool (length v.pool)) names i none c.email.ensures.lie.names_lie lt in
+    let same : folded (spelled v.pool (old_span row)) ≡ folded c.args.name.now =
+    found_key name_key (folded c.args.name.now) 0 (map ng names) i (ng row) found
+    (sym (get_or-map ng names i none (ng row) lt)) in
+    sym (spelled_len v.pool (old_span row) lies.texts.old) ∙ alike_length (spelled v.pool (old_span row))
+    c.args.name.now same

@@ -6,7 +6,8 @@ use Rattle.mailmap_tables.proofs.join.join_sorted.Given as goal
 
 abbrev pub invariant-loop-left : goal.invariant-loop-left
 invariant-loop-left l =
-    EmailsState l.old_tables.groups (map indexed_mapping l.fn.batch) l.old_tables.pool (drop l.from l.old_tables.groups) (map indexed_mapping l.left) l.out
+    EmailsState l.old_tables.groups (map indexed_mapping l.fn.batch) l.old_tables.pool (drop l.from l.old_tables.groups)
+    (map indexed_mapping l.left) l.out
     × (l.from ≤ length l.old_tables.groups)
     × IsBatch l.left
 

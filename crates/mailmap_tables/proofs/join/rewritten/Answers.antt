@@ -2,8 +2,8 @@ use Rattle.std.proofs.Common.{◌≡◌, ◌∙◌, ◌++◌, true, map, sym, ap
 use Rattle.std.specs.List.{AllByRecursion}
 use Rattle.mailmap_entries.specs.Entries.{mapping_of}
 use Rattle.mailmap_tables.specs.Groups.{AreGroups, Contents, listing}
-use Rattle.mailmap_histories.specs.Histories.{IsNormal, is_accepted}
-use Rattle.mailmap_histories.proofs.Unique.{normal_unique}
+use Rattle.mailmap_entries.specs.Semantics.{IsNormal, is_accepted}
+use Rattle.mailmap_entries.proofs.Unique.{normal_unique}
 use Rattle.mailmap_entries.proofs.Results.{if_ok_map}
 use Rattle.mailmap_tables.proofs.Complete.{no_groups}
 use Rattle.mailmap_tables.proofs.Grouped.{groups_accepted, groups_normal}
@@ -21,8 +21,10 @@ pub returns : goal.returns
 returns c =
     let existing = c.args.tables.now.groups in
     let said = c.as_slice.result.now in
-    let listed = ap (λ (t : Contents). listing t.groups ++ map mapping_of said) c.new.ensures ∙ ap (map mapping_of) c.as_slice.ensures.value ∙ c.in_ok-entries.ensures in
+    let listed = ap (λ (t : Contents). listing t.groups ++ map mapping_of said) c.new.ensures
+    ∙ ap (map mapping_of) c.as_slice.ensures.value ∙ c.in_ok-entries.ensures in
     if_ok_map c.joined-2.result _ _ (λ (made : Contents) d. (
       d.0,
-      normal_unique (listing existing) (listing made.groups) (listing existing) (subst (λ l. IsNormal l (listing made.groups)) listed d.1) (groups_normal existing c.requires.groups),
+      normal_unique (listing existing) (listing made.groups) (listing existing)
+          (subst (λ l. IsNormal l (listing made.groups)) listed d.1) (groups_normal existing c.requires.groups),
     )) c.joined-2.ensures

@@ -13,12 +13,23 @@ loop-entry-preserved c =
     let lt : i < length xs = omega arith in
     let m = mapping_of x in
     let more = sum_by_more entry_bytes (map mapping_of xs) i m (omega (arith, lt, length-map xs mapping_of)) in
-    let here : get_or (map mapping_of xs) i m ≡ m = get_or-map mapping_of xs i x m lt ∙ ap mapping_of (sym c.entry-item.is) in
+    let here : get_or (map mapping_of xs) i m ≡ m = get_or-map mapping_of xs i x m lt
+    ∙ ap mapping_of (sym c.entry-item.is) in
     let before = ap (sum_by entry_bytes) (take-map mapping_of i xs) in
     let after = ap (sum_by entry_bytes) (take-map mapping_of (i + 1) xs) in
-    omega (arith, c.loop-entry.invariant, c.saturating_add-len.ensures, c.entry_len.ensures, more, ap entry_bytes here, before, after)
+    omega (
+      arith,
+      c.loop-entry.invariant,
+      c.saturating_add-len.ensures,
+      c.entry_len.ensures,
+      more,
+      ap entry_bytes here,
+      before,
+      after,
+    )
 
 pub returns : goal.returns
 returns c =
-    let all = ap (λ l. sum_by entry_bytes (map mapping_of l)) (take_all c.loop-entry.entry-index c.args.entries.now c.loop-entry-test.false) in
+    let all = ap (λ l. sum_by entry_bytes (map mapping_of l)) (take_all c.loop-entry.entry-index c.args.entries.now
+    c.loop-entry-test.false) in
     omega (arith, c.loop-entry.invariant, all)

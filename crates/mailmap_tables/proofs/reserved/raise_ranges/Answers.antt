@@ -1,4 +1,5 @@
-use Rattle.std.proofs.Common.{◌≡◌, ◌<◌, ◌++◌, List, [], ◌∷◌, ℕ, zero, suc, get_or, map, take, drop, length, refl, ap, ◌∙◌, arith}
+use Rattle.std.proofs.Common.{◌≡◌, ◌<◌, ◌++◌, List, [], ◌∷◌, ℕ, zero, suc, get_or, map, take, drop, length, refl, ap}
+use Rattle.std.proofs.Common.{◌∙◌, arith}
 use Rattle.std.proofs.lemmas.List.Edits.{map_over_more}
 use Rattle.mailmap_tables.specs.Reserved.{one_later}
 use Rattle.mailmap_tables.specs.declared.rows.EmailRow.{EmailRow}
@@ -7,10 +8,16 @@ use Rattle.mailmap_tables.proofs.RowEdits.{get_or_any}
 use Rattle.mailmap_tables.proofs.reserved.raise_ranges.Goals as goal
 
 abbrev none : EmailRow
-none = record { texts = record { start = 0; old_len = 0; new_name_len = 0; new_email_len = 0 }; names_start = 0; names_end = 0 }
+none =
+    record {
+      texts = record { start = 0; old_len = 0; new_name_len = 0; new_email_len = 0 };
+      names_start = 0;
+      names_end = 0;
+    }
 
 -- what is left of the rows is as it was
-still : (f : EmailRow → EmailRow) (xs : List EmailRow) (i : ℕ) (d : EmailRow) → i < length xs → get_or (map f (take i xs) ++ drop i xs) i d ≡ get_or xs i d
+still : (f : EmailRow → EmailRow) (xs : List EmailRow) (i : ℕ) (d : EmailRow) → i < length xs
+    → get_or (map f (take i xs) ++ drop i xs) i d ≡ get_or xs i d
 still f [] i d lt = absurd (omega (arith, lt))
 still f (x ∷ xs) zero d lt = refl
 still f (x ∷ xs) (suc i) d lt = still f xs i d (omega (arith, lt))
@@ -20,7 +27,8 @@ overflow_add-row c =
     let xs = c.args.rows.now in
     let i = c.loop-row.row-index in
     let lt : i < length xs = omega arith in
-    let here : get_or c.loop-row.row-items i none ≡ get_or xs i none = ap (λ l. get_or l i none) c.loop-row.invariant ∙ still one_later xs i none lt in
+    let here : get_or c.loop-row.row-items i none ≡ get_or xs i none = ap (λ l. get_or l i none) c.loop-row.invariant
+    ∙ still one_later xs i none lt in
     let small = all_at _ xs i none c.requires lt in
     omega (arith, small.0, small.1, ap (λ (r : EmailRow). r.names_start) here, ap (λ (r : EmailRow). r.names_end) here)
 

@@ -1,5 +1,5 @@
 use Rattle.std.proofs.Common.{rules}
-use Rattle.mailmap_tables.proofs.RowTexts.{email_starts}
+use Rattle.mailmap_tables.proofs.TextsOfRows.{email_starts}
 use Rattle.mailmap_tables.proofs.texts.fields.Goals as goal
 
 pub new_email-requires : goal.new_email-requires

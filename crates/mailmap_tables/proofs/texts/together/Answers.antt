@@ -1,8 +1,8 @@
 use Rattle.std.proofs.Common.{◌≡◌, ◌<◌, ◌∙◌, arith, ap, sym, subst, subst₂, length, List, ℕ}
-use Rattle.mailmap_tables.specs.Pool.{RowSpells, TextsLie}
-use Rattle.mailmap_tables.specs.Texts.{row_of}
+use Rattle.mailmap_tables.specs.Pool.{RowSpells, TextsInPool}
+use Rattle.mailmap_tables.specs.RowTexts.{row_of}
 use Rattle.mailmap_tables.specs.declared.texts.TheConstants.{NO_TEXT}
-use Rattle.mailmap_tables.proofs.RowTexts.{copied_so, copies_lie, copies_spell, lies_there, spells_there}
+use Rattle.mailmap_tables.proofs.TextsOfRows.{copied_so, copies_lie, copies_spell, lies_there, spells_there}
 use Rattle.mailmap_tables.proofs.texts.together.Goals as goal
 
 pub returns-then-are_together-clause-lies : goal.returns-then-are_together-clause-lies
@@ -10,29 +10,40 @@ returns-then-are_together-clause-lies c =
     let pool = c.args.pool.now.items in
     let few : length pool < NO_TEXT = omega (arith, c.args.pool.now.ok.0, c.args.pool.now.small) in
     let at = c.are_together.ensures (c.if-are_together.true) in
-    subst (TextsLie (length pool)) (sym c.row.ensures) (lies_there (length pool) few c.args.old c.args.new_name c.args.new_email c.requires.new_name c.requires.new_email at c.requires.old)
+    subst (TextsInPool (length pool)) (sym c.row.ensures) (lies_there (length pool) few c.args.old c.args.new_name
+    c.args.new_email c.requires.new_name c.requires.new_email at c.requires.old)
 
 pub returns-then-are_together-clause-spells : goal.returns-then-are_together-clause-spells
 returns-then-are_together-clause-spells c =
     let pool = c.args.pool.now.items in
     let few : length pool < NO_TEXT = omega (arith, c.args.pool.now.ok.0, c.args.pool.now.small) in
     let at = c.are_together.ensures (c.if-are_together.true) in
-    subst (RowSpells pool pool c.args.old c.args.new_name c.args.new_email) (sym c.row.ensures) (spells_there (length pool) few c.args.old c.args.new_name c.args.new_email c.requires.new_name c.requires.new_email at pool)
+    subst (RowSpells pool pool c.args.old c.args.new_name c.args.new_email) (sym c.row.ensures)
+    (spells_there (length pool) few c.args.old c.args.new_name c.args.new_email c.requires.new_name
+    c.requires.new_email at pool)
 
 pub returns-clause-lies : goal.returns-clause-lies
 returns-clause-lies c =
     let pool = c.args.pool.now.items in
     let few : length pool < NO_TEXT = omega (arith, c.args.pool.now.ok.0, c.args.pool.now.small) in
     let start : c.len-len.result ≡ length pool = c.len-len.ensures ∙ c.args.pool.now.ok.0 in
-    let is = copied_so pool few c.args.old c.args.new_name c.args.new_email c.requires.old c.requires.new_name c.requires.new_email _ _ _ c.in_ok-push_again.ensures.items c.in_ok-push_again-2.ensures.items c.in_ok-push_again-3.ensures.items in
-    subst₂ (λ (p : List ℕ) t. TextsLie (length p) t) (sym is) (sym (c.row-2.ensures ∙ ap (λ k. row_of k c.args.old c.args.new_name c.args.new_email) start))
-    (copies_lie pool few c.args.old c.args.new_name c.args.new_email c.requires.old c.requires.new_name c.requires.new_email)
+    let is = copied_so pool few c.args.old c.args.new_name c.args.new_email c.requires.old c.requires.new_name
+    c.requires.new_email _ _ _ c.in_ok-push_again.ensures.items c.in_ok-push_again-2.ensures.items
+    c.in_ok-push_again-3.ensures.items in
+    subst₂ (λ (p : List ℕ) t. TextsInPool (length p) t) (sym is) (sym (c.row-2.ensures
+    ∙ ap (λ k. row_of k c.args.old c.args.new_name c.args.new_email) start))
+    (copies_lie pool few c.args.old c.args.new_name c.args.new_email c.requires.old c.requires.new_name
+    c.requires.new_email)
 
 pub returns-clause-spells : goal.returns-clause-spells
 returns-clause-spells c =
     let pool = c.args.pool.now.items in
     let few : length pool < NO_TEXT = omega (arith, c.args.pool.now.ok.0, c.args.pool.now.small) in
     let start : c.len-len.result ≡ length pool = c.len-len.ensures ∙ c.args.pool.now.ok.0 in
-    let is = copied_so pool few c.args.old c.args.new_name c.args.new_email c.requires.old c.requires.new_name c.requires.new_email _ _ _ c.in_ok-push_again.ensures.items c.in_ok-push_again-2.ensures.items c.in_ok-push_again-3.ensures.items in
-    subst₂ (λ (p : List ℕ) t. RowSpells pool p c.args.old c.args.new_name c.args.new_email t) (sym is) (sym (c.row-2.ensures ∙ ap (λ k. row_of k c.args.old c.args.new_name c.args.new_email) start))
-    (copies_spell pool few c.args.old c.args.new_name c.args.new_email c.requires.old c.requires.new_name c.requires.new_email)
+    let is = copied_so pool few c.args.old c.args.new_name c.args.new_email c.requires.old c.requires.new_name
+    c.requires.new_email _ _ _ c.in_ok-push_again.ensures.items c.in_ok-push_again-2.ensures.items
+    c.in_ok-push_again-3.ensures.items in
+    subst₂ (λ (p : List ℕ) t. RowSpells pool p c.args.old c.args.new_name c.args.new_email t) (sym is)
+    (sym (c.row-2.ensures ∙ ap (λ k. row_of k c.args.old c.args.new_name c.args.new_email) start))
+    (copies_spell pool few c.args.old c.args.new_name c.args.new_email c.requires.old c.requires.new_name
+    c.requires.new_email)

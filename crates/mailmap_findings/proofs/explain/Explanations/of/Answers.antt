@@ -1,21 +1,21 @@
 use Rattle.std.proofs.Common.{◌≡◌, ◌++◌, [], None, Some, option_map, sym, ap, ◌∙◌, rules}
 use Rattle.std.specs.Option.{option_to_list}
-use Rattle.mailmap_histories.specs.Histories.{scan}
-use Rattle.mailmap_redundancy.specs.Givers.{given}
-use Rattle.mailmap_redundancy.specs.Numbers.{fields_of, givers_of}
+use Rattle.mailmap_entries.specs.Semantics.{answer_of}
+use Rattle.mailmap_redundancy.specs.Origins.{given}
+use Rattle.mailmap_redundancy.specs.Numbers.{fields_of, origins_of}
 use Rattle.mailmap_redundancy.specs.Redundancy.{entries}
-use Rattle.mailmap_redundancy.proofs.Giving.{reduced_givers}
+use Rattle.mailmap_redundancy.proofs.Giving.{reduced_origins}
 use Rattle.mailmap_findings.specs.Explanations.{explained, giving_positions}
 use Rattle.mailmap_findings.proofs.Explained.{some_line}
 use Rattle.mailmap_findings.proofs.explain.Explanations.of.Goals as goal
 
 pub returns-in_err-fields-clause-fields : goal.returns-in_err-fields-clause-fields
 returns-in_err-fields-clause-fields c =
-    let reduced = c.self.inside.reduced in
+    let effective = c.self.inside.effective in
     let name = c.args.name.now in
     let email = c.args.email.now in
-    let answer : option_map fields_of c.fields.result ≡ scan (entries c.args.self.now.history) name email =
-    c.fields.ensures ∙ ap (λ g. given g email) c.givers-givers.ensures ∙ reduced_givers reduced.history reduced.kept name email c.self.invariant ∙ ap (λ s. scan (entries s.history) name email) c.self.view_is in
+    let answer : option_map fields_of c.fields.result ≡ answer_of (entries c.args.self.now.history) name email =
+    c.fields.ensures ∙ ap (λ g. given g email) c.origins-origins.ensures ∙ reduced_origins effective.history effective.kept name email c.self.invariant ∙ ap (λ s. answer_of (entries s.history) name email) c.self.view_is in
     let nothing : c.from_residual.result ≡ None = search rules in
     let none : c.fields.result ≡ None = search rules in
     ap (option_map explained) nothing ∙ sym (ap (option_map fields_of) none) ∙ answer
@@ -26,15 +26,15 @@ returns-in_err-first-clause-fields c =
     let some : c.fields.result ≡ Some c.in_ok-fields.fields = search rules in
     let first : positions.first ≡ None = search rules in
     let second = c.giving-positions.ensures.second first in
-    let none : giving_positions (givers_of c.givers-givers.result) (fields_of c.in_ok-fields.fields) ≡ [] = sym c.giving-positions.ensures.positions ∙ (λ i. option_to_list (first i) ++ option_to_list (second i)) in
-    absurd (some_line (givers_of c.givers-givers.result) c.args.email.now (fields_of c.in_ok-fields.fields) (sym c.fields.ensures ∙ ap (option_map fields_of) some) none)
+    let none : giving_positions (origins_of c.origins-origins.result) (fields_of c.in_ok-fields.fields) ≡ [] = sym c.giving-positions.ensures.positions ∙ (λ i. option_to_list (first i) ++ option_to_list (second i)) in
+    absurd (some_line (origins_of c.origins-origins.result) c.args.email.now (fields_of c.in_ok-fields.fields) (sym c.fields.ensures ∙ ap (option_map fields_of) some) none)
 
 pub returns-clause-fields : goal.returns-clause-fields
 returns-clause-fields c =
-    let reduced = c.self.inside.reduced in
+    let effective = c.self.inside.effective in
     let name = c.args.name.now in
     let email = c.args.email.now in
-    let answer : option_map fields_of c.fields.result ≡ scan (entries c.args.self.now.history) name email =
-    c.fields.ensures ∙ ap (λ g. given g email) c.givers-givers.ensures ∙ reduced_givers reduced.history reduced.kept name email c.self.invariant ∙ ap (λ s. scan (entries s.history) name email) c.self.view_is in
+    let answer : option_map fields_of c.fields.result ≡ answer_of (entries c.args.self.now.history) name email =
+    c.fields.ensures ∙ ap (λ g. given g email) c.origins-origins.ensures ∙ reduced_origins effective.history effective.kept name email c.self.invariant ∙ ap (λ s. answer_of (entries s.history) name email) c.self.view_is in
     let some : c.fields.result ≡ Some c.in_ok-fields.fields = search rules in
     sym (ap (option_map fields_of) some) ∙ answer

@@ -7,7 +7,7 @@ use Rattle.mailmap_findings.proofs.verify.FindingsIterator.next.Given as goal
 abbrev pub invariant-loop-finding : goal.invariant-loop-finding
 invariant-loop-finding l =
     l.self-inside.of_line
-    ++ flat_map (λ m. line_findings (entries l.self-inside.reduced.now.history) l.self-inside.reduced.now.kept m.1 m.0) l.self-inside.lines ≡ l.fn.self
+    ++ flat_map (λ m. line_findings (entries l.self-inside.effective.now.history) l.self-inside.effective.now.kept m.1 m.0) l.self-inside.lines ≡ l.fn.self
 
 abbrev pub decreases-loop-finding : goal.decreases-loop-finding
 decreases-loop-finding l = length l.self-inside.lines

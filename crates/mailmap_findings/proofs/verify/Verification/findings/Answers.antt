@@ -9,10 +9,10 @@ use Rattle.mailmap_findings.proofs.verify.Verification.findings.Goals as goal
 
 pub returns : goal.returns
 returns c =
-    let reduced = c.self.inside.reduced in
+    let effective = c.self.inside.effective in
     let ls = lines (map (λ b. b.now) c.self.inside.buffers.now) in
-    let found : List MarkedLine → List Finding = flat_map (λ m. line_findings (entries reduced.history) reduced.kept m.1 m.0) in
+    let found : List MarkedLine → List Finding = flat_map (λ m. line_findings (entries effective.history) effective.kept m.1 m.0) in
     ap (λ fs. fs ++ found c.new.result) c.none.ensures
     ∙ ap found (c.new.ensures ∙ ap (λ kept. map (marked kept) ls) c.kept.ensures)
-    ∙ flat_map-map (λ (m : MarkedLine). line_findings (entries reduced.history) reduced.kept m.1 m.0) (marked reduced.kept) ls
+    ∙ flat_map-map (λ (m : MarkedLine). line_findings (entries effective.history) effective.kept m.1 m.0) (marked effective.kept) ls
     ∙ c.self.view_is

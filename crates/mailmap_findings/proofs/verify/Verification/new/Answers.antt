@@ -13,7 +13,7 @@ pub invariant_of-result : goal.invariant_of-result
 invariant_of-result c = (
   are_kept (map (λ b. b.now) c.mailmaps.inside.buffers.now) (map located_of c.deref.result.now) c.in_ok-without_redundant.field-0.kept
       (ap (map located_of) c.deref.ensures.value ∙ c.mailmaps.invariant.0)
-      c.in_ok-without_redundant.ensures.reduced,
+      c.in_ok-without_redundant.ensures.effective,
   c.mailmaps.invariant.0,
   c.mailmaps.invariant.1,
 )

@@ -8,11 +8,11 @@ use Rattle.mailmap_findings.proofs.verify.effects.reported_of_contact.Goals as g
 pub returns-in_err-found : goal.returns-in_err-found
 returns-in_err-found c =
     ap (option_map reported_of) c.from_residual.ensures
-    ∙ unreported (entries c.args.reduced.now.history) (contact_of c.args.contact) c.name_or_empty.result.now c.name_or_empty.ensures c.in_err-found.ensures
+    ∙ unreported (entries c.args.effective.now.history) (contact_of c.args.contact) c.name_or_empty.result.now c.name_or_empty.ensures c.in_err-found.ensures
 
 pub returns : goal.returns
 returns c =
-    let h = entries c.args.reduced.now.history in
+    let h = entries c.args.effective.now.history in
     let contact = contact_of c.args.contact in
     c.reported_of_both.ensures
     ∙ ap (reported_of_contact contact)

@@ -7,8 +7,8 @@ use Rattle.mailmap_findings.proofs.verify.effects.reported_of_entry.Goals as goa
 
 pub returns-then-is_kept : goal.returns-then-is_kept
 returns-then-is_kept c =
-    let h = entries c.args.reduced.now.history in
-    let kept = c.args.reduced.now.kept in
+    let h = entries c.args.effective.now.history in
+    let kept = c.args.effective.now.kept in
     let some : c.args.entry ≡ Some c.in_ok-entry.entry = search rules in
     rw c.if-is_kept.true
     (c.reported_of_contact.ensures

@@ -1,7 +1,7 @@
 -- The lines so far are read alike.
 use Rattle.std.proofs.Common.{◌≡◌, filter, is_some, map}
 use Rattle.std.specs.Option.{option_map}
-use Rattle.mailmap_histories.specs.Histories.{first}
+use Rattle.mailmap_entries.specs.Semantics.{first}
 use Rattle.mailmap_findings.specs.Findings.{first_read_otherwise, read_otherwise}
 use Rattle.mailmap_findings.specs.Positions.{Line}
 use Rattle.mailmap_findings.proofs.verify.git.first_read_otherwise.Given as goal

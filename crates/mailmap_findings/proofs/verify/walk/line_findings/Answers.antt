@@ -8,8 +8,8 @@ use Rattle.mailmap_findings.proofs.verify.walk.line_findings.Goals as goal
 
 pub returns : goal.returns
 returns c =
-    let h = entries c.args.reduced.now.history in
-    let kept = c.args.reduced.now.kept in
+    let h = entries c.args.effective.now.history in
+    let kept = c.args.effective.now.kept in
     (λ i. option_to_list (c.finding_at.ensures i) ++ option_to_list (c.finding_at-2.ensures i) ++ option_to_list (c.finding_at-3.ensures i))
     ∙ found_all h kept c.args.is_kept (line_of c.args.line.now) (option_map reported_of c.read_unless_known.result.0) (option_map reported_of c.reported_of_git-of_git.result)
     (option_map reported_of c.reported_of_entry-of_entry.result)

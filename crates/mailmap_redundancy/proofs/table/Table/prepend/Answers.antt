@@ -1,19 +1,26 @@
 use Rattle.std.proofs.Common.{◌∷◌, sym, ap, ap₂, ◌∙◌}
 use Rattle.mailmap_entries.specs.Folding.{folded}
-use Rattle.mailmap_histories.specs.Histories.{key, spelling}
-use Rattle.mailmap_redundancy.specs.Summaries.{key_summary, joined_summary}
-use Rattle.mailmap_redundancy.specs.Numbers.{email_key, entry_of, key_summary_of, spelling_of}
-use Rattle.mailmap_redundancy.proofs.Rows.{row_changed, email_keys, prepended, not_prepended, spelled_before, not_spelled_before}
+use Rattle.mailmap_entries.specs.Semantics.{first, key}
+use Rattle.mailmap_redundancy.specs.Origins.{entries_of_email}
+use Rattle.mailmap_redundancy.specs.Numbers.{email_key, first_of, joined_origins, key_origins, key_origins_of, located_entry_of}
+use Rattle.mailmap_redundancy.specs.Redundancy.{entries_of_key}
+use Rattle.mailmap_redundancy.proofs.Rows.{email_keys, first_before, origins_before, not_before, not_first_before, row_changed}
+use Rattle.mailmap_redundancy.proofs.Walked.{known}
 use Rattle.mailmap_redundancy.proofs.table.Table.prepend.Goals as goal
 
 pub returns : goal.returns
-returns c = λ keys h up n t.
-    let e = entry_of c.args.x.now in
+returns c = λ keys xs up n t.
+    let x = located_entry_of c.args.x.now in
     record {
-      summaries = row_changed keys (λ k. k) key_summary_of (key_summary h) (key_summary (e ∷ h)) _ (key e) _ _ up (λ a b e. e) t.summaries n.own
-          (c.then.ensures.summary ∙ ap₂ joined_summary c.of.ensures.summary (ap key_summary_of c.index.ensures ∙ (t.summaries _ _ n.own).1 c.index.result.now) ∙ sym (prepended h e n.accepted))
-          (not_prepended h e);
-      spellings = row_changed keys email_key spelling_of (spelling h) (spelling (e ∷ h)) _ (folded e.old_email) _ _ up email_keys t.spellings n.of_email
-          (c.of-2.ensures.spelling ∙ sym (spelled_before h e n.accepted))
-          (not_spelled_before h e);
+      of_keys = row_changed keys (λ k. k) key_origins_of (λ k. key_origins (entries_of_key xs k))
+          (λ k. key_origins (entries_of_key (x ∷ xs) k)) _ (key x.entry) _ _ up (λ a b e. e) t.of_keys n.own
+          (c.then.ensures
+          ∙ ap₂ joined_origins c.of.ensures
+          (ap key_origins_of c.index.ensures ∙ (t.of_keys _ _ n.own).1 c.index.result.now)
+          ∙ sym (origins_before xs x))
+          (not_before xs x);
+      of_emails = row_changed keys email_key first_of (λ email. first (entries_of_email xs email))
+          (λ email. first (entries_of_email (x ∷ xs) email)) _ (folded x.entry.old_email) _ _ up email_keys
+          t.of_emails n.of_email (sym (first_before xs x)) (not_first_before xs x);
+      known = (known keys c.args.x.now n, t.known);
     }

@@ -1,5 +1,5 @@
 use Rattle.std.proofs.Common.{subst}
-use Rattle.mailmap_histories.specs.Building.{IsListing}
+use Rattle.mailmap_entries.specs.Building.{IsListing}
 use Rattle.mailmap_tables.proofs.Grouped.{groups_listing}
 use Rattle.mailmap_snapshot.proofs.snapshot.Snapshot.iter.Goals as goal
 

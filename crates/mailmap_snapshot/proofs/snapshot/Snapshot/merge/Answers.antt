@@ -1,7 +1,7 @@
 use Rattle.std.proofs.Common.{◌++◌, map, subst}
 use Rattle.mailmap_entries.specs.Entries.{mapping_of}
-use Rattle.mailmap_histories.specs.Histories.{IsNormal}
-use Rattle.mailmap_histories.proofs.Building.{is_merged}
+use Rattle.mailmap_entries.specs.Semantics.{IsNormal}
+use Rattle.mailmap_entries.proofs.Building.{is_merged}
 use Rattle.mailmap_tables.specs.Groups.{listing}
 use Rattle.mailmap_tables.proofs.Grouped.{groups_normal}
 use Rattle.mailmap_snapshot.proofs.Built.{on_ok_map}

@@ -1,7 +1,7 @@
 use Rattle.std.proofs.Common.{◌<◌, length, length-set, ap, subst, sym, ◌∙◌, arith}
 use Rattle.std.proofs.lemmas.List.Elements.{recursion_from_All}
 use Rattle.std.proofs.lemmas.Option.{slice_get_within}
-use Rattle.mailmap_histories.specs.Histories.{IsNormal, accepted}
+use Rattle.mailmap_entries.specs.Semantics.{IsNormal, accepted}
 use Rattle.mailmap_tables.proofs.Grouped.{groups_normal}
 use Rattle.mailmap_snapshot.proofs.Sources.{normal_start, normal_more, marks_more, none_said, sources_merged}
 use Rattle.mailmap_snapshot.proofs.snapshot.Snapshot.merge_sources.Goals as goal

@@ -1,5 +1,5 @@
 use Rattle.std.proofs.Common.{◌≡◌, ◌++◌, length, take}
-use Rattle.mailmap_histories.specs.Histories.{IsNormal}
+use Rattle.mailmap_entries.specs.Semantics.{IsNormal}
 use Rattle.mailmap_snapshot.specs.Sources.{history}
 use Rattle.mailmap_snapshot.proofs.Sources.{MarksUnchanged}
 use Rattle.mailmap_snapshot.proofs.snapshot.Snapshot.merge_sources.Given as goal

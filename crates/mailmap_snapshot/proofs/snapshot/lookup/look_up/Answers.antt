@@ -1,6 +1,6 @@
 use Rattle.std.proofs.Common.{◌≡◌, ◌-◌, Some, length, option_map, sym, ap, ◌∙◌, arith}
 use Rattle.mailmap_entries.specs.Search.{digits}
-use Rattle.mailmap_histories.specs.Histories.{answered}
+use Rattle.mailmap_entries.specs.Semantics.{answered}
 use Rattle.mailmap_tables.specs.Pool.{spelled}
 use Rattle.mailmap_snapshot.proofs.Resolved.{scan_at_none, no_names, names_ascend, names_counted, scan_at_name, scan_at_email}
 use Rattle.mailmap_snapshot.proofs.snapshot.lookup.look_up.Goals as goal
@@ -13,33 +13,33 @@ returns-in_default-clause-at_least c =
     let none = no_names c.args.tables.now.groups c.args.email.now c.in_default.field-0 c.in_default.ensures.missing in
     omega (arith, none, c.in_default.ensures.at_least)
 
-pub search_name-requires-clause-ascending : goal.search_name-requires-clause-ascending
-search_name-requires-clause-ascending c =
+pub find_name_counted-requires-clause-ascending : goal.find_name_counted-requires-clause-ascending
+find_name_counted-requires-clause-ascending c =
     names_ascend c.args.tables.now.groups c.requires.groups c.args.email.now c.in-Ok.index c.in-Ok.ensures.found
     c.args.tables.now.pool c.email.result.0 c.email.result.1.now c.email.ensures.group
 
-pub returns-in-Ok-search_name-clause-fields : goal.returns-in-Ok-search_name-clause-fields
-returns-in-Ok-search_name-clause-fields c =
+pub returns-in-Ok-find_name_counted-clause-fields : goal.returns-in-Ok-find_name_counted-clause-fields
+returns-in-Ok-find_name_counted-clause-fields c =
     let pool = c.args.tables.now.pool in
     let given = c.fields-new_name.ensures in
     c.answer.ensures.fields
     ∙ (λ k. answered c.args.email.now (record { name = option_map (spelled pool) (given.new_name k); email = option_map (spelled pool) (given.new_email k) }) (Some (spelled pool (c.old.ensures k))))
     ∙ sym (scan_at_name c.args.tables.now.groups c.requires.groups c.args.email.now c.in-Ok.index c.in-Ok.ensures.found
-    c.args.tables.now.pool c.email.result.0 c.email.result.1.now c.email.ensures.group c.args.name.now c.in-Ok-search_name.i _ c.email.ensures.lie.names_lie c.in-Ok-search_name.ensures.found)
+    c.args.tables.now.pool c.email.result.0 c.email.result.1.now c.email.ensures.group c.args.name.now c.in-Ok-find_name_counted.i _ c.email.ensures.lie.names_lie c.in-Ok-find_name_counted.ensures.found)
 
-pub returns-in-Ok-search_name-clause-at_most : goal.returns-in-Ok-search_name-clause-at_most
-returns-in-Ok-search_name-clause-at_most c =
+pub returns-in-Ok-find_name_counted-clause-at_most : goal.returns-in-Ok-find_name_counted-clause-at_most
+returns-in-Ok-find_name_counted-clause-at_most c =
     let groups = c.args.tables.now.groups in
     let emails : digits (length groups - 0) ≡ digits (length groups) = ap digits (omega arith) in
     let names = names_counted groups c.requires.groups c.args.email.now c.in-Ok.index c.in-Ok.ensures.found
     c.args.tables.now.pool c.email.result.0 c.email.result.1.now c.email.ensures.group in
-    omega (arith, emails, ap digits names, c.in-Ok.ensures.at_most, c.in-Ok-search_name.ensures.at_most)
+    omega (arith, emails, ap digits names, c.in-Ok.ensures.at_most, c.in-Ok-find_name_counted.ensures.at_most)
 
-pub returns-in-Ok-search_name-clause-at_least : goal.returns-in-Ok-search_name-clause-at_least
-returns-in-Ok-search_name-clause-at_least c =
+pub returns-in-Ok-find_name_counted-clause-at_least : goal.returns-in-Ok-find_name_counted-clause-at_least
+returns-in-Ok-find_name_counted-clause-at_least c =
     let names = names_counted c.args.tables.now.groups c.requires.groups c.args.email.now c.in-Ok.index c.in-Ok.ensures.found
     c.args.tables.now.pool c.email.result.0 c.email.result.1.now c.email.ensures.group in
-    omega (arith, names, c.in-Ok.ensures.at_least, c.in-Ok-search_name.ensures.at_least)
+    omega (arith, names, c.in-Ok.ensures.at_least, c.in-Ok-find_name_counted.ensures.at_least)
 
 pub returns-in-Err-clause-fields : goal.returns-in-Err-clause-fields
 returns-in-Err-clause-fields c =

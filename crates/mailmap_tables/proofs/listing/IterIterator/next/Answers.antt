@@ -2,7 +2,7 @@ use Rattle.std.proofs.Common.{rules, ◌+◌, ◌++◌, ◌∷◌, length, sym, 
 use Rattle.mailmap_entries.specs.Entries.{mapping_of}
 use Rattle.mailmap_tables.specs.Remaining.{left_to_list}
 use Rattle.mailmap_tables.specs.Pool.{spelled}
-use Rattle.mailmap_tables.specs.Texts.{old_span}
+use Rattle.mailmap_tables.specs.RowTexts.{old_span}
 use Rattle.mailmap_tables.proofs.Listed.{next_email, empty}
 use Rattle.mailmap_tables.proofs.listing.IterIterator.next.Goals as goal
 
@@ -14,9 +14,11 @@ returns-in-Some-clause-steps c =
     let rest = c.email.result.1.now in
     let none = empty c.loop-self.self-inside.names.now (sym c.is_empty.ensures ∙ c.loop-self-test.true) in
     sym c.loop-self.invariant.left
-    ∙ next_email t c.loop-self.self-inside.old_email.now c.loop-self.self-inside.names.now i none row rest c.email.ensures.group
+    ∙ next_email t c.loop-self.self-inside.old_email.now c.loop-self.self-inside.names.now i none row rest
+    c.email.ensures.group
     ∙ ap (λ own. own ++ left_to_list t (spelled t.pool (old_span row)) rest (i + 1)) (sym c.in-Some.ensures)
-    ∙ ap (λ email. mapping_of c.in-Some.entry ∷ left_to_list t email rest (i + 1)) (sym (c.text-self-inside.ensures ∙ ap (spelled t.pool) c.old.ensures))
+    ∙ ap (λ email. mapping_of c.in-Some.entry ∷ left_to_list t email rest (i + 1)) (sym (c.text-self-inside.ensures
+    ∙ ap (spelled t.pool) c.old.ensures))
 
 pub returns-in-Some-clause-goes : goal.returns-in-Some-clause-goes
 returns-in-Some-clause-goes c = let e = ap length (returns-in-Some-clause-steps c) in search rules
@@ -30,7 +32,11 @@ loop-self-preserved c =
     let none = empty c.loop-self.self-inside.names.now (sym c.is_empty.ensures ∙ c.loop-self-test.true) in
     record {
       lie = c.email.ensures.lie.names_lie;
-      left = ap (λ email. left_to_list t email rest (i + 1)) (c.text-self-inside.ensures ∙ ap (spelled t.pool) c.old.ensures)
-          ∙ sym (next_email t c.loop-self.self-inside.old_email.now c.loop-self.self-inside.names.now i none row rest c.email.ensures.group ∙ ap (λ own. own ++ left_to_list t (spelled t.pool (old_span row)) rest (i + 1)) (sym c.in_default.ensures))
+      left =
+          ap (λ email. left_to_list t email rest (i + 1)) (c.text-self-inside.ensures
+          ∙ ap (spelled t.pool) c.old.ensures)
+          ∙ sym (next_email t c.loop-self.self-inside.old_email.now c.loop-self.self-inside.names.now i none row rest
+          c.email.ensures.group ∙ ap (λ own. own ++ left_to_list t (spelled t.pool (old_span row)) rest (i + 1))
+          (sym c.in_default.ensures))
           ∙ c.loop-self.invariant.left;
     }

@@ -1,13 +1,14 @@
 use Rattle.std.proofs.Common.{◌≡◌, ◌-◌, length}
 use Rattle.std.specs.List.{AllByRecursion}
 use Rattle.mailmap_tables.specs.Remaining.{left_to_list}
-use Rattle.mailmap_tables.specs.Pool.{NameLies}
+use Rattle.mailmap_tables.specs.Pool.{NameInPool}
 use Rattle.mailmap_tables.proofs.listing.IterIterator.next.Given as goal
 
 abbrev pub invariant-loop-self : goal.invariant-loop-self
 invariant-loop-self l = record {
-  lie : AllByRecursion (NameLies (length l.self-inside.tables.pool)) l.self-inside.names.now;
-  left : left_to_list l.self-inside.tables l.self-inside.old_email.now l.self-inside.names.now l.self-inside.reached ≡ l.fn.self;
+  lie : AllByRecursion (NameInPool (length l.self-inside.tables.pool)) l.self-inside.names.now;
+  left : left_to_list l.self-inside.tables l.self-inside.old_email.now l.self-inside.names.now l.self-inside.reached
+      ≡ l.fn.self;
 }
 
 abbrev pub decreases-loop-self : goal.decreases-loop-self

@@ -13,5 +13,12 @@ returns-clause-answer c =
     let pool = c.args.self.now.tables.now.pool in
     let k = folded c.args.self.now.name.now in
     let lt : c.args.index < length names =
-    omega (arith, c.requires.within, length-map (map (name_group pool) names) (λ (n : NameGroup). text_cmp (name_key n) k), length-map names (name_group pool)) in
-    name_at pool k names c.args.index _ c.text.result.now lt (c.text.ensures ∙ ap (spelled pool) c.old.ensures) ∙ ap (λ a. Some a) (sym c.compare.ensures.value)
+    omega (
+      arith,
+      c.requires.within,
+      length-map (map (name_group pool) names) (λ (n : NameGroup). text_cmp (name_key n)
+          k),
+      length-map names (name_group pool),
+    ) in
+    name_at pool k names c.args.index _ c.text.result.now lt (c.text.ensures ∙ ap (spelled pool) c.old.ensures)
+    ∙ ap (λ a. Some a) (sym c.compare.ensures.value)

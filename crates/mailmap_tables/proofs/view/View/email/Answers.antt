@@ -2,10 +2,10 @@ use Rattle.std.proofs.Common.{◌≡◌, ◌≤◌, ◌<◌, List, subst₂, len
 use Rattle.std.proofs.lemmas.List.{length-map}
 use Rattle.std.specs.List.{slice_get}
 use Rattle.mailmap_tables.specs.Groups.{Contents}
-use Rattle.mailmap_tables.specs.Pool.{RowsLie, names_of, group_of, email_group}
-use Rattle.mailmap_tables.specs.declared.texts.Texts.{Texts}
+use Rattle.mailmap_tables.specs.Pool.{RowsInPool, names_of, group_of, email_group}
+use Rattle.mailmap_tables.specs.declared.texts.RowTexts.{RowTexts}
 use Rattle.mailmap_tables.specs.declared.rows.EmailRow.{EmailRow}
-use Rattle.mailmap_tables.proofs.Pooled.{range_at, rows_lie_at, slice_get-map_at}
+use Rattle.mailmap_tables.proofs.Pooled.{index_within, range_at, rows_lie_at, slice_get-map_at}
 use Rattle.mailmap_tables.proofs.view.View.email.Goals as goal
 
 pub part-requires-clause-up : goal.part-requires-clause-up
@@ -13,7 +13,7 @@ part-requires-clause-up c =
     let row = c.at-row.result in
     let emails = c.self.inside.emails.now in
     let names = c.self.inside.names.now in
-    let lt : c.args.index < length emails = omega (arith, c.requires, ap (λ (v : Contents). length v.groups) c.self.view_is, length-map emails (email_group c.self.inside.pool.now names)) in
+    let lt : c.args.index < length emails = index_within _ _ _ _ _ c.self.view_is c.requires in
     let range = range_at 0 (length names) emails c.args.index row c.self.invariant.ranges lt in
     rw c.at-row.ensures range.0
 
@@ -22,9 +22,10 @@ part-requires-clause-within c =
     let row = c.at-row.result in
     let emails = c.self.inside.emails.now in
     let names = c.self.inside.names.now in
-    let lt : c.args.index < length emails = omega (arith, c.requires, ap (λ (v : Contents). length v.groups) c.self.view_is, length-map emails (email_group c.self.inside.pool.now names)) in
+    let lt : c.args.index < length emails = index_within _ _ _ _ _ c.self.view_is c.requires in
     let range = range_at 0 (length names) emails c.args.index row c.self.invariant.ranges lt in
-    let high : row.names_end ≤ length names = subst (λ (r : EmailRow). r.names_end ≤ length names) (sym c.at-row.ensures) range.1 in
+    let high : row.names_end ≤ length names = subst (λ (r : EmailRow). r.names_end ≤ length names)
+    (sym c.at-row.ensures) range.1 in
     omega (arith, high)
 
 pub returns-clause-group : goal.returns-clause-group
@@ -33,10 +34,12 @@ returns-clause-group c =
     let emails = c.self.inside.emails.now in
     let names = c.self.inside.names.now in
     let row = c.at-row.result in
-    let lt : c.args.index < length emails = omega (arith, c.requires, ap (λ (v : Contents). length v.groups) c.self.view_is, length-map emails (email_group pool names)) in
+    let lt : c.args.index < length emails = index_within _ _ _ _ _ c.self.view_is c.requires in
     let ns : c.part.result.now ≡ names_of names row = c.part.ensures in
-    ap (λ (v : Contents). slice_get v.groups c.args.index) (sym c.self.view_is) ∙ slice_get-map_at (email_group pool names) emails c.args.index row lt
-    ∙ ap (λ r. Some (email_group pool names r)) (sym c.at-row.ensures) ∙ ap (λ l. Some (group_of pool row.texts l)) (sym ns)
+    ap (λ (v : Contents). slice_get v.groups c.args.index) (sym c.self.view_is)
+    ∙ slice_get-map_at (email_group pool names) emails c.args.index row lt
+    ∙ ap (λ r. Some (email_group pool names r)) (sym c.at-row.ensures) ∙ ap (λ l. Some (group_of pool row.texts l))
+    (sym ns)
     ∙ ap (λ (v : Contents). Some (group_of v.pool row.texts c.part.result.now)) c.self.view_is
 
 pub returns-clause-lie : goal.returns-clause-lie
@@ -45,10 +48,10 @@ returns-clause-lie c =
     let emails = c.self.inside.emails.now in
     let names = c.self.inside.names.now in
     let row = c.at-row.result in
-    let lt : c.args.index < length emails = omega (arith, c.requires, ap (λ (v : Contents). length v.groups) c.self.view_is, length-map emails (email_group pool names)) in
+    let lt : c.args.index < length emails = index_within _ _ _ _ _ c.self.view_is c.requires in
     let ns : c.part.result.now ≡ names_of names row = c.part.ensures in
-    subst₂ (λ (v : Contents) (l : List Texts). RowsLie v.pool row.texts l) c.self.view_is (sym ns) (rows_lie_at pool names emails c.self.invariant c.args.index row lt c.at-row.ensures)
+    subst₂ (λ (v : Contents) (l : List RowTexts). RowsInPool v.pool row.texts l) c.self.view_is (sym ns)
+    (rows_lie_at pool names emails c.self.invariant c.args.index row lt c.at-row.ensures)
 
 pub at-row-requires : goal.at-row-requires
-at-row-requires c =
-    omega (arith, c.requires, ap (λ (v : Contents). length v.groups) c.self.view_is, length-map c.self.inside.emails.now (email_group c.self.inside.pool.now c.self.inside.names.now))
+at-row-requires c = index_within _ _ _ _ _ c.self.view_is c.requires

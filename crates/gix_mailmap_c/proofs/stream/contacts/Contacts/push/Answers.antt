@@ -3,7 +3,7 @@ use Rattle.std.proofs.Common.{◌≡◌, ◌<◌, ◌≤◌, ◌++◌, ℕ, Resu
 use Rattle.std.proofs.lemmas.List.{drop-append-le}
 use Rattle.mailmap_entries.specs.Folding.{Text}
 use Rattle.mailmap_grammar.specs.Lines.{HoldsNo}
-use Rattle.gix_mailmap.specs.Streams.{AnswersFront, Stream}
+use Rattle.mailmap_snapshot.specs.Streams.{AnswersFront, Stream}
 use Rattle.gix_mailmap_c.specs.Streamed.{HasTakenOf, Pending}
 use Rattle.gix_mailmap_c.proofs.stream.contacts.Contacts.push.Goals as goal
 

@@ -2,7 +2,7 @@ use Rattle.std.proofs.Common.{◌++◌, fold, sym, ap, ◌∙◌}
 use Rattle.std.specs.Hash as fed
 use Rattle.std.proofs.lemmas.List.Sums.{fold-append}
 use Rattle.mailmap_entries.specs.Entries.{mapping_of, mapping_writes}
-use Rattle.mailmap_histories.specs.Listings.{entries_hashed}
+use Rattle.mailmap_entries.specs.Listings.{entries_hashed}
 use Rattle.mailmap_snapshot.proofs.Compared.{hashed_fields}
 use Rattle.mailmap_snapshot.proofs.snapshot.listing.SnapshotHash.hash.Goals as goal
 

@@ -1,5 +1,5 @@
 use Rattle.std.proofs.Common.{◌≡◌, fold}
-use Rattle.mailmap_histories.specs.Listings.{entries_hashed}
+use Rattle.mailmap_entries.specs.Listings.{entries_hashed}
 use Rattle.mailmap_snapshot.proofs.snapshot.listing.SnapshotHash.hash.Given as goal
 
 abbrev pub invariant-loop-entry : goal.invariant-loop-entry

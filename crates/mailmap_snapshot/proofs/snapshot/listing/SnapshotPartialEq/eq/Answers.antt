@@ -3,8 +3,8 @@ use Rattle.std.proofs.lemmas.Iterator.Consumers.{YieldsList-from_first}
 use Rattle.std.specs.Prelude.{nat_eq}
 use lib.Pointwise.{pointwise}
 use Rattle.mailmap_entries.specs.Entries.{mapping_of}
-use Rattle.mailmap_histories.proofs.EqualListings.{entries_decide}
-use Rattle.mailmap_histories.specs.Listings.{same_entry}
+use Rattle.mailmap_entries.proofs.EqualListings.{entries_decide}
+use Rattle.mailmap_entries.specs.Listings.{same_entry}
 use Rattle.mailmap_snapshot.proofs.Compared.{eq_from_yields_List, same_fields}
 use Rattle.mailmap_snapshot.proofs.snapshot.listing.SnapshotPartialEq.eq.Goals as goal
 

@@ -1,0 +1,9 @@
+//! A cache for the answers to repeated lines. This is internal to the library.
+#![tactic(auto)]
+
+mod cache;
+mod hashes;
+mod row;
+
+pub use cache::{AnswerCache, ROW_LEN, ROWS};
+pub use hashes::hash_of;

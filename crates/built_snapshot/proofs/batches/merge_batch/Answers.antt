@@ -1,7 +1,0 @@
-use Rattle.gix_mailmap.specs.Building.{merged}
-use Rattle.gix_mailmap.specs.Sources.{history}
-use Rattle.built_snapshot.proofs.batches.merge_batch.Goals as goal
-
-pub returns-in-MergeSources-clause-built : goal.returns-in-MergeSources-clause-built
-returns-in-MergeSources-clause-built c h b =
-    merged h c.args.snapshot.now (history c.args.batch.now.sources.now c.merge_sources.new.made) c.merge_sources.new.self b c.merge_sources.ensures.merged.normal

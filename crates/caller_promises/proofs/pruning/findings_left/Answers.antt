@@ -1,0 +1,44 @@
+use Rattle.std.proofs.Common.{◌≡◌, ◌||◌, ◌&&◌, ◌∷◌, ◌∙◌, [], Bool, true, false, List, Ok, Err, Result, map, ap, refl, sym}
+use Rattle.std.specs.List.{list_any}
+use Rattle.std.specs.Result.{IfOk}
+use Rattle.gix_mailmap.specs.Findings.{Finding, finding_of, has_no_effect, is_redundant}
+use Rattle.gix_mailmap.specs.Positions.{Line, same_position}
+use Rattle.caller_promises.proofs.pruning.findings_left.Goals as goal
+
+weaker : {T E : Type 0} (r : Result T E) (P Q : T → Type 0) → ((x : T) → P x → Q x) → IfOk r P → IfOk r Q
+weaker (Ok x) P Q f p = f x p
+weaker (Err e) P Q f p = tt
+
+or_first : (a b : Bool) → (a || b) ≡ false → a ≡ false
+or_first true b e = e
+or_first false b e = refl
+
+or_rest : (a b : Bool) → (a || b) ≡ false → b ≡ false
+or_rest true true e = e
+or_rest true false e = refl
+or_rest false b e = e
+
+and_first : (a b : Bool) → b ≡ true → (a && b) ≡ false → a ≡ false
+and_first true b t e = sym t ∙ e
+and_first false b t e = refl
+
+-- if it is reported of no line that it has no effect, no finding says so
+none_says : ((l : Line) → same_position l.position l.position ≡ true) → (xs : List Finding) → ((l : Line) → is_redundant xs l ≡ false) → list_any (λ f. has_no_effect f.reported) xs ≡ false
+none_says same [] each = refl
+none_says same (x ∷ xs) each =
+    let at : Line = record { position = x.position; text = [] } in
+    let here = and_first (has_no_effect x.reported) (same_position x.position x.position) (same at)
+    (or_first (has_no_effect x.reported && same_position x.position x.position) (is_redundant xs at) (each at)) in
+    ap (λ b. b || list_any (λ f. has_no_effect f.reported) xs) here
+    ∙ none_says same xs (λ l. or_rest (has_no_effect x.reported && same_position x.position l.position) (is_redundant xs l) (each l))
+
+pub returns : goal.returns
+returns c =
+    let pruned = c.args.pruned.now in
+    weaker c.verify.result _ _ (λ left are. λ buffer found is_pruned found_are.
+    let left_found = map finding_of left.items in
+    record {
+      none = none_says (λ l. (c.law_equal_contacts.ensures.positions l.position l.position).1 refl) left_found
+          (λ l. c.law_pruned_findings.ensures.none buffer pruned left_found l is_pruned are);
+      others = c.law_pruned_findings.ensures.others buffer pruned found left_found found_are is_pruned are;
+    }) c.verify.ensures.findings

@@ -1,0 +1,5 @@
+pub mod Escapes
+pub mod FirstUnread
+pub mod Leaving
+pub mod Printed
+pub mod Reading

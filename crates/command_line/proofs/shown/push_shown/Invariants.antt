@@ -1,0 +1,10 @@
+-- With the rest shown, the line is what it has to be.
+use Rattle.std.proofs.Common.{◌≡◌, ◌++◌, length}
+use Rattle.command_line.specs.Shown.{shown}
+use Rattle.command_line.proofs.shown.push_shown.Given as goal
+
+abbrev pub invariant-loop-rest : goal.invariant-loop-rest
+invariant-loop-rest l = l.line.items ++ shown l.rest ≡ l.fn.line.items ++ shown l.fn.text
+
+abbrev pub decreases-loop-rest : goal.decreases-loop-rest
+decreases-loop-rest l = length l.rest

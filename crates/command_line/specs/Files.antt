@@ -1,0 +1,69 @@
+-- What a file system holds, and the results of reading its files.
+use Rattle.std.specs.Prelude.{◌≡◌, ◌≢◌, ◌-◌, ℕ, suc, ◌<◌, ◌≤◌, ⊤, List, [], Option, Some, EachIndex, length, map}
+use Rattle.std.specs.Prelude.{slice_index_or}
+use Rattle.std.specs.Global.{Vec}
+use Rattle.std.specs.declared.io.ErrorKind.{ErrorKind}
+use Rattle.std.specs.declared.io.ErrorKind.TheVariants.{OutOfMemory}
+use Rattle.command_line.specs.declared.failure.Failure.{Failure}
+use Rattle.command_line.specs.declared.failure.Failure.TheVariants.{File, Input, Memory, Output}
+
+-- What is at a path: a file with these bytes, no file that can be opened, for this cause, or nobody knows.
+pub data AtPath : Type 0 where
+  Bytes : List ℕ → AtPath
+  Fails : ErrorKind → AtPath
+  Unknown : AtPath
+
+-- opening a file there can give a reader that has these bytes left
+abbrev pub Opens : AtPath → Option (List ℕ) → Type 0
+Opens (Bytes bytes) left = left ≡ Some bytes
+Opens (Fails cause) left = ⊥
+Opens Unknown left = ⊤
+
+-- opening or reading it can fail for this cause
+abbrev pub FailsWith : AtPath → ErrorKind → Type 0
+FailsWith (Bytes bytes) cause = ⊥
+FailsWith (Fails known) cause = cause ≡ known
+FailsWith Unknown cause = ⊤
+
+-- reading it to its end can give these contents
+abbrev pub Gives : AtPath → List ℕ → Type 0
+Gives (Bytes bytes) contents = contents ≡ bytes
+Gives (Fails cause) contents = ⊥
+Gives Unknown contents = ⊤
+
+-- reading it can succeed
+abbrev pub MayRead : AtPath → Type 0
+MayRead (Bytes bytes) = ⊤
+MayRead (Fails cause) = ⊥
+MayRead Unknown = ⊤
+
+-- the bytes of each path or of each file
+abbrev pub texts : List (Vec ℕ) → List (List ℕ)
+texts xs = map (λ x. x.items) xs
+
+-- the contents of all files, in the order of their paths
+abbrev pub AreRead : (List ℕ → AtPath) → List (List ℕ) → List (List ℕ) → Type 0
+AreRead at paths contents = (length contents ≡ length paths)
+    × EachIndex paths (λ k. Gives (at (slice_index_or paths k [])) (slice_index_or contents k []))
+
+-- The file with this number, from 1, is the first that can't be read, for this cause. Too little memory is no cause.
+pub record IsFirstUnread (at : List ℕ → AtPath) (paths : List (List ℕ)) (number : ℕ) (cause : ErrorKind) : Type 0 where
+  pub from_one : 0 < number
+  pub within : number ≤ length paths
+  pub fails : FailsWith (at (slice_index_or paths (number - 1) [])) cause
+  pub before : (k : ℕ) → suc k < number → MayRead (at (slice_index_or paths k []))
+  pub no_memory : cause ≢ OutOfMemory
+
+-- A failure of a file is that of the first that can't be read.
+abbrev pub NamesFile : (List ℕ → AtPath) → List (List ℕ) → Failure → Type 0
+NamesFile at paths (File number cause) = IsFirstUnread at paths number cause
+NamesFile at paths (Input cause) = ⊤
+NamesFile at paths Memory = ⊤
+NamesFile at paths Output = ⊤
+
+-- The file with this number can't be read, given what is at its path, or memory ran out.
+abbrev pub IsOfNumber : AtPath → ℕ → Failure → Type 0
+IsOfNumber held number (File named cause) = (named ≡ number) × FailsWith held cause × (cause ≢ OutOfMemory)
+IsOfNumber held number (Input cause) = ⊥
+IsOfNumber held number Memory = ⊤
+IsOfNumber held number Output = ⊥

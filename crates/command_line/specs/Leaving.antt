@@ -1,0 +1,27 @@
+-- What a run has written when it ends.
+use Rattle.std.specs.Prelude.{◌≡◌, ℕ, List, Option, Result, IfErr, OnOk}
+use Rattle.std.specs.Io.KnownBytes.{IsAtEnd}
+use Rattle.std.specs.Result.{IsErr, IsErrOf}
+use Rattle.command_line.specs.Failures.{IsOfInput}
+use Rattle.command_line.specs.Printing.{Prints, PrintsFront}
+use Rattle.command_line.specs.declared.failure.Failure.{Failure}
+use Rattle.command_line.specs.declared.failure.Failure.TheVariants.{Memory, Output}
+
+-- A run that answers while it reads has written all answers, and has read all of the input. If writing fails, it has
+-- written a prefix of them; if reading fails, the answers to all whole lines read so far; if memory runs out, Lost
+-- describes it.
+pub record LeavesAnswers {T : Type 0} (All Whole : List ℕ → Type 0) (Lost : Type 0)
+    (now before after : Option (List ℕ)) (result : Result T Failure) : Type 0 where
+  pub prints : OnOk result (Prints All before after)
+  pub reads_all : OnOk result (IsAtEnd now)
+  pub breaks_off : IsErrOf result Output → PrintsFront All before after
+  pub input_fails : IfErr result (λ e. IsOfInput e → Prints Whole before after)
+  pub memory_fails : IsErrOf result Memory → Lost
+
+-- A run that writes one text at its end has written all of it, or a prefix if writing fails. After any other failure it
+-- has written nothing.
+pub record LeavesText {W T : Type 0} (IsText : List ℕ → Type 0) (contents : W → Option (List ℕ))
+    (old new : W) (result : Result T Failure) : Type 0 where
+  pub prints : OnOk result (Prints IsText (contents old) (contents new))
+  pub breaks_off : IsErrOf result Output → PrintsFront IsText (contents old) (contents new)
+  pub silent : IsErr result → ¬ IsErrOf result Output → new ≡ old

@@ -1,0 +1,15 @@
+//! What the programs share: reading files and streams, writing text, error messages and exit statuses.
+#![tactic(auto)]
+
+pub mod arguments;
+pub mod failure;
+pub mod files;
+pub mod lines;
+pub mod messages;
+pub mod outcome;
+pub mod printer;
+pub mod shown;
+pub mod streams;
+
+/// The version of all programs, as in the file `VERSION`.
+pub const VERSION: &str = "0.1.0";

@@ -1,5 +1,0 @@
-use Rattle.gix_mailmap.proofs.WrittenText.{strict_readings-text}
-use Rattle.gix_mailmap.proofs.laws.text.law_strict.Goals as goal
-
-pub returns : goal.returns
-returns c v normal writable = strict_readings-text v normal writable

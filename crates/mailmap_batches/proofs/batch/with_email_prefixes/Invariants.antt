@@ -1,7 +1,0 @@
-use Rattle.std.proofs.Common.{◌≡◌, map, take}
-use Rattle.std.specs.List.{enumerate_from}
-use Rattle.mailmap_batches.specs.Batches.{indexed_mapping}
-use Rattle.mailmap_batches.proofs.batch.with_email_prefixes.Given as goal
-
-abbrev pub invariant-loop-index : goal.invariant-loop-index
-invariant-loop-index g l = map indexed_mapping l.batch.items ≡ enumerate_from 0 (map g.T.HasEntry.mapped (take l.index l.entries))

@@ -1,0 +1,157 @@
+-- What merges build, and what the merged entries can be replaced by.
+use Rattle.std.proofs.Common.{◌≡◌, ◌≢◌, ◌||◌, Bool, true, false, true≢false, List, [], ◌∷◌, ◌++◌, Option, Some, None, IsSome, if◌then◌else◌, unwrap_or, option_map, append-nil, refl, sym, ap, subst, ◌∙◌}
+use Rattle.std.specs.Cmp.{Equal-is, tied_itself}
+use Rattle.std.specs.Cmp.Lexicographic.{nat_list_cmp_total}
+use Rattle.std.specs.List.{AllByRecursion}
+use Rattle.std.specs.Option.{option_or}
+use Rattle.std.specs.Ordering.{eq_by_cmp}
+use Rattle.std.proofs.lemmas.List.Elements.{filter-append, filter_passes, recursion_from_All}
+use Rattle.std.proofs.lemmas.Map.Lookups.{exact_bytes}
+use Rattle.mailmap_entries.specs.Entries.{Mapping}
+use Rattle.mailmap_entries.specs.Folding.{Text, folded, text_cmp}
+use Rattle.mailmap_entries.specs.Building.{IsMerged, IsBuilt, nothing, merged, out_of_memory}
+use Rattle.mailmap_entries.specs.Semantics.{Key, Fields, has_key, key, key_cmp, last, first, new_fields, last_given, last_fields, given_fields, spelling, IsNormal, accepted, is_accepted, of_email, of_key, no_fields, unless_empty, answered, answer_of, fields_for}
+use Rattle.mailmap_entries.proofs.Alike.{Alike, first_name, same_normal, alike_accepted, alike_back, alike_itself, alike_joined, first_parts, last_parts, given_parts, key_parts}
+use Rattle.mailmap_entries.proofs.Exists.{normal, is_normal}
+use Rattle.mailmap_entries.proofs.Joined.{IsApart, alike_trans, alike_swapped}
+use Rattle.mailmap_entries.proofs.Keys.{keys_total, keys_exact}
+use Rattle.mailmap_entries.proofs.Normal.{alike_normal, normal_nothing, normal_then}
+use Rattle.mailmap_entries.proofs.Parts.{filter_all}
+use Rattle.mailmap_entries.proofs.Reorder.{by_email, of_name}
+use Rattle.mailmap_entries.proofs.Unique.{normal_unique}
+
+-- ---- only the accepted entries count
+
+pub accepted_good : (xs : List Mapping) → AllByRecursion (λ m. is_accepted m ≡ true) (accepted xs)
+accepted_good xs = recursion_from_All _ (accepted xs) (filter_passes is_accepted xs)
+
+pub accepted_twice : (xs : List Mapping) → accepted (accepted xs) ≡ accepted xs
+accepted_twice xs = filter_all is_accepted (accepted xs) (accepted_good xs)
+
+pub normal_accepted : (a xs n : List Mapping) → IsNormal (a ++ accepted xs) n → IsNormal (a ++ xs) n
+normal_accepted a xs n =
+    same_normal (a ++ accepted xs) (a ++ xs) n (alike_accepted (a ++ accepted xs) (a ++ xs)
+    (filter-append is_accepted a (accepted xs) ∙ ap (λ l. accepted a ++ l) (accepted_twice xs) ∙ sym (filter-append is_accepted a xs)))
+
+-- if no new entry is accepted, nothing changes
+pub normal_unchanged : (a xs : List Mapping) → accepted xs ≡ [] → IsNormal a a → IsNormal (a ++ xs) a
+normal_unchanged a xs none d = normal_accepted a xs a (subst (λ l. IsNormal (a ++ l) a) (sym none) (subst (λ l. IsNormal l a) (sym (append-nil a)) d))
+
+-- ---- merges
+
+-- the normal list of an empty list is empty
+pub normal_none : IsNormal [] []
+normal_none = subst (IsNormal []) (normal_nothing [] (normal []) refl (is_normal [])) (is_normal [])
+
+pub is_merged : (old added new : List Mapping) → IsNormal old old → IsNormal (old ++ added) new → IsMerged old added new
+is_merged old added new own d =
+    record {
+      normal = d;
+      history = λ h is. normal_then h old added new is d;
+      unchanged = λ none. normal_unique (old ++ added) new old d (normal_unchanged old added none own);
+    }
+
+pub built_normal : (h n : List Mapping) → IsBuilt h n → IsNormal h n
+built_normal _ _ nothing = normal_none
+built_normal _ _ (merged h n added new b d) = normal_then h n added new (built_normal h n b) d
+built_normal _ _ (out_of_memory h n new b e) = subst (IsNormal h) (sym e) (built_normal h n b)
+
+-- a part of the accepted entries can be replaced by its normal list
+pub normal_condensed : (h n a b c m : List Mapping) → IsNormal h n → accepted h ≡ a ++ b ++ c → IsNormal b m → IsNormal (a ++ m ++ c) n
+normal_condensed h n a b c m d parts is =
+    let all : IsNormal (a ++ b ++ c) n = subst (λ l. IsNormal l n) parts (same_normal h (accepted h) n (alike_accepted h (accepted h) (sym (accepted_twice h))) d) in
+    let alike = alike_joined (a ++ b) c (a ++ m) c (alike_joined a b a m (alike_itself a) (alike_normal b m is)) (alike_itself c) in
+    same_normal _ _ n alike all
+
+-- ---- mappings that are merged twice
+
+or_itself : (b : Bool) → (b || b) ≡ b
+or_itself true = refl
+or_itself false = refl
+
+option_or_itself : {X : Type 0} (o : Option X) → option_or o o ≡ o
+option_or_itself None = refl
+option_or_itself (Some x) = refl
+
+-- a list followed by itself says nothing new
+pub alike_repeated : (h : List Mapping) → Alike (h ++ h) h
+alike_repeated h =
+    record {
+      keys = λ k. key_parts k h h ∙ or_itself (has_key (accepted h) k);
+      spellings = λ email. first_parts (λ e. e.old_email) _ h h ∙ option_or_itself (spelling h email);
+      given = λ email. λ i. record {
+        name = (given_parts (λ e. e.new_name) _ h h ∙ option_or_itself (given_fields h email).name) i;
+        email = (given_parts (λ e. e.new_email) _ h h ∙ option_or_itself (given_fields h email).email) i;
+      };
+      lasts = λ email name. last_parts new_fields _ h h ∙ option_or_itself (last_fields h (email, Some name));
+      names = λ email name. first_parts (λ e. e.old_name) _ h h ∙ option_or_itself (first_name h (email, Some name));
+    }
+
+pub normal_repeated : (h n : List Mapping) → IsNormal h n → IsNormal (h ++ n) n
+normal_repeated h n d =
+    same_normal h (h ++ n) n (alike_trans h (h ++ h) (h ++ n) (alike_back (h ++ h) h (alike_repeated h)) (alike_joined h h h n (alike_itself h) (alike_normal h n d))) d
+
+-- ---- neighbours with different emails
+
+equal_texts : (a b : Text) → eq_by_cmp text_cmp a b ≡ true → a ≡ b
+equal_texts a b e = exact_bytes a b ((Equal-is (text_cmp a b)).0 e)
+
+equal_keys : (j k : Key) → eq_by_cmp key_cmp j k ≡ true → j ≡ k
+equal_keys j k e = keys_exact j k ((Equal-is (key_cmp j k)).0 e)
+
+refuted : (b : Bool) → (b ≡ true → ⊥) → b ≡ false
+refuted true never = absurd (never refl)
+refuted false never = refl
+
+pub alike_neighbours : (a b : List Mapping) (x y : Mapping) → folded x.old_email ≢ folded y.old_email → Alike (a ++ x ∷ y ∷ b) (a ++ y ∷ x ∷ b)
+alike_neighbours a b x y differ =
+    let apart : IsApart x y = (
+      refuted _ (λ e. differ (ap (λ k. k.0) (equal_keys (key x) (key y) e))),
+      λ e. absurd (differ (equal_texts (folded x.old_email) (folded y.old_email) e)),
+    ) in
+    alike_joined a (x ∷ y ∷ b) a (y ∷ x ∷ b) (alike_itself a) (alike_joined (x ∷ y ∷ []) b (y ∷ x ∷ []) b (alike_swapped (x ∷ []) (y ∷ []) ((apart, tt), tt)) (alike_itself b))
+
+-- ---- what an answer depends on
+
+-- only on the accepted entries for its email
+pub scan_by_email : (h g : List Mapping) (name email : Text) → of_email h (folded email) ≡ of_email g (folded email) → answer_of h name email ≡ answer_of g name email
+scan_by_email h g name email same =
+    let keyed : (o : Option Text) → of_key h (folded email, o) ≡ of_key g (folded email, o) =
+    λ o. by_email h (folded email, o) ∙ ap (of_name o) same ∙ sym (by_email g (folded email, o)) in
+    let lasts : last_fields h (folded email, Some (folded name)) ≡ last_fields g (folded email, Some (folded name)) =
+    ap (λ l. option_map new_fields (last l)) (keyed (Some (folded name))) in
+    let given : given_fields h (folded email) ≡ given_fields g (folded email) =
+    λ i. record { name = last_given (λ e. e.new_name) (keyed None i); email = last_given (λ e. e.new_email) (keyed None i) } in
+    let spelled : spelling h (folded email) ≡ spelling g (folded email) = ap (λ l. option_map (λ e. e.old_email) (first l)) same in
+    λ i. answered email (unwrap_or (lasts i) (given i)) (spelled i)
+
+-- the email that an answer leaves, whether or not the stored spelling is exactly the signature's
+one_email : (name new : Option Text) (kept email : Text) (same : Bool) → (same ≡ true → kept ≡ email)
+    → unwrap_or (unwrap_or (unless_empty (record { name = name; email = option_or new (if same then None else Some kept) })) no_fields).email email ≡ unwrap_or new kept
+one_email None (Some e) kept email same is = refl
+one_email (Some n) (Some e) kept email same is = refl
+one_email None None kept email true is = sym (is refl)
+one_email (Some n) None kept email true is = sym (is refl)
+one_email None None kept email false is = refl
+one_email (Some n) None kept email false is = refl
+
+one_of : (f : Fields) (spelled : Option Text) (email other : Text) → IsSome spelled
+    → unwrap_or (unwrap_or (answered email f spelled) no_fields).email email ≡ unwrap_or (unwrap_or (answered other f spelled) no_fields).email other
+one_of f None email other is = absurd (true≢false (sym is))
+one_of f (Some kept) email other is =
+    one_email f.name f.email kept email _ (equal_texts kept email) ∙ sym (one_email f.name f.email kept other _ (equal_texts kept other))
+
+-- signatures that differ only in the case of letters have one email, if there is an entry for that email
+pub one_resolved : (h : List Mapping) (name other_name email other_email : Text) → folded name ≡ folded other_name → folded email ≡ folded other_email → IsSome (spelling h (folded email))
+    → unwrap_or (fields_for h name email).email email ≡ unwrap_or (fields_for h other_name other_email).email other_email
+one_resolved h name other_name email other_email names emails some =
+    one_of (unwrap_or (last_fields h (folded email, Some (folded name))) (given_fields h (folded email))) (spelling h (folded email)) email other_email some
+    ∙ (λ i. unwrap_or (unwrap_or (answered other_email (unwrap_or (last_fields h (emails i, Some (names i))) (given_fields h (emails i))) (spelling h (emails i))) no_fields).email other_email)
+
+-- ---- texts and keys that compare as equal
+
+pub same_text : (a b : Text) → (eq_by_cmp text_cmp a b ≡ true → a ≡ b) × (a ≡ b → eq_by_cmp text_cmp a b ≡ true)
+same_text a b = (equal_texts a b, λ e. subst (λ t. eq_by_cmp text_cmp a t ≡ true) e ((Equal-is (text_cmp a a)).1 (tied_itself nat_list_cmp_total a)))
+
+pub same_key : (j k : Key) → (eq_by_cmp key_cmp j k ≡ true → j ≡ k) × (j ≡ k → eq_by_cmp key_cmp j k ≡ true)
+same_key j k = (equal_keys j k, λ e. subst (λ l. eq_by_cmp key_cmp j l ≡ true) e ((Equal-is (key_cmp j j)).1 (tied_itself keys_total j)))

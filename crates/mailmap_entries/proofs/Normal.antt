@@ -1,0 +1,128 @@
+-- A normal list is alike the list that it was made from.
+use Rattle.std.proofs.Common.{◌≡◌, Bool, true, cond, ◌||◌, List, [], ◌∷◌, ◌++◌, map, filter, Option, Some, None, is_some, unwrap_or, option_map, All, subst, true≢false, refl, sym, ap, ◌∙◌}
+use Rattle.std.specs.Cmp.{Equal-is}
+use Rattle.std.specs.List.{AllByRecursion, list_any}
+use Rattle.std.specs.Option.{option_and_then}
+use Rattle.std.specs.Ordering.{eq_by_cmp}
+use Rattle.std.proofs.lemmas.List.Elements.{recursion_from_All, All-filter, filter_passes}
+use Rattle.std.proofs.lemmas.Map.Lookups.{exact_bytes}
+use Rattle.mailmap_entries.specs.Entries.{Mapping}
+use Rattle.mailmap_entries.specs.Folding.{Text, text_cmp, folded}
+use Rattle.mailmap_entries.specs.Semantics.{Key, key, key_cmp, first, last, is_accepted, accepted, of_email, of_key, has_key, new_fields, no_fields, last_given, spelling, value, IsNormal}
+use Rattle.mailmap_entries.proofs.Ascending.{has_itself, one_at, each_key, same_any}
+use Rattle.mailmap_entries.proofs.Alike.{Alike, same_normal, alike_joined, alike_back, alike_itself}
+use Rattle.mailmap_entries.proofs.Keys.{keys_total, keys_exact}
+use Rattle.mailmap_entries.proofs.Parts.{list_any-map, first_found, last_of_one, some_given, any_either, all_last, filter_all, first_alike, some_again, is_some-option_map}
+
+-- ---- one entry v that represents the entries l of a key
+
+abbrev only : Mapping → List Mapping → List Mapping
+only v l = cond (is_some (first l)) (v ∷ []) []
+
+given_stands : (f : Mapping → Option Text) (v : Mapping) (l : List Mapping) → f v ≡ last_given f l → last_given f l ≡ last_given f (only v l)
+given_stands f v [] e = refl
+given_stands f v (x ∷ l) e = sym e ∙ sym (last_of_one f v)
+
+last_stands : (v : Mapping) (l : List Mapping) → new_fields v ≡ unwrap_or (option_map new_fields (last l)) no_fields → option_map new_fields (last l) ≡ option_map new_fields (last (only v l))
+last_stands v [] e = refl
+last_stands v (x ∷ l) e = ap (λ f. Some f) (sym e)
+
+name_stands : (v : Mapping) (l : List Mapping) → v.old_name ≡ option_and_then (λ e. e.old_name) (first l) → option_map (λ e. e.old_name) (first l) ≡ option_map (λ e. e.old_name) (first (only v l))
+name_stands v [] e = refl
+name_stands v (x ∷ l) e = ap (λ o. Some o) (sym e)
+
+-- ---- the value of a key is accepted
+
+all_accepted : (p : Mapping → Bool) (h : List Mapping) → AllByRecursion (λ e. is_accepted e ≡ true) (filter p (accepted h))
+all_accepted p h = recursion_from_All _ _ (All-filter p (λ e. is_accepted e ≡ true) (accepted h) (filter_passes is_accepted h))
+
+some_accepted : (l : List Mapping) → AllByRecursion (λ e. is_accepted e ≡ true) l → is_some (first l) ≡ true → list_any is_accepted l ≡ true
+some_accepted [] a e = cc
+some_accepted (x ∷ l) a e = ap (λ b. b || list_any is_accepted l) a.0
+
+last_accepted : (l : List Mapping) → AllByRecursion (λ e. is_accepted e ≡ true) l → is_some (first l) ≡ true
+    → (is_some (unwrap_or (option_map new_fields (last l)) no_fields).name || is_some (unwrap_or (option_map new_fields (last l)) no_fields).email) ≡ true
+last_accepted [] a e = cc
+last_accepted (x ∷ l) a e = all_last (λ e. is_accepted e ≡ true) x l a.0 a.1
+
+accepted_value : (h : List Mapping) (k : Key) → is_some (first (of_key h k)) ≡ true → is_accepted (value h k) ≡ true
+accepted_value h (email, None) e =
+    let l = of_key h (email, None) in
+    (λ i. some_given (λ e. e.new_name) l i || some_given (λ e. e.new_email) l i)
+    ∙ any_either (λ e. is_some e.new_name) (λ e. is_some e.new_email) l
+    ∙ some_accepted l (all_accepted _ h) e
+accepted_value h (email, Some name) e = last_accepted (of_key h (email, Some name)) (all_accepted _ h) e
+
+pub known : (h : List Mapping) (k : Key) → has_key (accepted h) k ≡ is_some (first (of_key h k))
+known h k = list_any-map (eq_by_cmp key_cmp k) key (accepted h) ∙ first_found _ (accepted h)
+
+-- ---- each part of `Alike`
+
+module _ (h n : List Mapping) (d : IsNormal h n) where
+  values : AllByRecursion (λ e. e ≡ value h (key e)) n
+  values = recursion_from_All _ n d.values
+
+  pub accepted_self : accepted n ≡ n
+  accepted_self = filter_all is_accepted n (both n values (each_key keys_total keys_exact key (value h) (λ k. is_accepted (value h k) ≡ true) n (λ k e. accepted_value h k (sym (d.keys k ∙ known h k) ∙ e))))
+    where
+      both : (es : List Mapping) → AllByRecursion (λ e. e ≡ value h (key e)) es → AllByRecursion (λ e. is_accepted (value h (key e)) ≡ true) es → AllByRecursion (λ e. is_accepted e ≡ true) es
+      both [] a b = tt
+      both (e ∷ es) a b = (ap is_accepted a.0 ∙ b.0, both es a.1 b.1)
+
+  pub of_key_normal : (k : Key) → of_key n k ≡ only (value h k) (of_key h k)
+  of_key_normal k =
+      ap (filter _) accepted_self
+      ∙ one_at keys_total keys_exact key (value h) k n d.ascending values
+      ∙ ap (λ b. cond b (value h k ∷ []) []) (d.keys k ∙ known h k)
+
+  pub old_email_is : (k : Key) → (value h k).old_email ≡ unwrap_or (spelling h k.0) []
+  old_email_is (email, None) = refl
+  old_email_is (email, Some name) = refl
+
+  same_spelling : (email : Text) → spelling h email ≡ spelling n email
+  same_spelling email =
+      let p : Key → Bool = λ k. eq_by_cmp text_cmp email k.0 in
+      let s : Text = unwrap_or (spelling h email) [] in
+      let all_s : AllByRecursion (λ e. p (key e) ≡ true → e.old_email ≡ s) n = spelled n values in
+      let any : list_any (λ e. p (key e)) n ≡ is_some (spelling h email) =
+      sym (list_any-map p key n) ∙ same_any keys_total keys_exact p (map key n) (map key (accepted h)) d.keys ∙ list_any-map p key (accepted h)
+      ∙ first_found (λ e. p (key e)) (accepted h) ∙ is_some-option_map (λ e. e.old_email) (first (of_email h email)) in
+      sym (ap (λ l. option_map (λ e. e.old_email) (first (filter (λ e. p (key e)) l))) accepted_self
+      ∙ first_alike (λ e. e.old_email) (λ e. p (key e)) s n all_s
+      ∙ ap (λ b. cond b (Some s) None) any
+      ∙ some_again (spelling h email) [])
+    where
+      spelled : (es : List Mapping) → AllByRecursion (λ e. e ≡ value h (key e)) es → AllByRecursion (λ e. eq_by_cmp text_cmp email (key e).0 ≡ true → e.old_email ≡ unwrap_or (spelling h email) []) es
+      spelled [] a = tt
+      spelled (e ∷ es) a = (
+        λ same. ap (λ e. e.old_email) a.0 ∙ old_email_is (key e) ∙ ap (λ t. unwrap_or (spelling h t) []) (sym (exact_bytes email (folded e.old_email) ((Equal-is (text_cmp email (folded e.old_email))).0 same))),
+        spelled es a.1,
+      )
+
+  pub alike_normal : Alike h n
+  alike_normal =
+      record {
+        keys = λ k. sym (ap (λ l. has_key l k) accepted_self ∙ d.keys k);
+        spellings = same_spelling;
+        given = λ email i. record {
+          name = (given_stands (λ e. e.new_name) (value h (email, None)) (of_key h (email, None)) refl ∙ ap (last_given (λ e. e.new_name)) (sym (of_key_normal (email, None)))) i;
+          email = (given_stands (λ e. e.new_email) (value h (email, None)) (of_key h (email, None)) refl ∙ ap (last_given (λ e. e.new_email)) (sym (of_key_normal (email, None)))) i;
+        };
+        lasts = λ email name. last_stands (value h (email, Some name)) (of_key h (email, Some name)) refl ∙ ap (λ l. option_map new_fields (last l)) (sym (of_key_normal (email, Some name)));
+        names = λ email name. name_stands (value h (email, Some name)) (of_key h (email, Some name)) refl ∙ ap (λ l. option_map (λ e. e.old_name) (first l)) (sym (of_key_normal (email, Some name)));
+      }
+
+pub normal_self : (h n : List Mapping) → IsNormal h n → IsNormal n n
+normal_self h n d = same_normal h n n (alike_normal h n d) d
+
+-- merging more entries gives the same normal list, whether they follow a list or its normal list
+pub normal_then : (h n more m : List Mapping) → IsNormal h n → IsNormal (n ++ more) m → IsNormal (h ++ more) m
+normal_then h n more m d = same_normal (n ++ more) (h ++ more) m (alike_joined n more h more (alike_back h n (alike_normal h n d)) (alike_itself more))
+
+pub all_good : (h n : List Mapping) → IsNormal h n → All (λ e. is_accepted e ≡ true) n
+all_good h n d = subst (All (λ e. is_accepted e ≡ true)) (accepted_self h n d) (filter_passes is_accepted n)
+
+-- if no entry is accepted, the normal list is empty
+pub normal_nothing : (h n : List Mapping) → accepted h ≡ [] → IsNormal h n → n ≡ []
+normal_nothing h [] e d = refl
+normal_nothing h (x ∷ n) e d = absurd (true≢false (sym (has_itself keys_total keys_exact (key x) (map key n)) ∙ d.keys (key x) ∙ ap (λ l. has_key l (key x)) e))

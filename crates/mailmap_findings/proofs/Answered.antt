@@ -1,0 +1,130 @@
+-- Without the lines that have no effect and those that no contact needs, the answer to each contact is the same.
+use Rattle.std.proofs.Common.{◌≡◌, Bool, true, false, cond, List, [], ◌∷◌, ◌++◌, append-nil, Option, Some, None, filter, map, not, option_to_list, Less, Equal, Greater, refl, sym, ap, subst, ◌∙◌}
+use Rattle.std.specs.Prelude.{Contains}
+use Rattle.std.specs.List.{AllByRecursion, cons_option, flat_map, list_any}
+use Rattle.std.specs.Option.{option_map}
+use Rattle.std.specs.Ordering.{match_ordering}
+use Rattle.std.proofs.lemmas.Bool.{both_ways, false_from_ne_true, or_left, or_right}
+use Rattle.std.proofs.lemmas.List.Elements.{All-weaker, filter_passes}
+use Rattle.std.proofs.lemmas.List.Folds.{list_any-from_Any, list_any_none}
+use Rattle.mailmap_entries.specs.Entries.{Mapping}
+use Rattle.mailmap_entries.specs.Folding.{Text}
+use Rattle.mailmap_grammar.specs.Lines.{Closed, mappings_of}
+use Rattle.mailmap_entries.specs.Semantics.{answer_of}
+use Rattle.mailmap_entries.proofs.Parts.{all_weaker}
+use Rattle.mailmap_redundancy.specs.Origins.{origins, needed, with_spelling}
+use Rattle.mailmap_redundancy.specs.Redundancy.{LocatedMapping, entries, position_cmp}
+use Rattle.mailmap_redundancy.specs.declared.located.Position.{Position}
+use Rattle.mailmap_redundancy.proofs.Giving.{needed_answer}
+use Rattle.mailmap_redundancy.proofs.Kept.{one_reduced, some_reduced}
+use Rattle.mailmap_redundancy.proofs.Positions.{positions_exact}
+use Rattle.mailmap_findings.specs.Explanations.{in_order, needed_positions, two_in_order}
+use Rattle.mailmap_findings.specs.Findings.{AreFindings, Finding, is_redundant}
+use Rattle.mailmap_findings.specs.Positions.{Line, entry, lines, located, same_position, whole_lines}
+use Rattle.mailmap_findings.proofs.Deleted.{left_entries}
+use Rattle.mailmap_findings.proofs.Read.{mappings_of-lines}
+use Rattle.mailmap_findings.proofs.Walking.{same_is, same_itself}
+use Rattle.mailmap_grammar.specs.Lines.{contact_in}
+use Rattle.mailmap_findings.specs.Needs.{AreUnneeded, any_needs, contact_needs, is_reported, needs, unneeded}
+use Rattle.mailmap_findings.proofs.Taking.{filter_both}
+
+-- ---- the positions that an answer needs are those of the entries it needs
+
+abbrev IsAmong : List Position → Position → Type 0
+IsAmong ps p = list_any (same_position p) ps ≡ true
+
+first_among : (p : Position) (ps : List Position) → IsAmong (p ∷ ps) p
+first_among p ps = or_left _ _ (same_itself p)
+
+second_among : (p q : Position) (ps : List Position) → IsAmong (p ∷ q ∷ ps) q
+second_among p q ps = or_right _ _ (first_among q ps)
+
+two_among : (a b : Position) → IsAmong (two_in_order a b) a × IsAmong (two_in_order a b) b
+two_among a b =
+    elim (position_cmp a b) as (λ o. position_cmp a b ≡ o → IsAmong (match_ordering o (a ∷ b ∷ []) (a ∷ []) (b ∷ a ∷ [])) a × IsAmong (match_ordering o (a ∷ b ∷ []) (a ∷ []) (b ∷ a ∷ [])) b) [
+      | Less ↦ λ _. (first_among a (b ∷ []), second_among a b [])
+      | Equal ↦ λ same. (first_among a [], or_left _ _ (subst (λ p. same_position p a ≡ true) (positions_exact a b same) (same_itself a)))
+      | Greater ↦ λ _. (second_among b a [], first_among b (a ∷ []))
+    ] refl
+
+both_among : (a b : Option LocatedMapping) → AllByRecursion (λ x. IsAmong (in_order a b) x.position) (option_to_list a ++ option_to_list b)
+both_among None None = tt
+both_among (Some x) None = (first_among x.position [], tt)
+both_among None (Some y) = (first_among y.position [], tt)
+both_among (Some x) (Some y) = let two = two_among x.position y.position in (two.0, (two.1, tt))
+
+all_among : (name email first : Option LocatedMapping) → AllByRecursion (λ x. IsAmong (needed_positions (with_spelling name email first)) x.position) (needed (with_spelling name email first))
+all_among name None first =
+    subst (λ xs. AllByRecursion (λ x. IsAmong (in_order name first) x.position) (xs ++ option_to_list first)) (sym (append-nil (option_to_list name))) (both_among name first)
+all_among name (Some y) first =
+    subst (AllByRecursion (λ x. IsAmong (in_order name (Some y)) x.position)) (sym (append-nil (option_to_list name ++ y ∷ []))) (both_among name (Some y))
+
+-- ---- lines that are needed are not reported
+
+module _ (kept : List LocatedMapping) (contacts : List Text) where
+  abbrev is_unneeded : Position → Bool
+  is_unneeded p = not (any_needs kept contacts p)
+
+  needed_stays : (p : Position) → any_needs kept contacts p ≡ true → list_any (same_position p) (unneeded kept contacts) ≡ false
+  needed_stays p needed =
+      let ps : List Position = map (λ (x : LocatedMapping). x.position) kept in
+      list_any_none (same_position p) (filter is_unneeded ps)
+      (All-weaker (λ q. is_unneeded q ≡ true) (λ q. same_position p q ≡ false)
+      (λ q passes. false_from_ne_true (same_position p q) (λ same. both_ways (is_unneeded p) (ap not needed) (ap is_unneeded (same_is p q same) ∙ passes)))
+      (filter is_unneeded ps) (filter_passes is_unneeded ps))
+
+  contact_among : (line name email rest : Text) (p : Position) → Contains contacts line → contact_in line ≡ Closed name email rest → needs kept name email p ≡ true → any_needs kept contacts p ≡ true
+  contact_among line name email rest p there is need =
+      list_any-from_Any (λ l. contact_needs kept (contact_in l) p) contacts (there.0, line, there.1, there.2, ap (λ c. contact_needs kept c p) is ∙ need)
+
+-- ---- the entries of the lines that are not reported
+
+module _ (p : Position → Bool) where
+  abbrev at : LocatedMapping → Bool
+  at x = p x.position
+
+  one_located : (l : Line) (o : Option Mapping) (b : Bool) (xs ys : List LocatedMapping) → b ≡ p l.position → ys ≡ filter at xs
+      → cond b (cons_option (option_map (λ e. record { position = l.position; entry = e }) o) ys) ys ≡ filter at (cons_option (option_map (λ e. record { position = l.position; entry = e }) o) xs)
+  one_located l None true xs ys test rest = rest
+  one_located l None false xs ys test rest = rest
+  one_located l (Some e) b xs ys test rest =
+      let x : LocatedMapping = record { position = l.position; entry = e } in
+      λ i. cond (test i) (x ∷ rest i) (rest i)
+
+  located_filter : (ls : List Line) → located (filter (λ l. p l.position) ls) ≡ filter at (located ls)
+  located_filter [] = refl
+  located_filter (l ∷ ls) =
+      let some = filter (λ (m : Line). p m.position) ls in
+      (elim (p l.position) as (λ b. located (cond b (l ∷ some) some) ≡ cond b (cons_option (option_map (λ e. record { position = l.position; entry = e }) (entry l)) (located some)) (located some)) [ true ↦ refl | false ↦ refl ])
+      ∙ one_located l (entry l) (p l.position) (located ls) (located some) refl (located_filter ls)
+
+pub answered : (buffers : List Text) (contacts : Text) (found : List Finding) (missing : List Position) (line name email rest : Text) → AreFindings buffers found → AreUnneeded buffers contacts missing
+    → Contains (whole_lines contacts) line → contact_in line ≡ Closed name email rest
+    → answer_of (entries (located (filter (λ l. not (is_reported found missing l)) (lines buffers)))) name email ≡ answer_of (flat_map mappings_of buffers) name email
+answered buffers contacts found missing line name email rest are un there is =
+    let ls = lines buffers in
+    let all = whole_lines contacts in
+    let is_missing : Position → Bool = λ p. list_any (same_position p) missing in
+    let stays : LocatedMapping → Bool = λ x. not (is_missing x.position) in
+    let left : located (filter (λ (l : Line). not (is_reported found missing l)) ls) ≡ filter stays un.kept =
+    ap located (sym (filter_both (is_redundant found) (λ (l : Line). is_missing l.position) ls))
+    ∙ located_filter (λ p. not (is_missing p)) (filter (λ (l : Line). not (is_redundant found l)) ls)
+    ∙ ap (filter stays) (left_entries buffers found are ∙ one_reduced (located ls) are.kept un.kept are.effective un.effective) in
+    let stay : AllByRecursion (λ (x : LocatedMapping). stays x ≡ true) (needed (origins un.kept name email)) =
+    all_weaker (needed (origins un.kept name email))
+    (λ (x : LocatedMapping) among. ap not (ap (list_any (same_position x.position)) un.whole ∙ needed_stays un.kept all x.position (contact_among un.kept all line name email rest x.position there is among)))
+    (all_among _ _ _) in
+    ap (λ xs. answer_of (entries xs) name email) left
+    ∙ needed_answer stays (located ls) un.kept name email un.effective stay
+    ∙ ap (λ h. answer_of h name email) (mappings_of-lines 0 buffers)
+
+-- ---- the list of unneeded lines is unique
+
+pub some_unneeded : (buffers : List Text) (contacts : Text) → (missing : List Position) × AreUnneeded buffers contacts missing
+some_unneeded buffers contacts =
+    let effective = some_reduced (located (lines buffers)) in
+    (unneeded effective.0 (whole_lines contacts), record { kept = effective.0; effective = effective.1; whole = refl })
+
+pub one_unneeded : (buffers : List Text) (contacts : Text) (missing other : List Position) → AreUnneeded buffers contacts missing → AreUnneeded buffers contacts other → missing ≡ other
+one_unneeded buffers contacts missing other a b =
+    a.whole ∙ ap (λ kept. unneeded kept (whole_lines contacts)) (one_reduced (located (lines buffers)) a.kept b.kept a.effective b.effective) ∙ sym b.whole

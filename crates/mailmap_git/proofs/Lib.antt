@@ -1,3 +1,0 @@
-pub mod Parts
-pub mod Cases
-pub mod Names

@@ -1,5 +1,0 @@
-pub use Rattle.mailmap_entries.specs.Folding
-pub use Rattle.mailmap_entries.specs.Entries
-pub use Rattle.mailmap_grammar.specs.Lines
-pub use Rattle.mailmap_histories.specs.Listings
-pub mod Git

@@ -1,5 +1,0 @@
-use Rattle.mailmap_histories.proofs.Exists.{normal, is_normal}
-use Rattle.mailmap_histories.proofs.laws.law_exists.Goals as goal
-
-pub returns : goal.returns
-returns c h = (normal h, is_normal h)

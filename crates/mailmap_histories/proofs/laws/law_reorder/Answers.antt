@@ -1,8 +1,0 @@
-use Rattle.mailmap_histories.proofs.Alike.{same_normal, alike_back}
-use Rattle.mailmap_histories.proofs.Reorder.{alike_reordered}
-use Rattle.mailmap_histories.proofs.laws.law_reorder.Goals as goal
-
-pub returns : goal.returns
-returns c h g n same =
-    let alike = alike_reordered h g same in
-    (same_normal h g n alike, same_normal g h n (alike_back h g alike))

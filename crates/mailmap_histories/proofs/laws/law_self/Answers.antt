@@ -1,6 +1,0 @@
-use Rattle.mailmap_histories.proofs.Alike.{same_normal}
-use Rattle.mailmap_histories.proofs.Normal.{alike_normal}
-use Rattle.mailmap_histories.proofs.laws.law_self.Goals as goal
-
-pub returns : goal.returns
-returns c h n d = same_normal h n n (alike_normal h n d) d

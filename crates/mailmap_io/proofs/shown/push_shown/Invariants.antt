@@ -1,7 +1,0 @@
--- The bytes so far are shown.
-use Rattle.std.proofs.Common.{◌≡◌, ◌++◌, take}
-use Rattle.mailmap_io.specs.Shown.{shown}
-use Rattle.mailmap_io.proofs.shown.push_shown.Given as goal
-
-abbrev pub invariant-loop-byte : goal.invariant-loop-byte
-invariant-loop-byte l = l.line.items ≡ l.fn.line.items ++ shown (take l.byte-index l.text)

@@ -1,5 +1,0 @@
-pub mod Files
-pub mod Messages
-pub mod Outcome
-pub mod Printing
-pub mod Shown

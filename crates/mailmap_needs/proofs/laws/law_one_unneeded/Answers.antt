@@ -1,5 +1,0 @@
-use Rattle.mailmap_needs.proofs.Answered.{one_unneeded, some_unneeded}
-use Rattle.mailmap_needs.proofs.laws.law_one_unneeded.Goals as goal
-
-pub returns : goal.returns
-returns c = record { some = some_unneeded; one = one_unneeded }

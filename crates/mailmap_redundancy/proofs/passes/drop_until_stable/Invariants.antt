@@ -1,0 +1,12 @@
+use Rattle.std.specs.List.{All}
+use Rattle.mailmap_redundancy.specs.Numbers.{IsNumbered, mappings}
+use Rattle.mailmap_redundancy.proofs.Settling.{IsSettling}
+use Rattle.mailmap_redundancy.proofs.passes.drop_until_stable.Given as goal
+
+abbrev pub invariant-loop-len : goal.invariant-loop-len
+invariant-loop-len l =
+    IsSettling (mappings l.entries) l.len (mappings l.kept.items)
+    × All (IsNumbered l.keys) l.kept.items
+
+abbrev pub decreases-loop-len : goal.decreases-loop-len
+decreases-loop-len l = l.len

@@ -1,0 +1,126 @@
+//! Entries without the redundant ones.
+ghost use Rattle.std.specs.Prelude.{◌≡◌, All, IfOk, map, true};
+ghost use Rattle.std.specs.Option.{option_map};
+ghost use Rattle.mailmap_entries.specs.Entries.{mapping_of};
+ghost use Rattle.mailmap_entries.specs.Semantics as answers;
+ghost use Rattle.mailmap_entries.specs.Semantics.{key, is_accepted};
+ghost use Rattle.mailmap_redundancy.specs.Redundancy.{AreEffective, entries, last_position, located_of, located_of_reference};
+ghost use Rattle.mailmap_redundancy.specs.Origins.{origins as spec_origins};
+ghost use Rattle.mailmap_redundancy.specs.Numbers.{IsEffectiveState, EffectiveEntries, fields_of, origins_of, mappings};
+
+use crate::keys::{Key, find};
+use crate::located::{LocatedEntry, Position};
+use crate::numbers::{NumberedEntry, number, unnumbered};
+use crate::origins::{Fields, Origins, find_origins};
+use crate::passes::drop_until_stable;
+use crate::table::Table;
+use mailmap_entries::Entry;
+use std::alloc::{AllocError, Global};
+use std::marker::Model;
+
+/// All entries, and the effective ones: those that remain once the redundant entries are dropped.
+#[derive(Drop)]
+pub struct Effective<'p, 'a> {
+    history: &'p [LocatedEntry<'a>],
+    keys: Vec<Key<'a>>,
+    kept: Vec<&'p LocatedEntry<'a>>,
+    // the table of the kept entries, which map names and emails as all entries do
+    table: Table<'p, 'a>,
+}
+
+impl<'p, 'a> Model for Effective<'p, 'a> {
+    ghost Value = { EffectiveEntries };
+
+    ghost view = { λ s. record {
+      history = map located_of s.history.now;
+      kept = map located_of_reference s.kept.items;
+    } };
+
+    ghost invariant = { λ s. IsEffectiveState s.keys.items (map located_of s.history.now)
+        (map located_of_reference s.kept.items) s.table };
+}
+
+impl<'p, 'a> Effective<'p, 'a> {
+    /// The effective entries, in their original order.
+    pub fn kept(&self) -> &[&'p LocatedEntry<'a>]
+        ensures { map located_of_reference result.now ≡ self.now.kept }
+    {
+        &self.kept
+    }
+
+    /// The position of the last effective entry with the key of `entry`, `None` if there is none.
+    pub fn beside(&self, entry: &Entry<'_>) -> Option<Position>
+        ensures { result ≡ last_position self.now.kept (key (mapping_of entry.now)) }
+    {
+        let number = find(&self.keys, &Key::of(entry))?;
+        Some(self.table.keys[number].last?.position)
+    }
+
+    /// The entries behind the answer to a name and an email. Dropping all other effective entries would not change this
+    /// answer.
+    pub fn origins(&self, name: &[u8], email: &[u8]) -> Origins<'p, 'a>
+        ensures { origins_of result ≡ spec_origins self.now.kept name.now email.now }
+    {
+        find_origins(&self.keys, &self.table, name, email)
+    }
+
+    /// What all entries together map a name and an email to, `None` if neither changes. The answer borrows only from
+    /// the texts of the entries.
+    pub fn answer_of(&self, name: &[u8], email: &[u8]) -> Option<Fields<'a>>
+        ensures { option_map fields_of result ≡ answers.answer_of (entries self.now.history) name.now email.now }
+    {
+        find_origins(&self.keys, &self.table, name, email).fields(email)
+    }
+}
+
+/// Drops the redundant entries. Each pass goes over the entries from first to last and drops an entry if the normal
+/// list is the same without it. Passes are repeated until one drops nothing.
+///
+/// Given the line `Jane <jd@x>` twice, the second is dropped; given `Jane <jd@x>` and then `Ann <jd@x>`, the first is.
+/// The first entry of an email is kept if the entries after it spell the email in another way, because its spelling
+/// counts.
+pub fn without_redundant<'p, 'a>(
+    alloc: Global,
+    entries: &'p [LocatedEntry<'a>],
+) -> Result<Effective<'p, 'a>, AllocError>
+    requires { All (λ x. is_accepted (mapping_of x.entry) ≡ true) entries.now }
+    ensures history { IfOk result (λ s. s.history ≡ map located_of entries.now) }
+    ensures effective { IfOk result (λ s. AreEffective (map located_of entries.now) s.kept) }
+{
+    let mut rows = unnumbered(alloc, entries)?;
+    reduce_numbered(alloc, entries, &mut rows)
+}
+
+// Numbers the entries in these rows, and drops the redundant ones.
+fn reduce_numbered<'p, 'a>(
+    alloc: Global,
+    entries: &'p [LocatedEntry<'a>],
+    rows: &mut [NumberedEntry<'p, 'a>],
+) -> Result<Effective<'p, 'a>, AllocError>
+    requires accepted { All (λ x. is_accepted (mapping_of x.entry) ≡ true) entries.now }
+    requires located { mappings rows.old ≡ map located_of entries.now }
+    ensures history { IfOk result (λ s. s.history ≡ map located_of entries.now) }
+    ensures effective { IfOk result (λ s. AreEffective (map located_of entries.now) s.kept) }
+{
+    let keys = number(alloc, entries, rows)?;
+    let kept = drop_until_stable(alloc, &keys, rows)?;
+    Ok(Effective {
+        history: entries,
+        kept: without_numbers(alloc, &kept)?,
+        table: Table::of(alloc, &keys, &kept)?,
+        keys,
+    })
+}
+
+fn without_numbers<'p, 'a>(
+    alloc: Global,
+    kept: &[NumberedEntry<'p, 'a>],
+) -> Result<Vec<&'p LocatedEntry<'a>>, AllocError>
+    ensures { IfOk result (λ xs. map located_of_reference xs.items ≡ mappings kept.now) }
+{
+    let mut entries = Vec::with_capacity(alloc, kept.len())?;
+    for x in kept {
+        entries.push(x.located)?;
+    }
+    Ok(entries)
+}

@@ -1,7 +1,0 @@
-mod Fronts
-mod Explaining
-mod Grounded
-mod Firsts
-mod Taking
-mod TakingLines
-mod Reporting

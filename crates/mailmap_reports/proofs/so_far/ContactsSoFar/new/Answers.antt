@@ -1,8 +1,0 @@
-use Rattle.mailmap_reports.proofs.Taking.{taken_nothing}
-use Rattle.mailmap_reports.proofs.so_far.ContactsSoFar.new.Goals as goal
-
-pub returns : goal.returns
-returns c =
-    let needs = c.in_ok-needs.ensures in
-    taken_nothing c.args.mailmaps.now c.in_ok-needs.needs c.new-answers.result c.new-notices.result c.in_ok-recent.recent needs.history needs.reduced needs.left
-    c.new-answers.ensures c.new-notices.ensures.items c.in_ok-recent.ensures

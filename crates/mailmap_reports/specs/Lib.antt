@@ -1,7 +1,0 @@
-pub mod Alike
-pub mod Contacts
-pub mod Explained
-pub mod Report
-pub mod Taken
-pub mod Taking
-pub mod Task

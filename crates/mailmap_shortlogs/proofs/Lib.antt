@@ -1,6 +1,0 @@
-pub mod Counting
-pub mod Ordered
-pub mod Joining
-pub mod Listing
-pub mod Parts
-pub mod Answered

@@ -1,4 +1,0 @@
-pub mod Counts
-pub mod Joined
-pub mod Shortlog
-pub mod Task

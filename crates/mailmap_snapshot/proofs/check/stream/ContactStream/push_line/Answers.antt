@@ -1,0 +1,43 @@
+use Rattle.std.proofs.Common.{◌≡◌, ◌+◌, ◌++◌, ◌∙◌, List, [], ℕ, ap, append-nil, length, subst, sym, take}
+use Rattle.mailmap_grammar.specs.Lines.{HoldsNo}
+use Rattle.mailmap_snapshot.specs.Contacts.{answers}
+use Rattle.mailmap_snapshot.specs.Streams.{AnswersFront, Stream}
+use Rattle.mailmap_snapshot.proofs.Streams.{ended, kept-front, kept-held, kept-len}
+use Rattle.mailmap_snapshot.proofs.check.stream.ContactStream.push_line.Goals as goal
+
+pub returns-in_default-clause-takes : goal.returns-in_default-clause-takes
+returns-in_default-clause-takes c = kept-len c.args.part.now c.in_default.ensures
+
+pub returns-in_default-clause-answers : goal.returns-in_default-clause-answers
+returns-in_default-clause-answers c =
+    let s = c.args.self.now in
+    let part = c.args.part.now in
+    let longer : c.extend_from_slice.new.self.items ≡ s.kept ++ part = c.in_ok-extend_from_slice.ensures.items ∙ ap (λ (v : Stream). v.kept ++ part) c.self.view_is in (
+      [],
+      sym (append-nil c.args.text.now.items),
+      subst (λ (l : List ℕ). AnswersFront s.mappings (s.kept ++ take (length part) part) [] l) (sym longer) (kept-front s.mappings s.kept part),
+    )
+
+pub returns-in_default-clause-keeps : goal.returns-in_default-clause-keeps
+returns-in_default-clause-keeps c =
+    let s = c.args.self.now in
+    let part = c.args.part.now in
+    let longer : c.extend_from_slice.new.self.items ≡ s.kept ++ part = c.in_ok-extend_from_slice.ensures.items ∙ ap (λ (v : Stream). v.kept ++ part) c.self.view_is in (
+      λ before. subst (λ (l : List ℕ). HoldsNo 10 l) (sym longer) (kept-held s.kept part c.in_default.ensures before),
+      ap (λ (v : Stream). v.mappings) c.self.view_is,
+    )
+
+pub returns-clause-takes : goal.returns-clause-takes
+returns-clause-takes c = (ended c.args.self.now.mappings c.args.self.now.kept c.args.part.now c.in-Some.feed c.in-Some.ensures).len
+
+pub returns-clause-answers : goal.returns-clause-answers
+returns-clause-answers c =
+    let s = c.args.self.now in
+    let part = c.args.part.now in
+    let line = take (c.in-Some.feed + 1) part in
+    let made = answers s.mappings (s.kept ++ line) in (
+      made,
+      c.in_ok-end_line.ensures.ok ∙ ap (λ (v : Stream). c.args.text.now.items ++ answers v.mappings (v.kept ++ line)) c.self.view_is,
+      subst (λ (l : List ℕ). AnswersFront s.mappings (s.kept ++ take (length line) part) made l) (sym c.in_ok-end_line.ensures.ended)
+          (ended s.mappings s.kept part c.in-Some.feed c.in-Some.ensures).front,
+    )

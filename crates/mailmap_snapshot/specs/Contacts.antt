@@ -1,0 +1,59 @@
+-- Answers to lines of contacts.
+use Rattle.std.specs.Prelude.{◌≡◌, ◌≢◌, ◌⊎◌, ◌==◌, Bool, false, ◌&&◌, if◌then◌else◌, List, [], ◌∷◌, ◌++◌, unwrap_or}
+use Rattle.std.specs.List.{AllByRecursion, AllZip, flat_map}
+use Rattle.mailmap_entries.specs.Entries.{Mapping}
+use Rattle.mailmap_entries.specs.Folding.{Text}
+use Rattle.mailmap_entries.specs.Semantics.{Fields, fields_for}
+use Rattle.mailmap_grammar.specs.Lines.{ParsedContact, Absent, Unclosed, Closed, contact_in, mappings_of, with_first, fed, HoldsNo}
+
+-- a line feed comes next
+abbrev pub feeds : Text → Bool
+feeds [] = false
+feeds (b ∷ s) = b == 10
+
+-- the lines of a text: each ends before its line feed, and before one carriage return directly before that; the last
+-- line may have no line feed, and then keeps a carriage return at its end
+unfoldable pub lines : Text → List Text
+lines [] = []
+lines (b ∷ s) = if b == 10 then [] ∷ lines s else if b == 13 && feeds s then lines s else with_first b (lines s)
+
+-- the line is the piece without one carriage return at its end
+abbrev pub IsBare : Text → Text → Type 0
+IsBare piece line = (piece ≡ line ++ 13 ∷ []) ⊎ ((piece ≡ line) × ((front : Text) → line ≡ front ++ 13 ∷ [] → ⊥))
+
+-- ls are the lines of s: the pieces with a line feed, each without its carriage return, and then the last piece as it
+-- is, if it has no line feed
+pub record AreLines (s : Text) (ls : List Text) : Type 0 where
+  pub ended : List Text
+  pub bare : List Text
+  pub each : AllZip IsBare ended bare
+  pub no_feed : AllByRecursion (HoldsNo 10) ended
+  pub whole : ((s ≡ fed ended) × (ls ≡ bare))
+      ⊎ ((last : Text) × (last ≢ []) × HoldsNo 10 last × (s ≡ fed ended ++ last) × (ls ≡ bare ++ last ∷ []))
+
+-- a name and an email as a contact line; without the space if the name is empty
+abbrev pub contact : Text → Text → Text
+contact [] email = 60 ∷ email ++ 62 ∷ []
+contact (b ∷ name) email = (b ∷ name) ++ 32 ∷ 60 ∷ email ++ 62 ∷ []
+
+-- a contact with the fields that are there in place of its own
+abbrev pub replaced : Fields → Text → Text → Text
+replaced f name email = contact (unwrap_or f.name name) (unwrap_or f.email email)
+
+-- the answer to a line that starts with this contact; a line without a contact is its own answer
+abbrev pub contact_answer : List Mapping → Text → ParsedContact → Text
+contact_answer h line Absent = line
+contact_answer h line Unclosed = line
+contact_answer h line (Closed name email rest) = replaced (fields_for h name email) name email
+
+-- the answer to a line; a contact is at the start of the trimmed line, and its email may be empty
+abbrev pub answer : List Mapping → Text → Text
+answer h line = contact_answer h line (contact_in line)
+
+-- the answers to lines of contacts, each followed by a line feed
+abbrev pub answers : List Mapping → Text → Text
+answers h contacts = flat_map (λ line. answer h line ++ 10 ∷ []) (lines contacts)
+
+-- the answers to lines of contacts with the mappings of the buffers, one after another
+abbrev pub answers_by : List Text → Text → Text
+answers_by buffers contacts = answers (flat_map mappings_of buffers) contacts

@@ -1,0 +1,32 @@
+-- Contacts that arrive in parts: the answers so far, and the bytes that are kept.
+use Rattle.std.specs.Prelude.{◌≡◌, List, [], ◌∷◌, ◌++◌}
+use Rattle.std.specs.List.{All}
+use Rattle.mailmap_entries.specs.Entries.{Mapping}
+use Rattle.mailmap_entries.specs.Folding.{Text}
+use Rattle.answer_cache.specs.Kept.{Kept}
+use Rattle.mailmap_snapshot.specs.Contacts.{answers}
+use Rattle.mailmap_snapshot.specs.Parts.{EndsLine}
+
+-- a stream of contacts: the mappings of its mailmaps, and the start of a line that hasn't ended yet
+pub record Stream : Type 0 where
+  pub mappings : List Mapping
+  pub kept : Text
+
+-- the bytes are whole lines, which the text answers, followed by `rest`
+pub record AnswersFront (mappings : List Mapping) (bytes text rest : Text) : Type 0 where
+  pub whole : Text
+  pub ends : EndsLine whole
+  pub bytes_are : bytes ≡ whole ++ rest
+  pub text_is : text ≡ answers mappings whole
+
+-- the parts arrive one after another, after bytes that are kept: the text has the answers to all of them, and `rest` is
+-- kept after the last
+abbrev pub AnswersParts : List Mapping → Text → List Text → Text → Text → Type 0
+AnswersParts mappings kept [] text rest = (text ≡ []) × (rest ≡ kept)
+AnswersParts mappings kept (part ∷ parts) text rest =
+    (made next later : Text) × (text ≡ made ++ later) × AnswersFront mappings (kept ++ part) made next
+    × AnswersParts mappings next parts later rest
+
+-- all of these are lines and their answers
+abbrev pub AnswersAll : List Mapping → List Kept → Type 0
+AnswersAll mappings kept = All (λ k. k.answer ≡ answers mappings k.line) kept

@@ -1,0 +1,199 @@
+//! Answers contacts that arrive in parts.
+ghost use Rattle.std.specs.Prelude.{◌≡◌, ◌++◌, ◌<◌, ◌≤◌, ◌⊎◌, ℕ, [], IfOk, OnErr, OnOk, length, map, take};
+ghost use Rattle.bstr.specs.Text.{line_len};
+ghost use Rattle.mailmap_entries.specs.Folding.{Text};
+ghost use Rattle.mailmap_grammar.specs.Lines.{HoldsNo};
+ghost use Rattle.mailmap_snapshot.specs.Contacts.{answers, answers_by};
+ghost use Rattle.mailmap_snapshot.specs.Streams.{AnswersAll, AnswersFront};
+ghost use Rattle.mailmap_snapshot.specs.declared.check.stream.Stop.TheVariants.{Enough};
+
+use crate::check::{push_answers, snapshot_of};
+use crate::snapshot::Snapshot;
+use answer_cache::{AnswerCache, hash_of};
+use bstr::ByteSlice;
+use std::alloc::{AllocError, Global};
+use std::marker::Model;
+
+/// `push` returns early once the text is this long, so that callers can write the answers before there are more.
+const ENOUGH: usize = 65536;
+
+// Why a push took no more of a part.
+#[derive(Clone, Copy)]
+enum Stop {
+    // The part ended, or the text is long enough.
+    Enough,
+    OutOfMemory,
+}
+
+/// Answers contacts that arrive in parts, as [`check`](crate::check::check()) answers all of them at once.
+///
+/// It holds the mappings of the buffers, the start of a line that hasn't ended yet, and a cache for up to 4,096 lines
+/// that came more than once. The cache takes at most 1.1 MiB, however long the lines are.
+///
+/// The answers don't depend on how the contacts are split into parts: [`law_stream`](crate::laws::law_stream()).
+///
+/// ```text
+/// let mut stream = ContactStream::new(alloc, &[b"Jane Doe <jane@x>"])?;
+/// stream.push(b"jane <JANE@x>\njan", &mut text)?; // takes all 17 bytes; the text is `Jane Doe <jane@x>\n`
+/// stream.push(b"e <q@x>", &mut text)?;            // takes all 7 bytes; the text stays as it is
+/// stream.finish(&mut text)?;                      // appends `jane <q@x>\n`
+/// ```
+#[derive(Drop)]
+pub struct ContactStream {
+    snapshot: Snapshot,
+    // the start of a line that hasn't ended yet
+    kept: Vec<u8>,
+    // lines that came more than once, and their answers
+    cache: AnswerCache,
+}
+
+impl Model for ContactStream {
+    ghost use Rattle.mailmap_snapshot.specs.Streams.{AnswersAll, Stream};
+
+    ghost Value = { Stream };
+
+    ghost view = { λ s. record { mappings = s.snapshot; kept = s.kept.items } };
+
+    // every row of the cache is a line and its answer
+    ghost invariant = { λ s. AnswersAll s.snapshot s.cache };
+}
+
+impl ContactStream {
+    /// Makes a stream that answers with the mappings of the buffers, later ones after earlier ones.
+    pub fn new(alloc: Global, buffers: &[&[u8]]) -> Result<ContactStream, AllocError>
+        ensures { IfOk result (λ s. (s.kept ≡ [])
+            × ((t : Text) → answers s.mappings t ≡ answers_by (map (λ b. b.now) buffers.now) t)) }
+    {
+        Ok(ContactStream {
+            snapshot: snapshot_of(alloc, buffers)?,
+            kept: Vec::new(alloc),
+            cache: AnswerCache::new(alloc)?,
+        })
+    }
+
+    /// Takes bytes from the start of `part`, appends the answers to all lines that end in these bytes to `text`, and
+    /// returns the number of bytes.
+    ///
+    /// It takes the whole part, unless `text` reaches 64 KiB or memory runs out after some lines; call it again with
+    /// the rest then. If it fails, it took nothing, and `text` and the stream stay as they were.
+    pub fn push(&mut self, part: &[u8], text: &mut Vec<u8>) -> Result<usize, AllocError>
+        ensures takes { IfOk result (λ taken. (taken ≤ length part.now) × (0 < length part.now → 0 < taken)) }
+        ensures answers { IfOk result (λ taken. (made : Text) × (text.new.items ≡ text.old.items ++ made)
+            × AnswersFront self.old.mappings (self.old.kept ++ take taken part.now) made self.new.kept) }
+        ensures keeps { OnOk result ((HoldsNo 10 self.old.kept → HoldsNo 10 self.new.kept)
+            × (self.new.mappings ≡ self.old.mappings)) }
+        ensures err { OnErr result ((self.new ≡ self.old) × (text.new.items ≡ text.old.items)) }
+    {
+        let (taken, _) = self.push_lines(part, text)?;
+        Ok(taken)
+    }
+
+    // Does what `push` does. Also returns why it took no more.
+    fn push_lines(&mut self, part: &[u8], text: &mut Vec<u8>) -> Result<(usize, Stop), AllocError>
+        ensures takes { IfOk result (λ taken. (taken.0 ≤ length part.now) × (0 < length part.now → 0 < taken.0)) }
+        ensures enough { IfOk result (λ taken. taken.1 ≡ Enough
+            → (taken.0 ≡ length part.now) ⊎ (65536 ≤ length text.new.items)) }
+        ensures answers { IfOk result (λ taken. (made : Text) × (text.new.items ≡ text.old.items ++ made)
+            × AnswersFront self.old.mappings (self.old.kept ++ take taken.0 part.now) made self.new.kept) }
+        ensures keeps { OnOk result ((HoldsNo 10 self.old.kept → HoldsNo 10 self.new.kept)
+            × (self.new.mappings ≡ self.old.mappings)) }
+        ensures err { OnErr result ((self.new ≡ self.old) × (text.new.items ≡ text.old.items)) }
+    {
+        let mut taken = self.push_line(part, text)?;
+        while taken < part.len() && text.len() < ENOUGH {
+            match self.push_line(&part[taken..], text) {
+                Ok(count) => taken += count,
+                Err(_) => return Ok((taken, Stop::OutOfMemory)),
+            }
+        }
+        Ok((taken, Stop::Enough))
+    }
+
+    // Takes the first line of a part with its line feed, and answers it. Without a line feed, keeps the whole part.
+    fn push_line(&mut self, part: &[u8], text: &mut Vec<u8>) -> Result<usize, AllocError>
+        ensures takes { IfOk result (λ taken. taken ≡ line_len part.now) }
+        ensures answers { IfOk result (λ taken. (made : Text) × (text.new.items ≡ text.old.items ++ made)
+            × AnswersFront self.old.mappings (self.old.kept ++ take taken part.now) made self.new.kept) }
+        ensures keeps { OnOk result ((HoldsNo 10 self.old.kept → HoldsNo 10 self.new.kept)
+            × (self.new.mappings ≡ self.old.mappings)) }
+        ensures err { OnErr result ((self.new ≡ self.old) × (text.new.items ≡ text.old.items)) }
+    {
+        let Some(feed) = part.find_byte(b'\n') else {
+            self.kept.extend_from_slice(part)?;
+            return Ok(part.len());
+        };
+        let line = &part[..feed + 1];
+        end_line(&mut self.kept, line, &self.snapshot, &mut self.cache, text)?;
+        Ok(line.len())
+    }
+
+    /// Appends the answer to a last line without a line feed, if there is one.
+    pub fn finish(mut self, text: &mut Vec<u8>) -> Result<(), AllocError>
+        ensures ok { OnOk result (text.new.items ≡ text.old.items ++ answers self.mappings self.kept) }
+        ensures err { OnErr result (text.new.items ≡ text.old.items) }
+    {
+        self.finish_line(text)
+    }
+
+    /// Does what [`finish`](ContactStream::finish) does, but the stream can be used further: the next push starts a new
+    /// line. If this fails, `text` and the stream stay as they were.
+    pub fn finish_line(&mut self, text: &mut Vec<u8>) -> Result<(), AllocError>
+        ensures ok { OnOk result (text.new.items ≡ text.old.items ++ answers self.old.mappings self.old.kept) }
+        ensures ended { OnOk result ((self.new.kept ≡ []) × (self.new.mappings ≡ self.old.mappings)) }
+        ensures err { OnErr result ((self.new ≡ self.old) × (text.new.items ≡ text.old.items)) }
+    {
+        push_answers(text, &self.snapshot, self.kept.as_slice())?;
+        self.kept.clear();
+        Ok(())
+    }
+}
+
+// Answers the line that starts with the kept bytes and ends with `rest`, and keeps nothing. If this fails, the kept
+// bytes and the text stay as they were.
+fn end_line(
+    kept: &mut Vec<u8>,
+    rest: &[u8],
+    snapshot: &Snapshot,
+    cache: &mut AnswerCache,
+    text: &mut Vec<u8>,
+) -> Result<(), AllocError>
+    requires { AnswersAll snapshot.now cache.old }
+    ensures ok { OnOk result (text.new.items ≡ text.old.items ++ answers snapshot.now (kept.old.items ++ rest.now)) }
+    ensures ended { OnOk result (kept.new.items ≡ []) }
+    ensures err { OnErr result ((kept.new.items ≡ kept.old.items) × (text.new.items ≡ text.old.items)) }
+    ensures cache { AnswersAll snapshot.now cache.new }
+{
+    if kept.is_empty() {
+        return push_line_answer(text, snapshot, cache, rest);
+    }
+    let begun = kept.len();
+    kept.extend_from_slice(rest)?;
+    let pushed = push_line_answer(text, snapshot, cache, kept.as_slice());
+    kept.truncate(if pushed.is_ok() { 0 } else { begun });
+    pushed
+}
+
+// Appends the answer to a line with its line feed, from the cache if possible. Inserts the line into the cache at its
+// second miss. If this fails, the text stays as it was.
+fn push_line_answer(
+    text: &mut Vec<u8>,
+    snapshot: &Snapshot,
+    cache: &mut AnswerCache,
+    line: &[u8],
+) -> Result<(), AllocError>
+    requires { AnswersAll snapshot.now cache.old }
+    ensures ok { OnOk result (text.new.items ≡ text.old.items ++ answers snapshot.now line.now) }
+    ensures err { OnErr result (text.new.items ≡ text.old.items) }
+    ensures cache { AnswersAll snapshot.now cache.new }
+{
+    let hash = hash_of(line);
+    if let Some(answer) = cache.get(hash, line) {
+        return text.extend_from_slice(answer);
+    }
+    let begun = text.len();
+    push_answers(text, snapshot, line)?;
+    if cache.note_miss(hash) {
+        cache.insert(hash, line, &text.as_slice()[begun..]);
+    }
+    Ok(())
+}

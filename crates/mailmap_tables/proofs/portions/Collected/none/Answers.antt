@@ -1,8 +1,0 @@
-use Rattle.std.proofs.Common.{[], None, map, sym, ap, subst}
-use Rattle.mailmap_entries.specs.Entries.{mapping_of}
-use Rattle.mailmap_tables.specs.Collecting.{IsCollected}
-use Rattle.mailmap_tables.proofs.Joining.{collected_none}
-use Rattle.mailmap_tables.proofs.portions.Collected.none.Goals as goal
-
-pub returns : goal.returns
-returns c = subst (IsCollected c.args.old_tables.now [] None) (ap (map mapping_of) (sym c.new.ensures.items)) (collected_none c.args.old_tables.now c.requires)

@@ -1,0 +1,10 @@
+-- What all arguments ask for is what those that are left ask for, with the options so far.
+use Rattle.std.proofs.Common.{◌≡◌, length, map}
+use Rattle.shortlog_command.specs.Task.{asked, no_options}
+use Rattle.shortlog_command.proofs.task.read_options.Given as goal
+
+abbrev pub invariant-loop-left : goal.invariant-loop-left
+invariant-loop-left l = asked no_options (map (λ a. a.items) l.initial.left) ≡ asked l.options (map (λ a. a.items) l.left)
+
+abbrev pub decreases-loop-left : goal.decreases-loop-left
+decreases-loop-left l = length l.left

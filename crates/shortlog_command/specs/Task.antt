@@ -1,0 +1,105 @@
+-- The arguments of `mailmap_shortlog`, and what each task prints.
+use Rattle.std.specs.Prelude.{◌≡◌, ◌==◌, ◌&&◌, ◌||◌, ⊤, ℕ, Bool, true, false, if◌then◌else◌, nat_eq, nat_lt, IsTrue, List, [], ◌∷◌, ◌++◌, Option, Result, Ok, Err, IfSome, codes, drop, length, slice_index}
+use Rattle.std.specs.List.{list_all, list_any}
+use lib.Pointwise.{pointwise}
+use Rattle.mailmap_snapshot.specs.Folding.{Text}
+use Rattle.command_line.specs.Files.{AreRead, AtPath, NamesFile, texts}
+use Rattle.command_line.specs.declared.TheConstants.{VERSION}
+use Rattle.command_line.specs.declared.failure.Failure.{Failure}
+use Rattle.command_line.specs.declared.failure.Failure.TheVariants.{File, Input, Memory, Output}
+use Rattle.shortlog_command.specs.Shortlog.{IsShortlog, answers_counted}
+use Rattle.shortlog_command.specs.declared.task.Mode.{Mode}
+use Rattle.shortlog_command.specs.declared.task.Mode.TheVariants.{Help, Version, Shortlog}
+use Rattle.shortlog_command.specs.declared.task.Options.{Options}
+use Rattle.shortlog_command.specs.declared.task.Task.{Task}
+use Rattle.shortlog_command.specs.declared.task.UnknownOption.{UnknownOption}
+use Rattle.shortlog_command.specs.declared.task.Word.{Word}
+use Rattle.shortlog_command.specs.declared.task.Word.TheVariants as word
+use Rattle.shortlog_command.specs.declared.task.TheConstants.{USAGE}
+
+-- ---- parsing arguments
+
+-- a task with these paths, or an unknown option
+pub data Asked : Type 0 where
+  task : Mode → List Text → Asked
+  unknown_option : Text → Asked
+
+-- the specification's view of a parsed task or an error
+abbrev pub asked_of : Result Task UnknownOption → Asked
+asked_of (Ok t) = task t.mode (texts t.paths.now)
+asked_of (Err option) = unknown_option option.0.now
+
+abbrev pub same_text : Text → Text → Bool
+same_text a b = pointwise nat_eq a b
+
+-- an argument that starts with `-` and is longer than that
+abbrev pub is_dashed : Text → Bool
+is_dashed argument = slice_index argument 0 == 45 && nat_lt 1 (length argument)
+
+-- `n`, `e` or `s`
+abbrev pub is_option : ℕ → Bool
+is_option letter = letter == 110 || letter == 101 || letter == 115
+
+-- the kind of an argument where an option can stand
+abbrev pub word_of : Text → Word
+word_of argument =
+    if same_text argument (codes "--") then word.End
+    else if same_text argument (codes "-h") || same_text argument (codes "--help") then word.Help
+    else if same_text argument (codes "--version") then word.Version
+    else if is_dashed argument then (if list_all is_option (drop 1 argument) then word.Letters else word.Unknown)
+    else word.Path
+
+abbrev pub no_options : Options
+no_options = record { by_count = false; with_email = false }
+
+-- adds the options in an argument: `-n` sorts by count, and `-e` counts by emails, too
+abbrev pub options_with : Options → Text → Options
+options_with options argument = record {
+  by_count = options.by_count || list_any (λ letter. letter == 110) argument;
+  with_email = options.with_email || list_any (λ letter. letter == 101) argument;
+}
+
+-- the task for these arguments, after earlier ones that gave the options
+abbrev pub asked : Options → List Text → Asked
+asked options [] = task (Shortlog options) []
+asked options (argument ∷ rest) = elim (word_of argument) [
+  | word.End ↦ task (Shortlog options) rest
+  | word.Help ↦ task Help []
+  | word.Version ↦ task Version []
+  | word.Letters ↦ asked (options_with options argument) rest
+  | word.Unknown ↦ unknown_option argument
+  | word.Path ↦ task (Shortlog options) (argument ∷ rest)
+]
+
+-- ---- the output of a task
+
+-- contacts are counted, so the mailmaps and standard input are read
+abbrev pub counts_contacts : Mode → Bool
+counts_contacts Help = false
+counts_contacts Version = false
+counts_contacts (Shortlog options) = true
+
+-- reading the input fails: it can't be read, or memory runs out
+abbrev pub EndsReading : Failure → Type 0
+EndsReading (Input cause) = ⊤
+EndsReading Memory = ⊤
+EndsReading (File number cause) = ⊥
+EndsReading Output = ⊥
+
+-- The text is the shortlog of all contacts on the input, using the mailmaps at these paths. If the input is unknown, it
+-- is a shortlog of some contacts.
+abbrev pub IsAnswer : (Text → AtPath) → Option Text → Mode → List Text → Text → Type 0
+IsAnswer at input Help paths text = text ≡ USAGE.now
+IsAnswer at input Version paths text = text ≡ codes "mailmap_shortlog " ++ VERSION.now ++ 10 ∷ []
+IsAnswer at input (Shortlog options) paths text = (mailmaps : List Text)
+    × AreRead at paths mailmaps
+    × ((contacts : Text) × IfSome input (λ bytes. contacts ≡ bytes)
+    × IsShortlog options.by_count (answers_counted options.with_email mailmaps contacts) text)
+
+-- Such a task can fail in this way. A file that can't be read is named by its number among the paths, from 1.
+abbrev pub FailsFor : (Text → AtPath) → Mode → List Text → Failure → Type 0
+FailsFor at mode paths (File number cause) =
+    IsTrue (counts_contacts mode) × NamesFile at paths (File number cause)
+FailsFor at mode paths (Input cause) = IsTrue (counts_contacts mode)
+FailsFor at mode paths Memory = ⊤
+FailsFor at mode paths Output = ⊤

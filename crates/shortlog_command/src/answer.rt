@@ -1,0 +1,97 @@
+//! The texts that contacts count for.
+ghost use Rattle.std.specs.Prelude.{◌≡◌, ◌++◌};
+ghost use Rattle.std.proofs.Common.{rules};
+ghost use Rattle.std.specs.Cmp.{partial_order_from_own_ties};
+ghost use Rattle.std.specs.Cmp.Lexicographic.{slice_cmp};
+ghost use Rattle.std.specs.Cmp.Rules.{comparing};
+ghost use Rattle.std.specs.List.{flat_map};
+ghost use Rattle.std.specs.Ordering.{as_partial_cmp, eq_by_cmp, nat_cmp, on};
+ghost use Rattle.mailmap_snapshot.specs.Folding.{text_cmp};
+ghost use Rattle.shortlog_command.specs.Answers.{printed};
+
+use std::cmp::Ordering;
+
+/// What a contact counts for: a name, or a name and an email.
+///
+/// It only borrows them, so a long name takes no more memory if many answers have it. Answers are compared by the texts
+/// that are printed for them.
+#[derive(Clone, Copy)]
+pub struct Answer<'a> {
+    pub(crate) name: &'a [u8],
+    // `None` if emails don't count
+    pub(crate) email: Option<&'a [u8]>,
+}
+
+impl<'a> Answer<'a> {
+    /// The parts of the text. As in git, a space precedes the email even if the name is empty.
+    pub(crate) fn parts(&self) -> [&'a [u8]; 4]
+        ensures { flat_map (λ p. p.now) result ≡ printed self.now }
+    {
+        match self.email {
+            Some(email) => [self.name, b" <".as_slice(), email, b">".as_slice()],
+            None => [self.name, b"".as_slice(), b"".as_slice(), b"".as_slice()],
+        }
+    }
+}
+
+impl PartialEq for Answer<'_> {
+    ghost eq = { eq_by_cmp (on printed (slice_cmp nat_cmp)) };
+
+    ghost laws = { Prim.search (comparing, rules) };
+
+    fn eq(&self, other: &Self) -> bool {
+        self.cmp(other).is_eq()
+    }
+}
+
+impl Eq for Answer<'_> {
+    ghost laws = { Prim.search (comparing, rules) };
+}
+
+impl PartialOrd for Answer<'_> {
+    ghost partial_cmp = { as_partial_cmp (on printed (slice_cmp nat_cmp)) };
+
+    ghost laws = { partial_order_from_own_ties (Prim.search (comparing, rules)) (Prim.search (comparing, rules)) };
+
+    fn partial_cmp(&self, other: &Self) -> Option<Ordering> {
+        Some(self.cmp(other))
+    }
+}
+
+impl Ord for Answer<'_> {
+    ghost cmp = { on printed (slice_cmp nat_cmp) };
+
+    ghost total = { Prim.search (comparing, rules) };
+
+    ghost matches_partial_cmp = { Prim.search (comparing, rules) };
+
+    ghost matches_eq = { Prim.search (comparing, rules) };
+
+    fn cmp(&self, other: &Self) -> Ordering {
+        compare_parts(&[], &self.parts(), &[], &other.parts())
+    }
+}
+
+// Compares two texts in parts: the first part and the others. Parts are compared as slices and not byte by byte, which
+// is much faster for long names.
+fn compare_parts(x: &[u8], xs: &[&[u8]], y: &[u8], ys: &[&[u8]]) -> Ordering
+    ensures { result ≡ text_cmp (x.now ++ flat_map (λ p. p.now) xs.now) (y.now ++ flat_map (λ p. p.now) ys.now) }
+{
+    let common = x.len().min(y.len());
+    let fronts = x[..common].cmp(&y[..common]);
+    if fronts.is_ne() {
+        return fronts;
+    }
+    let (x, y) = (&x[common..], &y[common..]);
+    if x.is_empty() {
+        if let [next, rest @ ..] = xs {
+            return compare_parts(next, rest, y, ys);
+        }
+    }
+    if y.is_empty() {
+        if let [next, rest @ ..] = ys {
+            return compare_parts(x, xs, next, rest);
+        }
+    }
+    x.len().cmp(&y.len())
+}

@@ -1,0 +1,11 @@
+//! The program `mailmap_shortlog`, except for its `main`: its arguments and its modes, over any reader, writer and file
+//! system. `command_line` has what the programs share.
+#![tactic(auto)]
+
+pub mod answer;
+pub mod answers;
+mod counter;
+pub mod counts;
+pub mod reading;
+pub mod shortlog;
+pub mod task;

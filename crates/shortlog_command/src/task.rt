@@ -1,0 +1,272 @@
+//! Parses the arguments of `mailmap_shortlog`, and runs what they ask for.
+ghost use Rattle.std.specs.Prelude.{◌==◌, ◌≡◌, ◌⊎◌, ◌++◌, ◌∷◌, [], ℕ, IfErr, IfOk, IsErr, IsErrOf, IsFalse, IsTrue, Ok};
+ghost use Rattle.std.specs.Prelude.{OnOk, codes, drop, take};
+ghost use Rattle.std.specs.Io.KnownBytes.{Appends, IsAtEnd};
+ghost use Rattle.std.specs.List.{list_all, list_any};
+ghost use Rattle.command_line.specs.Failures.{IsOfFile};
+ghost use Rattle.command_line.specs.Files.{texts};
+ghost use Rattle.command_line.specs.Printing.{Prints, PrintsFront};
+ghost use Rattle.shortlog_command.specs.Task.{FailsFor, IsAnswer, asked, asked_of, counts_contacts, is_option, no_options, options_with, task, word_of};
+
+use crate::reading::count_lines;
+use crate::shortlog::print_shortlog;
+use command_line::VERSION;
+use command_line::failure::Failure;
+use command_line::files::{FileSystem, list_of, read_files};
+use command_line::streams::write_all;
+use std::alloc::{AllocError, Global};
+use std::io::{Read, Write};
+
+pub const USAGE: &str = "\
+usage: mailmap_shortlog [-n] [-e] [-s] [--] [MAILMAP..]
+       mailmap_shortlog -h | --help  prints this
+       mailmap_shortlog --version    prints the version
+Counts the contacts of standard input by the names that the mailmaps give them.
+  -n  the greatest count first
+  -e  by names and emails
+  -s  as without it: there are only counts
+";
+
+#[derive(Clone, Copy, Debug, PartialEq, Eq)]
+pub struct Options {
+    /// `-n`: sorts by descending count. Without it, lines are sorted by text.
+    pub by_count: bool,
+    /// `-e`: counts contacts by name and email. Without it, by name alone.
+    pub with_email: bool,
+}
+
+#[derive(Clone, Copy, Debug, PartialEq, Eq)]
+pub enum Mode {
+    /// Print the usage.
+    Help,
+    /// Print the version.
+    Version,
+    /// Count the contacts on standard input.
+    Shortlog(Options),
+}
+
+#[derive(Clone, Copy, Debug, PartialEq, Eq)]
+pub struct Task<'a> {
+    pub mode: Mode,
+    /// The paths of the mailmaps. Without any, contacts count as they are.
+    pub paths: &'a [Vec<u8>],
+}
+
+/// An unknown option, or letters of which one is no option.
+#[derive(Clone, Copy, Debug, PartialEq, Eq)]
+pub struct UnknownOption<'a>(pub &'a [u8]);
+
+/// The kinds of arguments where an option can stand.
+#[derive(Clone, Copy, Debug, PartialEq, Eq)]
+pub(crate) enum Word {
+    /// `--`, which ends the options.
+    End,
+    /// `-h` or `--help`.
+    Help,
+    /// `--version`.
+    Version,
+    /// Letters after a `-`, each of them an option, as in `-ne`.
+    Letters,
+    /// An unknown option.
+    Unknown,
+    /// The first path.
+    Path,
+}
+
+/// Parses arguments, of which the first is the program's own name.
+///
+/// Options are parsed from left to right, up to the first path or `--`. Parsing ends at the first of `-h`, `--help`,
+/// `--version`, and an unknown option: `-n --help` asks for help, and `-x --help` is an error. Short options can be
+/// joined, as in `-ne`, but not with `-h`. A single `-` is a path.
+pub fn task_of(arguments: &[Vec<u8>]) -> Result<Task<'_>, UnknownOption<'_>>
+    ensures { asked_of result ≡ asked no_options (drop 1 (texts arguments.now)) }
+{
+    match arguments {
+        [] => Ok(shortlog_by(NO_OPTIONS, arguments)),
+        [_, words @ ..] => read_options(words),
+    }
+}
+
+const NO_OPTIONS: Options = Options {
+    by_count: false,
+    with_email: false,
+};
+
+// Parses arguments without the program's name.
+fn read_options(arguments: &[Vec<u8>]) -> Result<Task<'_>, UnknownOption<'_>>
+    ensures { asked_of result ≡ asked no_options (texts arguments.now) }
+{
+    let mut options = NO_OPTIONS;
+    let mut left = arguments;
+    while let [argument, rest @ ..] = left {
+        match word_of(argument.as_slice()) {
+            Word::Letters => options = with_letters(options, argument.as_slice()),
+            Word::End => return Ok(shortlog_by(options, rest)),
+            Word::Path => return Ok(shortlog_by(options, left)),
+            Word::Unknown => return Err(UnknownOption(argument.as_slice())),
+            Word::Help => {
+                return Ok(Task {
+                    mode: Mode::Help,
+                    paths: &[],
+                });
+            }
+            Word::Version => {
+                return Ok(Task {
+                    mode: Mode::Version,
+                    paths: &[],
+                });
+            }
+        }
+        left = rest;
+    }
+    Ok(shortlog_by(options, left))
+}
+
+fn shortlog_by(options: Options, paths: &[Vec<u8>]) -> Task<'_>
+    ensures { asked_of (Ok result) ≡ task (Mode.Shortlog options) (texts paths.now) }
+{
+    Task {
+        mode: Mode::Shortlog(options),
+        paths,
+    }
+}
+
+fn word_of(argument: &[u8]) -> Word
+    ensures { result ≡ word_of argument.now }
+{
+    if argument == b"--".as_slice() {
+        return Word::End;
+    }
+    if argument == b"-h".as_slice() || argument == b"--help".as_slice() {
+        return Word::Help;
+    }
+    if argument == b"--version".as_slice() {
+        return Word::Version;
+    }
+    match argument {
+        [b'-', _, ..] if are_options(&argument[1..]) => Word::Letters,
+        [b'-', _, ..] => Word::Unknown,
+        _ => Word::Path,
+    }
+}
+
+fn are_options(letters: &[u8]) -> bool
+    ensures { result ≡ list_all is_option letters.now }
+{
+    letters.iter().all(|letter| is_option(*letter))
+}
+
+fn is_option(letter: u8) -> bool
+    ensures { result ≡ is_option letter }
+{
+    letter == b'n' || letter == b'e' || letter == b's'
+}
+
+// Adds the options in the letters of an argument.
+fn with_letters(options: Options, argument: &[u8]) -> Options
+    ensures { result ≡ options_with options argument.now }
+{
+    Options {
+        by_count: options.by_count || has(argument, b'n'),
+        with_email: options.with_email || has(argument, b'e'),
+    }
+}
+
+fn has(argument: &[u8], letter: u8) -> bool
+    ensures { result ≡ list_any (λ l. l == letter) argument.now }
+{
+    argument.iter().any(|l| *l == letter)
+}
+
+/// Runs a task: prints the shortlog of the contacts on the input, the usage, or the version.
+///
+/// For a shortlog, the mailmaps are read first, in order, and then all of the input. The first failure ends the run.
+pub fn perform<F: FileSystem, R: Read, W: Write>(
+    system: &F,
+    alloc: Global,
+    task: Task<'_>,
+    input: &mut R,
+    output: &mut W,
+) -> Result<(), Failure>
+    // Exactly the answer is written.
+    ensures prints { OnOk result (Prints (IsAnswer (F.at system.now) (R.remaining input.old) task.entry.mode
+        (texts task.entry.paths.now)) (W.contents output.old) (W.contents output.new)) }
+
+    // For a shortlog, all of the input is read before anything is written; for the other tasks, none of it, and none if
+    // a mailmap can't be read.
+    ensures reads_all { IsTrue (counts_contacts task.entry.mode) → OnOk result (IsAtEnd (R.remaining input.new)) }
+    ensures reads_first { IsTrue (counts_contacts task.entry.mode) → IsErrOf result Failure.Output
+        → IsAtEnd (R.remaining input.new) }
+    ensures unread { IsFalse (counts_contacts task.entry.mode) → input.new ≡ input.old }
+    ensures unread_at_files { IfErr result (λ e. IsOfFile e → input.new ≡ input.old) }
+
+    // Which tasks can fail in which way. A file that can't be read is named by its number among the paths.
+    ensures fails { IfErr result (FailsFor (F.at system.now) task.entry.mode (texts task.entry.paths.now)) }
+
+    // If writing fails, a prefix of the answer is written; after any other failure, nothing.
+    ensures breaks_off { IsErrOf result Failure.Output → PrintsFront
+        (IsAnswer (F.at system.now) (R.remaining input.old) task.entry.mode (texts task.entry.paths.now))
+        (W.contents output.old) (W.contents output.new) }
+    ensures silent { IsErr result → ¬ IsErrOf result Failure.Output → output.new ≡ output.old }
+{
+    match task.mode {
+        Mode::Help => write_all(output, USAGE.as_bytes()),
+        Mode::Version => print_version(alloc, output),
+        Mode::Shortlog(options) => {
+            shortlog_of(system, alloc, options, task.paths, input, output)
+        }
+    }
+}
+
+fn print_version<W: Write>(alloc: Global, output: &mut W) -> Result<(), Failure>
+    ensures ok { OnOk result (Appends (W.contents output.old) (W.contents output.new)
+        (codes "mailmap_shortlog " ++ VERSION.now ++ 10 ∷ [])) }
+    ensures err { IsErrOf result Failure.Output → (count : ℕ) × Appends (W.contents output.old)
+        (W.contents output.new) (take count (codes "mailmap_shortlog " ++ VERSION.now ++ 10 ∷ [])) }
+    ensures silent { IsErr result → ¬ IsErrOf result Failure.Output → output.new ≡ output.old }
+    ensures only { IfErr result (λ e. (e ≡ Failure.Memory) ⊎ (e ≡ Failure.Output)) }
+{
+    let line = version_line(alloc)?;
+    write_all(output, line.as_slice())
+}
+
+fn version_line(alloc: Global) -> Result<Vec<u8>, AllocError>
+    ensures { IfOk result (λ line. line.items ≡ codes "mailmap_shortlog " ++ VERSION.now ++ 10 ∷ []) }
+{
+    let mut line = Vec::from_slice(alloc, b"mailmap_shortlog ")?;
+    line.extend_from_slice(VERSION.as_bytes())?;
+    line.push(b'\n')?;
+    Ok(line)
+}
+
+fn shortlog_of<F: FileSystem, R: Read, W: Write>(
+    system: &F,
+    alloc: Global,
+    options: Options,
+    paths: &[Vec<u8>],
+    input: &mut R,
+    output: &mut W,
+) -> Result<(), Failure>
+    ensures prints { OnOk result (Prints (IsAnswer (F.at system.now) (R.remaining input.old) (Mode.Shortlog options)
+        (texts paths.now)) (W.contents output.old) (W.contents output.new)) }
+    ensures reads_all { OnOk result (IsAtEnd (R.remaining input.new)) }
+    ensures reads_first { IsErrOf result Failure.Output → IsAtEnd (R.remaining input.new) }
+    ensures unread_at_files { IfErr result (λ e. IsOfFile e → input.new ≡ input.old) }
+    ensures fails { IfErr result (FailsFor (F.at system.now) (Mode.Shortlog options) (texts paths.now)) }
+    ensures breaks_off { IsErrOf result Failure.Output → PrintsFront (IsAnswer (F.at system.now)
+        (R.remaining input.old) (Mode.Shortlog options) (texts paths.now))
+        (W.contents output.old) (W.contents output.new) }
+    ensures silent { IsErr result → ¬ IsErrOf result Failure.Output → output.new ≡ output.old }
+{
+    let mailmaps = read_files(system, alloc, paths)?;
+    let buffers = list_of(alloc, mailmaps.as_slice())?;
+    let lines = count_lines(alloc, input)?;
+    print_shortlog(
+        alloc,
+        buffers.as_slice(),
+        lines,
+        options.by_count,
+        options.with_email,
+        output,
+    )
+}

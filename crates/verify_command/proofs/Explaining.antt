@@ -1,0 +1,212 @@
+-- Answering lines while they are read: what was read, answered and written.
+use Rattle.std.proofs.Common.{◌≡◌, ◌⊎◌, ◌++◌, ◌∙◌, ℕ, Bool, List, [], ◌∷◌, Option, None, Some, Err, ap, append-nil, append_assoc, false, inl, inr, refl, subst, sym, take, true}
+use Rattle.std.specs.Io.KnownBytes.{Appends, Consumes}
+use Rattle.std.specs.List.{flat_map}
+use Rattle.std.specs.Result.{IsErrOf}
+use Rattle.std.proofs.KnownBytes.{Appends-nil, Appends-trans, Consumes-nil}
+use Rattle.std.proofs.lemmas.Grind.{flat_map-append}
+use Rattle.std.proofs.lemmas.List.{flat_map_more}
+use Rattle.command_line.specs.Failures.{IsOfInput}
+use Rattle.command_line.specs.Leaving.{LeavesAnswers}
+use Rattle.command_line.specs.Lines.{EndsLine, HasRead, Reads, ReadsText}
+use Rattle.command_line.specs.Printing.{IsUnderway, Prints, PrintsFront}
+use Rattle.command_line.specs.declared.failure.Failure.{Failure}
+use Rattle.command_line.specs.declared.failure.Failure.TheVariants.{File, Input, Memory, Output}
+use Rattle.command_line.proofs.Reading.{all_read, read_none, read_on}
+use Rattle.command_line.proofs.Printed.{Appends-both, Appends-longer, underway-broken, underway-more, underway-rest_broken, underway-whole}
+use Rattle.mailmap_findings.proofs.Wholes.{joined}
+use Rattle.mailmap_entries.specs.Folding.{Text}
+use Rattle.mailmap_findings.specs.Positions.{whole_lines}
+use Rattle.verify_command.specs.Explained.{AnswersAll, AnswersFront, AnswersLines, AnswersWholeLines, each_line}
+use Rattle.verify_command.proofs.Fronts.{each_line-append, front-lines, front-longer, front-more, front-none, front-whole, none_answered}
+
+-- ---- printing pieces, such as the answers to the lines of a text
+
+-- the pieces so far are written or held
+abbrev pub HasPrinted : {X : Type 0} → (X → Text) → List X → List X → Option Text → Option Text → Text → Type 0
+HasPrinted {X} answer all left before after held = (done : List X) × (all ≡ done ++ left) × IsUnderway (flat_map answer done) before after held
+
+unfoldable pub printed_none : {X : Type 0} (answer : X → Text) (all left : List X) (before : Option Text) (held : Text) → left ≡ all → held ≡ [] → HasPrinted answer all left before before held
+printed_none answer all left before held is none = ([], sym is, ([], Appends-nil before, sym none))
+
+pub next_is : {X : Type 0} (all done left rest : List X) (line : X) → all ≡ done ++ left → left ≡ line ∷ rest → all ≡ (done ++ line ∷ []) ++ rest
+next_is all done left rest line is step = is ∙ ap (λ l. done ++ l) step ∙ sym (append_assoc done (line ∷ []) rest)
+
+unfoldable pub printed_more : {X : Type 0} (answer : X → Text) (all left rest : List X) (line : X) (piece : Text) (before between after : Option Text) (held later : Text) → HasPrinted answer all left before between held
+    → left ≡ line ∷ rest → piece ≡ answer line → IsUnderway (held ++ piece) between after later → HasPrinted answer all rest before after later
+printed_more answer all left rest line piece before between after held later h step is more = (
+  h.0 ++ line ∷ [],
+  next_is all h.0 left rest line h.1 step,
+  subst (λ t. IsUnderway t before after later) (ap (λ p. flat_map answer h.0 ++ p) is ∙ flat_map_more answer [] h.0 line)
+      (underway-more (flat_map answer h.0) piece before between after held later h.2 more),
+)
+
+-- a write fails while a piece is printed
+pub printed_broken : {X : Type 0} (answer : X → Text) (all left rest : List X) (line : X) (piece : Text) (before between after : Option Text) (held : Text) (n : ℕ) → HasPrinted answer all left before between held
+    → left ≡ line ∷ rest → piece ≡ answer line → Appends between after (take n (held ++ piece)) → (count : ℕ) × Appends before after (take count (flat_map answer all))
+printed_broken answer all left rest line piece before between after held n h step is broken =
+    let cut = underway-broken (flat_map answer h.0) piece before between after held n h.2 broken in
+    let longer = Appends-longer before after cut.0 (flat_map answer h.0 ++ piece) (flat_map answer rest) cut.1 in
+    let whole : flat_map answer all ≡ (flat_map answer h.0 ++ piece) ++ flat_map answer rest =
+    ap (flat_map answer) (next_is all h.0 left rest line h.1 step) ∙ flat_map-append answer (h.0 ++ line ∷ []) rest
+    ∙ ap (λ t. t ++ flat_map answer rest) (sym (ap (λ p. flat_map answer h.0 ++ p) is ∙ flat_map_more answer [] h.0 line)) in
+    (longer.0, subst (λ t. Appends before after (take longer.0 t)) (sym whole) longer.1)
+
+-- the held bytes are written before the remaining pieces are printed
+pub printed_first : (answer : Text → Text) (bytes : Text) (left rest : List Text) (line : Text) (before between after : Option Text) (held : Text)
+    → HasPrinted answer (whole_lines bytes) left before between held → left ≡ line ∷ rest → Appends between after held
+    → Prints (λ made. (rest : Text) × AnswersFront answer bytes made rest) before after
+printed_first answer bytes left rest line before between after held h step written =
+    let is : whole_lines bytes ≡ h.0 ++ line ∷ rest = h.1 ∙ ap (λ l. h.0 ++ l) step in (
+      flat_map answer h.0,
+      (joined (line ∷ rest), front-lines answer bytes h.0 (line ∷ rest) (λ e. cc) is),
+      underway-whole (flat_map answer h.0) before between after held h.2 written,
+    )
+
+-- a write of the held bytes fails
+pub printed_first_broken : {X : Type 0} (answer : X → Text) (all left : List X) (before between after : Option Text) (held : Text) (n : ℕ) → HasPrinted answer all left before between held
+    → Appends between after (take n held) → (count : ℕ) × Appends before after (take count (flat_map answer all))
+printed_first_broken answer all left before between after held n h broken =
+    let cut = underway-rest_broken (flat_map answer h.0) before between after held n h.2 broken in
+    let longer = Appends-longer before after cut.0 (flat_map answer h.0) (flat_map answer left) cut.1 in
+    let whole : flat_map answer all ≡ flat_map answer h.0 ++ flat_map answer left = ap (flat_map answer) h.1 ∙ flat_map-append answer h.0 left in
+    (longer.0, subst (λ t. Appends before after (take longer.0 t)) (sym whole) longer.1)
+
+-- the last flush
+pub printed_all : {X : Type 0} (answer : X → Text) (all left : List X) (before between after : Option Text) (held : Text) → HasPrinted answer all left before between held → left ≡ [] → Appends between after held
+    → Appends before after (flat_map answer all)
+printed_all answer all left before between after held h none written =
+    let done : h.0 ≡ all = sym (h.1 ∙ ap (λ l. h.0 ++ l) none ∙ append-nil h.0) in
+    subst (λ ls. Appends before after (flat_map answer ls)) done (underway-whole (flat_map answer h.0) before between after held h.2 written)
+
+-- ---- an input that is answered while it is read
+
+-- answers to the first lines of some bytes
+abbrev pub SomeAnswered : (Text → Text) → Text → Text → Type 0
+SomeAnswered answer bytes made = (rest : Text) × AnswersFront answer bytes made rest
+
+-- `lines` were read and their answers written
+pub record HasAnswered (answer : Text → Text) (old now : Option Text) (held : Text) (before after : Option Text) : Type 0 where
+  pub lines : Text
+  pub read : HasRead old now lines held
+  pub written : Appends before after (each_line answer lines)
+
+-- before the first read
+pub begun : (answer : Text → Text) (old : Option Text) (held : Text) (before : Option Text) → held ≡ [] → HasAnswered answer old old held before before
+begun answer old held before none = record {
+  lines = [];
+  read = subst (HasRead old old []) (sym none) (read_none old);
+  written = subst (Appends before before) (none_answered answer) (Appends-nil before);
+}
+
+-- after more lines
+written_both : (answer : Text → Text) (lines text : Text) (before between after : Option Text) → EndsLine lines → Appends before between (each_line answer lines) → Appends between after (each_line answer text)
+    → Appends before after (each_line answer (lines ++ text))
+written_both answer lines text before between after ends first more =
+    subst (Appends before after) (sym (each_line-append answer lines text ends)) (Appends-trans before between after (each_line answer lines) (each_line answer text) first more)
+
+pub one_more : (answer : Text → Text) (old now later : Option Text) (held text rest : Text) (more : Bool) (before between after : Option Text) → more ≡ true → (h : HasAnswered answer old now held before between)
+    → ReadsText old later h.lines text rest more → Appends between after (each_line answer text) → HasAnswered answer old later rest before after
+one_more answer old now later held text rest more before between after is h r w = record {
+  lines = h.lines ++ text;
+  read = read_on old later h.lines text rest (subst (ReadsText old later h.lines text rest) is r);
+  written = written_both answer h.lines text before between after h.read.ends h.written w;
+}
+
+-- at the end of the input
+pub ended : (answer : Text → Text) (old now later : Option Text) (held text rest : Text) (more : Bool) (before between after : Option Text) → more ≡ false → (h : HasAnswered answer old now held before between)
+    → ReadsText old later h.lines text rest more → Appends between after (each_line answer text) → Prints (AnswersAll answer old) before after
+ended answer old now later held text rest more before between after is h r w = (
+  each_line answer (h.lines ++ text),
+  (h.lines ++ text, all_read old later h.lines text rest (subst (ReadsText old later h.lines text rest) is r), refl),
+  written_both answer h.lines text before between after h.read.ends h.written w,
+)
+
+-- a prefix of the answers to the first lines is a prefix of all answers
+lines_broken : (answer : Text → Text) (old now : Option Text) (lines rest : Text) (before after : Option Text) (n : ℕ) → Consumes old now (lines ++ rest) → EndsLine lines
+    → Appends before after (take n (each_line answer lines)) → PrintsFront (AnswersAll answer old) before after
+lines_broken answer None now lines rest before after n consumed ends broken = (each_line answer lines, (lines, tt, refl), (n, broken))
+lines_broken answer (Some x) None lines rest before after n consumed ends broken = absurd consumed
+lines_broken answer (Some x) (Some y) lines rest before after n consumed ends broken =
+    let all : x ≡ lines ++ (rest ++ y) = consumed ∙ append_assoc lines rest y in
+    let longer = Appends-longer before after n (each_line answer lines) (each_line answer (rest ++ y)) broken in (
+      each_line answer (lines ++ (rest ++ y)),
+      (lines ++ (rest ++ y), sym all, refl),
+      (longer.0, subst (λ t. Appends before after (take longer.0 t)) (sym (each_line-append answer lines (rest ++ y) ends)) longer.1),
+    )
+
+-- a write fails within the next text
+text_broken : (answer : Text → Text) (old later : Option Text) (lines text rest : Text) (more : Bool) (before after : Option Text) (n : ℕ) → ReadsText old later lines text rest more
+    → Appends before after (take n (each_line answer (lines ++ text))) → PrintsFront (AnswersAll answer old) before after
+text_broken answer old later lines text rest true before after n r broken = lines_broken answer old later (lines ++ text) rest before after n r.consumed (r.ends refl) broken
+text_broken answer old later lines text rest false before after n r broken = (each_line answer (lines ++ text), (lines ++ text, all_read old later lines text rest r, refl), (n, broken))
+
+-- memory runs out within the next text
+text_lost : (answer : Text → Text) (old later : Option Text) (lines text rest made left : Text) → EndsLine lines → Consumes old later ((lines ++ text) ++ rest) → AnswersFront answer text made left
+    → AnswersLines answer old later (each_line answer lines ++ made)
+text_lost answer old later lines text rest made left ends consumed a =
+    let first = subst (λ l. AnswersFront answer l (each_line answer lines) []) (append-nil lines) (front-whole answer lines [] ends) in (
+      (lines ++ text) ++ rest,
+      left ++ rest,
+      consumed,
+      front-longer answer (lines ++ text) (each_line answer lines ++ made) left rest (front-more answer lines (each_line answer lines) [] text made left first a),
+    )
+
+not_of_input : (e : Failure) → (e ≡ Memory) ⊎ (e ≡ Output) → IsOfInput e → ⊥
+not_of_input (File number cause) only of_input = of_input
+not_of_input (Input cause) (inl is) of_input = cc
+not_of_input (Input cause) (inr is) of_input = cc
+not_of_input Memory only of_input = of_input
+not_of_input Output only of_input = of_input
+
+-- either failure while the next text is answered
+pub failed_printing : {T : Type 0} (answer : Text → Text) (old now later : Option Text) (held text rest : Text) (more : Bool) (before between after : Option Text) (e : Failure)
+    → (h : HasAnswered answer old now held before between) → ReadsText old later h.lines text rest more → (e ≡ Memory) ⊎ (e ≡ Output)
+    → (IsErrOf {T = T} {E = Failure} (Err e) Memory → Prints (SomeAnswered answer text) between after) → (IsErrOf {T = T} {E = Failure} (Err e) Output → (count : ℕ) × Appends between after (take count (each_line answer text)))
+    → LeavesAnswers {T = T} (AnswersAll answer old) (AnswersWholeLines answer old later) (Prints (AnswersLines answer old later) before after) later before after (Err e)
+failed_printing answer old now later held text rest more before between after e h r only lost broken = record {
+  prints = tt;
+  reads_all = tt;
+  breaks_off = λ is.
+      let b = broken is in
+      let both = Appends-both before between after (each_line answer h.lines) (each_line answer text) b.0 h.written b.1 in
+      text_broken answer old later h.lines text rest more before after both.0 r
+      (subst (λ t. Appends before after (take both.0 t)) (sym (each_line-append answer h.lines text h.read.ends)) both.1);
+  input_fails = λ of_input. absurd (not_of_input e only of_input);
+  memory_fails = λ is.
+      let p = lost is in (
+        each_line answer h.lines ++ p.0,
+        text_lost answer old later h.lines text rest p.0 p.1.0 h.read.ends r.consumed p.1.1,
+        Appends-trans before between after (each_line answer h.lines) p.0 h.written p.2,
+      );
+}
+
+-- the input fails
+pub whole_lines_written : (answer : Text → Text) (old now : Option Text) (lines held : Text) (before after : Option Text) → HasRead old now lines held → Appends before after (each_line answer lines)
+    → Prints (AnswersWholeLines answer old now) before after
+whole_lines_written answer old now lines held before after h w = (each_line answer lines, (lines ++ held, held, h.consumed, front-whole answer lines held h.ends, h.no_feed), w)
+
+-- any failure while the next text is read
+pub failed_reading : {T : Type 0} (answer : Text → Text) (old now later : Option Text) (held text rest : Text) (before after : Option Text) (e : Failure)
+    → (h : HasAnswered answer old now held before after) → Reads old later h.lines text rest (Err e)
+    → LeavesAnswers {T = T} (AnswersAll answer old) (AnswersWholeLines answer old later) (Prints (AnswersLines answer old later) before after) later before after (Err e)
+failed_reading answer old now later held text rest before after (File number cause) h r = absurd r
+failed_reading answer old now later held text rest before after (Input cause) h r = record {
+  prints = tt;
+  reads_all = tt;
+  breaks_off = λ is. cc;
+  input_fails = λ _. whole_lines_written answer old later h.lines r.0 before after r.1 h.written;
+  memory_fails = λ is. cc;
+}
+failed_reading answer old now later held text rest before after Memory h r = record {
+  prints = tt;
+  reads_all = tt;
+  breaks_off = λ is. cc;
+  input_fails = λ of_input. absurd of_input;
+  memory_fails = λ _. (each_line answer h.lines, (h.lines ++ r.0, r.0, r.1, front-whole answer h.lines r.0 h.read.ends), h.written);
+}
+failed_reading answer old now later held text rest before after Output h r = absurd r
+
+-- nothing was read or written
+pub nothing : (answer : Text → Text) (old before : Option Text) → Prints (AnswersLines answer old old) before before
+nothing answer old before = ([], ([], [], Consumes-nil old, front-none answer []), Appends-nil before)

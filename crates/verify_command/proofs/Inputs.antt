@@ -1,0 +1,31 @@
+-- When standard input is read to its end.
+use Rattle.std.proofs.Common.{◌≡◌, ◌≢◌, ◌⊎◌, Bool, List, [], ◌∷◌, Option, false, inl, inr, map, refl, subst, sym, true}
+use Rattle.std.specs.Io.KnownBytes.{IsAtEnd}
+use Rattle.mailmap_entries.specs.Folding.{Text}
+use Rattle.verify_command.specs.Task.{ReadsInput, reads_contacts}
+use Rattle.verify_command.specs.declared.asked.Mode.{Mode}
+use Rattle.verify_command.specs.declared.asked.Mode.TheVariants.{Help, Version, Verify, Prune, Explain, Contacts}
+
+none_of : {X : Type 0} (f : X → Text) (xs : List X) → map f xs ≡ [] → xs ≡ []
+none_of f [] is = refl
+none_of f (x ∷ xs) is = cc
+
+pub no_contacts : (mode : Mode) (contacts : Text) → mode ≢ Explain → mode ≢ Contacts → reads_contacts mode contacts ≡ false
+no_contacts Help contacts no_explain no_file = refl
+no_contacts Version contacts no_explain no_file = refl
+no_contacts Verify contacts no_explain no_file = refl
+no_contacts Prune contacts no_explain no_file = refl
+no_contacts Explain contacts no_explain no_file = absurd (no_explain refl)
+no_contacts Contacts contacts no_explain no_file = absurd (no_file refl)
+
+-- the input has the mailmap
+pub has_mailmap : {X : Type 0} (f : X → Text) (mode : Mode) (contacts : Text) (paths : List X) → ReadsInput mode contacts (map f paths) → reads_contacts mode contacts ≡ false → paths ≡ []
+has_mailmap f mode contacts paths (no_help, no_version, inl reads) none = cc
+has_mailmap f mode contacts paths (no_help, no_version, inr is) none = none_of f paths is
+
+-- the input has the contacts, or the mailmap beside a file of contacts
+pub ends_beside : {X : Type 0} (f : X → Text) (dash : Bool) (paths : List X) (between after : Option Text) → (dash ≡ true) ⊎ (map f paths ≡ []) → (dash ≡ true → IsAtEnd after)
+    → (dash ≡ false → after ≡ between) → (dash ≡ false → paths ≡ [] → IsAtEnd between) → IsAtEnd after
+ends_beside f true paths between after reads contacts unread mailmap = contacts refl
+ends_beside f false paths between after (inl is) contacts unread mailmap = cc
+ends_beside f false paths between after (inr is) contacts unread mailmap = subst IsAtEnd (sym (unread refl)) (mailmap refl (none_of f paths is))

@@ -1,0 +1,81 @@
+-- What a task has written after each failure.
+use Rattle.std.proofs.Common.{◌≡◌, ◌≢◌, ◌⊎◌, ⊎_elim, Result, Ok, Err, List, Option, ap, inl, inr, refl, subst, sym}
+use Rattle.std.specs.Result.{IsErrOf}
+use Rattle.mailmap_entries.specs.Folding.{Text}
+use Rattle.command_line.specs.Failures.{IsOfFile, IsOfInput}
+use Rattle.command_line.specs.Files.{AtPath}
+use Rattle.command_line.specs.Printing.{PrintsFront}
+use Rattle.command_line.specs.declared.failure.Failure.{Failure}
+use Rattle.command_line.specs.declared.failure.Failure.TheVariants.{File, Input, Memory, Output}
+use Rattle.command_line.specs.declared.outcome.Outcome.{Outcome}
+use Rattle.command_line.specs.declared.outcome.Outcome.TheVariants.{Clean}
+use Rattle.verify_command.specs.Task.{IsAnswer, Leaves, LeavesExplained}
+use Rattle.verify_command.specs.declared.asked.Mode.{Mode}
+use Rattle.verify_command.specs.declared.asked.Mode.TheVariants.{Contacts, Explain, Verify}
+use Rattle.verify_command.specs.declared.failure.TaskFailure.{TaskFailure}
+use Rattle.verify_command.specs.declared.failure.TaskFailure.TheVariants.{Run}
+
+-- a prefix of an answer of this mode
+abbrev pub BeginsAnswer : {W : Type 0} → (Text → AtPath) → Option Text → Mode → Text → List Text → (W → Option Text) → W → W → Type 0
+BeginsAnswer at unread mode contacts paths contents old new = (outcome : Outcome) × PrintsFront (IsAnswer at unread mode contacts paths outcome) (contents old) (contents new)
+
+not_of_file : (e : Failure) → (e ≡ Memory) ⊎ (e ≡ Output) → IsOfFile e → ⊥
+not_of_file (File number cause) (inl is) of_file = cc
+not_of_file (File number cause) (inr is) of_file = cc
+not_of_file (Input cause) only of_file = of_file
+not_of_file Memory only of_file = of_file
+not_of_file Output only of_file = of_file
+
+-- nothing was written
+pub left_as_it_was : {W : Type 0} (at : Text → AtPath) (unread left : Option Text) (mode : Mode) (contacts : Text) (paths : List Text) (contents : W → Option Text) (old : W)
+    (r : Result Outcome TaskFailure) (e : TaskFailure) → r ≡ Err e → mode ≢ Explain → ¬ IsErrOf r (Run Output) → Leaves at unread left mode contacts paths contents old old r
+left_as_it_was at unread left mode contacts paths contents old (Ok x) e is no_explain no_output = cc
+left_as_it_was at unread left mode contacts paths contents old (Err x) e is no_explain no_output = record {
+  prints = tt;
+  breaks_off = λ of. absurd (no_output of);
+  memory = λ _ _. inl refl;
+  silent = λ _ _ _ _. refl;
+  silent_at_files = λ _. refl;
+  input_fails = λ explain. absurd (no_explain explain);
+  memory_fails = λ explain. absurd (no_explain explain);
+}
+
+-- a prefix of a report
+pub left_front : {W : Type 0} (at : Text → AtPath) (unread left : Option Text) (mode : Mode) (contacts : Text) (paths : List Text) (contents : W → Option Text) (old new : W) (e : Failure)
+    → (mode ≡ Verify) ⊎ (mode ≡ Contacts) → mode ≢ Explain → (e ≡ Memory) ⊎ (e ≡ Output) → (IsErrOf {T = Outcome} {E = Failure} (Err e) Output → BeginsAnswer at unread mode contacts paths contents old new)
+    → (IsErrOf {T = Outcome} {E = Failure} (Err e) Memory → (new ≡ old) ⊎ BeginsAnswer at unread mode contacts paths contents old new)
+    → Leaves at unread left mode contacts paths contents old new (Err (Run e))
+left_front at unread left mode contacts paths contents old new e reports no_explain only broken lost = record {
+  prints = tt;
+  breaks_off = λ of. broken cc;
+  memory = λ _ of. ⊎_elim inl (λ begins. inr (reports, begins)) (lost cc);
+  silent = λ _ _ no_output no_memory. absurd (⊎_elim (λ m. no_memory (ap (λ f. Err (Run f)) m)) (λ o. no_output (ap (λ f. Err (Run f)) o)) only);
+  silent_at_files = λ of_file. absurd (not_of_file e only of_file);
+  input_fails = λ explain. absurd (no_explain explain);
+  memory_fails = λ explain. absurd (no_explain explain);
+}
+
+-- explaining failed
+pub left_explained : {W T : Type 0} (at : Text → AtPath) (unread left : Option Text) (mode : Mode) (contacts : Text) (paths : List Text) (contents : W → Option Text) (old new : W) (e : Failure)
+    → mode ≡ Explain → LeavesExplained {W = W} {T = T} at paths unread left contents old new (Err e) → (IsOfFile e → new ≡ old) → Leaves at unread left mode contacts paths contents old new (Err (Run e))
+left_explained at unread left mode contacts paths contents old new e is l files = subst (λ m. Leaves at unread left m contacts paths contents old new (Err (Run e))) (sym is) (record {
+  prints = tt;
+  breaks_off = λ of. let p = l.breaks_off cc in (Clean, (p.0, (p.1, refl), p.2));
+  memory = λ no_explain. absurd (no_explain refl);
+  silent = λ no_explain. absurd (no_explain refl);
+  silent_at_files = files;
+  input_fails = λ _ cause of. let same : e ≡ Input cause = cc in l.input_fails (subst IsOfInput (sym same) tt);
+  memory_fails = λ _ of. l.memory_fails cc;
+})
+
+pub all_explained : {W T : Type 0} (at : Text → AtPath) (unread left : Option Text) (mode : Mode) (contacts : Text) (paths : List Text) (contents : W → Option Text) (old new : W) (x : T)
+    → mode ≡ Explain → LeavesExplained {W = W} {T = T} at paths unread left contents old new (Ok x) → Leaves at unread left mode contacts paths contents old new (Ok Clean)
+all_explained at unread left mode contacts paths contents old new x is l = subst (λ m. Leaves at unread left m contacts paths contents old new (Ok Clean)) (sym is) (record {
+  prints = let p = l.prints in (p.0, (p.1, refl), p.2);
+  breaks_off = λ of. cc;
+  memory = λ _ of. cc;
+  silent = λ _ of. cc;
+  silent_at_files = tt;
+  input_fails = λ _ cause of. cc;
+  memory_fails = λ _ of. cc;
+})

@@ -1,0 +1,9 @@
+mod Fronts
+mod Explaining
+mod Grounded
+mod Firsts
+mod Taking
+mod TakingLines
+mod Leaving
+mod Reporting
+mod Inputs

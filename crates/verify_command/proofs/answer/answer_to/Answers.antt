@@ -1,0 +1,7 @@
+use Rattle.std.proofs.Common.{rules}
+use Rattle.verify_command.proofs.answer.answer_to.Goals as goal
+
+pub returns-in_err-mailmap-clause-fails : goal.returns-in_err-mailmap-clause-fails
+returns-in_err-mailmap-clause-fails g c =
+    let fails = c.in_err-mailmap.ensures.fails c.args.task.contacts.now in
+    search rules

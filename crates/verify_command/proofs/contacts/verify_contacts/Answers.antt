@@ -1,0 +1,78 @@
+use Rattle.std.proofs.Common.{rules, ◌≡◌, [], List, ℕ, Vec, Global, Err, ap, inr, map, refl}
+use Rattle.mailmap_findings.specs.Positions.{whole_lines}
+use Rattle.verify_command.specs.Taken.{HasTaken}
+use Rattle.verify_command.specs.Task.{is_dash}
+use Rattle.verify_command.specs.declared.failure.TaskFailure.TheVariants.{Run}
+use Rattle.verify_command.specs.declared.asked.Mode.TheVariants.{Contacts}
+use Rattle.verify_command.proofs.Grounded.{fails_for_contacts, fails_reading}
+use Rattle.verify_command.proofs.Inputs.{ends_beside}
+use Rattle.verify_command.proofs.Leaving.{left_front}
+use Rattle.verify_command.proofs.Reporting.{AreReadBeside, begins_answer, prints_answer, read_beside}
+use Rattle.verify_command.proofs.contacts.verify_contacts.Goals as goal
+
+pub returns-in_err-read_contacts-clause-fails : goal.returns-in_err-read_contacts-clause-fails
+returns-in_err-read_contacts-clause-fails g c =
+    let items : Vec ℕ Global → List ℕ = λ path. path.items in
+    let failed : c.from_residual-in_err-read_contacts.result ≡ Err c.in_err-read_contacts.field-0.0 = search rules in
+    rw failed (fails_for_contacts (g.F.FileSystem.at c.args.system.now) (g.R.Read.remaining c.args.input.now) (g.R.Read.remaining c.args.input.now) c.args.contacts.now (map items c.args.paths.now)
+    (map items c.in_ok-mailmaps.mailmaps.items) c.in_err-read_contacts.field-0.0 c.in_ok-mailmaps.ensures.ok c.in_err-read_contacts.ensures.fails)
+
+pub returns-in_err-mailmaps-clause-fails : goal.returns-in_err-mailmaps-clause-fails
+returns-in_err-mailmaps-clause-fails g c =
+    let items : Vec ℕ Global → List ℕ = λ path. path.items in
+    let e = c.in_err-mailmaps.field-0.0 in
+    let failed : c.from_residual.result ≡ Err (Run e) = search rules in
+    rw failed (fails_reading (g.F.FileSystem.at c.args.system.now) (g.R.Read.remaining c.args.input.now) Contacts c.args.contacts.now
+    (map items c.args.paths.now) e (λ is. cc) (λ is. cc) c.in_err-mailmaps.ensures.file (λ of_input. inr (ap (map items) (c.in_err-mailmaps.ensures.input of_input))))
+
+pub returns-clause-leaves : goal.returns-clause-leaves
+returns-clause-leaves g c =
+    let items : Vec ℕ Global → List ℕ = λ path. path.items in
+    let at = g.F.FileSystem.at c.args.system.now in
+    let input = g.R.Read.remaining c.args.input.now in
+    let paths = map items c.args.paths.now in
+    let mailmaps = c.in_ok-mailmaps-2.mailmaps in
+    let same : map items c.in_ok-mailmaps.mailmaps.items ≡ mailmaps = search rules in
+    let taken = c.in_ok-read_contacts.ensures.takes in
+    let h : HasTaken mailmaps (whole_lines taken.0) c.read_contacts.new.contact_report = taken.2 mailmaps [] c.in_ok-contact_report.ensures in
+    let are : AreReadBeside at input c.args.contacts.now paths mailmaps taken.0 =
+    read_beside at c.args.contacts.now input (g.R.Read.remaining c.read_beside.new.input) paths (map items c.in_ok-mailmaps.mailmaps.items) mailmaps taken.0 c.in_ok-mailmaps.ensures.ok same
+    (λ dash. ap (λ i. g.R.Read.remaining i) (c.read_beside.ensures.unread_for_contacts dash)) taken.1 in
+    record {
+      prints = prints_answer at input c.args.contacts.now paths mailmaps taken.0 c.in_ok-outcome.outcome (g.W.Write.contents c.args.output.now) (g.W.Write.contents c.print_both.new.output) are
+          (c.in_ok-outcome.ensures.ok taken.0 h);
+      breaks_off = λ is. cc;
+      memory = λ _ is. cc;
+      silent = λ _ is. cc;
+      silent_at_files = tt;
+      input_fails = λ is. cc;
+      memory_fails = λ is. cc;
+    }
+
+pub returns-in_err-outcome-clause-leaves : goal.returns-in_err-outcome-clause-leaves
+returns-in_err-outcome-clause-leaves g c =
+    let items : Vec ℕ Global → List ℕ = λ path. path.items in
+    let at = g.F.FileSystem.at c.args.system.now in
+    let input = g.R.Read.remaining c.args.input.now in
+    let paths = map items c.args.paths.now in
+    let mailmaps = c.in_ok-mailmaps-2.mailmaps in
+    let same : map items c.in_ok-mailmaps.mailmaps.items ≡ mailmaps = search rules in
+    let taken = c.in_ok-read_contacts.ensures.takes in
+    let h : HasTaken mailmaps (whole_lines taken.0) c.read_contacts.new.contact_report = taken.2 mailmaps [] c.in_ok-contact_report.ensures in
+    let are : AreReadBeside at input c.args.contacts.now paths mailmaps taken.0 =
+    read_beside at c.args.contacts.now input (g.R.Read.remaining c.read_beside.new.input) paths (map items c.in_ok-mailmaps.mailmaps.items) mailmaps taken.0 c.in_ok-mailmaps.ensures.ok same
+    (λ dash. ap (λ i. g.R.Read.remaining i) (c.read_beside.ensures.unread_for_contacts dash)) taken.1 in
+    let begins = begins_answer at input c.args.contacts.now paths mailmaps taken.0 (g.W.Write.contents c.args.output.now) (g.W.Write.contents c.print_both.new.output) are
+    (c.in_err-outcome.ensures.err taken.0 h) in
+    let e = c.in_err-outcome.field-0.0 in
+    let failed : c.from_residual-in_err-outcome.result ≡ Err (Run e) = search rules in
+    rw failed (left_front at input (g.R.Read.remaining c.read_contacts.new.input) Contacts c.args.contacts.now paths g.W.Write.contents c.args.output.now c.print_both.new.output e (inr refl) (λ is. cc)
+    c.in_err-outcome.ensures.only (λ _. begins) (λ _. inr begins))
+
+pub returns-clause-reads_all : goal.returns-clause-reads_all
+returns-clause-reads_all g c =
+    let items : Vec ℕ Global → List ℕ = λ path. path.items in
+    let between = g.R.Read.remaining c.read_beside.new.input in
+    let after = g.R.Read.remaining c.read_contacts.new.input in
+    λ reads. ends_beside items (is_dash c.args.contacts.now) c.args.paths.now between after reads.2 c.in_ok-read_contacts.ensures.reads_all
+    (λ file. ap (λ i. g.R.Read.remaining i) (c.read_contacts.ensures.unread file)) c.in_ok-mailmaps.ensures.reads_all

@@ -1,0 +1,11 @@
+-- So much of the input was read, what is said of its whole lines is written, and the rest is held.
+use Rattle.std.proofs.Common.{◌≡◌, []}
+use Rattle.verify_command.specs.Explained.{explained_line}
+use Rattle.verify_command.proofs.Explaining.{HasAnswered}
+use Rattle.verify_command.proofs.explain.explain_input.Given as goal
+
+abbrev pub invariant-loop : goal.invariant-loop
+invariant-loop g l =
+    HasAnswered (explained_line l.fn.explainer) (g.R.Read.remaining l.fn.input) (g.R.Read.remaining l.input) l.held.items (g.W.Write.contents l.fn.output) (g.W.Write.contents l.output)
+    × (l.printer ≡ [])
+    × (l.explainer ≡ l.fn.explainer)

@@ -1,0 +1,103 @@
+-- Explanations of contacts, line by line: what each maps to, and the mailmap lines behind it.
+use Rattle.std.specs.Prelude.{◌≡◌, List, [], ◌∷◌, ◌++◌, Option, None, Some, IfSome, codes}
+use Rattle.std.specs.Io.KnownBytes.{Consumes}
+use Rattle.std.specs.List.{All, flat_map}
+use Rattle.mailmap_snapshot.specs.Contacts.{contact, replaced}
+use Rattle.mailmap_findings.specs.Explanations.{giving_positions}
+use Rattle.mailmap_entries.specs.Folding.{Text}
+use Rattle.mailmap_redundancy.specs.Origins.{Origins, origins}
+use Rattle.mailmap_entries.specs.Semantics.{Fields, answer_of}
+use Rattle.mailmap_grammar.specs.Lines.{ParsedContact, Absent, Unclosed, Closed, HoldsNo, contact_in}
+use Rattle.mailmap_snapshot.specs.Parts.{EndsLine}
+use Rattle.mailmap_findings.specs.Positions.{lines, located, whole_lines}
+use Rattle.mailmap_redundancy.specs.Redundancy.{AreEffective, LocatedMapping, entries}
+use Rattle.mailmap_grammar.specs.Trimming.{trim}
+use Rattle.mailmap_redundancy.specs.declared.located.Position.{Position}
+use Rattle.answer_cache.specs.Kept.{Kept}
+use Rattle.verify_command.specs.Report.{position_text, shown}
+
+-- ---- one line
+
+-- what explanations are made from: the paths of mailmaps, their entries, and the effective ones
+pub record Grounds : Type 0 where
+  pub paths : List Text
+  pub history : List LocatedMapping
+  pub kept : List LocatedMapping
+
+-- FILE:LINE, FILE:LINE
+abbrev pub positions_text : List Text → List Position → Text
+positions_text paths [] = []
+positions_text paths (p ∷ ps) =
+    position_text paths p.buffer p.line ++ flat_map (λ q. codes ", " ++ position_text paths q.buffer q.line) ps
+
+-- the text after a contact: the contact with its new fields, and the lines behind them
+abbrev pub mapped_text : List Text → Origins → Option Fields → Text → Text → Text
+mapped_text paths g None name email = codes " is not mapped"
+mapped_text paths g (Some f) name email =
+    codes " is " ++ replaced f name email ++ codes " by " ++ positions_text paths (giving_positions g f)
+
+-- the explanation of a line that starts with this contact
+abbrev pub contact_explained : Grounds → Text → ParsedContact → Text
+contact_explained g line Absent = line ++ codes " is no contact"
+contact_explained g line Unclosed = line ++ codes " is no contact"
+contact_explained g line (Closed name email rest) =
+    contact name email
+    ++ mapped_text g.paths (origins g.kept name email) (answer_of (entries g.history) name email) name email
+
+-- a line of output with escapes; a blank line has none
+abbrev pub shown_unless_blank : Text → Text → Text
+shown_unless_blank [] text = []
+shown_unless_blank (b ∷ line) text = shown text ++ 10 ∷ []
+
+-- the line of output for a line of contacts
+abbrev pub explained_line : Grounds → Text → Text
+explained_line g line =
+    shown_unless_blank (trim line) (contact_explained g (trim line) (contact_in line))
+
+-- each row is a line with its explanation
+abbrev pub ExplainsEach : Grounds → List Kept → Type 0
+ExplainsEach g kept = All (λ k. k.answer ≡ explained_line g k.line) kept
+
+-- ---- lines that are answered one after another
+
+abbrev pub each_line : (Text → Text) → Text → Text
+each_line answer text = flat_map answer (whole_lines text)
+
+-- the text answers whole lines at the start of these bytes, and `rest` is the rest of them
+pub record AnswersFront (answer : Text → Text) (bytes text rest : Text) : Type 0 where
+  pub whole : Text
+  pub ends : EndsLine whole
+  pub bytes_are : bytes ≡ whole ++ rest
+  pub text_is : text ≡ each_line answer whole
+
+-- The text answers all lines of the input. If the input is unknown, it answers some lines.
+abbrev pub AnswersAll : (Text → Text) → Option Text → Text → Type 0
+AnswersAll answer input text = (lines : Text) × IfSome input (λ bytes. lines ≡ bytes) × (text ≡ each_line answer lines)
+
+-- The text answers whole lines at the start of what was read from the input.
+abbrev pub AnswersLines : (Text → Text) → Option Text → Option Text → Text → Type 0
+AnswersLines answer old new text = (read rest : Text) × Consumes old new read × AnswersFront answer read text rest
+
+-- the same, and all whole lines that were read are answered
+abbrev pub AnswersWholeLines : (Text → Text) → Option Text → Option Text → Text → Type 0
+AnswersWholeLines answer old new text =
+    (read rest : Text) × Consumes old new read × AnswersFront answer read text rest × HoldsNo 10 rest
+
+-- ---- explanations with mailmaps
+
+-- The text is made of explanations with mailmaps that were read from these paths.
+abbrev pub Explains : List Text → List Text → ((Text → Text) → Text → Type 0) → Text → Type 0
+Explains paths mailmaps IsText text =
+    (kept : List LocatedMapping) × AreEffective (located (lines mailmaps)) kept
+    × IsText (explained_line (record { paths = paths; history = located (lines mailmaps); kept = kept })) text
+
+-- It explains all lines of the input; whole lines at the start of what was read; or all whole lines that were read.
+abbrev pub ExplainsAll : List Text → List Text → Option Text → Text → Type 0
+ExplainsAll paths mailmaps input text = Explains paths mailmaps (λ answer. AnswersAll answer input) text
+
+abbrev pub ExplainsLines : List Text → List Text → Option Text → Option Text → Text → Type 0
+ExplainsLines paths mailmaps old new text = Explains paths mailmaps (λ answer. AnswersLines answer old new) text
+
+abbrev pub ExplainsWholeLines : List Text → List Text → Option Text → Option Text → Text → Type 0
+ExplainsWholeLines paths mailmaps old new text =
+    Explains paths mailmaps (λ answer. AnswersWholeLines answer old new) text

@@ -1,0 +1,331 @@
+//! Verifies mailmaps together with contacts.
+ghost use Rattle.std.specs.Prelude.{◌≡◌, ◌≢◌, ◌⊎◌, ◌++◌, [], ℕ, IfErr, IfOk, IfSome, IsErr, IsErrOf, List, OnErr, OnOk};
+ghost use Rattle.std.specs.Prelude.{Option, false, map, take, true};
+ghost use Rattle.std.specs.Io.KnownBytes.{Appends, IsAtEnd};
+ghost use Rattle.std.specs.List.{flat_map};
+ghost use Rattle.mailmap_entries.specs.Folding.{Text};
+ghost use Rattle.mailmap_findings.specs.Positions.{whole_lines};
+ghost use Rattle.mailmap_findings.specs.Remarks.{remark_of};
+ghost use Rattle.command_line.specs.Failures.{IsOfFile, IsOfInput};
+ghost use Rattle.command_line.specs.Files.{NamesFile, texts};
+ghost use Rattle.command_line.specs.Printing.{IsUnderway, Prints, PrintsFront};
+ghost use Rattle.command_line.specs.declared.outcome.Outcome.{Outcome as TheOutcome};
+ghost use Rattle.mailmap_likeness.specs.Likeness.{answered};
+ghost use Rattle.verify_command.specs.Contacts.{IsReportBeside, no_contact, noted, outcome_of_both, remark_line};
+ghost use Rattle.verify_command.specs.Contacts.{said_line, said_text};
+ghost use Rattle.verify_command.specs.Taken.{HasTaken};
+ghost use Rattle.verify_command.specs.Taking.{Takes};
+ghost use Rattle.verify_command.specs.Task.{AreContacts, AreMailmapsBeside, FailsFor, FailsForContacts, IsOfMailmap};
+ghost use Rattle.verify_command.specs.Task.{Leaves, ReadsInput, contacts_name, is_dash};
+
+use crate::answer::read_mailmaps;
+use crate::asked::Mode;
+use crate::contact_report::{ContactReport, Notice};
+use crate::failure::TaskFailure;
+use crate::likeness::{likeness_lines, push_place};
+use crate::report::{line_of, push_position, shown_text};
+use bstr::ByteSlice;
+use command_line::failure::Failure;
+use command_line::files::{FileSystem, list_of, read_files};
+use command_line::lines::read_lines;
+use command_line::outcome::Outcome;
+use command_line::printer::Printer;
+use mailmap_findings::remarks::{Remark, Remarks};
+use mailmap_findings::verify::{Mailmaps, Position, Verification};
+use mailmap_likeness::answers::Answer;
+use std::alloc::{AllocError, Global};
+use std::io::{ErrorKind, Read, Write};
+
+/// Prints the findings in the mailmaps at these paths and in a file of contacts, and the lines that no contact needs.
+///
+/// Reads the mailmaps first, then the contacts in parts; `-` is the input. Nothing is written before everything is
+/// read. Memory grows with the mailmaps, with the number of distinct answers, with the number of lines that are no
+/// contacts, and with the longest line, but not with the number of contacts.
+pub fn verify_contacts<F: FileSystem, R: Read, W: Write>(
+    system: &F,
+    alloc: Global,
+    contacts: &[u8],
+    paths: &[Vec<u8>],
+    input: &mut R,
+    output: &mut W,
+) -> Result<Outcome, TaskFailure>
+    // Exactly the report is written; after a failure, a prefix of it or nothing.
+    ensures leaves { Leaves (F.at system.now) (R.remaining input.old)
+        (R.remaining input.new) Mode.Contacts contacts.now (texts paths.now) W.contents output.old output.new result }
+    ensures reads_all { ReadsInput Mode.Contacts contacts.now (texts paths.now)
+        → OnOk result (IsAtEnd (R.remaining input.new)) }
+    ensures unread { is_dash contacts.now ≡ false → paths.now ≢ [] → input.new ≡ input.old }
+    ensures unread_at_files { IfErr result (λ e. IsOfMailmap e → input.new ≡ input.old) }
+    ensures fails { IfErr result (FailsFor (F.at system.now) (R.remaining input.old)
+        Mode.Contacts contacts.now (texts paths.now)) }
+{
+    let mailmaps = read_beside(system, alloc, contacts, paths, input)?;
+    let buffers = list_of(alloc, mailmaps.as_slice())?;
+    let mailmaps = Mailmaps::read(alloc, buffers.as_slice())?;
+    let mut contact_report = ContactReport::new(alloc, &mailmaps)?;
+    read_contacts(system, alloc, contacts, input, &mut contact_report)?;
+    let outcome = print_both(alloc, contacts, paths, &mailmaps, &contact_report, output)?;
+    Ok(outcome)
+}
+
+// Reads the mailmaps at the paths. Without paths, the input is the mailmap, unless it has the contacts.
+fn read_beside<F: FileSystem, R: Read>(
+    system: &F,
+    alloc: Global,
+    contacts: &[u8],
+    paths: &[Vec<u8>],
+    input: &mut R,
+) -> Result<Vec<Vec<u8>>, Failure>
+    ensures ok { IfOk result (λ mailmaps. AreMailmapsBeside (F.at system.now) contacts.now
+        (texts paths.now) (R.remaining input.old) (texts mailmaps.items)) }
+    ensures reads_all { is_dash contacts.now ≡ false → paths.now ≡ [] → OnOk result (IsAtEnd (R.remaining input.new)) }
+    ensures unread { paths.now ≢ [] → input.new ≡ input.old }
+    ensures unread_at_files { IfErr result (λ e. IsOfFile e → input.new ≡ input.old) }
+    ensures unread_for_contacts { is_dash contacts.now ≡ true → input.new ≡ input.old }
+    ensures file { IfErr result (NamesFile (F.at system.now) (texts paths.now)) }
+    ensures input { IfErr result (λ e. IsOfInput e → paths.now ≡ []) }
+    ensures no_output { ¬ IsErrOf result Failure.Output }
+{
+    if contacts == b"-".as_slice() {
+        return read_files(system, alloc, paths);
+    }
+    read_mailmaps(system, alloc, paths, input)
+}
+
+fn read_contacts<F: FileSystem, R: Read>(
+    system: &F,
+    alloc: Global,
+    contacts: &[u8],
+    input: &mut R,
+    contact_report: &mut ContactReport<'_, '_>,
+) -> Result<(), TaskFailure>
+    ensures takes { OnOk result ((text : Text) × AreContacts (F.at system.now)
+        contacts.now (R.remaining input.old) text × Takes (whole_lines text) contact_report.old contact_report.new) }
+    ensures reads_all { is_dash contacts.now ≡ true → OnOk result (IsAtEnd (R.remaining input.new)) }
+    ensures unread { is_dash contacts.now ≡ false → input.new ≡ input.old }
+    ensures fails { IfErr result (FailsForContacts (F.at system.now) contacts.now) }
+{
+    if contacts == b"-".as_slice() {
+        return Ok(add_all(alloc, input, contact_report)?);
+    }
+    let mut file = match system.open(contacts) {
+        Ok(file) => file,
+        Err(e) => return Err(TaskFailure::Contacts { cause: e.kind() }),
+    };
+    match add_all(alloc, &mut file, contact_report) {
+        Ok(()) => Ok(()),
+        Err(Failure::Input { cause }) => Err(TaskFailure::Contacts { cause }),
+        Err(_) => Err(TaskFailure::Run(Failure::Memory)),
+    }
+}
+
+fn add_all<R: Read>(
+    alloc: Global,
+    reader: &mut R,
+    contact_report: &mut ContactReport<'_, '_>,
+) -> Result<(), Failure>
+    ensures takes { OnOk result ((text : Text) × IfSome (R.remaining reader.old) (λ bytes. text ≡ bytes)
+        × Takes (whole_lines text) contact_report.old contact_report.new) }
+    ensures end { OnOk result (IsAtEnd (R.remaining reader.new)) }
+    ensures only { IfErr result (λ e. IsOfInput e ⊎ (e ≡ Failure.Memory)) }
+{
+    let mut held = Vec::new(alloc);
+    let mut text = Vec::new(alloc);
+    for _ in 0..u64::MAX {
+        let more = read_lines(reader, &mut held, &mut text)?;
+        add_lines(contact_report, text.as_slice())?;
+        if !more {
+            return Ok(());
+        }
+    }
+    // Not reached: no input has so many reads.
+    Err(Failure::Input {
+        cause: ErrorKind::Other,
+    })
+}
+
+fn add_lines(contact_report: &mut ContactReport<'_, '_>, text: &[u8]) -> Result<(), Failure>
+    ensures takes { OnOk result (Takes (whole_lines text.now) contact_report.old contact_report.new) }
+    ensures only { IfErr result (λ e. e ≡ Failure.Memory) }
+{
+    for line in text.lines_with_terminator() {
+        contact_report.add_line(line)?;
+    }
+    Ok(())
+}
+
+// Prints the findings in the mailmaps and the unneeded lines, and then the findings about the contacts.
+fn print_both<W: Write>(
+    alloc: Global,
+    contacts: &[u8],
+    paths: &[Vec<u8>],
+    mailmaps: &Mailmaps<'_, '_>,
+    contact_report: &ContactReport<'_, '_>,
+    output: &mut W,
+) -> Result<Outcome, Failure>
+    ensures ok { (taken : Text) → HasTaken mailmaps.now (whole_lines taken) contact_report.now → IfOk result (λ outcome.
+        Prints (IsReportBeside (texts paths.now) (contacts_name contacts.now) mailmaps.now taken
+        outcome) (W.contents output.old) (W.contents output.new)) }
+    ensures err { (taken : Text) → HasTaken mailmaps.now (whole_lines taken) contact_report.now → OnErr result
+        ((outcome : TheOutcome) × PrintsFront (IsReportBeside (texts paths.now)
+        (contacts_name contacts.now) mailmaps.now taken outcome) (W.contents output.old) (W.contents output.new)) }
+    ensures only { IfErr result (λ e. (e ≡ Failure.Memory) ⊎ (e ≡ Failure.Output)) }
+{
+    let verification = Verification::new(alloc, mailmaps)?;
+    let unneeded = contact_report.needs.unneeded(alloc)?;
+    let remarks = Remarks::new(verification.findings(), unneeded.as_slice());
+    let outcome = print_remarks(alloc, paths, remarks, output)?;
+    print_notices(
+        alloc,
+        shown_name(contacts),
+        contact_report.answers.as_slice(),
+        contact_report.notices.as_slice(),
+        output,
+    )?;
+    if contact_report.found {
+        return Ok(Outcome::Found);
+    }
+    Ok(outcome)
+}
+
+// The name of the file of contacts in messages.
+fn shown_name(contacts: &[u8]) -> &[u8]
+    ensures { result.now ≡ contacts_name contacts.now }
+{
+    if contacts == b"-".as_slice() {
+        return b"<stdin>";
+    }
+    contacts
+}
+
+// Prints a line for each remark, and returns whether there is one.
+fn print_remarks<W: Write>(
+    alloc: Global,
+    paths: &[Vec<u8>],
+    remarks: Remarks<'_, '_>,
+    output: &mut W,
+) -> Result<Outcome, Failure>
+    ensures ok { IfOk result (λ outcome. (outcome ≡ outcome_of_both remarks.entry [])
+        × Appends (W.contents output.old) (W.contents output.new)
+        (flat_map (remark_line (texts paths.now)) remarks.entry)) }
+    ensures err { OnErr result ((count : ℕ) × Appends (W.contents output.old) (W.contents output.new)
+        (take count (flat_map (remark_line (texts paths.now)) remarks.entry))) }
+    ensures only { IfErr result (λ e. (e ≡ Failure.Memory) ⊎ (e ≡ Failure.Output)) }
+{
+    let mut printer = Printer::new(alloc)?;
+    let mut outcome = Outcome::Clean;
+    for remark in remarks {
+        outcome = Outcome::Found;
+        print_remark(alloc, paths, &remark, &mut printer, output)?;
+    }
+    printer.flush(output)?;
+    Ok(outcome)
+}
+
+fn print_remark<W: Write>(
+    alloc: Global,
+    paths: &[Vec<u8>],
+    remark: &Remark<'_>,
+    printer: &mut Printer,
+    output: &mut W,
+) -> Result<(), Failure>
+    ensures ok { OnOk result (IsUnderway (printer.old ++ remark_line (texts paths.now) (remark_of remark.now))
+        (W.contents output.old) (W.contents output.new) printer.new) }
+    ensures err { OnErr result ((count : ℕ) × Appends (W.contents output.old) (W.contents output.new)
+        (take count (printer.old ++ remark_line (texts paths.now) (remark_of remark.now)))) }
+    ensures only { IfErr result (λ e. (e ≡ Failure.Memory) ⊎ (e ≡ Failure.Output)) }
+{
+    let line = line_of_remark(alloc, paths, remark)?;
+    printer.print(output, line.as_slice())
+}
+
+fn line_of_remark(
+    alloc: Global,
+    paths: &[Vec<u8>],
+    remark: &Remark<'_>,
+) -> Result<Vec<u8>, AllocError>
+    ensures { IfOk result (λ line. line.items ≡ remark_line (texts paths.now) (remark_of remark.now)) }
+{
+    match remark {
+        Remark::Found(finding) => line_of(alloc, paths, finding),
+        Remark::Unneeded(position) => unneeded_line(alloc, paths, *position),
+    }
+}
+
+fn unneeded_line(
+    alloc: Global,
+    paths: &[Vec<u8>],
+    position: Position,
+) -> Result<Vec<u8>, AllocError>
+    ensures { IfOk result (λ line. line.items ≡ remark_line (texts paths.now) (remark_of (Remark.Unneeded position))) }
+{
+    let mut text = Vec::new(alloc);
+    push_position(&mut text, paths, position)?;
+    text.extend_from_slice(b": warning: no contact needs it")?;
+    let mut line = shown_text(alloc, text)?;
+    line.push(b'\n')?;
+    Ok(line)
+}
+
+fn print_notices<W: Write>(
+    alloc: Global,
+    file: &[u8],
+    answers: &[Answer],
+    notices: &[Notice],
+    output: &mut W,
+) -> Result<(), Failure>
+    ensures ok { OnOk result (Appends (W.contents output.old) (W.contents output.new)
+        (said_text file.now (flat_map (noted (map answered answers.now)) notices.now))) }
+    ensures err { OnErr result ((count : ℕ) × Appends (W.contents output.old) (W.contents output.new)
+        (take count (said_text file.now (flat_map (noted (map answered answers.now)) notices.now)))) }
+    ensures only { IfErr result (λ e. (e ≡ Failure.Memory) ⊎ (e ≡ Failure.Output)) }
+{
+    let mut printer = Printer::new(alloc)?;
+    for notice in notices {
+        print_notice(alloc, file, answers, *notice, &mut printer, output)?;
+    }
+    printer.flush(output)
+}
+
+fn print_notice<W: Write>(
+    alloc: Global,
+    file: &[u8],
+    answers: &[Answer],
+    notice: Notice,
+    printer: &mut Printer,
+    output: &mut W,
+) -> Result<(), Failure>
+    ensures ok { OnOk result (IsUnderway (printer.old ++ said_text file.now (noted (map answered answers.now) notice))
+        (W.contents output.old) (W.contents output.new) printer.new) }
+    ensures err { OnErr result ((count : ℕ) × Appends (W.contents output.old) (W.contents output.new)
+        (take count (printer.old ++ said_text file.now (noted (map answered answers.now) notice)))) }
+    ensures only { IfErr result (λ e. (e ≡ Failure.Memory) ⊎ (e ≡ Failure.Output)) }
+{
+    let lines = lines_of_notice(alloc, file, answers, notice)?;
+    printer.print(output, lines.as_slice())
+}
+
+fn lines_of_notice(
+    alloc: Global,
+    file: &[u8],
+    answers: &[Answer],
+    notice: Notice,
+) -> Result<Vec<u8>, AllocError>
+    ensures { IfOk result (λ lines. lines.items ≡ said_text file.now (noted (map answered answers.now) notice)) }
+{
+    match notice {
+        Notice::NoContact(line) => no_contact_line(alloc, file, line),
+        Notice::Alike(index, likeness) => likeness_lines(alloc, file, answers, index, likeness),
+    }
+}
+
+fn no_contact_line(alloc: Global, file: &[u8], line: usize) -> Result<Vec<u8>, AllocError>
+    ensures { IfOk result (λ text. text.items ≡ said_line file.now (no_contact line)) }
+{
+    let mut text = Vec::new(alloc);
+    push_place(&mut text, file, line)?;
+    text.extend_from_slice(b": error: no contact")?;
+    let mut line = shown_text(alloc, text)?;
+    line.push(b'\n')?;
+    Ok(line)
+}

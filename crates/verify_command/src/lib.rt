@@ -1,0 +1,16 @@
+//! The program `mailmap_verify`, except for its `main`: its arguments and its modes, over any reader, writer and file
+//! system. `command_line` has what the programs share.
+#![tactic(auto)]
+
+pub mod answer;
+mod asked;
+mod contact_report;
+pub mod contacts;
+pub mod explain;
+pub mod explanation;
+pub mod failure;
+mod git;
+pub mod likeness;
+pub mod report;
+mod shortened;
+pub mod task;

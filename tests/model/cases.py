@@ -1,0 +1,111 @@
+#!/usr/bin/env python3
+"""Makes the stored cases of tests/verify and of tests/shortlog, or checks them.
+
+    cases.py             makes them again with the seed that is stored beside this file
+    cases.py SEED        makes them with another seed, and stores that
+    cases.py --check     writes nothing, and fails if a stored case isn't the one that the stored seed makes
+
+The seed makes up the mailmaps and contacts (buffers.py), and the answers are the model's.
+"""
+import json
+import sys
+from pathlib import Path
+
+sys.dont_write_bytecode = True
+from buffers import Writer
+from contacts import explain, verify_contacts
+from findings import prune, verify
+from mailmap import lines
+from shortlog import shortlog
+
+TESTS = Path(__file__).resolve().parent.parent
+SEED = Path(__file__).with_name("seed")
+
+
+def hexed(texts):
+    return [text.hex() for text in texts]
+
+
+def names_of(files):
+    return [b"m%d" % number for number in range(1, len(files) + 1)]
+
+
+# ---- the stored line of a case, from the files of the case
+
+def verified(files):
+    status, printed = verify(files, names_of(files))
+    case = {"files": hexed(files), "verify": [status, printed.hex()]}
+    if len(files) == 1:
+        status, *texts = prune(files[0], b"m1")
+        case["prune"] = [status, *hexed(texts)]
+    return case
+
+
+def verified_case(writer, count):
+    return verified([writer.mailmap() for _ in range(count)])
+
+
+def explained_case(writer, count):
+    files, contacts = [writer.mailmap() for _ in range(count)], writer.contacts()
+    explained = explain(files, names_of(files), contacts)
+    status, printed = verify_contacts(files, names_of(files), contacts, b"c")
+    return {
+        "files": hexed(files), "contacts": contacts.hex(),
+        "explained": explained.hex(), "with_contacts": [status, printed.hex()],
+    }
+
+
+def shortlog_case(writer, count):
+    files, contacts = [writer.mailmap() for _ in range(count)], writer.contacts()
+    printed = [shortlog(files, contacts, by_count, email) for by_count in (False, True) for email in (False, True)]
+    return {"files": hexed(files), "contacts": contacts.hex(), "shortlog": hexed(printed)}
+
+
+# ---- the files
+
+# how each is made, the share of long lines, and how many cases have one mailmap, two and three
+FILES = {
+    "verify/cases.jsonl": (verified_case, 0, [240, 72, 88]),
+    "verify/git.jsonl": (verified_case, 0.022, [230, 78, 92]),
+    "verify/explained.jsonl": (explained_case, 0.022, [230, 78, 92]),
+    "shortlog/cases.jsonl": (shortlog_case, 0.005, [230, 78, 92]),
+}
+
+
+def made(file, seed):
+    """The lines of a file. Each case has a seed of its own, so that adding a case doesn't change others."""
+    make, long, counts = FILES[file]
+    for size, count in enumerate(counts, 1):
+        for number in range(1, count + 1):
+            writer = Writer(f"{seed} {file} {size} {number}", long)
+            yield json.dumps(make(writer, size)).encode("ascii") + b"\n"
+
+
+def check(seed):
+    """The number of stored cases, if all of them are those that the seed makes."""
+    total = 0
+    for file in FILES:
+        stored, wanted = lines((TESTS / file).read_bytes()), list(made(file, seed))
+        for number in range(max(len(stored), len(wanted))):
+            if stored[number:number + 1] != wanted[number:number + 1]:
+                sys.exit(f"model: tests/{file}:{number + 1} is not the case that seed {seed} makes")
+        total += len(wanted)
+    return total
+
+
+def main(arguments):
+    if arguments == ["--check"]:
+        seed = int(SEED.read_text())
+        print(f"model: {check(seed)} stored cases are those of seed {seed}")
+    elif not arguments or len(arguments) == 1 and arguments[0].isdecimal():
+        seed = int(arguments[0] if arguments else SEED.read_text())
+        for file in FILES:
+            (TESTS / file).write_bytes(b"".join(made(file, seed)))
+        SEED.write_text(f"{seed}\n")
+        print(f"model: made the cases of seed {seed}")
+    else:
+        sys.exit(__doc__)
+
+
+if __name__ == "__main__":
+    main(sys.argv[1:])

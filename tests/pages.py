@@ -1,0 +1,165 @@
+#!/usr/bin/env python3
+"""Checks that what the pages name is there.
+
+In all pages: files, links, laws, commands of the Makefile, crates. In docs/MODEL.md: the files of definitions, what the
+sections on definitions define, each function with its clauses and each mutant or test in the table of promises. In
+docs/ARCHITECTURE.md: the arrows of the graph, which are those of crates.txt, and the modules of the table. In these two
+and in CONTRIBUTING.md: all other names in code.
+"""
+import re
+import sys
+from collections import defaultdict
+from itertools import pairwise
+from pathlib import Path
+
+TOP = Path(__file__).resolve().parents[1]
+GUIDE, MODEL, ARCHITECTURE = (TOP / name for name in ("CONTRIBUTING.md", "docs/MODEL.md", "docs/ARCHITECTURE.md"))
+PAGES = [TOP / "README.md", GUIDE, *sorted(TOP.glob("docs/*.md")), *sorted(TOP.glob("bench/results/*.md")),
+         TOP / "python/README.md"]
+# a path of this repository in code or as the target of a link
+PATH = re.compile(
+    r"(?<![\w/.<-])((?:crates|tests|bench|debian|docs|packaging|python|include|sample|man|c)/[\w./-]*[\w/])")
+# a link, and the heading in the page
+LINK = re.compile(r"\]\(([^)#:]*)#?([^):]*)\)")
+# what is built, and isn't in the repository
+BUILT = re.compile(r"/out(/|$)")
+# what a line of a source file declares: the type of an impl, a function, a clause, a type or the like, a variant
+DECLARED = re.compile(
+    r"^(?:impl(?:<[^{]*?>)? (?:[^{]* for )?(?:\w+::)*|pub trait )(?P<owner>\w+)"
+    r"|^ *(?:pub(?:\(crate\))? )?(?:extern \"C\" )?fn (?P<function>\w+)"
+    r"|^ +(?:ensures|ghost) (?P<clause>\w+)(?: =|:)? \{"
+    r"|^(?:pub(?:\(crate\))? )?(?:struct|enum|const) (?P<item>\w+)"
+    r"|^    (?:pub(?:\(crate\))? )?(?P<part>[A-Za-z]\w*)\b(?=[:({,])", re.MULTILINE)
+# what a line of a file of definitions declares: a definition, a record, a field or a constructor
+DEFINED = re.compile(r"^(?: *pub (?:record |data )?|(?:abbrev|unfoldable) pub |  )(\w+)(?= [:({])", re.MULTILINE)
+# names of the language, the toolchain and the standard library
+KNOWN = set("Ok Err None Some Result Less Model Debug collect ensures requires rt make".split())
+
+
+class Sources:
+    """What the crates declare."""
+
+    def __init__(self):
+        # the clauses of each function and type, by its name alone, and after that of its type, its module and its crate
+        self.clauses = defaultdict(set)
+        # what is in the files of definitions, and all other names; a module also after the one that it is in
+        self.defined, self.names = set(), set()
+        self.mutants = {file.stem for file in TOP.glob("crates/*/must-fail/*.edit")}
+        self.names.update(file.name for file in (*TOP.glob("*"), *TOP.glob("crates/*/*")))
+        self.names.update(re.findall(r"\bgix_mailmap_\w+", (TOP / "include/gix_mailmap.h").read_text()))
+        for file in TOP.glob("crates/*/src/**/*.rt"):
+            crate, _, *inner = file.relative_to(TOP / "crates").with_suffix("").parts
+            self.names.update((crate, *inner), map("::".join, pairwise((crate, *inner))))
+            self.read(file.read_text(), crate, file.stem)
+        for file in TOP.glob("crates/*/specs/*.antt"):
+            self.defined.update(DEFINED.findall(file.read_text()))
+
+    def read(self, text, crate, module):
+        owner, keys = "", []
+        for found in DECLARED.finditer(text):
+            kind, name = found.lastgroup, found[found.lastgroup]
+            self.names.add(name)
+            if kind in ("function", "item"):
+                owner = owner if found[0].startswith(" ") else ""
+                keys = [name, *(f"{place}::{name}" for place in (owner, module, crate))]
+            elif kind == "owner":
+                owner, keys = name, [name]
+            for key in keys:
+                self.clauses[key].update([name] if kind == "clause" else [])
+
+
+def table(text, heading):
+    """The cells of the rows of the first table after a heading, without its head."""
+    rows = re.search(re.escape(heading) + r"\n.*?\n\|.*?\n\|[-|]+\n(.*?)(?:\n\n|\Z)", text, re.DOTALL)[1]
+    return [[cell.strip() for cell in row.strip("|").split(" | ")] for row in rows.splitlines()]
+
+
+def unknown(text, sources):
+    """What code in the text names that is declared nowhere."""
+    text = re.sub(r"^```.*?^```|^    .*?$", "", text, flags=re.DOTALL | re.MULTILINE)
+    there = sources.names | sources.defined | sources.mutants | KNOWN | set(sources.clauses)
+    for name in set(re.findall(r"`((?:\w+::)*[A-Za-z]\w+)(?: [a-z ]+)?`", text)):
+        parts = name.split("::")
+        yield from (f"nothing is named {part}" for part in {parts[0], *map("::".join, pairwise(parts))} - there)
+
+
+def model(sources):
+    """What docs/MODEL.md names that isn't there."""
+    text = MODEL.read_text()
+    for crate, *files in table(text, "## Where the definitions are"):
+        there = {file.stem for file in TOP.glob(f"crates/{crate.strip('`')}/specs/*.antt")} - {"Lib"}
+        listed = set(re.findall(r"\w+", " ".join(files)))
+        yield from (f"the files of {crate} differ in {file}" for file in there ^ listed)
+    definitions, promises = text.split("## Texts")[1].split("## Promises")
+    for name in set(re.findall(r"^- `(\w+)", definitions, re.MULTILINE)) - sources.defined:
+        yield f"no definition {name}"
+    for _, contracts, tests in table("## Promises" + promises, "## Promises"):
+        for function, clauses in re.findall(r"`([\w:]+)`(?: \(([^)]*)\))?", contracts):
+            if function not in sources.clauses:
+                yield f"no function {function}"
+            for clause in set(re.findall(r"\w+", clauses)) - sources.clauses.get(function, set()):
+                yield f"{function} has no clause {clause}"
+        for test in set(re.findall(r"`([a-z0-9]+(?:_[a-z0-9]+){2,})`", tests)) - sources.mutants - sources.names:
+            yield f"no mutant or test {test}"
+    yield from unknown(re.sub(r"^\|.*$", "", text, flags=re.MULTILINE), sources)
+
+
+def reached(crate, uses):
+    """The crates below a crate."""
+    return uses[crate].union(*(reached(used, uses) for used in uses[crate]))
+
+
+def architecture(sources):
+    """What docs/ARCHITECTURE.md says of crates and modules that isn't so."""
+    text = ARCHITECTURE.read_text()
+    lines = [line.replace(" staticlib", "").split(":") for line in (TOP / "crates.txt").read_text().splitlines()]
+    uses = {crate: set(used.split()) & {name for name, _ in lines} for crate, used in lines}
+    # a crate that is reached through another one has no arrow of its own
+    arrows = {(crate, used) for crate in uses for used in uses[crate]
+              if not any(used in reached(other, uses) for other in uses[crate])}
+    drawn = set(re.findall(r"^ *(\w+) --> (\w+)$", text, re.MULTILINE))
+    yield from (f"the graph and crates.txt differ in {' --> '.join(arrow)}" for arrow in arrows ^ drawn)
+    modules, crate = defaultdict(set), ""
+    for name, listed, _ in table(text, "## Modules"):
+        crate = name.strip("`") or crate
+        modules[crate].update(re.findall(r"`([\w:]+)`", listed))
+    for crate, listed in modules.items():
+        files = (file.relative_to(TOP / "crates" / crate / "src") for file in TOP.glob(f"crates/{crate}/src/**/*.rt"))
+        there = {"::".join(file.with_suffix("").parts) for file in files} - {"lib", "main"}
+        yield from (f"the table and the files of {crate} differ in {module}" for module in there ^ listed)
+    yield from unknown(text, sources)
+
+
+def headings(text):
+    """The headings of a page, as links have them."""
+    lines = re.findall(r"^#+ (.*)$", text, re.MULTILINE)
+    return {re.sub(r"[^\w -]", "", line.lower()).replace(" ", "-") for line in lines}
+
+
+def missing(sources):
+    """What a page names that isn't there."""
+    targets = set(re.findall(r"^([a-z_]+):", (TOP / "Makefile").read_text(), re.MULTILINE))
+    yield from (f"docs/MODEL.md: {what}" for what in model(sources))
+    yield from (f"docs/ARCHITECTURE.md: {what}" for what in architecture(sources))
+    yield from (f"CONTRIBUTING.md: {what}" for what in unknown(GUIDE.read_text(), sources))
+    for page in PAGES:
+        text, name = page.read_text(), page.relative_to(TOP)
+        for path in set(PATH.findall(text)):
+            if not BUILT.search(path) and not (TOP / path).exists() and not list(TOP.glob(path + ".*")):
+                yield f"{name}: no file {path}"
+        for path, heading in set(LINK.findall(text)):
+            target = page.parent / path if path else page
+            if not target.exists() or heading and heading not in headings(target.read_text()):
+                yield f"{name}: a link to {path}#{heading}"
+        for law in set(re.findall(r"\blaw_\w+", text)) - sources.names:
+            yield f"{name}: no law {law}"
+        for target in set(re.findall(r"`make ([a-z_]+)", text)) - targets:
+            yield f"{name}: no command make {target}"
+        for crate in set(re.findall(r"`(mailmap_[a-z_]+)`", text)) - sources.names:
+            yield f"{name}: no crate {crate}"
+
+
+found = list(missing(Sources()))
+print(*found, sep="\n", end="\n" if found else "")
+print(f"pages: {len(PAGES) - len({line.split(':')[0] for line in found})} passed, {len(found)} failed")
+sys.exit(1 if found else 0)
