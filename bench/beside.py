@@ -5,7 +5,8 @@
 
 OLD and NEW are folders of the repository in which `make build` has built mailmap_check and mailmap_verify, and `rt run`
 in crates/mailmap_bench that program. MAPS is a folder that make_maps.py filled. The cells are single calls, merges one
-by one and in batches, and whole processes. What isn't built is left out.
+by one and in batches, and whole processes. What isn't built is left out. WORD leaves only the cells whose
+`WHAT KIND LINES`, such as `parse mixed 1000`, contains it.
 
 The two builds run in turn, at least three times each and for S seconds a cell (1 if it is not given), and the shortest
 time counts. For a single call that is what mailmap_bench prints, for a whole process its processor time. If the two
@@ -204,7 +205,7 @@ def main() -> None:
     parser.add_argument("maps", type=Path)
     parser.add_argument("--seconds", type=float, default=1)
     parser.add_argument("--without-million", action="store_true")
-    parser.add_argument("--only", default="", help="measure only the cells whose name has this word")
+    parser.add_argument("--only", default="", help="measure only the cells whose name contains this text")
     parser.add_argument("--write", action="store_true")
     parser.add_argument("--instructions", action="store_true")
     given = parser.parse_args()

@@ -11,6 +11,8 @@ the port's time divided by the original's: 0.5 is twice as fast. A cell's target
 Peak memory is the largest resident set of one building run. `beyond the file` leaves out what the same program takes
 for a walk over an empty file, and the length of the map's file, which both hold in memory.
 
+WORD leaves only the cells whose `CALL KIND LINES`, such as `parse mixed 1000` or `peak memory mixed 1000`, contains it.
+
 figures.py runs this, too, and puts the tables into bench/results/calls.md, and a part of them into docs/BENCHMARKS.md.
 """
 import itertools

@@ -15,7 +15,7 @@ run in turn, three times and for S seconds a cell (1 if it is not given); what t
 The time is that of the processor, for the program and for the system, and the least of all runs counts. The peak is the
 largest resident set. What a program takes over an empty mailmap is taken off both, but not for the ratios of two
 programs. Past 60 seconds of processor time or 8 GiB of addresses a program is stopped, and doesn't get more lines of
-that family.
+that family. WORD leaves only the families whose name, such as `long answers`, contains it.
 
 With --quick, which takes some ten minutes, families with contacts get at most 100,000 lines, programs run twice, or once
 from two seconds on, and 20 seconds are the limit.
@@ -403,7 +403,7 @@ def main() -> None:
     parser.add_argument("--lines", type=int, nargs="+", default=SIZES)
     parser.add_argument("--seconds", type=float, default=1)
     parser.add_argument("--quick", action="store_true", help="some ten minutes: fewer runs, fewer lines")
-    parser.add_argument("--only", default="", help="measure only the families whose name has this word")
+    parser.add_argument("--only", default="", help="measure only the families whose name contains this text")
     parser.add_argument("--programs", nargs="+", default=PROGRAMS, choices=PROGRAMS)
     parser.add_argument("--add", action="store_true", help="add to the figures that are in the file")
     given = parser.parse_args()

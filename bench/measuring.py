@@ -148,6 +148,6 @@ def options(description: str, sizes: Sequence[int]) -> tuple[argparse.Namespace,
     parser.add_argument("maps", type=Path)
     parser.add_argument("--seconds", type=float, default=4)
     parser.add_argument("--without-million", action="store_true")
-    parser.add_argument("--only", default="", help="measure only the cells whose name has this word")
+    parser.add_argument("--only", default="", help="measure only the cells whose name contains this text")
     given = parser.parse_args()
     return given, [lines for lines in sizes if lines < MILLION or not given.without_million]

@@ -14,7 +14,8 @@ resident set, as the system counted them (measure.c). All write into a file in m
 answer. Past twenty seconds of processor time a program is stopped, and the cell says so; it is not tried with more
 contacts then. The answers of each peer are compared with the port's, line by line.
 
-figures.py runs this, too, and puts the tables into docs/BENCHMARKS.md and bench/results/processes.md.
+WORD leaves only the cells whose `KIND LINES CONTACTS`, such as `mixed 1000 100000`, contains it. figures.py runs this,
+too, and puts the tables into docs/BENCHMARKS.md and bench/results/processes.md.
 """
 import os
 import signal

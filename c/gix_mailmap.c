@@ -52,7 +52,7 @@ const char *gix_mailmap_status_text(gix_mailmap_status status)
     case GIX_MAILMAP_NOT_AN_ENTRY:
         return "these texts make no entry";
     case GIX_MAILMAP_UNWRITABLE:
-        return "no line can hold some entry of the mailmap";
+        return "an entry can't be written as a line";
     }
     return "unknown status";
 }

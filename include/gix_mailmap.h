@@ -1,7 +1,8 @@
-/* gix_mailmap: mailmaps for git tools, over a proved library.
+/* gix_mailmap: a library for git's mailmaps, with a proved core.
  *
- * A mailmap says which names and emails people want to be known by. These calls read one, look contacts up in it, list
- * it, and find what is wrong with it.
+ * A mailmap says which names and emails to show in place of others. These calls read a mailmap, look contacts up in it,
+ * list it, and find what is wrong with it. A contact is a name and an email, as in `Jane <jane@x>`. An entry gives a
+ * new name, a new email or both, for an old email, or for an old name with that email.
  *
  *     gix_mailmap *map;
  *     char name[256], email[256];
@@ -17,29 +18,29 @@
  * Texts are bytes with a length. They need not be UTF-8. They don't end with a NUL, and may hold one. No text is kept:
  * a mailmap has copies of its own.
  *
- * A text of length 0, and a buffer or an array of length 0, may be NULL. So a call with `needed` that is given NULL and
- * 0 for its buffer says how much is needed. It returns GIX_MAILMAP_TOO_SHORT, or GIX_MAILMAP_OK if nothing is needed.
- * Only at these two statuses does `needed` say how much: at GIX_MAILMAP_OUT_OF_MEMORY it is 0, and at
- * GIX_MAILMAP_UNWRITABLE, which gix_mailmap_write returns, an index.
+ * A text, a buffer or an array of length 0 may be NULL. So a call with an argument `needed` can be made with NULL and 0
+ * for its buffer first. It returns GIX_MAILMAP_TOO_SHORT, or GIX_MAILMAP_OK if nothing is needed, and with these two
+ * statuses `needed` says how much is needed. On GIX_MAILMAP_OUT_OF_MEMORY it is 0. On GIX_MAILMAP_UNWRITABLE, which
+ * only gix_mailmap_write returns, it is an index.
  *
  *     size_t needed;
  *     if (gix_mailmap_compact(text, text_len, NULL, 0, &needed) == GIX_MAILMAP_OUT_OF_MEMORY)
  *         return 1;
  *
- * Buffers belong to the caller. What a call writes must not overlap with anything else that it is given. What a call
- * doesn't write stays as it was.
+ * Buffers belong to the caller. What a call writes must not overlap with any other argument. What a call doesn't write
+ * stays as it was.
  *
- * Threads: calls with a `const gix_mailmap *` read the mailmap, and any number of them may run at a time. Those with a
- * `gix_mailmap *` change it, and no other call may use the same mailmap at the same time. All calls with a stream
- * change it. A mailmap or a stream may be opened, used and closed by different threads. Calls with neither may run at
- * any time. No call may be made from a signal handler, or from the forked child of a process with threads.
+ * Threads: calls with a `const gix_mailmap *` read the mailmap, and any number of them may run at a time. Calls with a
+ * `gix_mailmap *` change the mailmap, and no other call may use it at the same time. All calls with a stream change the
+ * stream. A mailmap or a stream may be opened, used and closed by different threads. Calls with neither may run at any
+ * time. No call may be made from a signal handler, or from the forked child of a process with threads.
  *
  * Memory comes from the program's malloc, realloc and free.
  *
- * The structs and the numbers below are part of the binary interface. A struct keeps its size and its members. The
- * padding in one that a call writes is reserved: a later version may write members there. One that a call reads has no
- * padding: if a later version has to read more, that comes with a new struct and a new call. New numbers may come at
- * the end of an enum.
+ * The structs and the numbers below are part of the binary interface. A struct keeps its size and its members. A later
+ * version may write new members into the padding of a struct that calls write. A struct that calls read has no padding:
+ * if a later version has to read more, it will have a new struct and a new call. New numbers may come at the end of an
+ * enum.
  *
  * The comment of a call ends with the statuses that it returns, without their prefix.
  */
@@ -85,17 +86,18 @@ typedef enum gix_mailmap_status {
     GIX_MAILMAP_OUT_OF_MEMORY = 2, /* the mailmap or the stream is as it was */
     GIX_MAILMAP_NO_ENTRY = 3,      /* the mailmap has no entry at this index */
     GIX_MAILMAP_NOT_AN_ENTRY = 4,  /* these texts make no entry */
-    GIX_MAILMAP_UNWRITABLE = 5     /* no line can hold some entry of the mailmap */
+    GIX_MAILMAP_UNWRITABLE = 5     /* an entry can't be written as a line */
 } gix_mailmap_status;
 
-/* How long a text is, and whether the mailmap has it. */
+/* The length of a name or an email, and whether the mailmap gives it. For gix_mailmap_lookup a new email is also given
+ * if it differs from the contact's own only in spelling. */
 typedef struct gix_mailmap_field {
     size_t len;
     bool is_given;
 } gix_mailmap_field;
 
-/* An entry: where its texts begin in the buffer of texts, how long each of them is, and whether it is there. The texts
- * follow one another in this order. One that isn't there has length 0. An old email is always there. */
+/* An entry: where its texts begin in the buffer of texts, how long each text is, and whether the entry has it. The
+ * texts follow one another in this order. A text that is missing has length 0. The old email is never missing. */
 typedef struct gix_mailmap_listed {
     size_t start;
     gix_mailmap_field new_name;
@@ -104,31 +106,31 @@ typedef struct gix_mailmap_listed {
     gix_mailmap_field old_email;
 } gix_mailmap_listed;
 
-/* What may be wrong with a line. A line with one of the first four faults gives no entry. One with the fifth is read as
- * if it ended before the second `<`: `Jane <jane@x> <jd@y` maps jane@x to the name Jane, and `<jane@x> <jd@y` gives no
- * entry. */
+/* What may be wrong with a line. A line of one of the first four kinds gives no entry. A line of the fifth kind is read
+ * as if it ended before the second `<`: `Jane <jane@x> <jd@y` maps jane@x to the name Jane, and `<jane@x> <jd@y` gives
+ * no entry. */
 typedef enum gix_mailmap_kind {
     GIX_MAILMAP_NO_EMAIL = 1,                /* there is no `<` */
     GIX_MAILMAP_MISSING_CLOSING_BRACKET = 2, /* the first `<` has no `>` after it */
     GIX_MAILMAP_EMPTY_EMAIL = 3,             /* the first email is empty or white space */
     GIX_MAILMAP_NOTHING_TO_MAP = 4,          /* there is only an email */
     GIX_MAILMAP_UNCLOSED_SECOND = 5,         /* the second `<` has no `>` after it */
-    GIX_MAILMAP_IGNORED_TEXT = 6,            /* text after the last email is ignored */
-    GIX_MAILMAP_NO_EFFECT = 7,               /* later lines override it, or an earlier one says the same */
-    GIX_MAILMAP_ITSELF_MAPPED = 8,           /* it maps to a contact that the mailmap maps to another */
-    GIX_MAILMAP_GIT_READS = 9                /* git reads the line otherwise */
+    GIX_MAILMAP_IGNORED_TEXT = 6,            /* text after the second email, or after the only one, is ignored */
+    GIX_MAILMAP_NO_EFFECT = 7,               /* later lines override the line, or other lines already say it */
+    GIX_MAILMAP_ITSELF_MAPPED = 8,           /* the line maps to a contact that the mailmap maps to another */
+    GIX_MAILMAP_GIT_READS = 9                /* git reads the line differently */
 } gix_mailmap_kind;
 
-/* What is wrong with a line: its number, counted from 1, and one of these kinds. For GIX_MAILMAP_NO_EFFECT `beside`
- * is the number of the last line for the same old email and old name that has an effect. For all other kinds it is
- * 0. */
+/* What is wrong with a line: its number, counted from 1, and one of these kinds. For GIX_MAILMAP_NO_EFFECT `beside` is
+ * the number of the last line for the same old email, and the same old name if there is one, that does have an effect.
+ * It may come before or after. For all other kinds `beside` is 0. */
 typedef struct gix_mailmap_finding {
     size_t line;
     gix_mailmap_kind kind;
     size_t beside;
 } gix_mailmap_finding;
 
-/* A mailmap by its name and its text. */
+/* A mailmap: its name, such as that of its file, and its text. */
 typedef struct gix_mailmap_named {
     const char *name;
     size_t name_len;
@@ -136,7 +138,8 @@ typedef struct gix_mailmap_named {
     size_t text_len;
 } gix_mailmap_named;
 
-/* Where a line of some mailmaps is: the index of its mailmap, counted from 0, and its number there, counted from 1. */
+/* A line of one of several mailmaps: the index of the mailmap, counted from 0, and the line's number there, counted
+ * from 1. */
 typedef struct gix_mailmap_position {
     size_t mailmap;
     size_t line;
@@ -157,23 +160,25 @@ gix_mailmap_status gix_mailmap_open(gix_mailmap **map, const char *text, size_t 
 void gix_mailmap_close(gix_mailmap *map);
 
 /* Adds the entries of a text after those that are there. Lines that can't be read are left out. A later entry with an
- * old name replaces an earlier one for the same old email and old name. Without an old name it replaces only what it
- * gives: `P <a@x>` and then `<n@y> <a@x>` map a@x to P and n@y. Old emails and old names keep their first spelling.
+ * old name replaces an earlier one for the same old email and old name. A later entry without an old name replaces only
+ * what it gives: `P <a@x>` and then `<n@y> <a@x>` map a@x to P and n@y. Old emails and old names keep their first
+ * spelling.
  * OK; OUT_OF_MEMORY. */
 gix_mailmap_status gix_mailmap_add(gix_mailmap *map, const char *text, size_t text_len)
     GIX_MAILMAP_NONNULL(1) GIX_MAILMAP_MUST_CHECK;
 
-/* Adds one entry, as gix_mailmap_add does. Its texts are taken as they are, and none is read as a line. An empty new
- * name, new email or old name counts as missing.
+/* Adds one entry, as gix_mailmap_add does. Its texts are taken as they are, not read as a line. An empty new name, new
+ * email or old name counts as missing.
  * OK; OUT_OF_MEMORY; NOT_AN_ENTRY: there is no new name and no new email, or an old name and no new email. */
 gix_mailmap_status gix_mailmap_add_entry(gix_mailmap *map, const char *new_name, size_t new_name_len,
                                          const char *new_email, size_t new_email_len, const char *old_name,
                                          size_t old_name_len, const char *old_email, size_t old_email_len)
     GIX_MAILMAP_NONNULL(1) GIX_MAILMAP_MUST_CHECK;
 
-/* Looks a contact up by its name and email, and copies the proper name to `name_out` and the proper email to
- * `email_out`. If the mailmap gives no new name, that is the contact's own name; likewise for the email. `new_name`
- * and `new_email` are written at OK and at TOO_SHORT: the lengths, and whether the mailmap gives the text.
+/* Looks a contact up by its name and email, which are taken as they are, not trimmed. Copies its new name to `name_out`
+ * and its new email to `email_out`. If the mailmap gives no new name, the contact's own name is copied; likewise for
+ * the email, but spelled as in the first entry for it. `new_name` and `new_email` are written on OK and on TOO_SHORT:
+ * the lengths, and whether the mailmap gives the text.
  * OK; TOO_SHORT: one of the buffers is too short, and both are as they were. */
 gix_mailmap_status gix_mailmap_lookup(const gix_mailmap *map, const char *name, size_t name_len, const char *email,
                                       size_t email_len, char *GIX_MAILMAP_RESTRICT name_out, size_t name_out_len,
@@ -188,10 +193,10 @@ void gix_mailmap_len(const gix_mailmap *map, size_t *GIX_MAILMAP_RESTRICT entrie
                      size_t *GIX_MAILMAP_RESTRICT texts_len)
     GIX_MAILMAP_NONNULL(1, 2, 3);
 
-/* Lists the mailmap: one entry for each old email that is mapped whatever the name, and one for each old name of it.
- * They are sorted by old email, then by old name, without regard to the case of ASCII letters; an entry without an old
- * name comes first. Entry i is in entries[i], and its texts are in `texts` from its `start` on. `entries_len` counts
- * entries, `texts_len` bytes; gix_mailmap_len gives how many are needed.
+/* Lists the mailmap: one entry for each old email that is mapped without an old name, and one for each pair of old name
+ * and old email. Entries are sorted by old email, then by old name, without regard to the case of ASCII letters; an
+ * entry without an old name comes first. Entry i is in entries[i], and its texts are in `texts` from its `start` on.
+ * `entries_len` counts entries, `texts_len` bytes; gix_mailmap_len says how many are needed.
  * OK; TOO_SHORT: `entries` or `texts` is too short, and both are as they were. */
 gix_mailmap_status gix_mailmap_list(const gix_mailmap *map, gix_mailmap_listed *GIX_MAILMAP_RESTRICT entries,
                                     size_t entries_len, char *GIX_MAILMAP_RESTRICT texts, size_t texts_len)
@@ -205,16 +210,17 @@ gix_mailmap_status gix_mailmap_entry(const gix_mailmap *map, size_t index,
                                      size_t texts_len)
     GIX_MAILMAP_NONNULL(1, 3) GIX_MAILMAP_MUST_CHECK;
 
-/* Writes the mailmap as a text, from which gix_mailmap_open makes the same one: a line for each entry, in their order.
- * `needed` is its length, and 0 at OUT_OF_MEMORY. At UNWRITABLE it is the index of the first entry that no line can
- * hold: only gix_mailmap_add_entry adds such ones.
+/* Writes the mailmap as a text, from which gix_mailmap_open makes the same mailmap: a line for each entry, in the order
+ * of gix_mailmap_list. Each line begins with a space, so that a name such as `#1` doesn't make it a comment. `needed`
+ * is the length of the text, and 0 on OUT_OF_MEMORY. On UNWRITABLE it is the index of the first entry that can't be
+ * written as a line. Only gix_mailmap_add_entry adds such entries.
  * OK; TOO_SHORT; OUT_OF_MEMORY; UNWRITABLE. */
 gix_mailmap_status gix_mailmap_write(const gix_mailmap *map, char *GIX_MAILMAP_RESTRICT out, size_t out_len,
                                      size_t *GIX_MAILMAP_RESTRICT needed)
     GIX_MAILMAP_NONNULL(1, 4) GIX_MAILMAP_MUST_CHECK;
 
-/* Answers each line of `contacts`, such as `Jane <jane@x>`, by what the mailmap maps: a line for each line, with a
- * line feed after each. A line that is no contact is its own answer. `needed` is the length of all answers, and 0 at
+/* Maps each line of `contacts`, such as `Jane <jane@x>`, with the mailmap, and writes an answer for each, with a line
+ * feed after it. A line that isn't a contact is its own answer. `needed` is the length of all answers, and 0 on
  * OUT_OF_MEMORY.
  * OK; TOO_SHORT; OUT_OF_MEMORY. */
 gix_mailmap_status gix_mailmap_check(const char *mailmap, size_t mailmap_len, const char *contacts, size_t contacts_len,
@@ -222,25 +228,27 @@ gix_mailmap_status gix_mailmap_check(const char *mailmap, size_t mailmap_len, co
                                      size_t *GIX_MAILMAP_RESTRICT needed)
     GIX_MAILMAP_NONNULL(7) GIX_MAILMAP_MUST_CHECK;
 
-/* Writes the mailmap anew, sorted by old email, without comments, faulty lines and what later lines override. The
- * library answers by it as before. If verify finds GIX_MAILMAP_GIT_READS, git may answer otherwise. To keep the text as
- * it is but for the lines that have no effect, use gix_mailmap_prune. `needed` is the length, and 0 at OUT_OF_MEMORY.
+/* Writes a mailmap with the same entries, sorted by old email, without comments, what can't be read and what later
+ * lines override. Each line begins with a space, as by gix_mailmap_write. The library answers with it as before. If
+ * gix_mailmap_verify finds GIX_MAILMAP_GIT_READS, git may answer differently with it. To keep comments and order, use
+ * gix_mailmap_prune. `needed` is the length, and 0 on OUT_OF_MEMORY.
  * OK; TOO_SHORT; OUT_OF_MEMORY. */
 gix_mailmap_status gix_mailmap_compact(const char *mailmap, size_t mailmap_len, char *GIX_MAILMAP_RESTRICT out,
                                        size_t out_len, size_t *GIX_MAILMAP_RESTRICT needed)
     GIX_MAILMAP_NONNULL(5) GIX_MAILMAP_MUST_CHECK;
 
 /* Writes the mailmap without the lines that have no effect. All other lines stay byte for byte, comments and faulty
- * lines too. If verify finds GIX_MAILMAP_GIT_READS, git may answer otherwise by the result. `needed` is its length, and
- * 0 at OUT_OF_MEMORY.
+ * lines too. If gix_mailmap_verify finds GIX_MAILMAP_GIT_READS, git may answer differently with the result. `needed` is
+ * the length, and 0 on OUT_OF_MEMORY.
  * OK; TOO_SHORT; OUT_OF_MEMORY. */
 gix_mailmap_status gix_mailmap_prune(const char *mailmap, size_t mailmap_len, char *GIX_MAILMAP_RESTRICT out,
                                      size_t out_len, size_t *GIX_MAILMAP_RESTRICT needed)
     GIX_MAILMAP_NONNULL(5) GIX_MAILMAP_MUST_CHECK;
 
-/* Writes what is wrong with the lines of a mailmap, in their order. A line has at most three findings. All lines of no
- * effect can be removed together, as gix_mailmap_prune does; to remove only some may change how an email is spelled.
- * `out_len` counts findings. `needed` is the number of all findings, and 0 at OUT_OF_MEMORY.
+/* Writes what is wrong with the lines of a mailmap, in their order. A line has at most three findings. Removing all
+ * lines of GIX_MAILMAP_NO_EFFECT together, as gix_mailmap_prune does, changes no answer; removing only some of them may
+ * change how an email is spelled. `out_len` counts findings. `needed` is the number of all findings, and 0 on
+ * OUT_OF_MEMORY.
  * OK; TOO_SHORT; OUT_OF_MEMORY. */
 gix_mailmap_status gix_mailmap_verify(const char *mailmap, size_t mailmap_len,
                                       gix_mailmap_finding *GIX_MAILMAP_RESTRICT out, size_t out_len,
@@ -249,24 +257,24 @@ gix_mailmap_status gix_mailmap_verify(const char *mailmap, size_t mailmap_len,
 
 /* Writes what is wrong with some mailmaps as text, as mailmap_verify prints it: a line for each finding, such as
  * `NAME:3: warning: no effect beside OTHER:7`. The mailmaps are read one after another, as if they were one: a line may
- * have no effect beside a later one of another mailmap. Control bytes are shown as `\x1b`, and other control characters
- * and those that turn the direction of text as `\u202e`. Texts of more than 256 bytes are cut. `count` is the number of
- * mailmaps. `needed` is the length of the text, and 0 at OUT_OF_MEMORY.
+ * have no effect beside a line of another mailmap. Control bytes are shown as `\x1b`, C1 control characters and
+ * bidirectional formatting characters as `\u202e`. Names, emails and ignored texts of more than 256 bytes are cut.
+ * `count` is the number of mailmaps. `needed` is the length of the text, and 0 on OUT_OF_MEMORY.
  * OK; TOO_SHORT; OUT_OF_MEMORY. */
 gix_mailmap_status gix_mailmap_report(const gix_mailmap_named *mailmaps, size_t count, char *GIX_MAILMAP_RESTRICT out,
                                       size_t out_len, size_t *GIX_MAILMAP_RESTRICT needed)
     GIX_MAILMAP_NONNULL(5) GIX_MAILMAP_MUST_CHECK;
 
-/* Writes which lines of some mailmaps give contacts their new fields, as mailmap_verify --explain prints it: a line for
- * each line of `contacts`, such as
+/* Writes which lines of some mailmaps give contacts their new names and emails, as mailmap_verify --explain prints it:
+ * a line for each line of `contacts`, such as
  *
  *     jd <jd@y> is Jane Doe <jane@x> by team:1, own:3
  *     joe <q@z> is not mapped
  *     plain is no contact
  *
- * and none for a blank line. At most two lines give one contact its fields: one the name, and one the email. Mailmaps
- * are as for gix_mailmap_report, and so are escapes. No text is cut. `needed` is the length of the text, and 0 at
- * OUT_OF_MEMORY.
+ * and none for a blank line. At most two lines are named for a contact, in the order in which they are read: the line
+ * that gives the name and the line that gives the email, or only its spelling. Mailmaps and escapes are as for
+ * gix_mailmap_report, but no text is cut. `needed` is the length of the text, and 0 on OUT_OF_MEMORY.
  * OK; TOO_SHORT; OUT_OF_MEMORY. */
 gix_mailmap_status gix_mailmap_explain(const gix_mailmap_named *mailmaps, size_t count, const char *contacts,
                                        size_t contacts_len, char *GIX_MAILMAP_RESTRICT out, size_t out_len,
@@ -274,20 +282,20 @@ gix_mailmap_status gix_mailmap_explain(const gix_mailmap_named *mailmaps, size_t
     GIX_MAILMAP_NONNULL(7) GIX_MAILMAP_MUST_CHECK;
 
 /* Lists the lines of some mailmaps that have an effect and that no contact needs, in their order. `contacts` has a
- * contact on each line, such as all those of a history; lines that are no contacts need nothing. A contact needs the
- * line that gives its new name, and the one that gives its new email. If no line gives an email, it needs the first
- * line for its old email, which says how that is spelled. Without all lines that are listed and all those of no effect,
- * the library answers each of these contacts as before. If git reads the mailmaps too, mend the lines of
- * GIX_MAILMAP_GIT_READS first. Mailmaps are as for gix_mailmap_report; their names are not read. `out_len` counts
- * positions. `needed` is the number of all lines that are listed, and 0 at OUT_OF_MEMORY.
+ * contact on each line, such as all contacts of a history; a line that isn't a contact needs nothing. A contact needs
+ * the line that gives its new name, and the line that gives its new email. If no line gives a new email, it needs the
+ * first line for its old email, which says how that email is spelled. If all listed lines and all lines that have no
+ * effect are removed together, the answers for these contacts stay the same. If git reads the mailmaps, too, fix the
+ * lines of GIX_MAILMAP_GIT_READS first. Mailmaps are as for gix_mailmap_report; their names are not read. `out_len`
+ * counts positions. `needed` is the number of all listed lines, and 0 on OUT_OF_MEMORY.
  * OK; TOO_SHORT; OUT_OF_MEMORY. */
 gix_mailmap_status gix_mailmap_unneeded(const gix_mailmap_named *mailmaps, size_t count, const char *contacts,
                                         size_t contacts_len, gix_mailmap_position *GIX_MAILMAP_RESTRICT out,
                                         size_t out_len, size_t *GIX_MAILMAP_RESTRICT needed)
     GIX_MAILMAP_NONNULL(7) GIX_MAILMAP_MUST_CHECK;
 
-/* Opens a stream, whose contacts are answered by what the mailmap maps, as gix_mailmap_check answers them. The contacts
- * come in parts of any length, and a part may end in the middle of a line:
+/* Opens a stream, which maps contacts as gix_mailmap_check does. The contacts come in parts of any length, and a part
+ * may end in the middle of a line:
  *
  *     while (part_len > 0) {
  *         if (gix_mailmap_stream_push(stream, part, part_len, &taken) != GIX_MAILMAP_OK)
@@ -298,8 +306,8 @@ gix_mailmap_status gix_mailmap_unneeded(const gix_mailmap_named *mailmaps, size_
  *             fwrite(out, 1, count, stdout);
  *     }
  *
- * After the last part call gix_mailmap_stream_finish, and read once more. A stream takes some 1.1 MiB for the last
- * lines and their answers, in addition to the mailmap and the answers that wait.
+ * After the last part call gix_mailmap_stream_finish, and read until gix_mailmap_stream_read returns 0. A stream takes
+ * some 1.1 MiB beside the mailmap and the answers that wait.
  * OK; OUT_OF_MEMORY: `*stream` is NULL. */
 gix_mailmap_status gix_mailmap_stream_open(gix_mailmap_stream **stream, const char *mailmap, size_t mailmap_len)
     GIX_MAILMAP_NONNULL(1) GIX_MAILMAP_MUST_CHECK;
@@ -307,21 +315,22 @@ gix_mailmap_status gix_mailmap_stream_open(gix_mailmap_stream **stream, const ch
 /* Frees a stream, with all answers that weren't read. NULL is allowed and does nothing. */
 void gix_mailmap_stream_close(gix_mailmap_stream *stream);
 
-/* Takes contacts from the beginning of `part`, and answers each line that ends in them. What is after the last line
- * feed is kept until more comes. `taken` is how many bytes it took: at least one, unless `part_len` is 0. It is fewer
- * than `part_len` if 64 KiB of answers wait to be read, or if memory runs out after some lines: read the answers, and
- * push the rest. `taken` is 0 at OUT_OF_MEMORY.
+/* Takes bytes from the beginning of `part`, and answers each line that ends in them. What comes after the last line
+ * feed is kept until the rest of its line comes. `taken` is the number of bytes that the call took: on OK at least one,
+ * unless `part_len` is 0. `taken` is less than `part_len` if 64 KiB of answers wait to be read, or if memory runs out
+ * after some lines: read the answers, and push the rest. On OUT_OF_MEMORY `taken` is 0.
  * OK; OUT_OF_MEMORY. */
 gix_mailmap_status gix_mailmap_stream_push(gix_mailmap_stream *stream, const char *part, size_t part_len,
                                            size_t *GIX_MAILMAP_RESTRICT taken)
     GIX_MAILMAP_NONNULL(1, 4) GIX_MAILMAP_MUST_CHECK;
 
-/* Answers the last line, which no line feed ended, if there is one. What is pushed after that begins a new line.
+/* Answers the last line, if no line feed ended it. What is pushed after that begins a new line.
  * OK; OUT_OF_MEMORY. */
 gix_mailmap_status gix_mailmap_stream_finish(gix_mailmap_stream *stream) GIX_MAILMAP_NONNULL(1) GIX_MAILMAP_MUST_CHECK;
 
-/* Copies the next answers to the beginning of `out`, and returns how many bytes: all that wait, or as many as fit. They
- * need not end with a line. It is 0 if none wait, or if `out_len` is 0. It needs no memory. */
+/* Copies the answers that wait to the beginning of `out`, as many bytes as fit, and returns how many bytes these are.
+ * The last line may be copied in part. The number is 0 if no answers wait, or if `out_len` is 0. The call allocates
+ * nothing. */
 size_t gix_mailmap_stream_read(gix_mailmap_stream *stream, char *GIX_MAILMAP_RESTRICT out, size_t out_len)
     GIX_MAILMAP_NONNULL(1);
 

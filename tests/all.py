@@ -40,7 +40,7 @@ PARTS = {
     "failures": ("files, streams and memory that fail the programs", f"tests/failures.sh {CHECK} {VERIFY} {SHORTLOG}"),
     "memory": ("peaks of memory on mailmaps that are made to take much", f"tests/memory.py {CHECK} {VERIFY} {SHORTLOG}"),
     "streams": ("contacts that come one by one, and many of them", f"tests/streams.py {CHECK} {VERIFY}"),
-    "examples": ("the examples of the pages", f"tests/examples.py {CHECK} {VERIFY}"),
+    "examples": ("the examples of the pages", f"tests/examples.py {CHECK} {VERIFY} {SHORTLOG}"),
     "pages": ("what the pages name is there", "tests/pages.py"),
     "manual": ("the manual pages", "tests/manual.sh"),
     "not_compiling": ("what must not compile", "tests/not_compiling/run.sh"),

@@ -128,7 +128,8 @@ fails 'cannot write output' mailmap_shortlog 'mailmap > /dev/full'
 fails 'cannot write output' mailmap_shortlog 'mailmap >&-'
 fails 'cannot write output' mailmap_shortlog '--help > /dev/full'
 fails 'cannot write output' mailmap_shortlog '--version > /dev/full'
-usage='usage: mailmap_shortlog [-n] [-e] [-s] [--] [MAILMAP..]'
+usage="usage: mailmap_shortlog [-n] [-e] [-s] [--] [MAILMAP..]
+git's options select what is piped: git log OPTIONS --format='%an <%ae>' | mailmap_shortlog .mailmap"
 fails "unknown option: --foo"$'\n'"$usage" mailmap_shortlog '--foo mailmap'
 fails "unknown option: -nx"$'\n'"$usage" mailmap_shortlog '-n -nx'
 fails "unknown option: -\\x1b"$'\n'"$usage" mailmap_shortlog "$'-\\x1b'"

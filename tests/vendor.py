@@ -1,6 +1,6 @@
 #!/usr/bin/env python3
-"""What `make vendor` puts into another repository: the README's way from an empty one to a program, and then copies
-that are there already, that others changed, and crates that aren't copies."""
+"""What `make vendor` puts into another repository: the README's steps from an empty one to a program, and then
+copies that are there already, that others changed, and crates that aren't copies."""
 import re
 import shutil
 import subprocess
@@ -15,9 +15,9 @@ TOP = Path(__file__).resolve().parents[1]
 sys.path.append(str(TOP / "packaging"))
 from prove import link
 
-README = (TOP / "README.md").read_text(encoding="utf-8")
+PAGE = (TOP / "README.md").read_text(encoding="utf-8")
 VERSION = (TOP / "VERSION").read_text(encoding="ascii").strip()
-# the README's repository, the folder of its program, and what that prints
+# its repository, the folder of its program, and what that prints
 FOLDER, PROGRAM, PRINTED = "../contacts", "crates/one_contact", b"Jane Doe <jane@x>\n"
 OWN = {"crates.txt": "# our own\nours: bstr # beside the library\n", "crates/ours/src/lib.rt": "// ours\n"}
 LIST = "crates/gix_mailmap.vendored"
@@ -26,7 +26,7 @@ PARTS = ("src", "specs", "proofs")
 
 
 def block(kind):
-    found = re.findall(rf"^```{kind}\n(.*?)^```$", README, re.MULTILINE | re.DOTALL)
+    found = re.findall(rf"^```{kind}\n(.*?)^```$", PAGE, re.MULTILINE | re.DOTALL)
     if len(found) != 1:
         sys.exit(f"vendor: README.md has {len(found)} blocks of {kind}, and not one")
     return found[0]
@@ -73,17 +73,17 @@ def follow(folder, steps):
 
 
 def check_program(work):
-    """The README's way from an empty repository to a program."""
+    """The README's steps from an empty repository to a program."""
     folder = work / "contacts"
     put(folder, f"{PROGRAM}/src/main.rt", block("rust"))
     steps, run, last = block("sh").replace(FOLDER, str(folder)).partition("rt run ")
     assert PRINTED.decode().strip() in last and "\n" not in last.strip()
-    wants("the README's steps", (follow(TOP, steps)[0], b"", b""), 0, b"")
+    wants("the page's steps", (follow(TOP, steps)[0], b"", b""), 0, b"")
     # what is proved here needn't be proved there again
     for crate in (folder / "crates").iterdir():
         if (TOP / "crates" / crate.name / "out/rlib").is_dir():
             shutil.copytree(TOP / "crates" / crate.name / "out/rlib", crate / "out/rlib", copy_function=link)
-    wants("the README's program", follow(folder / PROGRAM, run), 0, PRINTED)
+    wants("the page's program", follow(folder / PROGRAM, run), 0, PRINTED)
 
 
 def check_copies(folder):

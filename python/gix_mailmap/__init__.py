@@ -1,19 +1,18 @@
-"""Mailmaps for git tools, by the proved library gix_mailmap.
-
-A mailmap says which names and emails to show in place of others:
+"""Mailmaps say which names and emails to show in place of others. A library for them with a proved core:
 
 >>> from gix_mailmap import Mailmap
 >>> with Mailmap("Jane Doe <jane@x> <jd@y>\\n") as mailmap:
 ...     mailmap.lookup("jd", "JD@y")
 Answer(name='Jane Doe', email='jane@x', is_name_given=True, is_email_given=True)
 
-Texts are `str` or bytes, or open files of these, and what a call answers is of the same kind. Bytes may be any, as
-nothing says how a mailmap is encoded; in a `str`, bytes that aren't UTF-8 are lone surrogates (`surrogateescape`). What
-has the buffer protocol, such as a `bytearray`, is taken as bytes. Any call that takes a `str` raises NotAText if it has
-a surrogate that is no byte, and OutOfMemory if there is no memory.
+Texts are `str` or bytes, or open files of these, and a call returns texts of the same kind, except in findings. Bytes
+may be any, as nothing says how a mailmap is encoded; in a `str`, bytes that aren't UTF-8 are lone surrogates
+(`surrogateescape`). An object with the buffer protocol, such as a `bytearray`, counts as bytes. Any call that takes a
+`str` raises NotAText if it has a surrogate that doesn't stand for a byte, and OutOfMemory if there is no memory.
 
-The errors of the module are of the class Error, and also of Python's own class for that case. Two are not: a TypeError
-for an argument of a wrong type, and the ValueError that `index` and a slice raise as those of a list do.
+The errors of the module are of the class Error, and also of Python's own class for that case. Not an Error are: a
+TypeError for an argument of a wrong type, the ValueError that `index` and a slice raise as those of a list do, the
+OSError of `from_path` and `of_repository`, and the ImportError of a failed import.
 """
 
 from ._mailmap import Mailmap, check, compact, explain, prune, report, unneeded, verify

@@ -1,4 +1,4 @@
-"""A mailmap that is held, and the calls that take the text of one."""
+"""The class Mailmap, and the functions that take the text of a mailmap."""
 
 from __future__ import annotations
 
@@ -17,17 +17,15 @@ if TYPE_CHECKING:
 
 
 class Mailmap(_native.Mailmap[AnyStr], Sequence[Entry[AnyStr]]):
-    """An open mailmap: it stays open until `close`, or until the end of its `with` block.
+    """A mailmap, which stays open until `close`, or until the end of its `with` block.
 
-    A later entry replaces what an earlier one gave for the same contact; without an old name, only the fields that it
-    gives. Lines that can't be read are left out.
+    A later entry replaces an earlier one for the same old email and old name. A later entry without an old name
+    replaces only the name or the email that it gives. Lines that can't be read are left out. `lookup` takes a name and
+    an email as they are, `str` or bytes, and returns what the mailmap doesn't change as the same object.
 
-    The answer to a lookup is `str` or bytes as the contact is. What the mailmap doesn't change is the object that was
-    given.
-
-    It is a sequence of its entries, in ascending order of their old emails and, for each email, of their old names,
-    whatever the case of ASCII letters. They are `str` if the texts are, and bytes if these are bytes, or if there are
-    none. A single entry takes a walk over those before it: `entries` gives all of them at once.
+    A Mailmap is a sequence of its entries, sorted by old email, then by old name, without regard to the case of ASCII
+    letters. Entries are `str` if the mailmap was opened from `str`, otherwise bytes. To get a single entry, the library
+    goes over all entries before it; `entries` gives all of them at once. `write` begins lines as `compact` does.
 
     >>> with Mailmap("N <a@x>\\nM <a@x>\\n") as mailmap:
     ...     mailmap.add_entry(Entry("Jane Doe", None, None, "jd@y"))
@@ -35,7 +33,7 @@ class Mailmap(_native.Mailmap[AnyStr], Sequence[Entry[AnyStr]]):
     (2, 'M', ['a@x', 'jd@y'], ' M <a@x>\\n Jane Doe <jd@y>\\n')
 
     Threads may share a mailmap: no other thread runs during a call. Each call except `close` and `closed` raises Closed
-    once the mailmap is closed. A mailmap that nothing refers to is closed, and a forked process has one of its own.
+    once the mailmap is closed. A mailmap that nothing refers to is closed. A forked process has a copy of its own.
     """
 
     __slots__ = ("__weakref__",)
@@ -56,9 +54,9 @@ class Mailmap(_native.Mailmap[AnyStr], Sequence[Entry[AnyStr]]):
 
     @classmethod
     def of_repository(cls: type[Mailmap[str]], path: Union[str, os.PathLike[str]] = ".") -> Mailmap[str]:
-        """Opens the file `.mailmap` at the top of the work tree of git that a path is in. Without that file the mailmap
-        is empty, and with a symbolic link in its place, too, which git doesn't follow either. Raises FileNotFoundError
-        if the path is in no work tree, OSError and OutOfMemory."""
+        """Opens the file `.mailmap` at the top of the git work tree that a path is in. If there is no such file, the
+        mailmap is empty. It is also empty if the file is a symbolic link, which git doesn't follow either. Raises
+        FileNotFoundError if the path is in no work tree, OSError and OutOfMemory."""
         for found in (parent / ".mailmap" for parent in (Path(path).resolve() / ".git").parents):
             if found.with_name(".git").exists():
                 return cls.from_path(found) if found.exists() and not found.is_symlink() else cls("")
@@ -69,27 +67,26 @@ class Mailmap(_native.Mailmap[AnyStr], Sequence[Entry[AnyStr]]):
     @overload
     def map_contacts(self, lines: Iterable[Buffer]) -> Iterator[bytes]: ...
     def map_contacts(self, lines: Iterable[Any]) -> Iterator[Any]:
-        """Answers lines of contacts, such as `Jane <jane@x>`, one after the other. A line that is no contact is its own
-        answer.
+        """Maps lines of contacts, such as `Jane <jane@x>`, one after the other, and returns other lines as they are.
 
-        It is for many lines, and faster than as many lookups. The lines may be `str` or bytes, and with or without the
-        line feed at the end, as those of a file. The answers have none:
+        For many lines this is faster than as many lookups. The lines may be `str` or bytes, with or without the line
+        feed at the end, as those of a file. The answers have none:
 
         >>> with Mailmap("Jane Doe <jane@x> <jd@y>") as mailmap:
         ...     list(mailmap.map_contacts(["jd <JD@y>\\n", "plain\\n"]))
         ['Jane Doe <jane@x>', 'plain']
 
-        A line is taken when its answer is wanted, and answered by what the mailmap is then. After each change the whole
-        mailmap is read again. With an entry that no line can hold, it is no faster than lookups.
-
-        Raises NotALine if a line has a line feed before its end, Closed, NotAText, and OutOfMemory.
+        A line is taken when its answer is wanted, and mapped with the mailmap as it is then. Call this once with all
+        lines: each call reads the whole mailmap again, and so does the first line after a change. If the mailmap has an
+        entry that can't be written as a line, this is no faster than lookups. Raises NotALine if a line has a line feed
+        before its end, Closed, NotAText, and OutOfMemory.
         """
         if isinstance(lines, (str, bytes, bytearray, memoryview)):
             raise TypeError(f"lines are wanted, not one {type(lines).__name__}")
         return _native.Stream(self, lines)
 
     def _of_trimmed(self, line: Union[str, bytes]) -> Union[str, bytes]:
-        """The answer to a line which is trimmed if it is a contact, by a lookup."""
+        """The answer to a line, by a lookup. The line is trimmed if it is a contact."""
         name, bracket, rest = (encoded(line) if isinstance(line, str) else line).partition(b"<")
         if not bracket or b">" not in rest:
             return line
@@ -125,9 +122,8 @@ def check(mailmap: StrText, contacts: StrText) -> str: ...
 @overload
 def check(mailmap: BytesText, contacts: BytesText) -> bytes: ...
 def check(mailmap: Any, contacts: Any) -> Union[str, bytes]:
-    """Answers each line of `contacts`, such as `Jane <jane@x>`, by what the mailmap maps: a line for each line.
-
-    A line that is no contact is its own answer. Raises OutOfMemory, as all these calls do.
+    """Maps each line of `contacts`, such as `Jane <jane@x>`, with the mailmap: an answer for each line. A line that
+    isn't a contact is its own answer. Raises OutOfMemory, as all these functions do.
 
     >>> check("Jane Doe <jane@x> <jd@y>", "jd <JD@y>\\nplain")
     'Jane Doe <jane@x>\\nplain\\n'
@@ -140,7 +136,9 @@ def compact(mailmap: StrText) -> str: ...
 @overload
 def compact(mailmap: BytesText) -> bytes: ...
 def compact(mailmap: Any) -> Union[str, bytes]:
-    """The mailmap that maps the same, without what later lines replaced.
+    """A mailmap with the same entries, sorted by old email, without comments, what can't be read and what later lines
+    override. Each line begins with a space, so that a name such as `#1` doesn't make it a comment. git may answer
+    differently with the result if `verify` finds Kind.GIT_READS.
 
     >>> compact("N <a@x>\\nM <a@x>\\n")
     ' M <a@x>\\n'
@@ -153,8 +151,8 @@ def prune(mailmap: StrText) -> str: ...
 @overload
 def prune(mailmap: BytesText) -> bytes: ...
 def prune(mailmap: Any) -> Union[str, bytes]:
-    """The mailmap without its lines that have no effect. All others stay byte for byte. git may answer otherwise by the
-    result if `verify` finds Kind.GIT_READS.
+    """The mailmap without the lines that have no effect. All other lines stay byte for byte. git may answer differently
+    with the result if `verify` finds Kind.GIT_READS.
 
     >>> prune("N <a@x>\\n# why\\nM <a@x>\\n")
     '# why\\nM <a@x>\\n'
@@ -181,9 +179,8 @@ def report(mailmaps: Iterable[tuple[str, StrText]]) -> str: ...
 def report(mailmaps: Iterable[tuple[Buffer, BytesText]]) -> bytes: ...
 def report(mailmaps: Iterable[tuple[Any, Any]]) -> Union[str, bytes]:
     """What is wrong with mailmaps, as `mailmap_verify` prints it: a line for each finding. Each mailmap comes with its
-    name, and later ones count after earlier ones.
-
-    Without any mailmap the answer is empty bytes, even if the type of `mailmaps` promises a `str`.
+    name. The mailmaps are read one after another, as if they were one. Without any mailmap empty bytes are returned,
+    even if the type of `mailmaps` promises a `str`.
 
     >>> print(report([("team", "Jane <jd@y>\\n"), ("own", "plain\\nJane Doe <jd@y>\\n")]), end="")
     team:1: warning: no effect beside own:2
@@ -198,7 +195,8 @@ def explain(mailmaps: Iterable[tuple[str, StrText]], contacts: StrText) -> str: 
 def explain(mailmaps: Iterable[tuple[Buffer, BytesText]], contacts: BytesText) -> bytes: ...
 def explain(mailmaps: Iterable[tuple[Any, Any]], contacts: Any) -> Union[str, bytes]:
     """Which lines of mailmaps give contacts their new names and emails, as `mailmap_verify --explain` prints it: a line
-    for each line of `contacts`, and none for a blank one. Each mailmap comes with its name.
+    for each line of `contacts`, and none for a blank one. Each mailmap comes with its name. At most two lines are named
+    for a contact, in the order in which they are read: for its new name, and for its new email or only its spelling.
 
     >>> team, own = "<jane@x> <jd@y>\\n", "Jane Doe <jd@y>\\n"
     >>> print(explain([("team", team), ("own", own)], "jd <jd@y>\\nbob <b@x>\\nplain"), end="")
@@ -211,7 +209,8 @@ def explain(mailmaps: Iterable[tuple[Any, Any]], contacts: Any) -> Union[str, by
 
 def unneeded(mailmaps: Iterable[tuple[AnyText, AnyText]], contacts: AnyText) -> list[Position]:
     """The lines of mailmaps that have an effect and that none of the contacts needs, in their order. Each mailmap comes
-    with its name, as for `explain`, and `contacts` has a contact on each line.
+    with its name, as for `explain`, and `contacts` has a contact on each line. If all these lines and all lines that
+    have no effect are removed together, the answers for these contacts stay the same.
 
     >>> team, own = "Joe <joe@x>\\n<jane@x> <jd@y>\\n", "Jane Doe <jd@y>\\nBob <b@x>\\n"
     >>> unneeded([("team", team), ("own", own)], "jd <jd@y>\\nal <al@x>")

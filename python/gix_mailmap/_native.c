@@ -466,12 +466,12 @@ static PyObject *mailmap_subscript(PyObject *self, PyObject *key)
 
 static PyMethodDef mailmap_methods[] = {
     {"lookup", (PyCFunction)(void (*)(void))mailmap_lookup, METH_FASTCALL | METH_KEYWORDS,
-     "lookup($self, name, email)\n--\n\nThe proper name and email of a contact. Raises OutOfMemory."},
+     "lookup($self, name, email)\n--\n\nThe new name and email of a contact. Raises OutOfMemory."},
     {"add", mailmap_add, METH_O,
-     "add($self, text, /)\n--\n\nAdds the entries of a mailmap after those that are held. Raises OutOfMemory."},
+     "add($self, text, /)\n--\n\nAdds the entries of a mailmap after those that are there. Raises OutOfMemory."},
     {"add_entry", mailmap_add_entry, METH_O,
-     "add_entry($self, entry, /)\n--\n\nAdds one entry, whose texts are taken as they are. Those that are empty count "
-     "as missing, except\nan old email. Raises NotAnEntry and OutOfMemory."},
+     "add_entry($self, entry, /)\n--\n\nAdds one entry, whose texts are taken as they are. An empty text counts as "
+     "missing, except\nthe old email. Raises NotAnEntry and OutOfMemory."},
     {"write", mailmap_write, METH_NOARGS,
      "write($self, /)\n--\n\nThe mailmap as a text, with a line for each entry. Raises Unwritable and OutOfMemory."},
     {"entries", mailmap_entries, METH_NOARGS, "entries($self, /)\n--\n\nAll entries as they are now."},
@@ -549,7 +549,7 @@ static void forget(Stream *stream)
     PyDict_Clear(stream->kept);
 }
 
-/* Opens the stream of the library. If no line can hold some entry, it gets no entries, and only trims contacts. */
+/* Opens the stream of the library. If an entry can't be written as a line, it gets none, and only trims contacts. */
 static bool open_stream(Stream *stream)
 {
     if (stream->stream != NULL)

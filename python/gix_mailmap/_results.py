@@ -1,4 +1,4 @@
-"""What the calls answer and raise."""
+"""What the calls return and raise."""
 
 from __future__ import annotations
 
@@ -7,8 +7,8 @@ from typing import AnyStr, Generic, NamedTuple, Optional
 
 
 class Answer(NamedTuple, Generic[AnyStr]):
-    """The proper name and email of a contact, and whether the mailmap gives them. What it doesn't give is as it was
-    asked for."""
+    """The new name and email of a contact, and whether the mailmap gives them. What it doesn't give is that of the
+    contact, except that an email is spelled as in the first entry for it. A changed spelling counts as given."""
 
     name: AnyStr
     email: AnyStr
@@ -17,8 +17,8 @@ class Answer(NamedTuple, Generic[AnyStr]):
 
 
 class Entry(NamedTuple, Generic[AnyStr]):
-    """An entry of a mailmap: the name and the email that replace an old email, or an old name with that email. What it
-    doesn't have is None."""
+    """An entry of a mailmap: the new name, the new email or both for contacts with this old email, and with this old
+    name if there is one. What the entry doesn't have is None."""
 
     new_name: Optional[AnyStr]
     new_email: Optional[AnyStr]
@@ -27,12 +27,9 @@ class Entry(NamedTuple, Generic[AnyStr]):
 
 
 class Kind(IntEnum):
-    """What may be wrong with a line of a mailmap.
-
-    A line of one of the first four kinds gives no entry. One of the kind UNCLOSED_SECOND gives the entry of its first
-    contact, if that has a name. One of the kind GIT_READS is read otherwise by git.
-
-    A later version of the library may have more kinds. They are shown by their numbers:
+    """What may be wrong with a line of a mailmap. A line of one of the first four kinds gives no entry. A line of the
+    kind UNCLOSED_SECOND gives the entry of its first contact, if that contact has a name. A later version of the
+    library may have more kinds, whose `repr` shows their numbers:
 
     >>> Kind(100)
     <Kind.NUMBER_100: 100>
@@ -43,10 +40,10 @@ class Kind(IntEnum):
     EMPTY_EMAIL = 3  #: The first email is empty or white space.
     NOTHING_TO_MAP = 4  #: There is only an email.
     UNCLOSED_SECOND = 5  #: The second `<` has no `>` after it.
-    IGNORED_TEXT = 6  #: Text after the last email is ignored.
-    NO_EFFECT = 7  #: Removing the line changes no mapping.
+    IGNORED_TEXT = 6  #: Text after the second email, or after the only one, is ignored.
+    NO_EFFECT = 7  #: Later lines override the line, or other lines say it. Removing all such lines changes no answer.
     ITSELF_MAPPED = 8  #: The line maps to a contact that the mailmap maps to another.
-    GIT_READS = 9  #: git reads the line otherwise.
+    GIT_READS = 9  #: git reads the line differently.
 
     @classmethod
     def _missing_(cls, value: object) -> Optional[Kind]:
@@ -63,13 +60,11 @@ _BEFORE = {Kind.IGNORED_TEXT: "ignored text: ", Kind.ITSELF_MAPPED: " is itself 
 
 
 class Finding(NamedTuple):
-    """What is wrong with a line: its number, counted from 1, the kind, and the words of `mailmap_verify`, which `str`
-    gives.
-
-    For a line of no effect, `beside` is the number of the last line that stays and is for the same old email and old
-    name. For all other kinds it is None. `text` is what is ignored, to which contact the new one is itself mapped, or
-    what git reads, as `mailmap_verify` shows it, and None for all other kinds.
-    """
+    """What is wrong with a line: the number of the line, counted from 1, the kind, and the words of `mailmap_verify`,
+    which `str` gives. For Kind.NO_EFFECT `beside` is the number of the last line for the same old email, and the same
+    old name if there is one, that does have an effect, before or after. For all other kinds `beside` is None. `text` is
+    the ignored text, the contact that the line's new contact is mapped to, or what follows the words `git reads`, such
+    as `it as Joe < joe@x >`, `it as 2 lines` or `nothing here`; otherwise None. `text` and `words` are always `str`."""
 
     line: int
     kind: Kind
@@ -91,7 +86,8 @@ class Finding(NamedTuple):
 
 
 class Position(NamedTuple):
-    """Where a line of some mailmaps is: the index of its mailmap, counted from 0, and its number, counted from 1."""
+    """A line of one of several mailmaps: the index of the mailmap, counted from 0, and the line's number there, counted
+    from 1."""
 
     mailmap: int
     line: int
@@ -114,7 +110,7 @@ class NoEntry(Error, IndexError):
 
 
 class NotAnEntry(Error, ValueError):
-    """Texts that make no entry: they give no new name and no new email, or an old name without a new email."""
+    """Texts that make no entry: there is no new name and no new email, or an old name and no new email."""
 
 
 class NotALine(Error, ValueError):
@@ -122,11 +118,11 @@ class NotALine(Error, ValueError):
 
 
 class NotAText(Error, UnicodeEncodeError):
-    """A `str` that can't be encoded: it has a surrogate that is no byte."""
+    """A `str` that can't be encoded: it has a surrogate that doesn't stand for a byte."""
 
 
 class Unwritable(Error, ValueError):
-    """No line can hold some entry of the mailmap, which `add_entry` has added."""
+    """An entry that `add_entry` added can't be written as a line."""
 
 
 def encoded(text: str) -> bytes:
@@ -137,5 +133,5 @@ def encoded(text: str) -> bytes:
         raise NotAText(*error.args) from None
 
 
-# What the extension module takes, which has numbers for them.
+# What the extension module uses, in the order of its numbers for them.
 FOR_NATIVE = (Closed, NotALine, OutOfMemory, NoEntry, NotAnEntry, Unwritable, encoded, Answer, Entry)

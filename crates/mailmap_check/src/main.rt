@@ -1,7 +1,7 @@
 //! Maps the contacts on standard input using mailmaps, or writes mailmaps as one.
 //!
-//! `mailmap_check FILE..` reads each FILE as a mailmap, and answers each line of standard input. Without a FILE, a line
-//! `--` on standard input separates a mailmap from the lines to answer. With `--compact` as the first argument it
+//! `mailmap_check FILE..` reads each FILE as a mailmap, and answers each line of standard input. Without a FILE, the
+//! first line `--` on standard input separates a mailmap from the lines to answer. With `--compact` as the first argument it
 //! prints the mailmaps as one; without a FILE, standard input is the mailmap.
 //!
 //! `-h` or `--help` as the first argument prints the usage, and `--version` the version.
@@ -19,11 +19,11 @@ use command_line::streams::write_all;
 use std::process::ExitCode;
 
 const USAGE: &str = "\
-usage: mailmap_check [FILE..]            answers standard input by the mailmaps
+usage: mailmap_check [FILE..]            maps the contacts on standard input with the mailmaps
        mailmap_check --compact [FILE..]  prints the mailmaps as one
        mailmap_check -h | --help         prints this
        mailmap_check --version           prints the version
-Without a FILE a line -- splits standard input into a mailmap and the lines to answer.
+Without a FILE, the mailmap is what comes before the first line -- of standard input.
 ";
 
 fn main(rt: HostRuntime) -> ExitCode {

@@ -18,8 +18,11 @@ use std::process::ExitCode;
 
 const PROGRAM: &[u8] = b"mailmap_shortlog";
 
-// Follows the message for an unknown option.
-const USAGE_LINE: &str = "usage: mailmap_shortlog [-n] [-e] [-s] [--] [MAILMAP..]\n";
+// Follows the message for an unknown option, which may be one of `git shortlog`.
+const USAGE_LINES: &str = "\
+usage: mailmap_shortlog [-n] [-e] [-s] [--] [MAILMAP..]
+git's options select what is piped: git log OPTIONS --format='%an <%ae>' | mailmap_shortlog .mailmap
+";
 
 fn main(rt: HostRuntime) -> ExitCode {
     let arguments = match arguments(&rt, rt.alloc()) {
@@ -29,7 +32,7 @@ fn main(rt: HostRuntime) -> ExitCode {
     match task_of(arguments.as_slice()) {
         Ok(task) => done(&rt, task),
         Err(UnknownOption(option)) => {
-            let usage = USAGE_LINE.as_bytes();
+            let usage = USAGE_LINES.as_bytes();
             say(
                 &rt,
                 misuse_lines(rt.alloc(), PROGRAM, b"unknown option: ", option, usage),

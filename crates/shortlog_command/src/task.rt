@@ -24,7 +24,7 @@ usage: mailmap_shortlog [-n] [-e] [-s] [--] [MAILMAP..]
 Counts the contacts of standard input by the names that the mailmaps give them.
   -n  the greatest count first
   -e  by names and emails
-  -s  as without it: there are only counts
+  -s  ignored, for compatibility with git shortlog
 ";
 
 #[derive(Clone, Copy, Debug, PartialEq, Eq)]
