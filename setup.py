@@ -33,7 +33,7 @@ setup(
         include_dirs=["include"],
         define_macros=[("Py_LIMITED_API", "0x030B0000")],
         py_limited_api=True,
-        extra_compile_args=["-std=c11", "-O2", "-g0", "-fvisibility=hidden"],
+        extra_compile_args=["-std=c11", "-O3", "-fno-plt", "-g0", "-fvisibility=hidden"],
         extra_objects=[LIBRARY],
         extra_link_args=["-Wl,--exclude-libs,ALL"],
     )],

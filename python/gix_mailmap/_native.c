@@ -123,9 +123,9 @@ static PyObject *same_or_new(const Text *text, PyObject *from, const char *at, s
 
 /* A named tuple of four items, which it takes over. After an error some of them are NULL. From 3.14 on a tuple has room
  * for its hash, which only tuple's own `__new__` prepares, and that takes longer. */
-static PyObject *new_named_tuple(int name, PyObject *const items[4])
+static PyObject *new_named_tuple(PyObject *class, PyObject *const items[4])
 {
-    PyTypeObject *type = (PyTypeObject *)find(name);
+    PyTypeObject *type = (PyTypeObject *)class;
     bool is_plain = Py_Version < 0x030E0000, is_complete = type && items[0] && items[1] && items[2] && items[3];
     PyObject *made = !is_complete ? NULL : is_plain ? PyType_GenericAlloc(type, 4) : PyTuple_New(4);
     for (Py_ssize_t i = 0; i < 4; i++)
@@ -256,6 +256,7 @@ typedef struct Mailmap {
     gix_mailmap *map; /* NULL if it is closed */
     size_t changes;   /* how often it was changed */
     bool is_str;
+    PyObject *answer; /* the type of its answers */
 } Mailmap;
 
 static bool is_open(const Mailmap *mailmap)
@@ -278,14 +279,16 @@ static PyObject *mailmap_closed(PyObject *self, void *Py_UNUSED(closure))
 
 static PyObject *mailmap_new(PyTypeObject *type, PyObject *Py_UNUSED(args), PyObject *Py_UNUSED(keywords))
 {
-    PyObject *self = PyType_GenericAlloc(type, 0);
+    PyObject *answer = find(ANSWER), *self = answer != NULL ? PyType_GenericAlloc(type, 0) : NULL;
+    if (self != NULL)
+        ((Mailmap *)self)->answer = Py_NewRef(answer);
     return self != NULL ? self : raise_no_memory();
 }
 
 static void mailmap_dealloc(PyObject *self)
 {
     PyTypeObject *type = Py_TYPE(self);
-    gix_mailmap_close(((Mailmap *)self)->map);
+    Py_XDECREF(((Mailmap *)self)->answer), gix_mailmap_close(((Mailmap *)self)->map);
     ((freefunc)PyType_GetSlot(type, Py_tp_free))(self);
     Py_DECREF(type);
 }
@@ -365,8 +368,8 @@ static PyObject *look_up(const Mailmap *mailmap, const Text texts[2], PyObject *
     PyObject *new_name = is_ok(status) ? same_or_new(&texts[0], from[0], at, name.len) : NULL;
     PyObject *new_email = new_name != NULL ? same_or_new(&texts[1], from[1], email_at, email.len) : NULL;
     PyMem_Free(more);
-    return new_named_tuple(ANSWER, (PyObject *const[]){new_name, new_email, PyBool_FromLong(name.is_given),
-                                                       PyBool_FromLong(email.is_given)});
+    return new_named_tuple(mailmap->answer, (PyObject *const[]){
+        new_name, new_email, PyBool_FromLong(name.is_given), PyBool_FromLong(email.is_given)});
 }
 
 /* The name and the email may be given by these names. Then they come after the others, in the caller's order. */
@@ -382,6 +385,7 @@ static PyObject *mailmap_lookup(PyObject *self, PyObject *const *args, Py_ssize_
         return PyErr_Format(PyExc_TypeError, "lookup takes a name and an email");
     PyObject *const from[] = {args[swapped], args[!swapped]};
     Text texts[2] = {{0}};
+    __builtin_prefetch((const char *)from[1] + 64); /* the email, while the name is looked at */
     bool ok = get_text(from[0], &texts[0]) && get_text(from[1], &texts[1]) && is_kind(texts[0].is_str, &texts[1]);
     PyObject *answer = ok && is_open((Mailmap *)self) ? look_up((Mailmap *)self, texts, from) : NULL;
     release(texts, 2);
@@ -420,7 +424,7 @@ static PyObject *new_entry(bool is_str, const gix_mailmap_listed *listed, const 
     const char *at = texts + listed->start;
     for (int i = 0; i < 4 && (i == 0 || items[i - 1] != NULL); at += fields[i++].len)
         items[i] = fields[i].is_given || i == 3 ? new_text(is_str, at, fields[i].len) : Py_NewRef(Py_None);
-    return new_named_tuple(ENTRY, items);
+    return new_named_tuple(find(ENTRY), items);
 }
 
 /* A list of so many entries: of all, or of the one at an index. */
