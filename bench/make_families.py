@@ -225,6 +225,15 @@ def one_contact(text: bytes) -> Callable[[int], Made]:
     return lambda count: answered([b"Jane <j@x>\n"], 1, repeated(text, LINE * count))
 
 
+def ended_contact(text: bytes) -> Callable[[int], Made]:
+    return lambda count: answered([b"Jane <j@x>\n"], 1, chain(repeated(text, LINE * count), [b"\n"]))
+
+
+def silent_lines(line: bytes) -> Callable[[int], Made]:
+    """An entry, and a line that says nothing, again and again."""
+    return lambda count: Made([chain([entry(0)], repeated(line, LINE * count // 10))], 1)
+
+
 def four_passes(count: int) -> Made:
     lines = (line % group for group in shuffled(count // len(FOUR_PASSES)) for line in FOUR_PASSES)
     return Made([joined(lines)], count)
@@ -262,6 +271,9 @@ FAMILIES = [
     Family("long answers", "a line with a name of 64 KiB, and short contacts that it maps", long_answers),
     Family("blank lines", "an entry, and blank lines", lambda n: Made([chain([entry(0)], repeated(b"\n", n))], 1)),
     Family("comments", "an entry, and lines `#`", lambda n: Made([chain([entry(0)], repeated(b"#\n", 2 * n))], 1)),
+    Family("short comments", "an entry, and comments of eight bytes", silent_lines(b"# notes\n")),
+    Family("long comments", "an entry, and comments of forty bytes", silent_lines(b"# %s\n" % (b"c" * 37))),
+    Family("white lines", "an entry, and lines with a blank and a tab", silent_lines(b" \t\n")),
     Family("faulty lines", "lines `x`", lambda n: Made([repeated(b"x\n", 2 * n)], 0)),
     Family("files of 16 lines", "the random map in files of 16 lines", lambda n: Made(files(n, 16), n)),
     Family("files of 17 lines", "the random map in files of 17 lines", lambda n: Made(files(n, 17), n)),
@@ -294,6 +306,7 @@ FAMILIES = [
     Family("contacts of a crowd", "names of one email, and another email with the same sixteen bytes", crowd_answers),
     Family("contacts, blanks around", "each text between blanks", padded_contacts(b" ")),
     Family("contacts, U+3000 around", "each text between ideographic spaces", padded_contacts(IDEOGRAPHIC)),
+    Family("contact of contacts", "one line of contacts", ended_contact(b"Jane Doe <jane@example.com> ")),
     *[Family(f"contact of {name}", f"one contact of {name}", one_contact(text)) for name, text in SYMBOLS],
 ]
 

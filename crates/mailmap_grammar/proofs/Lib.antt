@@ -1,4 +1,5 @@
 pub mod Cut
+pub mod NearFeeds
 pub mod Good
 pub mod Grammar
 pub mod Pieces
@@ -8,5 +9,6 @@ pub mod Rising
 pub mod SplitOnce
 pub mod Trims
 pub mod Trimmed
+pub mod Skipped
 mod Whole
 pub mod LineFeeds

@@ -79,7 +79,7 @@ module _ (read : ℕ → Text → Option Reading) (reading-cr : (n : ℕ) (z : T
       (cases_Bool (nat_lt 0 (length z) && slice_index z (length z - 1) == 13))
 
   -- a line without its line ending is read as its piece is
-  reading-line : (n : ℕ) (x z : List ℕ) → (x ≡ z ++ 10 ∷ []) ⊎ ((x ≡ z) × (slice_index z (length z - 1) ≢ 10)) → read n (without_terminator x) ≡ read n z
+  pub reading-line : (n : ℕ) (x z : List ℕ) → (x ≡ z ++ 10 ∷ []) ⊎ ((x ≡ z) × (slice_index z (length z - 1) ≢ 10)) → read n (without_terminator x) ≡ read n z
   reading-line n x z h = ⊎_elim
       (λ e.
       let l = z ++ 10 ∷ [] in

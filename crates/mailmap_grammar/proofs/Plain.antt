@@ -41,7 +41,7 @@ first-wide s i lt a b c =
     ∙ ap (λ r. 227 ∷ r) (first_at s (i + 1) (i + 2) 128 (omega arith) (omega arith) b ∙ ap (λ r. 128 ∷ r) (first_at s (i + 2) (i + 3) 128 lt (omega arith) c)))
 
 -- white space at the end is trimmed
-white-last : (c : ℕ) (white s rest : List ℕ) → is_whitespace c ≡ true → encode_utf8 c ≡ white → s ≡ rest ++ white → trim rest ≡ trim s
+pub white-last : (c : ℕ) (white s rest : List ℕ) → is_whitespace c ≡ true → encode_utf8 c ≡ white → s ≡ rest ++ white → trim rest ≡ trim s
 white-last c white s rest is spelled whole = sym (trim-white_end c rest is) ∙ ap trim (ap (λ e. rest ++ e) spelled ∙ sym whole)
 
 pub last-blank : (s : List ℕ) (n : ℕ) → 0 < n → n ≤ length s → get_or s (n - 1) 0 ≡ 32 → trim (take (n - 1) s) ≡ trim (take n s)

@@ -3,8 +3,10 @@
 #![tactic(auto)]
 
 pub mod contacts;
+mod feeds;
 pub mod laws;
 pub mod lines;
+mod silent;
 pub mod strict;
 pub mod trailing;
 pub mod writing;

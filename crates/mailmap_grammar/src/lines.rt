@@ -26,6 +26,7 @@ ghost use Rattle.mailmap_grammar.specs.Lines.{readings_from, strict_readings, pi
 ghost use Rattle.mailmap_grammar.specs.Trimming.{trim as spec_trim};
 
 use crate::contacts::{ParsedContact, parse_name_and_email, trim};
+use crate::silent::skip_silent;
 use crate::trailing::WithTrailing;
 use bstr::ByteSlice;
 use mailmap_entries::Entry;
@@ -134,11 +135,13 @@ impl<'a> Iterator for Lines<'a> {
     ghost remaining = { item_count (λ s. s) };
 
     fn next(&mut self) -> Option<Result<Entry<'a>, Error<'a>>> {
+        self.line_no += skip_silent(&mut self.lines);
         while let Some(line) = self.lines.next() {
             self.line_no += 1;
             if let Some(item) = read_line(line, self.line_no, self.strictness) {
                 return Some(item);
             }
+            self.line_no += skip_silent(&mut self.lines);
         }
         None
     }

@@ -69,7 +69,7 @@ lines-line (b ∷ c ∷ piece) line rest h bare =
     lines-byte b c (piece ++ 10 ∷ rest) h.0 h.1.0 ∙ ap (with_first b) (lines-line (c ∷ piece) more.0 rest h.1 more.2) ∙ ap (λ l. l ∷ lines rest) (sym more.1)
 
 -- a piece without a line feed
-lines-open : (l : Text) → HoldsNo 10 l → l ≢ [] → lines l ≡ l ∷ []
+pub lines-open : (l : Text) → HoldsNo 10 l → l ≢ [] → lines l ≡ l ∷ []
 unfolding lines
 lines-open [] h some = absurd (some refl)
 lines-open (b ∷ []) h some = cond-false _ _ _ (ne_eqb b 10 h.0) ∙ no_end b [] ((b ∷ []) ∷ [])
@@ -85,7 +85,7 @@ lines-fed (p ∷ ps) (l ∷ ls) rest h bare =
     ∙ lines-line p l (fed ps ++ rest) h.0 bare.0
     ∙ ap (λ more. l ∷ more) (lines-fed ps ls rest h.1 bare.1)
 
-lines-nil : lines [] ≡ []
+pub lines-nil : lines [] ≡ []
 unfolding lines
 lines-nil = refl
 

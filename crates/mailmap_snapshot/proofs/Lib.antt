@@ -14,3 +14,4 @@ pub mod Contacts
 pub mod Dividers
 pub mod ContactLines
 pub mod Streams
+pub mod OneLine

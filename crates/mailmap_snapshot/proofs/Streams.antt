@@ -82,11 +82,11 @@ all-parts m parts text kept each = front-all m (flat_map (λ part. part) parts) 
 
 -- ---- one line
 
-none_held : (s : Text) → ((k : ℕ) → k < length s → slice_index s k ≢ 10) → HoldsNo 10 s
+pub none_held : (s : Text) → ((k : ℕ) → k < length s → slice_index s k ≢ 10) → HoldsNo 10 s
 none_held [] none = tt
 none_held (b ∷ s) none = (none 0 (omega arith), none_held s (λ k l. none (suc k) (omega arith)))
 
-held_both : (xs ys : Text) → HoldsNo 10 xs → HoldsNo 10 ys → HoldsNo 10 (xs ++ ys)
+pub held_both : (xs ys : Text) → HoldsNo 10 xs → HoldsNo 10 ys → HoldsNo 10 (xs ++ ys)
 held_both [] ys a b = b
 held_both (x ∷ xs) ys a b = (a.0, held_both xs ys a.1 b)
 

@@ -4,6 +4,7 @@ use Rattle.std.specs.List.{All}
 use Rattle.mailmap_entries.specs.Entries.{Mapping}
 use Rattle.mailmap_entries.specs.Folding.{Text}
 use Rattle.answer_cache.specs.Kept.{Kept}
+use Rattle.mailmap_grammar.specs.Lines.{HoldsNo}
 use Rattle.mailmap_snapshot.specs.Contacts.{answers}
 use Rattle.mailmap_snapshot.specs.Parts.{EndsLine}
 
@@ -26,6 +27,10 @@ AnswersParts mappings kept [] text rest = (text ≡ []) × (rest ≡ kept)
 AnswersParts mappings kept (part ∷ parts) text rest =
     (made next later : Text) × (text ≡ made ++ later) × AnswersFront mappings (kept ++ part) made next
     × AnswersParts mappings next parts later rest
+
+-- the text is one line with its line feed
+abbrev pub IsOneLine : Text → Type 0
+IsOneLine line = (piece : Text) × HoldsNo 10 piece × (line ≡ piece ++ 10 ∷ [])
 
 -- all of these are lines and their answers
 abbrev pub AnswersAll : List Mapping → List Kept → Type 0

@@ -1,5 +1,5 @@
 //! Answers lines with contacts such as `Jane <jane@x>`, much as `git check-mailmap` does.
-ghost use Rattle.std.specs.Prelude.{◌≡◌, ◌++◌, map, unwrap_or, IfOk, OnErr, OnOk};
+ghost use Rattle.std.specs.Prelude.{◌≡◌, ◌++◌, ◌∷◌, [], map, unwrap_or, IfOk, OnErr, OnOk};
 ghost use Rattle.std.specs.Io.{StartsWith};
 ghost use Rattle.std.specs.List.{flat_map};
 ghost use Rattle.mailmap_snapshot.specs.Contacts.{answer, answers, answers_by, contact};
@@ -45,31 +45,40 @@ pub fn snapshot_of(alloc: Global, buffers: &[&[u8]]) -> Result<Snapshot, AllocEr
     Snapshot::new(alloc, entries)
 }
 
-// Appends the answers to all lines. If this fails, the text stays as it was.
-pub(crate) fn push_answers(
+// Appends the answer to a line without its line end, and a line feed. If this fails, the text stays as it was.
+pub(crate) fn push_one(
     text: &mut Vec<u8>,
     snapshot: &Snapshot,
-    contacts: &[u8],
+    line: &[u8],
 ) -> Result<(), AllocError>
-    ensures ok { OnOk result (text.new.items ≡ text.old.items ++ answers snapshot.now contacts.now) }
+    ensures ok { OnOk result (text.new.items ≡ text.old.items ++ (answer snapshot.now line.now ++ 10 ∷ [])) }
     ensures err { OnErr result (text.new.items ≡ text.old.items) }
 {
     let begun = text.len();
-    let pushed = push_each(text, snapshot, contacts);
+    let pushed = push_fed(text, snapshot, line);
     if pushed.is_err() {
         text.truncate(begun);
     }
     pushed
 }
 
+// Does what `push_one` does, but if it fails, a part may have been appended.
+fn push_fed(text: &mut Vec<u8>, snapshot: &Snapshot, line: &[u8]) -> Result<(), AllocError>
+    ensures ok { OnOk result (text.new.items ≡ text.old.items ++ (answer snapshot.now line.now ++ 10 ∷ [])) }
+    ensures front { StartsWith text.new.items text.old.items }
+{
+    push_answer(text, snapshot, line)?;
+    text.push(b'\n')?;
+    Ok(())
+}
+
 // Appends the answers to all lines. If this fails, some of them may have been appended.
-fn push_each(text: &mut Vec<u8>, snapshot: &Snapshot, contacts: &[u8]) -> Result<(), AllocError>
+fn push_answers(text: &mut Vec<u8>, snapshot: &Snapshot, contacts: &[u8]) -> Result<(), AllocError>
     ensures ok { OnOk result (text.new.items ≡ text.old.items ++ answers snapshot.now contacts.now) }
     ensures front { StartsWith text.new.items text.old.items }
 {
     for line in contacts.lines() {
-        push_answer(text, snapshot, line)?;
-        text.push(b'\n')?;
+        push_fed(text, snapshot, line)?;
     }
     Ok(())
 }

@@ -1,18 +1,21 @@
 //! Answers contacts that arrive in parts.
-ghost use Rattle.std.specs.Prelude.{◌≡◌, ◌++◌, ◌<◌, ◌≤◌, ◌⊎◌, ℕ, [], IfOk, OnErr, OnOk, length, map, take};
-ghost use Rattle.bstr.specs.Text.{line_len};
+ghost use Rattle.std.specs.Prelude.{◌≡◌, ◌++◌, ◌<◌, ◌≤◌, ◌⊎◌, ℕ, [], List, IfOk, IsTrue, OnErr, OnOk, length, map, take};
+ghost use Rattle.bstr.specs.Text.{line_len, without_terminator};
+ghost use Rattle.mailmap_entries.specs.Entries.{Mapping};
 ghost use Rattle.mailmap_entries.specs.Folding.{Text};
 ghost use Rattle.mailmap_grammar.specs.Lines.{HoldsNo};
-ghost use Rattle.mailmap_snapshot.specs.Contacts.{answers, answers_by};
-ghost use Rattle.mailmap_snapshot.specs.Streams.{AnswersAll, AnswersFront};
+ghost use Rattle.mailmap_snapshot.specs.Contacts.{answer, answers, answers_by};
+ghost use Rattle.mailmap_snapshot.specs.Streams.{AnswersAll, AnswersFront, IsOneLine};
 ghost use Rattle.mailmap_snapshot.specs.declared.check.stream.Stop.TheVariants.{Enough};
 
-use crate::check::{push_answers, snapshot_of};
+use crate::check::{push_one, snapshot_of};
 use crate::snapshot::Snapshot;
-use answer_cache::{AnswerCache, hash_of};
+use answer_cache::{AnswerCache, ROW_LEN, hash_of};
 use bstr::ByteSlice;
+use mailmap_grammar::contacts::{ParsedContact, contact_of};
 use std::alloc::{AllocError, Global};
 use std::marker::Model;
+use std::mem::swap;
 
 /// `push` returns early once the text is this long, so that callers can write the answers before there are more.
 const ENOUGH: usize = 65536;
@@ -48,14 +51,15 @@ pub struct ContactStream {
 }
 
 impl Model for ContactStream {
+    ghost use Rattle.mailmap_grammar.specs.Lines.{HoldsNo};
     ghost use Rattle.mailmap_snapshot.specs.Streams.{AnswersAll, Stream};
 
     ghost Value = { Stream };
 
     ghost view = { λ s. record { mappings = s.snapshot; kept = s.kept.items } };
 
-    // every row of the cache is a line and its answer
-    ghost invariant = { λ s. AnswersAll s.snapshot s.cache };
+    // every row of the cache is a line and its answer, and no line has ended
+    ghost invariant = { λ s. AnswersAll s.snapshot s.cache × HoldsNo 10 s.kept.items };
 }
 
 impl ContactStream {
@@ -142,7 +146,16 @@ impl ContactStream {
         ensures ended { OnOk result ((self.new.kept ≡ []) × (self.new.mappings ≡ self.old.mappings)) }
         ensures err { OnErr result ((self.new ≡ self.old) × (text.new.items ≡ text.old.items)) }
     {
-        push_answers(text, &self.snapshot, self.kept.as_slice())?;
+        if self.kept.is_empty() {
+            return Ok(());
+        }
+        if text.is_empty() && is_own_answer(self.kept.as_slice()) {
+            // It may be very long, so it isn't copied.
+            self.kept.push(b'\n')?;
+            swap(&mut self.kept, text);
+            return Ok(());
+        }
+        push_one(text, &self.snapshot, self.kept.as_slice())?;
         self.kept.clear();
         Ok(())
     }
@@ -157,14 +170,16 @@ fn end_line(
     cache: &mut AnswerCache,
     text: &mut Vec<u8>,
 ) -> Result<(), AllocError>
-    requires { AnswersAll snapshot.now cache.old }
+    requires answers { AnswersAll snapshot.now cache.old }
+    requires no_feed { HoldsNo 10 kept.old.items }
+    requires one { IsOneLine rest.now }
     ensures ok { OnOk result (text.new.items ≡ text.old.items ++ answers snapshot.now (kept.old.items ++ rest.now)) }
     ensures ended { OnOk result (kept.new.items ≡ []) }
     ensures err { OnErr result ((kept.new.items ≡ kept.old.items) × (text.new.items ≡ text.old.items)) }
     ensures cache { AnswersAll snapshot.now cache.new }
 {
     if kept.is_empty() {
-        return push_line_answer(text, snapshot, cache, rest);
+        return push_cached_answer(text, snapshot, cache, rest);
     }
     let begun = kept.len();
     kept.extend_from_slice(rest)?;
@@ -173,15 +188,68 @@ fn end_line(
     pushed
 }
 
-// Appends the answer to a line with its line feed, from the cache if possible. Inserts the line into the cache at its
-// second miss. If this fails, the text stays as it was.
+// Appends the answer to a line with its line feed. If this fails, the text stays as it was.
+fn push_ended(text: &mut Vec<u8>, snapshot: &Snapshot, line: &[u8]) -> Result<(), AllocError>
+    requires { IsOneLine line.now }
+    ensures ok { OnOk result (text.new.items ≡ text.old.items ++ answers snapshot.now line.now) }
+    ensures err { OnErr result (text.new.items ≡ text.old.items) }
+{
+    push_one(text, snapshot, without_end(line))
+}
+
+// A line without its line end.
+fn without_end(line: &[u8]) -> &[u8]
+    ensures { result.now ≡ without_terminator line.now }
+{
+    let len = line.len();
+    if len == 0 || line[len - 1] != b'\n' {
+        return line;
+    }
+    if len == 1 || line[len - 2] != b'\r' {
+        return &line[..len - 1];
+    }
+    &line[..len - 2]
+}
+
+// Whether a line isn't a contact, so that it is its own answer.
+fn is_own_answer(line: &[u8]) -> bool
+    ensures { IsTrue result → (h : List Mapping) → answer h line.now ≡ line.now }
+{
+    match contact_of(line) {
+        ParsedContact::Closed { .. } => false,
+        _ => true,
+    }
+}
+
+// Does what `push_cached_answer` does, but doesn't hash a line that is too long for the cache.
 fn push_line_answer(
     text: &mut Vec<u8>,
     snapshot: &Snapshot,
     cache: &mut AnswerCache,
     line: &[u8],
 ) -> Result<(), AllocError>
-    requires { AnswersAll snapshot.now cache.old }
+    requires answers { AnswersAll snapshot.now cache.old }
+    requires one { IsOneLine line.now }
+    ensures ok { OnOk result (text.new.items ≡ text.old.items ++ answers snapshot.now line.now) }
+    ensures err { OnErr result (text.new.items ≡ text.old.items) }
+    ensures cache { AnswersAll snapshot.now cache.new }
+{
+    if line.len() > ROW_LEN {
+        return push_ended(text, snapshot, line);
+    }
+    push_cached_answer(text, snapshot, cache, line)
+}
+
+// Appends the answer to a line with its line feed, from the cache if possible. Inserts the line into the cache at its
+// second miss. If this fails, the text stays as it was.
+fn push_cached_answer(
+    text: &mut Vec<u8>,
+    snapshot: &Snapshot,
+    cache: &mut AnswerCache,
+    line: &[u8],
+) -> Result<(), AllocError>
+    requires answers { AnswersAll snapshot.now cache.old }
+    requires one { IsOneLine line.now }
     ensures ok { OnOk result (text.new.items ≡ text.old.items ++ answers snapshot.now line.now) }
     ensures err { OnErr result (text.new.items ≡ text.old.items) }
     ensures cache { AnswersAll snapshot.now cache.new }
@@ -191,7 +259,7 @@ fn push_line_answer(
         return text.extend_from_slice(answer);
     }
     let begun = text.len();
-    push_answers(text, snapshot, line)?;
+    push_ended(text, snapshot, line)?;
     if cache.note_miss(hash) {
         cache.insert(hash, line, &text.as_slice()[begun..]);
     }

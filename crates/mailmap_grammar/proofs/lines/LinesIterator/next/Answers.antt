@@ -1,13 +1,18 @@
-use Rattle.std.proofs.Common.{rules, arith, ◌∙◌, ap, sym, length}
-use Rattle.mailmap_grammar.specs.Lines.{readings_from}
+use Rattle.std.proofs.Common.{rules, arith, ◌≡◌, ◌+◌, ◌∙◌, ap, sym, length}
+use Rattle.mailmap_grammar.specs.Lines.{line_reader, reading_by, readings_from}
 use Rattle.mailmap_grammar.proofs.Readings.{readings_from-some, readings_from-none, readings_from-nil}
 use Rattle.mailmap_grammar.proofs.lines.LinesIterator.next.Goals as goal
 
 pub loop-line-preserved : goal.loop-line-preserved
-loop-line-preserved c = (
-  omega (arith, ap length c.in-Some.ensures.steps),
-  readings_from-none _ _ _ _ _ _ c.loop-line.invariant.1 c.in-Some.ensures.steps c.in_default-read_line.ensures,
-)
+loop-line-preserved c =
+    let read = reading_by (line_reader c.loop-line.self-inside.strictness) in
+    let before = c.loop-line.self-inside.line_no in
+    let after : before + 1 + 1 + c.skip_silent-in-Some.result ≡ before + 1 + c.skip_silent-in-Some.result + 1 = omega arith in (
+      omega (arith, ap length c.in-Some.ensures.steps, c.skip_silent-in-Some.ensures.counted),
+      ap (λ n. readings_from read n c.skip_silent-in-Some.new.lines) (sym after)
+          ∙ sym (c.skip_silent-in-Some.ensures.silent (line_reader c.loop-line.self-inside.strictness) (before + 1 + 1))
+          ∙ readings_from-none _ _ _ _ _ _ c.loop-line.invariant.1 c.in-Some.ensures.steps c.in_default-read_line.ensures,
+    )
 
 pub returns-in-Some-read_line-clause-steps : goal.returns-in-Some-read_line-clause-steps
 returns-in-Some-read_line-clause-steps c =

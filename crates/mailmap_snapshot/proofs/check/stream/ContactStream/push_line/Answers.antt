@@ -2,8 +2,18 @@ use Rattle.std.proofs.Common.{◌≡◌, ◌+◌, ◌++◌, ◌∙◌, List, [],
 use Rattle.mailmap_grammar.specs.Lines.{HoldsNo}
 use Rattle.mailmap_snapshot.specs.Contacts.{answers}
 use Rattle.mailmap_snapshot.specs.Streams.{AnswersFront, Stream}
+use Rattle.mailmap_snapshot.proofs.OneLine.{is_one}
 use Rattle.mailmap_snapshot.proofs.Streams.{ended, kept-front, kept-held, kept-len}
 use Rattle.mailmap_snapshot.proofs.check.stream.ContactStream.push_line.Goals as goal
+
+pub invariant_of-self-in_default : goal.invariant_of-self-in_default
+invariant_of-self-in_default c = (
+  c.self.invariant.0,
+  subst (λ (l : List ℕ). HoldsNo 10 l) (sym c.in_ok-extend_from_slice.ensures.items) (kept-held c.self.inside.kept.items c.args.part.now c.in_default.ensures c.self.invariant.1),
+)
+
+pub end_line-requires-clause-one : goal.end_line-requires-clause-one
+end_line-requires-clause-one c = is_one c.args.part.now c.in-Some.feed c.in-Some.ensures
 
 pub returns-in_default-clause-takes : goal.returns-in_default-clause-takes
 returns-in_default-clause-takes c = kept-len c.args.part.now c.in_default.ensures

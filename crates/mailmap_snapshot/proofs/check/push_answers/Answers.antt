@@ -4,7 +4,7 @@ use Rattle.std.proofs.Math.Seq.{take-append_seam}
 use Rattle.std.proofs.lemmas.Iterator.Consumers.{YieldsList-from_first, YieldsList-end}
 use Rattle.mailmap_snapshot.specs.Contacts.{answer, lines}
 use Rattle.mailmap_snapshot.proofs.Contacts.{lines-given}
-use Rattle.mailmap_snapshot.proofs.check.push_each.Goals as goal
+use Rattle.mailmap_snapshot.proofs.check.push_answers.Goals as goal
 
 pub returns-clause-ok : goal.returns-clause-ok
 returns-clause-ok c =
