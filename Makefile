@@ -1,12 +1,19 @@
-# make run: maps the sample contacts by the sample mailmap. make test: all tests. make gate: proves all crates with
-# their tests, and tries the mutants, but only what changed since the last gate on this machine and what is above it.
-# make cases: makes the stored cases of the tests anew. make build: the programs. make lib: the libraries for C.
-# make extension: the package for Python, in python. make wheel: a wheel of it, in dist. make install: the programs and
-# their manual pages, the libraries, their header, what pkg-config reads and the package for Python, under PREFIX.
-# make uninstall: removes those. make dist and make deb: a tarball and Debian packages of them, in dist, for machines
-# without the toolchain. make vendor DIR=..: copies the library's crates into another repository of crates.
+# make run             maps the sample contacts, using the sample mailmap
+# make test            proves and builds everything, and runs all tests
+# make gate            proves all crates and their tests, and tries the mutants; only what changed since the last gate
+#                      on this machine, and the crates above it
+# make cases SEED=1    makes the stored cases of the tests again
+# make build           the programs
+# make lib             the libraries for C
+# make extension       the extension module for Python, in python/gix_mailmap
+# make wheel           a wheel of the package for Python, in dist
+# make install         installs the programs and their manual pages, the libraries, their header and pkg-config file,
+#                      and the package for Python, under PREFIX
+# make uninstall       removes these
+# make dist, make deb  a tarball and Debian packages, in dist, for machines without the toolchain
+# make vendor DIR=..   copies the library's crates into another repository
 #
-# What is built is built again only after a change of what it is made from. packaging/prove.py sees that for crates.
+# Targets are rebuilt only if something that they are made from has changed; packaging/prove.py decides that for crates.
 PREFIX ?= /usr/local
 BINDIR ?= $(PREFIX)/bin
 INCLUDEDIR ?= $(PREFIX)/include
@@ -15,17 +22,17 @@ MANDIR ?= $(PREFIX)/share/man
 # the folder of the package for Python
 PYTHONDIR ?= $(PREFIX)/share/gix_mailmap/python
 
-# The shell and sed get the names of folders as they are. So a name may have no blank and nothing that those two read:
-# `make uninstall` with DESTDIR='/x/a b' would remove /x/a.
+# The names of folders are passed to the shell and to sed without quotes. So they may have no spaces and no character
+# that is special there: `make uninstall` with DESTDIR='/x/a b' would remove /x/a.
 READ = & | ; < > ( ) * ? [ { } ' " ` \ $$ \#
 refused = $(strip $(word 2,x$(1)x) $(filter ~%,$(1)) $(foreach character,$(READ),$(findstring $(character),$(1))))
 $(foreach name,DESTDIR PREFIX BINDIR INCLUDEDIR LIBDIR MANDIR PYTHONDIR DIST,$(if $(call refused,$($(name))),\
-    $(error $(name) has a blank or one of $(READ), or begins with ~: $($(name)))))
+    $(error $(name) has a space or one of $(READ), or begins with ~: $($(name)))))
 
 # the version of all that is shipped
 VERSION := $(shell cat VERSION)
-# The number of the shared library's binary interface. A program runs with any library of the number that it was linked
-# with, so this is to grow with each change after which one would not.
+# The number of the shared library's binary interface. A program runs with any library that has the number it was linked
+# with. So raise it with each change after which linked programs would no longer run.
 ABI = 1
 
 PROGRAM = crates/mailmap_check/out/mailmap_check
@@ -46,7 +53,7 @@ PROVE = packaging/prove.py
 build:
 	$(PROVE) mailmap_check mailmap_verify mailmap_shortlog
 
-# all that the tests need, at once: the programs, also the one that prints in hex, and the proved calls for C
+# all that the tests need: the programs, also mailmap_dump, which prints in hex, and the proved functions for C
 proved:
 	$(PROVE) mailmap_check mailmap_verify mailmap_shortlog mailmap_dump gix_mailmap_c
 
@@ -56,14 +63,14 @@ run:
 
 lib: $(LIB)/c/libgix_mailmap.a $(LIB)/c/$(SHARED)
 
-# the proved calls
+# the proved functions
 $(PROVED): always
 	$(PROVE) gix_mailmap_c
 
-# The static library: the proved calls, what they need of the toolchain, and the functions that wrap them, in one object
-# that shows only the calls of the header. CPPFLAGS, CFLAGS and LDFLAGS come after the flags that are set here, but for
-# -fno-lto: with -flto, which distributions set, calls.o would have code for the linker's plugin beside its own. The
-# plugin would take that code and leave out the rest of the object, which is the proved calls.
+# The static library: the proved functions, what they need of the toolchain, and the functions that wrap them, in one
+# object that exports only the functions of the header. CPPFLAGS, CFLAGS and LDFLAGS follow the flags that are set here,
+# except for -fno-lto: with -flto, which distributions set, calls.o would also have code for the linker's plugin. The
+# plugin would use that code and leave out the rest of the object, which is the proved functions.
 $(LIB)/c/libgix_mailmap.a: $(PROVED) $(wildcard c/*) include/gix_mailmap.h include/gix_mailmap.map
 	rm -rf $(LIB)/c && mkdir $(LIB)/c
 	$(CC) -std=c11 -O2 -fPIC -Wall -Wextra -Wpedantic -Werror -Iinclude $(CPPFLAGS) $(CFLAGS) -fno-lto \
@@ -73,7 +80,7 @@ $(LIB)/c/libgix_mailmap.a: $(PROVED) $(wildcard c/*) include/gix_mailmap.h inclu
 	objcopy --keep-global-symbols=$(LIB)/c/shown $(LIB)/c/gix_mailmap.o
 	ar rcsD $@ $(LIB)/c/gix_mailmap.o
 
-# The shared one, made of it; the Makefile has its number. Its other names are hard links: rt stops at symbolic ones.
+# The shared library, made from the static one; ABI is above. Its other names are hard links: rt stops at symbolic ones.
 $(LIB)/c/$(SHARED): $(LIB)/c/libgix_mailmap.a include/gix_mailmap.map VERSION Makefile
 	rm -f $(LIB)/c/$(LINKED)*
 	$(CC) -shared -o $@ -Wl,-soname,$(SONAME) -Wl,--version-script,include/gix_mailmap.map \
@@ -113,11 +120,11 @@ SEED ?= 1
 cases:
 	tests/cases.sh $(SEED)
 
-# The name of the folder is taken from the environment, where make puts it as it was given.
+# The name of the folder is read from the environment, where make puts it unchanged.
 vendor:
 	@packaging/vendor.py "$$DIR"
 
-# A file that is already there with the same bytes isn't written again.
+# An installed file with the same bytes isn't written again.
 install: build lib extension
 	mkdir -p $(DESTDIR)$(BINDIR) $(DESTDIR)$(MANDIR)/man1
 	install -C -m 755 $(PROGRAM) $(VERIFIER) $(COUNTER) $(DESTDIR)$(BINDIR)
@@ -126,19 +133,19 @@ install: build lib extension
 
 PAGES = man/mailmap_check.1 man/mailmap_shortlog.1 man/mailmap_verify.1
 PACKAGE = python/gix_mailmap/py.typed $(wildcard python/gix_mailmap/*.py python/gix_mailmap/*.pyi)
-# a folder as pkg-config has it: from the prefix on, if it is below that
+# a folder as the pkg-config file has it: relative to the prefix, if it is below that
 BELOW = $(patsubst $(PREFIX)/%,$${prefix}/%,$(1))
 
-# what pkg-config reads, and what Python's own tools do
+# the pkg-config file, and the metadata that Python's own tools read
 FOR_PKG_CONFIG = sed -e 's|@PREFIX@|$(PREFIX)|' -e 's|@INCLUDEDIR@|$(call BELOW,$(INCLUDEDIR))|' \
     -e 's|@LIBDIR@|$(call BELOW,$(LIBDIR))|' -e 's|@VERSION@|$(VERSION)|' include/gix_mailmap.pc.in
 INFO = gix_mailmap-$(VERSION).dist-info
 METADATA = sed -e 's|@VERSION@|$(VERSION)|' packaging/METADATA.in
-# installs what a command prints as a file; and a link, if it isn't there yet
+# installs the output of a command as a file; installs a link, if it isn't there yet
 install_printed = made=$$(mktemp) && $(1) > $$made && install -C -m 644 $$made $(2) && rm $$made
 install_link = [ "$$(readlink $(2))" = "$(1)" ] || ln -sf $(1) $(2)
 
-# what `make lib extension` has built
+# installs what `make lib extension` has built
 install_lib:
 	mkdir -p $(DESTDIR)$(INCLUDEDIR) $(DESTDIR)$(LIBDIR)/pkgconfig
 	mkdir -p $(DESTDIR)$(PYTHONDIR)/gix_mailmap $(DESTDIR)$(PYTHONDIR)/$(INFO)
@@ -165,7 +172,7 @@ uninstall:
 	    $(PREFIX)/share/gix_mailmap; do \
 	    [ ! -d $(DESTDIR)$$folder ] || rmdir --ignore-fail-on-non-empty $(DESTDIR)$$folder; done
 
-# Packages. The same files give the same package: its files have one time, and root owns them.
+# Packages are reproducible: all files in them have the same time, and root owns them.
 DIST ?= dist
 SOURCE_DATE_EPOCH ?= 315532800
 TARBALL = gix_mailmap-$(VERSION)-linux-x86_64
@@ -186,11 +193,11 @@ dist: build lib extension
 	    --mode=u=rwX,go=rX -I 'gzip -9n' -cf $(DIST)/$(TARBALL).tar.gz $(TARBALL)
 	rm -rf $(DIST)/$(TARBALL)
 
-# dpkg-buildpackage writes beside the folder that it is called in. So that one is in DIST, with a copy of debian, whose
-# rules call make install. The maintainer may be another one than that of debian/control.
+# dpkg-buildpackage writes into the parent of the folder that it is called in. So that folder is in DIST, with a copy of
+# debian, whose rules call make install. MAINTAINER replaces the maintainer of debian/control.
 DEBIAN = $(DIST)/gix-mailmap-$(VERSION)
 MAINTAINER ?=
-# as it is given, escaped for sed and for the shell
+# escaped for sed and for the shell
 ESCAPED = $(subst ','\'',$(subst |,\|,$(subst &,\&,$(subst \,\\,$(value MAINTAINER)))))
 
 deb: build lib extension

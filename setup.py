@@ -40,7 +40,7 @@ setup(
     options={
         "build": {"build_base": WORK.name},
         "egg_info": {"egg_base": WORK.name},
-        # The library needs no newer version of glibc, and neither does what is beside it.
+        # The library needs no newer version of glibc, and neither does the rest of the extension module.
         "bdist_wheel": {"py_limited_api": "cp311", "plat_name": "manylinux_2_17_x86_64"},
     },
 )

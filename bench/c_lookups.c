@@ -3,9 +3,9 @@
  *     c_lookups gix MAP CONTACTS [N]       gix_mailmap_lookup
  *     c_lookups libgit2 MAP CONTACTS [N]   git_mailmap_resolve
  *
- * The map is opened and the contacts are cut before the clock runs. The first byte of each resulting name and email is
- * read, and each returned length: `texts` is their sum, as that of mailmap_bench's bench-answer. libgit2 takes texts
- * that end with a NUL, lends its answers and returns no length; gix_mailmap takes lengths, copies and returns them.
+ * The map is opened and the contacts are split before the clock runs. The first byte of each resulting name and email
+ * is read, and each returned length: `texts` is their sum, as in mailmap_bench's bench-answer. libgit2 takes texts that
+ * end with a NUL, lends its answers and returns no length; gix_mailmap takes lengths, copies and returns them.
  */
 #define _POSIX_C_SOURCE 200809L
 #include "c_contacts.h"

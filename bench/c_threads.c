@@ -21,7 +21,7 @@
 
 enum { MOST_THREADS = 64 };
 
-/* what one thread has to do, and what came of it */
+/* the work of one thread, and its results */
 typedef struct {
     const gix_mailmap *map;
     contacts given;

@@ -1,10 +1,10 @@
-// Answers the contacts on standard input by a mailmap, as mailmap_check does, by libgit2's git_mailmap. peers.py times it.
+// Answers the contacts on standard input as mailmap_check does, but by libgit2's git_mailmap. peers.py times it.
 //
 //     cc -O2 -o libgit2_check libgit2_check.c -lgit2
 //     libgit2_check MAP < contacts
 //     libgit2_check --version            the version of libgit2
 //
-// The status is 1, and standard error says why, where libgit2 doesn't take the mailmap.
+// If libgit2 rejects the mailmap, the status is 1, and standard error has the reason.
 #define _GNU_SOURCE
 #include <git2.h>
 #include <stdio.h>
@@ -34,7 +34,7 @@ static char *read_all(FILE *in, size_t *len)
 	exit(1);
 }
 
-// Ends the text between two places in front of the blanks at its end, and returns its start after those at its front.
+// Ends the text between two places in front of the spaces at its end, and returns its start after those at its front.
 static char *trimmed(char *start, char *end)
 {
 	while (end > start && end[-1] == ' ')

@@ -194,9 +194,9 @@ def alike_answers(count: int) -> Made:
     return Made(alike(SIXTEEN)(count // 2).mailmaps, count // 2, numbered(form, shuffled(count // 2)))
 
 
-def padded(blank: bytes) -> Callable[[int], Made]:
+def padded(space: bytes) -> Callable[[int], Made]:
     """Texts with some 125 bytes of white space on both sides."""
-    gap = blank * (125 // len(blank))
+    gap = space * (125 // len(space))
     form = gap.join([b"", b"Jane", b"<", b"j@x", b">", b"jd", b"<", b"j%07d@x", b">", b"\n"])
 
     def make(count: int) -> Made:
@@ -206,8 +206,8 @@ def padded(blank: bytes) -> Callable[[int], Made]:
     return make
 
 
-def padded_contacts(blank: bytes) -> Callable[[int], Made]:
-    gap = blank * (125 // len(blank))
+def padded_contacts(space: bytes) -> Callable[[int], Made]:
+    gap = space * (125 // len(space))
     form = gap.join([b"", b"jd", b"<", b"j%07d@example.com", b">", b"\n"])
 
     def make(count: int) -> Made:
@@ -256,8 +256,8 @@ SYMBOLS = [
     ("<", b"<"),
     (">", b">"),
     ("<>", b"<>"),
-    ("< and a blank", b"< "),
-    ("blanks", b" "),
+    ("< and a space", b"< "),
+    ("spaces", b" "),
     ("U+3000", IDEOGRAPHIC),
     ("zero bytes", b"\0"),
     ("bytes that are not UTF-8", b"\xff"),
@@ -282,7 +282,7 @@ FAMILIES = [
     Family("thirty-two bytes equal", "emails that differ after thirty-two bytes", alike(THIRTY_TWO)),
     Family("crowd, sixteen equal", "names of one email, and another email with the same sixteen bytes", crowd(SIXTEEN)),
     Family("crowd, thirty-two equal", "the same with thirty-two bytes", crowd(THIRTY_TWO)),
-    Family("blanks around texts", "each text between blanks", padded(b" ")),
+    Family("spaces around texts", "each text between spaces", padded(b" ")),
     Family("U+3000 around texts", "each text between ideographic spaces", padded(IDEOGRAPHIC)),
     # those that never did
     Family("ascending", "ascending emails", lambda n: one_map(range(n), n)),
@@ -304,7 +304,7 @@ FAMILIES = [
     Family("contacts, blank", "random emails, and blank lines", lambda n: some_answers(n, repeated(b"\n", n // 2))),
     Family("contacts, sixteen equal", "emails that differ after sixteen bytes", alike_answers),
     Family("contacts of a crowd", "names of one email, and another email with the same sixteen bytes", crowd_answers),
-    Family("contacts, blanks around", "each text between blanks", padded_contacts(b" ")),
+    Family("contacts, spaces around", "each text between spaces", padded_contacts(b" ")),
     Family("contacts, U+3000 around", "each text between ideographic spaces", padded_contacts(IDEOGRAPHIC)),
     Family("contact of contacts", "one line of contacts", ended_contact(b"Jane Doe <jane@example.com> ")),
     *[Family(f"contact of {name}", f"one contact of {name}", one_contact(text)) for name, text in SYMBOLS],

@@ -1,12 +1,12 @@
-// Runs a program once, and prints the nanoseconds until it ended, its peak memory in KiB, its status, and the nanoseconds
-// of processor time that it and the system took for it.
+// Runs a program once, and prints the nanoseconds until it ended, its peak memory in KiB, its status, and the
+// nanoseconds of processor time that it and the system took for it.
 //
 //     cc -O2 -static -o measure measure.c
 //     measure SECONDS IN OUT PROGRAM ARGS..
 //
 // IN and OUT are its standard streams. Past so many seconds of processor time it is killed; the status is 128 and the
-// signal then. A program of its own and not a few lines of Python, since the system counts the memory of whoever starts
-// a program as the program's until that begins: here some hundred KiB.
+// signal then. This is a separate program, not a few lines of Python, since the system counts the memory of whoever
+// starts a program as the program's own until it begins: here some hundred KiB.
 #include <fcntl.h>
 #include <stdio.h>
 #include <stdlib.h>

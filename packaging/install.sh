@@ -1,6 +1,6 @@
 #!/bin/sh
-# install.sh PREFIX: installs what is beside it under PREFIX. install.sh --uninstall PREFIX: removes that again. With
-# DESTDIR in the environment, both do it under that folder, for a package.
+# install.sh PREFIX: installs the files next to it under PREFIX. install.sh --uninstall PREFIX: removes them. With
+# DESTDIR in the environment, both use PREFIX under that folder, for a package.
 set -eu
 umask 022
 usage() {
@@ -27,11 +27,11 @@ cd "$(dirname "$0")"
 
 # A file is removed before it is copied, so it can't be copied onto itself.
 if [ "$root/" -ef . ]; then
-    echo "install.sh: install.sh itself lies in $root, so that can't be the PREFIX" >&2
+    echo "install.sh: install.sh itself is in $root, so that can't be the PREFIX" >&2
     exit 1
 fi
 
-# what is to be installed: no file of this tarball has blanks in its name
+# the files to install: none in this tarball has spaces in its name
 files="$(find bin include lib share ! -type d)"
 
 install_all() {

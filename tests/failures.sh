@@ -190,8 +190,8 @@ prints "$(sed 's/^Joe/     1\tJoe/' many | LC_ALL=C sort)" 0 mailmap_shortlog '-
 # Many entries for few keys are merged in batches of 262,144. Here a batch is the last one, or others follow.
 round=$'First <A@x>\n<n1@y> JANE <a@X>\n<n2@y> Jane <a@x>\nLast <a@x>'
 printf '%s\n' 'Ann <a@X>' '<n3@y> jane <a@x>' '<n4@y> <b@x>' > before
-{ yes "$round" || true; } | head -n 262144 > portion
+{ yes "$round" || true; } | head -n 262144 > chunk
 { yes "$round" || true; } | head -n 280000 > more
-prints $' Last <A@x>\n <n2@y> JANE <A@x>' 0 mailmap_check '--compact portion'
+prints $' Last <A@x>\n <n2@y> JANE <A@x>' 0 mailmap_check '--compact chunk'
 prints $' Last <a@X>\n <n2@y> jane <a@X>\n <n4@y> <b@x>' 0 mailmap_check '--compact before more'
 echo "failures: $runs passed, 0 failed"

@@ -1,5 +1,5 @@
 #!/usr/bin/env python3
-"""Checks that what the pages name is there.
+"""Checks that everything that the pages name exists.
 
 In all pages: files, links, laws, commands of the Makefile, crates. In docs/MODEL.md: the files of definitions, what the
 sections on definitions define, each function with its clauses and each mutant or test in the table of promises. In
@@ -75,7 +75,7 @@ def table(text, heading):
 
 
 def unknown(text, sources):
-    """What code in the text names that is declared nowhere."""
+    """The names in the text's code that are declared nowhere."""
     text = re.sub(r"^```.*?^```|^    .*?$", "", text, flags=re.DOTALL | re.MULTILINE)
     there = sources.names | sources.defined | sources.mutants | KNOWN | set(sources.clauses)
     for name in set(re.findall(r"`((?:\w+::)*[A-Za-z]\w+)(?: [a-z ]+)?`", text)):
@@ -84,7 +84,7 @@ def unknown(text, sources):
 
 
 def model(sources):
-    """What docs/MODEL.md names that isn't there."""
+    """The names in docs/MODEL.md that don't exist."""
     text = MODEL.read_text()
     for crate, *files in table(text, "## Where the definitions are"):
         there = {file.stem for file in TOP.glob(f"crates/{crate.strip('`')}/specs/*.antt")} - {"Lib"}
@@ -110,7 +110,7 @@ def reached(crate, uses):
 
 
 def architecture(sources):
-    """What docs/ARCHITECTURE.md says of crates and modules that isn't so."""
+    """The mistakes of docs/ARCHITECTURE.md about crates and modules."""
     text = ARCHITECTURE.read_text()
     lines = [line.replace(" staticlib", "").split(":") for line in (TOP / "crates.txt").read_text().splitlines()]
     uses = {crate: set(used.split()) & {name for name, _ in lines} for crate, used in lines}
@@ -137,7 +137,7 @@ def headings(text):
 
 
 def missing(sources):
-    """What a page names that isn't there."""
+    """The names on a page that don't exist."""
     targets = set(re.findall(r"^([a-z_]+):", (TOP / "Makefile").read_text(), re.MULTILINE))
     yield from (f"docs/MODEL.md: {what}" for what in model(sources))
     yield from (f"docs/ARCHITECTURE.md: {what}" for what in architecture(sources))

@@ -56,7 +56,7 @@ done
 # Directories whose names the shell or sed would interpret are refused before anything is done. If they weren't, -n
 # would still do nothing.
 named_so() {
-    refused "make with $1=$2" 2 "*** $1 has a blank or one of " built -n uninstall deb "$1=$2"
+    refused "make with $1=$2" 2 "*** $1 has a space or one of " built -n uninstall deb "$1=$2"
 }
 for folder in DESTDIR PREFIX BINDIR INCLUDEDIR LIBDIR MANDIR PYTHONDIR DIST; do
     named_so "$folder" '/x/a b'
@@ -122,20 +122,20 @@ programs_answer "$work/prefix/dest/own/bin"
 (cd "$work/prefix" && DESTDIR=dest installed --uninstall /own)
 nothing_left "$work/prefix" 'install.sh --uninstall with a DESTDIR'
 # a directory with spaces, which pkg-config quotes for the shell
-installed "$work/two  blanks"
+installed "$work/two  spaces"
 if [ -n "$(command -v pkg-config)" ]; then
-    eval "words=($(PKG_CONFIG_LIBDIR="$work/two  blanks/lib/pkgconfig" pkg-config --cflags --libs gix_mailmap))"
+    eval "words=($(PKG_CONFIG_LIBDIR="$work/two  spaces/lib/pkgconfig" pkg-config --cflags --libs gix_mailmap))"
     "${CC:-cc}" "$work/page/example.c" "${words[@]}" -o "$work/page/shared"
-    found="$(LD_LIBRARY_PATH="$work/two  blanks/lib" "$work/page/shared")"
-    same 'the C program, with a folder with blanks,' "$found" "$(cat "$work/page/printed")"
+    found="$(LD_LIBRARY_PATH="$work/two  spaces/lib" "$work/page/shared")"
+    same 'the C program, with a folder with spaces,' "$found" "$(cat "$work/page/printed")"
 fi
-installed --uninstall "$work/two  blanks"
-nothing_left "$work/two  blanks" 'install.sh --uninstall of a folder with blanks'
+installed --uninstall "$work/two  spaces"
+nothing_left "$work/two  spaces" 'install.sh --uninstall of a folder with spaces'
 # its own directory, by any name
 ln -s "$name" "$work/link"
 own="$(listed "$work/$name")"
 refused_here() {
-    (cd "$work/$name" && refused "install.sh $*" 1 'install.sh: install.sh itself lies in ' installed "$@")
+    (cd "$work/$name" && refused "install.sh $*" 1 'install.sh: install.sh itself is in ' installed "$@")
 }
 refused_here .
 refused_here --uninstall .

@@ -28,7 +28,7 @@ PARTS = ("src", "specs", "proofs")
 def block(kind):
     found = re.findall(rf"^```{kind}\n(.*?)^```$", PAGE, re.MULTILINE | re.DOTALL)
     if len(found) != 1:
-        sys.exit(f"vendor: README.md has {len(found)} blocks of {kind}, and not one")
+        sys.exit(f"vendor: README.md has {len(found)} blocks of {kind}, expected one")
     return found[0]
 
 
@@ -47,7 +47,7 @@ def put(folder, name, text):
 
 
 def edit(folder, name, pattern, new):
-    """Puts a text where a pattern fits a file, which it has to do once."""
+    """Replaces what a pattern matches in a file, which must be one place."""
     text, count = re.subn(pattern, new, (folder / name).read_text(encoding="utf-8"), flags=re.MULTILINE)
     assert count == 1, (name, pattern)
     (folder / name).write_text(text, encoding="utf-8")
@@ -58,14 +58,14 @@ def vendor(folder):
 
 
 def said_of(folder, changes):
-    """What is printed of changes, a list of lines."""
+    """The lines that are printed for changes."""
     count = len([file for file in (folder / "crates").iterdir() if file.is_dir() and file.name != "ours"])
     last = f"{count} crates of gix_mailmap {VERSION} are in {folder}/crates; changes: {len(changes)}"
     return "".join(f"{line}\n" for line in [*changes, last]).encode()
 
 
 def follow(folder, steps):
-    """Runs commands in a folder, and gives their status and what they print."""
+    """Runs commands in a folder, and returns their status and output."""
     done = subprocess.run(["bash", "-ec", steps], cwd=folder, stdin=subprocess.DEVNULL, capture_output=True)
     if done.returncode:
         print(done.stdout.decode()[-2000:], done.stderr.decode()[-4000:], sep="\n")
@@ -79,7 +79,7 @@ def check_program(work):
     steps, run, last = block("sh").replace(FOLDER, str(folder)).partition("rt run ")
     assert PRINTED.decode().strip() in last and "\n" not in last.strip()
     wants("the page's steps", (follow(TOP, steps)[0], b"", b""), 0, b"")
-    # what is proved here needn't be proved there again
+    # what is proved here needn't be proved again there
     for crate in (folder / "crates").iterdir():
         if (TOP / "crates" / crate.name / "out/rlib").is_dir():
             shutil.copytree(TOP / "crates" / crate.name / "out/rlib", crate / "out/rlib", copy_function=link)

@@ -20,12 +20,12 @@ class Mailmap(_native.Mailmap[AnyStr], Sequence[Entry[AnyStr]]):
     """A mailmap, which stays open until `close`, or until the end of its `with` block.
 
     A later entry replaces an earlier one for the same old email and old name. A later entry without an old name
-    replaces only the name or the email that it gives. Lines that can't be read are left out. `lookup` takes a name and
+    replaces only the name or the email that it gives. Lines that can't be parsed are skipped. `lookup` takes a name and
     an email as they are, `str` or bytes, and returns what the mailmap doesn't change as the same object.
 
     A Mailmap is a sequence of its entries, sorted by old email, then by old name, without regard to the case of ASCII
     letters. Entries are `str` if the mailmap was opened from `str`, otherwise bytes. To get a single entry, the library
-    goes over all entries before it; `entries` gives all of them at once. `write` begins lines as `compact` does.
+    goes over all entries before it; `entries` returns all of them at once. `write` begins lines as `compact` does.
 
     >>> with Mailmap("N <a@x>\\nM <a@x>\\n") as mailmap:
     ...     mailmap.add_entry(Entry("Jane Doe", None, None, "jd@y"))
@@ -60,7 +60,7 @@ class Mailmap(_native.Mailmap[AnyStr], Sequence[Entry[AnyStr]]):
         for found in (parent / ".mailmap" for parent in (Path(path).resolve() / ".git").parents):
             if found.with_name(".git").exists():
                 return cls.from_path(found) if found.exists() and not found.is_symlink() else cls("")
-        raise FileNotFoundError(errno.ENOENT, "no work tree of git has this path", str(path))
+        raise FileNotFoundError(errno.ENOENT, "not in a git work tree", str(path))
 
     @overload
     def map_contacts(self, lines: Iterable[str]) -> Iterator[str]: ...
@@ -76,13 +76,13 @@ class Mailmap(_native.Mailmap[AnyStr], Sequence[Entry[AnyStr]]):
         ...     list(mailmap.map_contacts(["jd <JD@y>\\n", "plain\\n"]))
         ['Jane Doe <jane@x>', 'plain']
 
-        A line is taken when its answer is wanted, and mapped with the mailmap as it is then. Call this once with all
+        A line is read when its answer is requested, and mapped with the mailmap as it is then. Call this once with all
         lines: each call reads the whole mailmap again, and so does the first line after a change. If the mailmap has an
         entry that can't be written as a line, this is no faster than lookups. Raises NotALine if a line has a line feed
         before its end, Closed, NotAText, and OutOfMemory.
         """
         if isinstance(lines, (str, bytes, bytearray, memoryview)):
-            raise TypeError(f"lines are wanted, not one {type(lines).__name__}")
+            raise TypeError(f"expected an iterable of lines, not {type(lines).__name__}")
         return _native.Stream(self, lines)
 
     def _of_trimmed(self, line: Union[str, bytes]) -> Union[str, bytes]:
@@ -97,16 +97,16 @@ class Mailmap(_native.Mailmap[AnyStr], Sequence[Entry[AnyStr]]):
     def __iter__(self) -> Iterator[Entry[AnyStr]]:
         return iter(self.entries())
 
-    # These of Sequence would ask for the entries one by one.
     def __reversed__(self) -> Iterator[Entry[AnyStr]]:
+        """The entries from the last to the first. Unlike Sequence's own method, this doesn't get them one by one."""
         return reversed(self.entries())
 
     def index(self, entry: Any, start: int = 0, stop: int = sys.maxsize) -> int:
-        """The index of an entry. A ValueError if there is none."""
+        """The index of an entry. Raises ValueError if there is none."""
         return self.entries().index(entry, start, stop)
 
     def __reduce__(self) -> NoReturn:
-        raise TypeError("a Mailmap can't be copied or pickled: open another one with what its write() gives")
+        raise TypeError("a Mailmap can't be copied or pickled: make a new one of its write()")
 
     def __enter__(self) -> Self:
         if self.closed:
@@ -168,9 +168,9 @@ def verify(mailmap: Text) -> list[Finding]:
     1 warning: no effect beside line 2
     2 warning: ignored text: # boss
     """
-    found, said = _native.verify(mailmap)
-    # The words of a finding come after its line's number, as in `:2: warning: ignored text: # boss`.
-    return [Finding.of(*one, words=line.partition(": ")[2]) for one, line in zip(found, said.split("\n"))]
+    found, messages = _native.verify(mailmap)
+    # The words of a finding follow its line's number, as in `:2: warning: ignored text: # boss`.
+    return [Finding.of(*one, words=line.partition(": ")[2]) for one, line in zip(found, messages.split("\n"))]
 
 
 @overload
@@ -220,10 +220,10 @@ def unneeded(mailmaps: Iterable[tuple[AnyText, AnyText]], contacts: AnyText) -> 
 
 
 def _named(mailmaps: Iterable[tuple[Any, Any]]) -> list[Any]:
-    """The names and the texts of mailmaps in turn."""
+    """The names and texts of mailmaps as one list: each name is followed by its text."""
     texts: list[Any] = []
     for pair in mailmaps:
         if not isinstance(pair, (tuple, list)) or len(pair) != 2:
-            raise TypeError(f"each mailmap has to be a pair of its name and its text, and not {pair!r:.80}")
+            raise TypeError(f"expected a pair of a mailmap's name and its text, not {pair!r:.80}")
         texts += pair
     return texts

@@ -1,19 +1,19 @@
 /* The extension module gix_mailmap._native: the library for C as types and functions of Python, by the limited API of
- * CPython 3.11. The interpreter's lock is the lock of mailmaps and streams: each call on one holds it. Functions of
- * texts alone, and the reading of a new mailmap, let other threads run. What may run code of Python, such as the
- * reading of a file, comes first in each call, and then a look whether the mailmap is still open. */
+ * CPython 3.11. Each call on a mailmap or a stream holds the interpreter's lock, which so protects both. The functions
+ * that take only texts, and the reading of a new mailmap, release it. Steps that may run Python code, such as reading a
+ * file, come first in each call, and only after them the call checks whether the mailmap is still open. */
 #define PY_SSIZE_T_CLEAN
 #include <Python.h>
 #include <gix_mailmap.h>
 #include <stdbool.h>
 #include <string.h>
 
-/* What FOR_NATIVE of _results.py has, in its order, and the type of mailmaps. The errors of the library have the
- * numbers of its statuses. Each interpreter has a module with a list of its own. */
+/* The classes and functions of FOR_NATIVE in _results.py, in its order, and the type of mailmaps. The errors of the
+ * library have the numbers of its statuses. Each interpreter has a module with its own list. */
 enum { CLOSED, NOT_A_LINE, OUT_OF_MEMORY, NO_ENTRY, NOT_AN_ENTRY, UNWRITABLE, ENCODED, ANSWER, ENTRY, MAILMAP };
 static PyModuleDef definition;
 
-/* One of these. NULL, with an error, when the interpreter has begun to end. */
+/* One of these; NULL, with an error set, once the interpreter is shutting down. */
 static PyObject *find(int name)
 {
     PyObject *module = PyState_FindModule(&definition);
@@ -22,7 +22,7 @@ static PyObject *find(int name)
     return PyList_GetItem(*(PyObject **)PyModule_GetState(module), name);
 }
 
-/* Raises an error, and returns NULL or false, as the next two functions do. */
+/* Raises an error, and returns NULL. */
 static void *raise_error(int name, const char *words)
 {
     PyObject *error = find(name);
@@ -31,7 +31,7 @@ static void *raise_error(int name, const char *words)
     return NULL;
 }
 
-/* Raises OutOfMemory in place of Python's own MemoryError. Any other error stays. */
+/* Raises OutOfMemory in place of Python's own MemoryError, and leaves any other error. Returns NULL. */
 static void *raise_no_memory(void)
 {
     if (!PyErr_Occurred() || PyErr_ExceptionMatches(PyExc_MemoryError))
@@ -46,7 +46,7 @@ static bool is_ok(gix_mailmap_status status)
     return status == GIX_MAILMAP_OK;
 }
 
-/* The bytes of a text, which its owner keeps. */
+/* The bytes of a text, which its owner keeps alive. */
 typedef struct Text {
     const char *at;
     size_t len;
@@ -63,8 +63,8 @@ static PyObject *new_bytes(PyObject *from)
     return encoded != NULL ? PyObject_CallFunctionObjArgs(encoded, from, NULL) : NULL;
 }
 
-/* Gets the text of an object, or the rest of an open file. The owner is there for `release`, unless it is NULL after an
- * error. In a `str` that isn't UTF-8, lone surrogates are the bytes that they stand for. */
+/* Gets the text of an object, or the rest of an open file. The caller releases the owner by `release`; after an error
+ * it is NULL. In a `str` that isn't UTF-8, lone surrogates stand for bytes. */
 static bool get_text(PyObject *from, Text *text)
 {
     Py_ssize_t len = 0;
@@ -75,7 +75,7 @@ static bool get_text(PyObject *from, Text *text)
         text->at = PyBytes_AsString(from), len = PyBytes_Size(from);
     } else if (!PyObject_CheckBuffer(from)) {
         if (!PyObject_HasAttrString(from, "read"))
-            return PyErr_Format(PyExc_TypeError, "str or bytes wanted, not %R", (PyObject *)Py_TYPE(from));
+            return PyErr_Format(PyExc_TypeError, "expected str or bytes, not %R", (PyObject *)Py_TYPE(from));
         PyObject *rest = PyObject_CallMethod(from, "read", NULL);
         bool ok = rest != NULL && get_text(rest, text);
         Py_XDECREF(rest);
@@ -112,7 +112,7 @@ static PyObject *new_text(bool is_str, const char *at, size_t len)
     return made != NULL ? made : raise_no_memory();
 }
 
-/* The object of a text, if it has these bytes and can't change, or else a new one. */
+/* The object that a text came from, if it has exactly these bytes and is immutable, or else a new object. */
 static PyObject *same_or_new(const Text *text, PyObject *from, const char *at, size_t len)
 {
     bool is_final = PyUnicode_CheckExact(from) || PyBytes_CheckExact(from);
@@ -121,8 +121,8 @@ static PyObject *same_or_new(const Text *text, PyObject *from, const char *at, s
     return new_text(text->is_str, at, len);
 }
 
-/* A named tuple of four items, which it takes over. After an error some of them are NULL. From 3.14 on a tuple has room
- * for its hash, which only tuple's own `__new__` prepares, and that takes longer. */
+/* A named tuple of four items, whose references it takes over. After an error some of them are NULL. From 3.14 on a
+ * tuple has a field for its hash, which only tuple's own `__new__` initializes, and that takes longer. */
 static PyObject *new_named_tuple(PyObject *class, PyObject *const items[4])
 {
     PyTypeObject *type = (PyTypeObject *)class;
@@ -139,10 +139,10 @@ static PyObject *new_named_tuple(PyObject *class, PyObject *const items[4])
     return made != NULL ? made : raise_no_memory();
 }
 
-/* The calls of the library that write into a buffer. */
+/* The functions of the library that write into a buffer. */
 typedef enum Which { CHECK, COMPACT, PRUNE, VERIFY, REPORT, EXPLAIN, UNNEEDED, WRITE } Which;
 
-/* What such a call is given: texts, some mailmaps by their names, or an open mailmap. */
+/* The arguments of such a function: texts, mailmaps with their names, or an open mailmap. */
 typedef struct Given {
     const Text *texts;
     const gix_mailmap_named *named;
@@ -165,7 +165,7 @@ static gix_mailmap_status write_into(Which which, const Given *given, void *out,
     }
 }
 
-/* What a call writes, for PyMem_Free, and how many elements of a size that is. At first `len` is a guess. */
+/* What such a function writes, to be freed by PyMem_Free: `len` elements of a size. At first `len` is a guess. */
 static void *write_to_memory(Which which, const Given *given, size_t size, size_t *len)
 {
     gix_mailmap_status status = GIX_MAILMAP_TOO_SHORT;
@@ -214,7 +214,7 @@ static PyObject *make_rows(Which which, const Given *given)
     return list != NULL ? list : raise_no_memory();
 }
 
-/* The findings, and their words as the report of a mailmap without a name has them. */
+/* The findings, and their messages in the report on a mailmap without a name. */
 static PyObject *make_findings(const Given *given)
 {
     const gix_mailmap_named named = {.text = given->texts->at, .text_len = given->texts->len};
@@ -224,7 +224,7 @@ static PyObject *make_findings(const Given *given)
     return both != NULL ? both : raise_no_memory();
 }
 
-/* A call of texts. After the contacts, if it has any, come the names and the texts of mailmaps in turn. */
+/* Calls a function that takes only texts: the contacts, if it takes any, and then each mailmap's name and its text. */
 static PyObject *call(Which which, PyObject *args)
 {
     size_t count = (size_t)PyTuple_Size(args), guess = 4096;
@@ -293,8 +293,8 @@ static void mailmap_dealloc(PyObject *self)
     Py_DECREF(type);
 }
 
-/* Adds the entries of a text. The first one of a new mailmap says of which kind it is. Nothing else knows a new one, so
- * other threads may run meanwhile. */
+/* Adds the entries of a text. The first text of a new mailmap decides whether the mailmap is of `str` or bytes. Nothing
+ * else refers to a new mailmap yet, so other threads may run meanwhile. */
 static bool add_text(Mailmap *mailmap, PyObject *from, bool is_new)
 {
     Text text;
@@ -339,7 +339,7 @@ static PyObject *mailmap_add_entry(PyObject *self, PyObject *entry)
     int is_entry = class != NULL ? PyObject_IsInstance(entry, class) : -1;
     bool is_complete = is_entry > 0 && PyTuple_Size(entry) == 4;
     if (!is_complete && is_entry >= 0)
-        PyErr_Format(PyExc_TypeError, "an Entry is wanted, not %R", (PyObject *)Py_TYPE(entry));
+        PyErr_Format(PyExc_TypeError, "expected an Entry, not %R", (PyObject *)Py_TYPE(entry));
     for (Py_ssize_t i = 0; is_complete && i < 4; i++) {
         PyObject *item = PyTuple_GetItem(entry, i);
         if (item != Py_None || i == 3)
@@ -352,7 +352,7 @@ static PyObject *mailmap_add_entry(PyObject *self, PyObject *entry)
     return is_complete ? Py_NewRef(Py_None) : NULL;
 }
 
-/* Looks a contact up, which these objects are and whose texts those are. */
+/* Looks a contact up, given as two objects and their texts. */
 static PyObject *look_up(const Mailmap *mailmap, const Text texts[2], PyObject *const from[2])
 {
     char usual[512], *more = NULL, *at = usual, *email_at = usual + sizeof usual / 2;
@@ -372,7 +372,7 @@ static PyObject *look_up(const Mailmap *mailmap, const Text texts[2], PyObject *
         new_name, new_email, PyBool_FromLong(name.is_given), PyBool_FromLong(email.is_given)});
 }
 
-/* The name and the email may be given by these names. Then they come after the others, in the caller's order. */
+/* The name and the email may be keyword arguments. These follow the positional ones, in the caller's order. */
 static PyObject *mailmap_lookup(PyObject *self, PyObject *const *args, Py_ssize_t count, PyObject *keywords)
 {
     static const char *const keyword[] = {"name", "email"};
@@ -382,7 +382,7 @@ static PyObject *mailmap_lookup(PyObject *self, PyObject *const *args, Py_ssize_
     for (Py_ssize_t i = 0; fits && i < named; i++)
         fits = PyUnicode_CompareWithASCIIString(PyTuple_GetItem(keywords, i), keyword[(count + i) ^ swapped]) == 0;
     if (!fits)
-        return PyErr_Format(PyExc_TypeError, "lookup takes a name and an email");
+        return PyErr_Format(PyExc_TypeError, "lookup() takes a name and an email");
     PyObject *const from[] = {args[swapped], args[!swapped]};
     Text texts[2] = {{0}};
     __builtin_prefetch((const char *)from[1] + 64); /* the email, while the name is looked at */
@@ -392,7 +392,7 @@ static PyObject *mailmap_lookup(PyObject *self, PyObject *const *args, Py_ssize_
     return answer;
 }
 
-/* How long it is at most as a text: beside its texts a line has two pairs of brackets, four blanks and its end. */
+/* The maximum length as a text: besides its texts, a line has two pairs of brackets, four spaces and a line feed. */
 static size_t written_len(const Mailmap *mailmap)
 {
     size_t entries, texts;
@@ -416,7 +416,7 @@ static Py_ssize_t mailmap_len(PyObject *self)
     return (Py_ssize_t)entries;
 }
 
-/* An entry, whose texts follow one another. */
+/* An entry; its texts are stored one after another. */
 static PyObject *new_entry(bool is_str, const gix_mailmap_listed *listed, const char *texts)
 {
     const gix_mailmap_field fields[] = {listed->new_name, listed->new_email, listed->old_name, listed->old_email};
@@ -427,7 +427,7 @@ static PyObject *new_entry(bool is_str, const gix_mailmap_listed *listed, const 
     return new_named_tuple(find(ENTRY), items);
 }
 
-/* A list of so many entries: of all, or of the one at an index. */
+/* A list of all entries, or of the one at an index. */
 static PyObject *list_entries(const Mailmap *mailmap, size_t count, const size_t *index)
 {
     size_t all, len;
@@ -472,10 +472,10 @@ static PyMethodDef mailmap_methods[] = {
     {"lookup", (PyCFunction)(void (*)(void))mailmap_lookup, METH_FASTCALL | METH_KEYWORDS,
      "lookup($self, name, email)\n--\n\nThe new name and email of a contact. Raises OutOfMemory."},
     {"add", mailmap_add, METH_O,
-     "add($self, text, /)\n--\n\nAdds the entries of a mailmap after those that are there. Raises OutOfMemory."},
+     "add($self, text, /)\n--\n\nAdds the entries of a mailmap after the existing ones. Raises OutOfMemory."},
     {"add_entry", mailmap_add_entry, METH_O,
-     "add_entry($self, entry, /)\n--\n\nAdds one entry, whose texts are taken as they are. An empty text counts as "
-     "missing, except\nthe old email. Raises NotAnEntry and OutOfMemory."},
+     "add_entry($self, entry, /)\n--\n\nAdds one entry. Its texts aren't parsed. An empty text counts as missing, "
+     "except\nan old email. Raises NotAnEntry and OutOfMemory."},
     {"write", mailmap_write, METH_NOARGS,
      "write($self, /)\n--\n\nThe mailmap as a text, with a line for each entry. Raises Unwritable and OutOfMemory."},
     {"entries", mailmap_entries, METH_NOARGS, "entries($self, /)\n--\n\nAll entries as they are now."},
@@ -483,7 +483,10 @@ static PyMethodDef mailmap_methods[] = {
     {"__class_getitem__", Py_GenericAlias, METH_O | METH_CLASS, NULL},
     {0},
 };
-static PyGetSetDef attributes[] = {{.name = "closed", .get = mailmap_closed, .doc = "Whether it is closed."}, {0}};
+static PyGetSetDef attributes[] = {
+    {.name = "closed", .get = mailmap_closed, .doc = "Whether the mailmap is closed."},
+    {0},
+};
 static PyType_Slot mailmap_slots[] = {
     {Py_tp_new, mailmap_new},         {Py_tp_init, mailmap_init},           {Py_tp_dealloc, mailmap_dealloc},
     {Py_mp_length, mailmap_len},      {Py_mp_subscript, mailmap_subscript}, {Py_tp_getset, attributes},
@@ -492,22 +495,23 @@ static PyType_Slot mailmap_slots[] = {
 static PyType_Spec mailmap_spec = {
     "gix_mailmap._native.Mailmap", sizeof(Mailmap), 0, Py_TPFLAGS_DEFAULT | Py_TPFLAGS_BASETYPE, mailmap_slots};
 
-/* Answers are kept for so many lines, if a line and its answer are no longer than that together. If fewer lines than
- * that came again meanwhile, no more are kept: asking the library takes less time. */
-enum { KEPT = 65536, KEPT_LEN = 250 };
+/* The cache holds this number of answers, each with its line, if both together are no longer than CACHED_LEN. When it
+ * is full, it is emptied; and if fewer lines than it holds were found in it, it isn't used any more, since calling the
+ * library takes less time. */
+enum { CACHED = 65536, CACHED_LEN = 250 };
 
 /* An iterator that answers one line after another. */
 typedef struct Stream {
     PyObject_HEAD
-    PyObject *mailmap, *lines, *kept;
+    PyObject *mailmap, *lines, *cache;
     gix_mailmap_stream *stream; /* NULL until a line needs it */
-    size_t changes;             /* those of the mailmap that `stream` and `kept` know */
+    size_t changes;             /* those of the mailmap when `stream` was opened and `cache` was empty */
     bool is_complete;           /* whether `stream` has the entries of the mailmap */
     bool is_begun, is_str;      /* whether there was a line, and whether it was a `str` */
-    bool keeps_none;            /* whether answers are no longer kept */
-    size_t again;               /* how many lines came again since answers were dropped */
-    char *room;                 /* for answers that are read */
-    size_t room_len;
+    bool caches_none;           /* whether the cache isn't used any more */
+    size_t hits;                /* how many lines were found in the cache since it was last full */
+    char *buffer;               /* for answers that are read from `stream` */
+    size_t buffer_len;
 } Stream;
 
 static PyObject *stream_new(PyTypeObject *type, PyObject *args, PyObject *Py_UNUSED(keywords))
@@ -515,11 +519,11 @@ static PyObject *stream_new(PyTypeObject *type, PyObject *args, PyObject *Py_UNU
     PyObject *mailmap, *lines, *class = find(MAILMAP);
     if (class == NULL || !PyArg_ParseTuple(args, "O!O", class, &mailmap, &lines) || !is_open((Mailmap *)mailmap))
         return NULL;
-    PyObject *iterator = PyObject_GetIter(lines), *kept = iterator != NULL ? PyDict_New() : NULL;
-    Stream *stream = kept != NULL ? (Stream *)PyType_GenericAlloc(type, 0) : NULL;
+    PyObject *iterator = PyObject_GetIter(lines), *cache = iterator != NULL ? PyDict_New() : NULL;
+    Stream *stream = cache != NULL ? (Stream *)PyType_GenericAlloc(type, 0) : NULL;
     if (stream != NULL)
-        stream->mailmap = Py_NewRef(mailmap), stream->lines = Py_NewRef(iterator), stream->kept = Py_NewRef(kept);
-    Py_XDECREF(iterator), Py_XDECREF(kept);
+        stream->mailmap = Py_NewRef(mailmap), stream->lines = Py_NewRef(iterator), stream->cache = Py_NewRef(cache);
+    Py_XDECREF(iterator), Py_XDECREF(cache);
     return stream != NULL ? (PyObject *)stream : raise_no_memory();
 }
 
@@ -528,7 +532,7 @@ static int stream_traverse(PyObject *self, visitproc visit, void *arg)
     Py_VISIT(Py_TYPE(self));
     Py_VISIT(((Stream *)self)->mailmap);
     Py_VISIT(((Stream *)self)->lines);
-    Py_VISIT(((Stream *)self)->kept);
+    Py_VISIT(((Stream *)self)->cache);
     return 0;
 }
 
@@ -537,23 +541,23 @@ static void stream_dealloc(PyObject *self)
     PyTypeObject *type = Py_TYPE(self);
     Stream *stream = (Stream *)self;
     PyObject_GC_UnTrack(self);
-    Py_XDECREF(stream->mailmap), Py_XDECREF(stream->lines), Py_XDECREF(stream->kept);
+    Py_XDECREF(stream->mailmap), Py_XDECREF(stream->lines), Py_XDECREF(stream->cache);
     gix_mailmap_stream_close(stream->stream);
-    PyMem_Free(stream->room);
+    PyMem_Free(stream->buffer);
     ((freefunc)PyType_GetSlot(type, Py_tp_free))(self);
     Py_DECREF(type);
 }
 
-/* Drops what is known of the mailmap. */
+/* Drops the library's stream and the cache, which are those of an older state of the mailmap. */
 static void forget(Stream *stream)
 {
     gix_mailmap_stream_close(stream->stream);
     stream->stream = NULL;
     stream->changes = ((Mailmap *)stream->mailmap)->changes;
-    PyDict_Clear(stream->kept);
+    PyDict_Clear(stream->cache);
 }
 
-/* Opens the stream of the library. If an entry can't be written as a line, it gets none, and only trims contacts. */
+/* Opens the library's stream. If no line can hold some entry, the stream has no entries, and only trims contacts. */
 static bool open_stream(Stream *stream)
 {
     if (stream->stream != NULL)
@@ -571,26 +575,26 @@ static bool open_stream(Stream *stream)
     return is_ok(status);
 }
 
-/* Reads the answers that wait into the room of the stream, which is made longer than they are. */
+/* Reads the pending answers into the buffer of the stream, which grows until it is longer than they are. */
 static bool read_answers(Stream *stream, size_t *len)
 {
-    *len = gix_mailmap_stream_read(stream->stream, stream->room, stream->room_len);
-    while (*len == stream->room_len) {
-        char *longer = PyMem_Realloc(stream->room, 2 * *len + 4096);
+    *len = gix_mailmap_stream_read(stream->stream, stream->buffer, stream->buffer_len);
+    while (*len == stream->buffer_len) {
+        char *longer = PyMem_Realloc(stream->buffer, 2 * *len + 4096);
         if (longer == NULL)
             return raise_no_memory();
-        stream->room = longer, stream->room_len = 2 * *len + 4096;
-        *len += gix_mailmap_stream_read(stream->stream, longer + *len, stream->room_len - *len);
+        stream->buffer = longer, stream->buffer_len = 2 * *len + 4096;
+        *len += gix_mailmap_stream_read(stream->stream, longer + *len, stream->buffer_len - *len);
     }
     return true;
 }
 
-/* The answer to a line that isn't known. A carriage return counts as part of a line's end only with a line feed after
- * it, so one that ends the line gets another one before the line feed. */
+/* The answer to a line that isn't in the cache. A carriage return counts as part of a line's end only before a line
+ * feed. So a line that ends in one without a line feed gets a second one before the line feed. */
 static PyObject *ask_stream(Stream *stream, const Text *text, PyObject *line)
 {
     bool is_ended = text->len > 0 && text->at[text->len - 1] == '\n';
-    size_t len = text->len - is_ended, answer_len, taken; /* all, as no answers wait */
+    size_t len = text->len - is_ended, answer_len, taken; /* all bytes, since no answers are pending */
     const char *end = is_ended ? "" : len > 0 && text->at[len - 1] == '\r' ? "\r\n" : "\n";
     if (memchr(text->at, '\n', len) != NULL)
         return raise_error(NOT_A_LINE, "a line has a line feed before its end");
@@ -600,7 +604,7 @@ static PyObject *ask_stream(Stream *stream, const Text *text, PyObject *line)
         forget(stream);
         return NULL;
     }
-    PyObject *made = same_or_new(text, line, stream->room, answer_len - 1);
+    PyObject *made = same_or_new(text, line, stream->buffer, answer_len - 1);
     if (made != NULL && !stream->is_complete) {
         PyObject *trimmed = made;
         made = PyObject_CallMethod(stream->mailmap, "_of_trimmed", "O", trimmed);
@@ -609,23 +613,23 @@ static PyObject *ask_stream(Stream *stream, const Text *text, PyObject *line)
     return made != NULL ? made : raise_no_memory();
 }
 
-static bool keep_answer(Stream *stream, PyObject *line, PyObject *answer)
+static bool cache_answer(Stream *stream, PyObject *line, PyObject *answer)
 {
-    if (PyObject_Size(line) + PyObject_Size(answer) > KEPT_LEN)
+    if (PyObject_Size(line) + PyObject_Size(answer) > CACHED_LEN)
         return true;
-    if (PyDict_Size(stream->kept) >= KEPT) {
-        PyDict_Clear(stream->kept);
-        stream->keeps_none = stream->again < KEPT, stream->again = 0;
+    if (PyDict_Size(stream->cache) >= CACHED) {
+        PyDict_Clear(stream->cache);
+        stream->caches_none = stream->hits < CACHED, stream->hits = 0;
     }
-    return PyDict_SetItem(stream->kept, line, answer) == 0 || raise_no_memory();
+    return PyDict_SetItem(stream->cache, line, answer) == 0 || raise_no_memory();
 }
 
 static PyObject *answer_line(Stream *stream, PyObject *line)
 {
-    bool keeps = (PyUnicode_CheckExact(line) || PyBytes_CheckExact(line)) && !stream->keeps_none;
-    PyObject *answer = keeps ? PyDict_GetItemWithError(stream->kept, line) : NULL;
+    bool caches = (PyUnicode_CheckExact(line) || PyBytes_CheckExact(line)) && !stream->caches_none;
+    PyObject *answer = caches ? PyDict_GetItemWithError(stream->cache, line) : NULL;
     Text text;
-    stream->again += answer != NULL;
+    stream->hits += answer != NULL;
     if (answer != NULL || PyErr_Occurred())
         return Py_XNewRef(answer);
     bool ok = get_text(line, &text);
@@ -633,7 +637,7 @@ static PyObject *answer_line(Stream *stream, PyObject *line)
     if (ok && is_kind(stream->is_str, &text) && is_open((Mailmap *)stream->mailmap))
         answer = ask_stream(stream, &text, line);
     release(&text, 1);
-    if (keeps && answer != NULL && !keep_answer(stream, line, answer))
+    if (caches && answer != NULL && !cache_answer(stream, line, answer))
         Py_CLEAR(answer);
     return answer;
 }

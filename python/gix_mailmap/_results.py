@@ -54,7 +54,7 @@ class Kind(IntEnum):
         return kind
 
 
-# The words before what a finding refers to.
+# The words of a finding before its `text`.
 _BEFORE = {Kind.IGNORED_TEXT: "ignored text: ", Kind.ITSELF_MAPPED: " is itself mapped, to ",
            Kind.GIT_READS: "git reads "}
 
@@ -74,7 +74,7 @@ class Finding(NamedTuple):
 
     @classmethod
     def of(cls, line: int, number: int, other: int, words: str) -> Finding:
-        """A finding of the library, with the words of a report of a mailmap without a name."""
+        """A finding of the library, with its words in the report on a mailmap without a name."""
         kind = Kind(number)
         if kind == Kind.NO_EFFECT:
             return cls(line, kind, other, None, words.replace("beside :", "beside line "))
@@ -126,7 +126,7 @@ class Unwritable(Error, ValueError):
 
 
 def encoded(text: str) -> bytes:
-    """The bytes of a `str`, in which some may be lone surrogates. Raises NotAText."""
+    """The bytes of a `str`, in which lone surrogates stand for bytes that aren't UTF-8. Raises NotAText."""
     try:
         return str.encode(text, "utf-8", "surrogateescape")
     except UnicodeEncodeError as error:

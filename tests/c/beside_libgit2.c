@@ -1,5 +1,5 @@
-/* Looks contacts up in small mailmaps, by libgit2 and by this library, and prints what each answers as a table in Markdown.
- * docs/C.md has that table, and beside_libgit2.sh compares both.
+/* Looks contacts up in small mailmaps, by libgit2 and by this library, and prints the answers of both as a table in
+ * Markdown. docs/C.md has that table, and beside_libgit2.sh compares both.
  *
  *     beside_libgit2              the table
  *     beside_libgit2 --version    the version of libgit2
@@ -30,15 +30,15 @@ static const row rows[] = {
     ROW("An empty old email", "<j@x> <>", "jd", ""),
     ROW("Other lines next to it", "Jane <a@x>\n<j@x> <>", "jd", "a@x"),
     ROW("An empty new email", "Jane <> <a@x>", "jd", "a@x"),
-    ROW("A new email of blanks", "Jane < > <a@x>", "jd", "a@x"),
-    ROW("Blanks in the new email's brackets", "< j@x > <a@x>", "jd", "a@x"),
-    ROW("Blanks in the old email's brackets", "Jane < a@x >", "jd", "a@x"),
-    ROW("The same, looked up with the blanks", "Jane < a@x >", "jd", " a@x "),
+    ROW("A new email of spaces", "Jane < > <a@x>", "jd", "a@x"),
+    ROW("Spaces in the new email's brackets", "< j@x > <a@x>", "jd", "a@x"),
+    ROW("Spaces in the old email's brackets", "Jane < a@x >", "jd", "a@x"),
+    ROW("The same, looked up with the spaces", "Jane < a@x >", "jd", " a@x "),
     ROW("Text after the last email", "Jane <a@x> jd", "jd", "a@x"),
     ROW("A second `<` without `>`", "Jane <a@x> <", "jd", "a@x"),
     ROW("A comment at the end of a line (no difference)", "Jane <a@x> # jd", "jd", "a@x"),
     ROW("An email in such a comment", "Jane <a@x> # <b@x>", "jd", "a@x"),
-    ROW("`#` after blanks", " # Jane <a@x>", "jd", "a@x"),
+    ROW("`#` after spaces", " # Jane <a@x>", "jd", "a@x"),
     ROW("`#` in a name", "Jane #1 <a@x>", "jd", "a@x"),
     ROW("`#` in an email", "Jane <a#1@x>", "jd", "a#1@x"),
     ROW("A zero byte in a name", "J\0 <a@x>", "jd", "a@x"),

@@ -1,5 +1,5 @@
-/* Every call of gix_mailmap.h with every status that it has. malloc, realloc and free are wrapped (-Wl,--wrap), so that
- * each request for memory can fail in turn, and so that what is never given back shows. */
+/* Calls every function of gix_mailmap.h so that it returns each of its statuses. malloc, realloc and free are wrapped
+ * (-Wl,--wrap), so that each request for memory can fail in turn, and leaks are found. */
 #include "gix_mailmap.h"
 #include <malloc.h>
 #include <stdio.h>
@@ -8,7 +8,7 @@
 
 static long failed_request = -1;
 static long requests = 0;
-/* how many blocks of memory are not given back, and how many bytes they have */
+/* how many blocks of memory are allocated, and how many bytes they have */
 static long blocks = 0;
 static size_t in_use = 0;
 
@@ -59,7 +59,7 @@ static void want(bool holds, const char *what, int line)
 
 static const char MAP[] = "Jane Doe <jane@x> <jd@y>\nJoe <joe@x>\n";
 
-/* A buffer between guards, filled so that each byte that is written shows. */
+/* A buffer between guards, filled with a pattern so that each written byte is noticed. */
 typedef struct {
     char bytes[96];
 } buffer;
@@ -71,7 +71,7 @@ static buffer filled(void)
     return made;
 }
 
-/* the text stands at the front, and nothing else is written */
+/* the text is at the front, and nothing else is written */
 static bool holds(const buffer *b, const char *text)
 {
     size_t len = strlen(text);
@@ -115,7 +115,7 @@ static void prune(void)
     WANT(needed == 0 && holds(&out, ""));
 }
 
-/* a line of each kind, and two lines with which nothing is wrong */
+/* a line of each kind, and two correct lines */
 static const char FAULTY[] =
     "plain\n"
     "Jane <a@x\n"
@@ -184,7 +184,7 @@ static gix_mailmap_status report_both(char *out, size_t room, size_t *needed)
     return gix_mailmap_report(BOTH, 2, out, room, needed);
 }
 
-/* whatever the room is, the call writes the whole text or nothing */
+/* whatever the length of the buffer, the call writes the whole text or nothing */
 static void want_whole(gix_mailmap_status (*call)(char *, size_t, size_t *), const char *text, size_t len)
 {
     char out[1024], clean[1024];
@@ -250,7 +250,7 @@ static void explain(void)
     WANT(gix_mailmap_explain(&huge, 1, TEXT("a <b>"), NULL, 0, &needed) == GIX_MAILMAP_OUT_OF_MEMORY && needed == 0);
 }
 
-/* two mailmaps, of which the second has a line of no effect, and contacts of which the first needs two lines */
+/* two mailmaps, the second with a line without effect, and contacts, the first of which needs two lines */
 static const gix_mailmap_named NEEDED[2] = {
     {TEXT("team"), TEXT("Joe <joe@x>\n<jane@x> <jd@y>\n")},
     {TEXT("own"), TEXT("Jane Doe <jd@y>\nBob <b@x>\n# Bob\nRobert <b@x>\nplain\nAl <al@x>")}};
@@ -299,14 +299,14 @@ static void looked_up(const gix_mailmap *map)
     WANT(holds(&name, "Jane Doe") && is_field(new_name, 8, true));
     WANT(holds(&email, "jane@x") && is_field(new_email, 6, true));
 
-    /* an answer of one's own is not given */
+    /* fields that the mailmap doesn't set are not marked as given */
     name = email = filled();
     WANT(gix_mailmap_lookup(map, TEXT("q"), TEXT("q@z"), name.bytes, 64, &new_name, email.bytes, 64, &new_email)
          == GIX_MAILMAP_OK);
     WANT(holds(&name, "q") && is_field(new_name, 1, false));
     WANT(holds(&email, "q@z") && is_field(new_email, 3, false));
 
-    /* one short buffer keeps both */
+    /* if one buffer is too short, both are unchanged */
     name = email = filled();
     WANT(gix_mailmap_lookup(map, TEXT("jd"), TEXT("jd@y"), name.bytes, 7, &new_name, email.bytes, 64, &new_email)
          == GIX_MAILMAP_TOO_SHORT);
@@ -346,7 +346,7 @@ static void listed(const gix_mailmap *map)
     WANT(is_listed(entries[0], 0, 8, 6, -1, 4) && is_listed(entries[1], 18, 3, -1, -1, 5) && is_unwritten(entries[2]));
     WANT(holds(&texts, "Jane Doejane@xjd@yJoejoe@x"));
 
-    /* too little room for either keeps both */
+    /* if either buffer is too short, both are unchanged */
     entries[0] = entries[1] = UNWRITTEN;
     texts = filled();
     WANT(gix_mailmap_list(map, entries, 1, texts.bytes, 64) == GIX_MAILMAP_TOO_SHORT);
@@ -388,7 +388,7 @@ static void written(const gix_mailmap *map)
     WANT(gix_mailmap_write(map, out.bytes, 38, &needed) == GIX_MAILMAP_TOO_SHORT && needed == 39 && holds(&out, ""));
 }
 
-/* a lookup that wants these answers */
+/* a lookup, with the expected answers */
 static void maps(const gix_mailmap *map, const char *name, const char *email, const char *wanted)
 {
     buffer new_name = filled(), new_email = filled();
@@ -454,7 +454,7 @@ static void entries(void)
     WANT(gix_mailmap_write(map, out.bytes, 64, &needed) == GIX_MAILMAP_UNWRITABLE && needed == 0 && holds(&out, ""));
     gix_mailmap_close(map);
 
-    /* no text is read as another one */
+    /* no text is parsed */
     WANT(gix_mailmap_open(&map, NULL, 0) == GIX_MAILMAP_OK);
     WANT(add_entry(map, "# J > <", " j@x\n", NULL, "jd@y> <z@z") == GIX_MAILMAP_OK);
     maps(map, "x", "jd@y> <z@z", "# J > < < j@x\n>");
@@ -465,7 +465,7 @@ static void entries(void)
     gix_mailmap_close(map);
 }
 
-/* Reads what waits in a stream, by buffers of this length, and puts it at `to`. Returns how many bytes it read. */
+/* Reads all unread answers of a stream, with buffers of this length, to `to`. Returns the number of bytes. */
 static size_t read_all(gix_mailmap_stream *stream, size_t room, char *to)
 {
     size_t len = 0, count;
@@ -506,12 +506,12 @@ static void streams(void)
     for (size_t step = 1; step < sizeof CONTACTS; step++)
         for (size_t room = 1; room < sizeof ANSWERS; room++)
             streamed(stream, step, room);
-    /* nothing is left of all that, and nothing comes of nothing */
+    /* no answer is left, and without contacts there are none */
     buffer out = filled();
     WANT(gix_mailmap_stream_finish(stream) == GIX_MAILMAP_OK);
     WANT(gix_mailmap_stream_push(stream, NULL, 0, &taken) == GIX_MAILMAP_OK && taken == 0);
     WANT(gix_mailmap_stream_read(stream, out.bytes, 64) == 0 && holds(&out, ""));
-    /* a read without room leaves what waits, and so does a close */
+    /* a read without a buffer leaves the unread answers, and closing with unread answers is allowed */
     WANT(gix_mailmap_stream_push(stream, TEXT("a\nb"), &taken) == GIX_MAILMAP_OK && taken == 3);
     WANT(gix_mailmap_stream_read(stream, NULL, 0) == 0);
     WANT(gix_mailmap_stream_read(stream, out.bytes, 1) == 1 && holds(&out, "a"));
@@ -524,7 +524,7 @@ static void streams(void)
     gix_mailmap_stream_close(stream);
 }
 
-/* more answers than wait at a time: a push takes a part of its part, and the rest after they are read */
+/* more answers than a stream buffers: a push takes only a part of its bytes, and the rest after these are read */
 static void long_streams(void)
 {
     enum { LINES = 40000 };
@@ -547,7 +547,7 @@ static void long_streams(void)
     free(all);
 }
 
-/* the memory of a long answer is given back once it is read */
+/* the memory of a long answer is freed once it is read */
 static void long_answers(void)
 {
     enum { LEN = 4000000 };
@@ -614,7 +614,7 @@ static void words(void)
     }
 }
 
-/* whether a call did its work, or ran out of memory and needs nothing; counts the latter */
+/* whether a call succeeded, or ran out of memory with `needed` 0; counts the latter */
 static bool is_done(gix_mailmap_status status, const size_t *needed, int *out_of_memory)
 {
     *out_of_memory += status == GIX_MAILMAP_OUT_OF_MEMORY;
@@ -706,9 +706,9 @@ static int stream_once(void)
     return out_of_memory;
 }
 
-/* Requests that failed, and were then made again for less: those of the vector of findings, which grows three times
- * for the nine of them, and one for each of the two lists of positions that gix_mailmap_unneeded makes. If a vector
- * can't have all the room at once, it asks for less. */
+/* Failed requests that are retried for less memory, and so aren't reported: three for the vector of findings, which
+ * grows three times for the nine findings, and one for each of the two lists of positions that gix_mailmap_unneeded
+ * makes. */
 static int made_again;
 
 /* One run in which one request fails: false once there is no request of that number. */

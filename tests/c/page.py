@@ -11,7 +11,7 @@ from pathlib import Path
 def only(page, kind):
     found = re.findall(rf"^```{kind}\n(.*?)^```$", page, re.MULTILINE | re.DOTALL)
     if len(found) != 1:
-        sys.exit(f"page.py: {len(found)} blocks of {kind}, and not one")
+        sys.exit(f"page.py: expected one block of {kind}, and found {len(found)}")
     return found[0]
 
 

@@ -1,10 +1,10 @@
 #!/usr/bin/env bash
-# Tests the libraries in the folder that the first argument names. Both have to show what the header declares, and
-# nothing else, and the header has to have the version of the file VERSION. gcc and clang, if they are there, have to
-# take the header in each standard, and the parts of programs that the pages show. The C tests are built against the
-# static library and run: as they are, under memcheck, if it is there, and under the sanitizers if the compiler has
-# them; that with threads also under helgrind. Then comes a program in C++ over the header, if there is a C++
-# compiler. Last, the answers are compared with those of libgit2, if it is there.
+# Tests the libraries in the folder that the first argument names. Both must export what the header declares and nothing
+# else, and the header must have the version of the file VERSION. gcc and clang, if they are installed, must compile the
+# header in each standard, and the fragments of programs on the pages. The C tests are built against the static library
+# and run: without tools, under memcheck, if it is installed, and under the sanitizers that the compiler has; those with
+# threads also under helgrind. Then a C++ program over the header is run, if there is a C++ compiler. Finally, the
+# answers are compared with those of libgit2, if it is installed.
 set -euo pipefail
 library="$(cd "$1" && pwd)"
 here="$(cd "$(dirname "$0")" && pwd)"
@@ -51,7 +51,7 @@ for compiler in g++ clang++; do
     fi
 done
 
-# whether the compiler takes a statement
+# whether the compiler accepts a statement
 takes() {
     cat > "$work/use.c" <<END
 #include "gix_mailmap.h"
@@ -65,10 +65,10 @@ void use(gix_mailmap *map, const gix_mailmap *read, char *out, size_t *len)
 END
     "$compiler" -std=c11 "${strict[@]}" -c "$work/use.c" -o "$work/use.o" 2> "$work/said"
 }
-# what the header has the compiler refuse, and a word of its reason
+# what the compiler must reject because of the header, and a word of its message
 refused() {
     if takes "$1" || ! grep -qE "$2" "$work/said"; then
-        echo "$compiler takes, or refuses for another reason: $1"
+        echo "$compiler accepts, or rejects for another reason: $1"
         exit 1
     fi
 }
@@ -97,7 +97,7 @@ for compiler in "$cc" clang; do
     fi
 done
 
-# four threads; the words go to the compiler
+# four threads; the arguments go to the compiler
 threads() {
     "$cc" -std=c11 "${strict[@]}" "$@" "$here/threads.c" "$library/libgix_mailmap.a" -pthread -o "$work/threads"
     "$work/threads" 4 10
@@ -124,7 +124,7 @@ else
     echo 'calls from C: no memcheck here'
 fi
 
-# No contract says that a call succeeds if there is memory, so the tests have to see it if one never does.
+# No contract says that a call succeeds if there is memory, so the tests must fail if one never does.
 for call in open stream_open; do
     cat > "$work/wrong.c" <<END
 #include "gix_mailmap.h"
@@ -140,7 +140,7 @@ END
         "-Wl,--wrap=gix_mailmap_$call" -o "$work/wrong"
     { "$work/wrong" > "$work/said" 2>&1; } 2> "$work/shell" || true
     if ! grep -q "gix_mailmap_$call(.*GIX_MAILMAP_OK" "$work/said"; then
-        echo "calls.c takes a gix_mailmap_$call that is always out of memory"
+        echo "calls.c passes with a gix_mailmap_$call that is always out of memory"
         exit 1
     fi
 done
@@ -153,7 +153,7 @@ else
 fi
 
 threads
-# It sees what the program and the C library do. What the library's own code does, helgrind sees.
+# The thread sanitizer sees accesses of the program and of the C library; helgrind also sees those of this library.
 if has -fsanitize=thread; then
     threads -fsanitize=thread
 else

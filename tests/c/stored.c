@@ -1,10 +1,10 @@
-/* Prints what mailmap_check and mailmap_dump do, using only the calls of gix_mailmap.h. tests/original/compare.py runs it
- * on the stored answers of the original.
+/* Prints what mailmap_check and mailmap_dump print, using only gix_mailmap.h. tests/original/compare.py runs it on the
+ * stored answers of the original.
  *
  *     stored FILE..            answers each line of standard input
  *     stored --compact FILE..  the mailmap of all FILEs
  *     stored entries FILE..    its entries, in hex
- *     stored resolve FILE..    what it makes of the lines NAME EMAIL, in hex, of standard input
+ *     stored resolve FILE..    the answers to the lines NAME EMAIL, in hex, on standard input
  */
 #include "gix_mailmap.h"
 #include <stdio.h>
@@ -24,7 +24,7 @@ static void must(bool holds, const char *what)
     }
 }
 
-/* a buffer of its very length, so that a byte too many is seen by the address sanitizer */
+/* a buffer of exactly this length, so that the address sanitizer sees a byte too many */
 static text buffer(size_t len)
 {
     text made = {malloc(len ? len : 1), len};

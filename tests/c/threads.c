@@ -81,7 +81,7 @@ static void *close_one(void *given)
     return NULL;
 }
 
-/* contacts whose answers a call of finish ends, and these */
+/* contacts, the last without a line feed, and their answers */
 static const char CONTACTS[] = "jd <O1@X>\nplain\njd <O2@X>", ANSWERS[] = "jd <n1@x>\nplain\njd <n2@x>\n";
 
 static void *open_stream(void *given)

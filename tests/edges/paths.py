@@ -97,7 +97,7 @@ def found():
 
 
 def options():
-    """After --help nothing else counts. The first argument alone can be an option of mailmap_check."""
+    """After --help nothing else counts. Only the first argument can be an option of mailmap_check."""
     for words, text in [
         (["--help", "x"], (HELP / "mailmap_check.txt").read_bytes()),
         (["-h", "--compact", "x"], (HELP / "mailmap_check.txt").read_bytes()),
@@ -125,7 +125,7 @@ def options():
 
 
 def arguments():
-    """Many files: all but the last say one thing, and the last one another."""
+    """Many files: all but the last have the same entry, and the last one another."""
     # Each takes a pointer, its byte and a zero byte. 8 KiB are for the rest.
     count = min(MANY, (os.sysconf("SC_ARG_MAX") - 8_192) // 10)
     Path("m").write_bytes(b"Jane Doe <jane@x>\n")

@@ -59,7 +59,7 @@ def last_bytes():
 
 
 def terminal():
-    """At a terminal, the end-of-file character in a line passes on what was typed of it, and elsewhere is the end."""
+    """At a terminal, the end-of-file character within a line ends a read, and at the start of a line the input."""
     typed = b"jane <JANE@x>\njoe\x04 <joe@x>\n\x04more\n"
     text = b"jane <JANE@x>\njoe <joe@x>\n"
     for way in WAYS:

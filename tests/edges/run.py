@@ -35,7 +35,7 @@ def main(programs):
         Path("mailmap").write_bytes(MAILMAP)
         Path("contacts").write_bytes(CONTACTS)
         for line in itertools.chain(paths.shows(), reads.shows(), many.shows()):
-            print(line if runs.failed == failed else f"NOT SO: {line}", flush=True)
+            print(line if runs.failed == failed else f"FAILED: {line}", flush=True)
             failed = runs.failed
         os.chdir("/")
     print(f"edges: {runs.passed} passed, {runs.failed} failed")

@@ -9,7 +9,7 @@ import findings
 import shortlog
 from findings import contact_text
 from git import line_text
-from mailmap import answer, contact_of, history_of, lines, normal_list
+from mailmap import answer, contact_of, entries_of, lines, normal_list
 
 CHECK, VERIFY, SHORTLOG = "./mailmap_check", "./mailmap_verify", "./mailmap_shortlog"
 PROGRAMS = [CHECK, VERIFY, SHORTLOG]
@@ -34,22 +34,22 @@ def said(program, text):
 
 
 def unread(program, cause):
-    """What a program says if standard input can't be read."""
+    """The result of a program if standard input can't be read."""
     return said(program, b"cannot read standard input" if program == CHECK else b"standard input: " + cause)
 
 
 # ---- the model of mailmap_check
 
-def answered(line, history):
+def answered(line, merged):
     contact = contact_of(line)
     if contact:
-        return contact_text(*answer(history, *contact)) + b"\n"
+        return contact_text(*answer(merged, *contact)) + b"\n"
     return line.removesuffix(b"\r\n").removesuffix(b"\n") + b"\n"
 
 
 def check(buffers, text):
-    history = history_of(buffers)
-    return b"".join(answered(line, history) for line in lines(text))
+    merged = entries_of(buffers)
+    return b"".join(answered(line, merged) for line in lines(text))
 
 
 def check_input(text):
@@ -62,7 +62,7 @@ def check_input(text):
 
 
 def compact(buffers):
-    return b"".join(b" " + line_text(entry) + b"\n" for entry in normal_list(history_of(buffers)))
+    return b"".join(b" " + line_text(entry) + b"\n" for entry in normal_list(entries_of(buffers)))
 
 
 # ---- the ways to have standard input read

@@ -4,16 +4,16 @@ The definitions are in `specs` of `mailmap_redundancy` (`Origins`), `mailmap_fin
 `Remarks`), `mailmap_likeness` (`Likeness`) and `verify_command` (`Explained`, `Contacts`, `Alike`).
 """
 from findings import Mailmaps, contact_text, findings, position_text, short_contact_text
-from mailmap import answer, contact_of, folded, lines, scan, trim
+from mailmap import answer, contact_of, folded, lines, new_fields, trim
 from shown import shown
 
 
-def givers(kept, name, email):
+def origins(effective, name, email):
     """The lines behind the new name, the new email, and if there is none, the spelling of the email.
 
     Each is a list of at most one position. Only effective entries count.
     """
-    of_email = [one for one in kept if folded(one.entry.old_email) == folded(email)]
+    of_email = [one for one in effective if folded(one.entry.old_email) == folded(email)]
     of_name = [one for one in of_email if one.entry.key[1:] == (folded(name),)]
     counting = of_name[-1:] or [one for one in of_email if one.entry.old_name is None]
     names = [one.position for one in counting if one.entry.new_name is not None]
@@ -28,14 +28,14 @@ def explanation(mailmaps, names, line):
     contact = contact_of(line)
     if contact is None:
         return trim(line) + b" is no contact"
-    fields = scan(mailmaps.history, *contact)
+    fields = new_fields(mailmaps.merged, *contact)
     if fields == (None, None):
         return contact_text(*contact) + b" is not mapped"
-    of_name, of_email, of_spelling = givers(mailmaps.kept, *contact)
+    of_name, of_email, of_spelling = origins(mailmaps.effective, *contact)
     # the line that only spells the email isn't behind the answer if the email stays as it is
     by = of_name + of_email + (of_spelling if fields[1] is not None else [])
     by_text = b", ".join(position_text(names, position) for position in sorted(set(by)))
-    return b"%b is %b by %b" % (contact_text(*contact), contact_text(*answer(mailmaps.history, *contact)), by_text)
+    return b"%b is %b by %b" % (contact_text(*contact), contact_text(*answer(mailmaps.merged, *contact)), by_text)
 
 
 def explain(buffers, names, contacts):
@@ -51,7 +51,7 @@ def needed(mailmaps, contacts):
     return {
         position
         for contact in each if contact
-        for positions in givers(mailmaps.kept, *contact) for position in positions
+        for positions in origins(mailmaps.effective, *contact) for position in positions
     }
 
 
@@ -80,7 +80,7 @@ def said_of_contacts(mailmaps, contacts, file):
             if trim(line):
                 yield True, b"%b:%d: error: no contact" % (file, number)
             continue
-        name, email = answer(mailmaps.history, *contact)
+        name, email = answer(mailmaps.merged, *contact)
         for counts, level, likeness, other in alike(earlier, name, email):
             yield counts, b"%b:%d: %b: %b has the %b of %b, %b:%d" % (
                 file, number, level, short_contact_text(name, email),

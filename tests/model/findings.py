@@ -5,7 +5,7 @@ The definitions are in `specs` of `mailmap_findings` (`Findings`) and of `verify
 from typing import NamedTuple
 
 import git
-from mailmap import LocatedEntry, Position, cut, entries, entry_of, lines, read, scan, trim, with_effect
+from mailmap import LocatedEntry, Position, cut, entries, entry_of, lines, new_fields, read, trim, with_effect
 from shown import shortened, shown
 
 
@@ -24,11 +24,11 @@ class Mailmaps:
             for number, text in enumerate(lines(buffer), 1)
         ]
         located = [LocatedEntry(line.position, entry_of(line.text)) for line in self.lines if entry_of(line.text)]
-        self.history = entries(located)
-        self.kept = with_effect(located)
+        self.merged = entries(located)
+        self.effective = with_effect(located)
 
     def has_effect(self, position):
-        return any(one.position == position for one in self.kept)
+        return any(one.position == position for one in self.effective)
 
 
 # ---- texts
@@ -65,13 +65,13 @@ def said_by_itself(line):
         yield b"warning: git reads " + git.reading_text(line)
 
 
-def mapped_on(history, entry):
+def mapped_on(merged, entry):
     """The contact that an entry maps to, and what that is mapped to. A contact without a name is looked up by its
     email.
     """
     name = entry.old_name if entry.new_name is None else entry.new_name
     email = entry.old_email if entry.new_email is None else entry.new_email
-    new_name, new_email = scan(history, name or b"", email)
+    new_name, new_email = new_fields(merged, name or b"", email)
     on_name = name if name is None or new_name is None else new_name
     return (name, email), (on_name, email if new_email is None else new_email)
 
@@ -80,10 +80,10 @@ def said_by_effect(mailmaps, names, line):
     """Findings about the entry of a line: no effect, or a contact that is itself mapped."""
     entry = entry_of(line.text)
     if entry and not mailmaps.has_effect(line.position):
-        same = [one.position for one in mailmaps.kept if one.entry.key == entry.key]
+        same = [one.position for one in mailmaps.effective if one.entry.key == entry.key]
         yield b"warning: no effect beside " + position_text(names, same[-1])
     elif entry:
-        contact, on = mapped_on(mailmaps.history, entry)
+        contact, on = mapped_on(mailmaps.merged, entry)
         if contact != on:
             yield b"warning: %b is itself mapped, to %b" % (short_contact_text(*contact), short_contact_text(*on))
 

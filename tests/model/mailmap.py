@@ -95,7 +95,7 @@ def entry_of(line):
     return said if isinstance(said, Entry) else None
 
 
-def history_of(buffers):
+def entries_of(buffers):
     """The entries of buffers, one buffer after another."""
     return [entry for buffer in buffers for entry in map(entry_of, lines(buffer)) if entry]
 
@@ -109,9 +109,9 @@ def contact_of(line):
 
 # ---- merged entries
 
-def accepted(history):
+def accepted(merged):
     """Entries that set neither a name nor an email don't count."""
-    return [entry for entry in history if entry.new_name is not None or entry.new_email is not None]
+    return [entry for entry in merged if entry.new_name is not None or entry.new_email is not None]
 
 
 def last_given(texts):
@@ -126,18 +126,18 @@ def value(entries, spelling):
     return Entry(entries[-1].new_name, entries[-1].new_email, entries[0].old_name, spelling)
 
 
-def normal_list(history):
+def normal_list(merged):
     """The values of all keys, sorted by key. The first entry of an email decides its spelling."""
     of_key, spelling = {}, {}
-    for entry in accepted(history):
+    for entry in accepted(merged):
         of_key.setdefault(entry.key, []).append(entry)
         spelling.setdefault(folded(entry.old_email), entry.old_email)
     return [value(of_key[key], spelling[key[0]]) for key in sorted(of_key)]
 
 
-def scan(history, name, email):
+def new_fields(merged, name, email):
     """The new name and the new email of a contact, each None if it isn't set."""
-    of_email = [entry for entry in accepted(history) if folded(entry.old_email) == folded(email)]
+    of_email = [entry for entry in accepted(merged) if folded(entry.old_email) == folded(email)]
     of_name = [entry for entry in of_email if entry.old_name is not None and folded(entry.old_name) == folded(name)]
     counting = of_name[-1:] or [entry for entry in of_email if entry.old_name is None]
     new_email = last_given(entry.new_email for entry in counting)
@@ -146,9 +146,9 @@ def scan(history, name, email):
     return last_given(entry.new_name for entry in counting), new_email
 
 
-def answer(history, name, email):
+def answer(merged, name, email):
     """The contact with its fields overridden."""
-    new_name, new_email = scan(history, name, email)
+    new_name, new_email = new_fields(merged, name, email)
     return (name if new_name is None else new_name, email if new_email is None else new_email)
 
 

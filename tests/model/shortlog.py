@@ -1,11 +1,11 @@
 """The model of `mailmap_shortlog`. The definitions are in `specs` of `shortlog_command` (`Shortlog`)."""
-from mailmap import answer, contact_of, history_of, lines
+from mailmap import answer, contact_of, entries_of, lines
 
 
 def shortlog(buffers, contacts, by_count=False, with_email=False):
     """A line for each distinct answer with its count, sorted by text or by count."""
-    history = history_of(buffers)
-    answers = [answer(history, *contact) for contact in map(contact_of, lines(contacts)) if contact]
+    merged = entries_of(buffers)
+    answers = [answer(merged, *contact) for contact in map(contact_of, lines(contacts)) if contact]
     # a space precedes the email, even if the name is empty
     texts = [b"%b <%b>" % (name, email) if with_email else name for name, email in answers]
     order = sorted(set(texts), key=lambda text: (-texts.count(text) if by_count else 0, text))

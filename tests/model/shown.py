@@ -36,7 +36,7 @@ def is_character(text):
 
 
 def shortened(text):
-    """Of a long text the first 256 bytes, or up to three fewer so that no character is cut, and two dots."""
+    """The first 256 bytes of a long text, or up to three fewer so that no character is cut, and two dots."""
     if len(text) <= LIMIT:
         return text
     cut = [

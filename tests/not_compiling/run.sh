@@ -1,7 +1,6 @@
 #!/usr/bin/env bash
 # Each .txt file here is a library on gix_mailmap that must not compile, or if its second line says so a module of
-# another crate. Its first line names the errors that the check is to give; this script wants those of each, and no
-# other.
+# another crate. Its first line names the errors that the check must report; this script expects exactly those.
 set -euo pipefail
 here="$(cd "$(dirname "$0")" && pwd)"
 top="$(cd "$here/../.." && pwd)"
@@ -28,7 +27,7 @@ for crate in $(below gix_mailmap | sort -u); do
 done
 echo 'case: gix_mailmap' >> "$work/crates.txt"
 
-# check CRATE: the errors of a crate, each once if it is said again
+# check CRATE: the distinct errors of a crate
 check() {
     (cd "$work/crates/$1" && timeout 600 rt check > "$work/said" 2>&1) || true
     { grep -o '[^ ]*: error\[[a-z0-9-]*\]' "$work/said" || true; } | sort -u | sed 's/.*\[\(.*\)\]/\1/' | xargs

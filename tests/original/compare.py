@@ -51,7 +51,7 @@ def main():
                 agreed[case["mode"]] += 1
             else:
                 failed += 1
-                print(f"case {number}, {case['mode']}: {done.stdout.hex()} and not {case['answer']}")
+                print(f"case {number}, {case['mode']}: {done.stdout.hex()}, expected {case['answer']}")
     counts = ", ".join(f"{count} of {mode}" for mode, count in agreed.items())
     print(f"beside the original: {counts}")
     print(f"original: {agreed.total()} passed, {failed} failed")

@@ -25,7 +25,7 @@ def contact(text):
 
 class Beside(unittest.TestCase):
     def test_rows_of_the_page(self):
-        """What it says of both is so, for all rows that Python's strings can hold."""
+        """The stored table is right about both, for all rows that Python's strings can hold."""
         page = PAGE.read_text(encoding="utf-8")
         table = page.partition("<!-- libgit2 -->")[2].partition("<!-- end of libgit2 -->")[0]
         rows = [[cell and cell.encode().decode("unicode_escape") for cell in row] for row in ROW.findall(table)]

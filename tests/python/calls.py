@@ -138,11 +138,11 @@ class Texts(unittest.TestCase):
                  lambda mailmaps: gix_mailmap.unneeded(mailmaps, "")]
         for call in calls:
             for wrong, words in (
-                ("..", "each mailmap has to be a pair of its name and its text, and not '.'"),
-                (b"ab", "each mailmap has to be a pair of its name and its text, and not 97"),
-                (["ab"], "each mailmap has to be a pair of its name and its text, and not 'ab'"),
-                ([("a", "b", "c")], "each mailmap has to be a pair of .*, and not \\('a', 'b', 'c'\\)"),
-                ([("a", None)], "str or bytes wanted, not <class 'NoneType'>"),
+                ("..", "expected a pair of a mailmap's name and its text, not '.'"),
+                (b"ab", "expected a pair of a mailmap's name and its text, not 97"),
+                (["ab"], "expected a pair of a mailmap's name and its text, not 'ab'"),
+                ([("a", "b", "c")], "expected a pair of .*, not \\('a', 'b', 'c'\\)"),
+                ([("a", None)], "expected str or bytes, not <class 'NoneType'>"),
                 (None, "not iterable"),
             ):
                 with self.assertRaisesRegex(TypeError, words):
@@ -189,7 +189,7 @@ class Files(unittest.TestCase):
             for call in (Mailmap, mailmap.add, gix_mailmap.compact, gix_mailmap.verify):
                 with self.assertRaisesRegex(OSError, "broken"):
                     call(Broken())
-                with self.assertRaisesRegex(TypeError, "str or bytes wanted, not <class 'int'>"):
+                with self.assertRaisesRegex(TypeError, "expected str or bytes, not <class 'int'>"):
                     call(Numbers())
             self.assertEqual(list(mailmap), [JANE, JOE])
 
@@ -252,7 +252,7 @@ class Handles(unittest.TestCase):
                 with self.assertRaises(NotAnEntry):
                     mailmap.add_entry(Entry(*fields))
             for wrong in (tuple(JOE), list(JOE), None):
-                with self.assertRaisesRegex(TypeError, "an Entry is wanted"):
+                with self.assertRaisesRegex(TypeError, "expected an Entry"):
                     mailmap.add_entry(wrong)
             self.assertEqual(len(mailmap), 3)
 
@@ -344,7 +344,7 @@ class Handles(unittest.TestCase):
                 ((), {}), ((b"a",), {}), ((b"a", b"b", b"c"), {}), ((b"a",), {"name": b"b"}), ((), {"email": b"b"}),
                 ((b"a", b"b"), {"email": b"b"}), ((), {"name": b"a", "mail": b"b"}),
             ):
-                with self.assertRaisesRegex(TypeError, "lookup takes a name and an email"):
+                with self.assertRaisesRegex(TypeError, r"lookup\(\) takes a name and an email"):
                     mailmap.lookup(*given, **named)
         with self.assertRaisesRegex(TypeError, "unexpected keyword"):
             Mailmap(text=MAP)
@@ -353,7 +353,7 @@ class Handles(unittest.TestCase):
         """A subclass of a tuple may have any."""
         with Mailmap(MAP) as mailmap:
             for items in ((), (b"a",), (b"a",) * 5):
-                with self.assertRaisesRegex(TypeError, "an Entry is wanted"):
+                with self.assertRaisesRegex(TypeError, "expected an Entry"):
                     mailmap.add_entry(tuple.__new__(Entry, items))
 
     def test_dropped_mailmaps_are_collected(self):

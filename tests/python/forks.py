@@ -105,7 +105,7 @@ class Forks(Ending):
             self.assertEqual(status_of(use), 0)
 
     def test_calls_of_texts_by_another_thread(self):
-        """One of them may be under way when the child begins."""
+        """One of the calls may be running when the child begins."""
         contacts = "".join(f"a <o{number}@y>\n" for number in range(20_000))
         wanted = gix_mailmap.check(MANY, contacts)
         self.busy(*[lambda: gix_mailmap.check(MANY, contacts)] * 2)

@@ -21,7 +21,7 @@ class LongerBytes(bytes):
 
 
 class LongerStr(str):
-    """A `str` with an encoding of its own."""
+    """A `str` that overrides `encode`."""
 
     def encode(self, *_):
         return LongerBytes(b"x")

@@ -1,4 +1,4 @@
-"""Counts references and memory over many calls of each function: what a call takes it gives back.
+"""Counts references and memory over many calls of each function: no call may leak.
 
     leaks.py [CALLS]
 """
@@ -49,7 +49,7 @@ def raising(call, *arguments):
 
 
 def calls():
-    """Each function and each way through it that keeps something on the way."""
+    """Each function, and each path through it that holds something meanwhile."""
     mailmap, of_bytes, closed, odd = Mailmap(MAP), Mailmap(BYTES), Mailmap(), Mailmap("")
     closed.close()
     odd.add_entry(Entry("<\n", None, None, "odd@x"))
@@ -118,7 +118,7 @@ def counts():
 
 
 def leak(call, times):
-    """What many calls keep: the most of a reference, the blocks of Python and the bytes of malloc."""
+    """What many calls leak: the most references to one object, blocks of Python, and bytes of malloc."""
     repeat = lambda: [None for _ in itertools.repeat(None, times) if call() is AssertionError]
     for _ in itertools.repeat(None, 7000):
         call()
@@ -134,10 +134,10 @@ def main():
     most = [(*one, CALLS) for one in functions.items()]
     for name, call, times in most + [(*one, CALLS // 100) for one in FEWER.items()]:
         references, blocks, size = leak(call, times)
-        # What an allocator keeps for the next request comes and goes. A leak is a block for each call.
+        # Allocators may keep memory for later requests, so small numbers are no leak. A leak is a block for each call.
         if max(references, blocks, size // 16) * 10 > times:
             failed += 1
-            print(f"{name}: {times:,} calls keep {references:,} references, {blocks:,} blocks and {size:,} bytes")
+            print(f"{name}: {times:,} calls leak {references:,} references, {blocks:,} blocks and {size:,} bytes")
     print(f"leaks: {len(functions) + len(FEWER) - failed} passed, {failed} failed")
     sys.exit(1 if failed else 0)
 

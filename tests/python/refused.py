@@ -1,4 +1,4 @@
-"""Refuses each request for memory of each call in turn: the call raises OutOfMemory, and the mailmap is as it was.
+"""Refuses each request for memory of each call in turn: the call must raise OutOfMemory, and change no mailmap.
 
 It needs the module `refusing`, which is made of refusing.c and loaded ahead of the C library, and PYTHONMALLOC=malloc.
 """
@@ -23,7 +23,7 @@ def surrogate():
 
 
 def accented():
-    """A `str` whose UTF-8 nothing has asked for yet."""
+    """A `str` whose UTF-8 isn't cached yet."""
     return "".join(["J", "ö", "rg"])
 
 
@@ -33,12 +33,12 @@ class Refused(unittest.TestCase):
         self.addCleanup(gc.enable)
 
     def refused(self, make, after=lambda: None, least=1):
-        """Calls what `make` makes, a function with its arguments, and refuses the first request, then the second one,
-        and so on. `after` looks at what is left after each. How many there were."""
+        """Calls the function that `make` returns, and refuses the first request, then the second one, and so on.
+        `after` checks the state after each call. Returns the number of requests."""
         for number in range(10_000):
             function, *arguments = make()
             was_refused, result, error = refusing.call(number, function, tuple(arguments))
-            # A call may do without, such as by a shorter buffer.
+            # A call may succeed without, such as with a shorter buffer.
             if error is not None:
                 self.assertTrue(was_refused)
                 self.assertIs(type(error), OutOfMemory)
@@ -105,7 +105,7 @@ class Refused(unittest.TestCase):
             self.assertEqual(mailmap.entries(), changed.entries())
 
     def test_streams(self):
-        """Each line is refused something until it is answered, and none is lost but those of such a call."""
+        """A request is refused for each line until it is answered, and only the lines of a refused call are lost."""
         mailmap, long = Mailmap(MAP), Mailmap(f"{'n' * 200_000} <a@x>")
         odd = Mailmap(MAP)
         odd.add_entry(Entry("<\n", None, None, "odd@x"))
@@ -119,7 +119,7 @@ class Refused(unittest.TestCase):
             self.assertEqual(self.refused(lambda: (held.map_contacts([line]).__next__,), least=3), answer)
 
     def test_the_line_after_a_refusal(self):
-        """Nothing is left of the one before."""
+        """After a refusal, the next line gets its own answer."""
         mailmap, lines = Mailmap(MAP), [f"{number} {'x' * number} <{number}@z>" for number in range(1000)]
         answers, wanted = mailmap.map_contacts(lines), iter(lines)
 
@@ -137,7 +137,7 @@ class Refused(unittest.TestCase):
                 self.assertEqual(next(answers), lines[2])
 
     def test_what_can_not_be_encoded(self):
-        """Then there may be no memory for that error."""
+        """Then there may be no memory for the error, either."""
         mailmap = Mailmap(MAP)
         for number in range(1000):
             was_refused, _, error = refusing.call(number, mailmap.lookup, ("\ud800", ""))
@@ -148,7 +148,7 @@ class Refused(unittest.TestCase):
 
     @unittest.skipIf(sys.version_info >= (3, 13), "a dict of CPython 3.13 that can't grow while a type is made crashes")
     def test_zz_the_module_itself(self):
-        """Last, since the interpreter takes the new module for the one that is loaded."""
+        """Must be the last test, since the interpreter then uses the new module."""
         for number in range(1000):
             was_refused, module, error = refusing.call(number, _imp.create_dynamic, (_native.__spec__,))
             if error is None and not was_refused:

@@ -1,5 +1,5 @@
-/* A module for Python that refuses one request for memory of a call. It is loaded ahead of the C library, whose malloc,
- * calloc and realloc it stands in front of; with PYTHONMALLOC=malloc Python asks these for all memory. */
+/* A module for Python that refuses one request for memory of a call. It is preloaded, so that its malloc, calloc and
+ * realloc replace those of the C library; with PYTHONMALLOC=malloc, Python gets all memory from these. */
 #define Py_LIMITED_API 0x030B0000
 #define PY_SSIZE_T_CLEAN
 #include <Python.h>

@@ -1,9 +1,9 @@
 #!/usr/bin/env bash
 # Tests the package for Python over the static library in the folder that the first argument names: from a wheel that is
-# installed into a fresh environment of each Python from 3.11 on that is there, and from the source tree. Then the
-# package under the address sanitizer, with each request for memory refused in turn, and with many calls of each
-# function, counting what they keep. Answers are compared with those of libgit2, if there is pygit2, and mypy reads the
-# package, if there is one.
+# installed into a fresh environment of each Python from 3.11 on that is installed, and from the source tree. Then tests
+# the package under the address sanitizer, with each request for memory refused in turn, and with many calls of each
+# function, to find leaks. Answers are compared with those of libgit2, if pygit2 is installed, and mypy checks the
+# package, if it is installed.
 set -euo pipefail
 here="$(cd "$(dirname "$0")" && pwd)"
 top="$(cd "$here/../.." && pwd)"
@@ -14,14 +14,14 @@ export PYTHONDONTWRITEBYTECODE=1 PIP_DISABLE_PIP_VERSION_CHECK=1 SOURCE_DATE_EPO
 unset PYTHONPATH PYTHON
 export GIX_MAILMAP_LIBRARY="$library"
 
-# With a symbolic link in this folder `rt ci` would refuse to start: what `make lib` makes is none.
+# With a symbolic link in this folder, `rt ci` would refuse to start, so `make lib` must make none.
 links="$(find "$top" -name .git -prune -o -type l -print)"
 if [ -n "$links" ]; then
     echo "rt ci refuses links: $links"
     exit 1
 fi
 
-# The Python that builds, as the Makefile finds it, and all that are there from 3.11 on, each version once.
+# The Python that builds, as the Makefile finds it, and all that are installed from 3.11 on, each version once.
 builder="$(make --no-print-directory -s -C "$top" which_python)"
 export SETUP_PYTHON="$builder"
 pythons() {
@@ -32,7 +32,7 @@ pythons() {
     done | sort -s -n -k 2,2 -u | cut -d ' ' -f 3
 }
 
-# all tests, by the Python and with the variables of the environment that the words are
+# runs all tests; the arguments are environment variables, and the Python to use
 tests() {
     local name
     for name in gix_mailmap gix_mailmap._results gix_mailmap._mailmap; do
@@ -81,11 +81,11 @@ for compiler in gcc clang; do
 done
 shown="$(nm -D --defined-only "$top/python/gix_mailmap/_native.abi3.so" | awk '{ print $NF }')"
 if [ "$shown" != PyInit__native ]; then
-    echo "the extension module shows $shown"
+    echo "the extension module exports $shown"
     exit 1
 fi
 
-# Each request for memory refused. Only Python itself can be started with that library ahead of all others.
+# Refuses each request for memory. Only Python itself can be started with the refusing library preloaded.
 "${CC:-cc}" -std=c11 -g -fPIC -shared -Wall -Wextra -Werror "-I$include" "$here/refusing.c" -o refusing.so
 env PYTHONMALLOC=malloc LD_PRELOAD="$work/refusing.so" PYTHONPATH="$top/python:$work" \
     "$python" -W error "$here/refused.py"

@@ -71,7 +71,7 @@ def main():
             agreed[mode] += 1
         else:
             failed += 1
-            print(f"case {number}, {mode}: {given.hex()} and not {case['answer']}")
+            print(f"case {number}, {mode}: {given.hex()}, expected {case['answer']}")
     modes = ", ".join(f"{count} of {mode}" for mode, count in agreed.items())
     print(f"beside the original, by Python: {modes}")
     print(f"stored: {agreed.total()} passed, {failed} failed")

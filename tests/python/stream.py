@@ -46,15 +46,15 @@ class Stream(unittest.TestCase):
             self.assertEqual(list(mailmap.map_contacts([])), [])
 
     def test_lines_that_may_change(self):
-        """Mutable lines, also after an equal line whose answer is kept. Only some of them can be hashed."""
+        """Mutable lines, also after an equal line whose answer is cached. Only some of them can be hashed."""
         with Mailmap(MAP) as mailmap:
             for kind in (bytearray, memoryview, lambda text: memoryview(bytearray(text))):
                 lines = [b"jd <jd@y>", kind(b"jd <jd@y>")] * 3
                 self.assertEqual(list(mailmap.map_contacts(lines)), [b"Jane Doe <jane@x>"] * 6)
 
     def test_many_lines(self):
-        """Lines that recur and lines that don't: twice more than are kept. Before the first time many recur, so answers
-        are kept after it, and before the second time few, so none are."""
+        """Lines that recur and lines that don't. The cache is filled twice. Before the first time many lines recur, so
+        answers are cached again; before the second time few do, so caching stops."""
         rng = random.Random(7)
         lines = []
         for names in (3, 30, 1000, 5000, 10**6, 10**6, 30, 10**6, 10**6, 5000, 3):
@@ -113,7 +113,7 @@ class Stream(unittest.TestCase):
             self.assertEqual(list(lines), ["b", "c"])
 
     def test_errors_of_the_lines_pass(self):
-        """After the answers to those before."""
+        """The error comes after the answers to the lines before."""
         def lines():
             yield "jd <jd@y>"
             raise LookupError
@@ -154,7 +154,7 @@ class Stream(unittest.TestCase):
         self.assertEqual(taken, ["3 <new@x>"])
 
     def test_a_changed_mailmap(self):
-        """From the next line on. A file is no other case."""
+        """A change counts from the next line on, also for a file."""
         for lines in (itertools.repeat("jd <jd@y>"), io.StringIO("jd <jd@y>\n" * 9)):
             with Mailmap(MAP) as mailmap:
                 answers = mailmap.map_contacts(lines)
@@ -194,13 +194,13 @@ class Stream(unittest.TestCase):
                 with self.assertRaisesRegex(TypeError, "can't be mixed"):
                     list(mailmap.map_contacts(lines))
             for lines in ([None], ["a", None], [b"a", b"a", 1]):
-                with self.assertRaisesRegex(TypeError, "str or bytes wanted"):
+                with self.assertRaisesRegex(TypeError, "expected str or bytes"):
                     list(mailmap.map_contacts(lines))
 
     def test_one_text_in_place_of_lines(self):
         with Mailmap(MAP) as mailmap:
             for text in ("jd <jd@y>", b"", bytearray(b"a"), memoryview(b"a")):
-                with self.assertRaisesRegex(TypeError, "lines are wanted, not one"):
+                with self.assertRaisesRegex(TypeError, "expected an iterable of lines, not"):
                     mailmap.map_contacts(text)
 
     def test_an_entry_that_no_line_can_hold(self):

@@ -38,7 +38,7 @@ def together(*works):
 
 
 class Ending(unittest.TestCase):
-    """A call that hangs ends the tests. What a thread or a `__del__` raises makes a test fail."""
+    """A call that hangs ends the tests. An exception in a thread or a `__del__` makes a test fail."""
 
     def setUp(self):
         faulthandler.dump_traceback_later(120, exit=True)
@@ -77,7 +77,7 @@ class Lock(Ending):
         return is_beside, answers[0]
 
     def test_calls_of_texts_let_others_run(self):
-        """What a buffer was at first is what counts, whatever others do with it."""
+        """The bytes that a buffer had at first count, whatever other threads do with it."""
         text, contacts = MANY.encode() * 5, b"".join(b"a <o%d@y>\n" % number for number in range(50_000))
         calls = [
             lambda map: gix_mailmap.check(map, contacts), gix_mailmap.compact, gix_mailmap.prune, gix_mailmap.verify,
@@ -89,7 +89,7 @@ class Lock(Ending):
             for _ in range(100):
                 buffer = bytearray(text)
                 beside, answer = self.others_run(lambda: call(buffer), buffer.clear)
-                # Another thread may have been at it before the call had begun.
+                # Another thread may have changed it before the call began.
                 if beside and answer == wanted:
                     break
             self.assertTrue(beside)
@@ -191,7 +191,7 @@ class Threads(Ending):
         together(*[lambda: self.assertEqual(list(mailmap.map_contacts(lines)), wanted)] * 3)
 
     def test_a_stream_by_several_threads(self):
-        """Each answer goes to one of them."""
+        """Each answer is returned to one of them."""
         mailmap = Mailmap(MANY)
         lines = [f"a <o{number % 30_000}@y>\n" for number in range(100_000)]
         wanted = Counter(mailmap.map_contacts(lines))
@@ -222,7 +222,7 @@ class Cycles(Ending):
         node.itself, node.kept = node, kept
 
     def test_a_text_that_makes_calls_as_it_is_read(self):
-        """The call comes after what they do."""
+        """The call follows their own work."""
         class Text:
             def __init__(self, call):
                 self.call = call

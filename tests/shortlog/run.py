@@ -33,7 +33,10 @@ ASKED = [
     [["-n"], ["-sn", "--"], ["-s", "-n"]],
     [["-n", "-e"], ["-sne"], ["-en"], ["-e", "-ns"]],
 ]
-USAGE = b"usage: mailmap_shortlog [-n] [-e] [-s] [--] [MAILMAP..]\n"
+USAGE = b"""\
+usage: mailmap_shortlog [-n] [-e] [-s] [--] [MAILMAP..]
+git's options select what is piped: git log OPTIONS --format='%an <%ae>' | mailmap_shortlog .mailmap
+"""
 
 
 def stored(program):

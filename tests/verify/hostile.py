@@ -39,7 +39,7 @@ def long_lines(size):
     long = b"x" * size
     yield "a long line without an email", long, error(1, b"no email in brackets"), long
     yield "a long line that opens brackets", b"<" * size, error(1, b"the first '<' has no '>'"), b"<" * size
-    yield "a long line of blanks", b" " * size, b"", b" " * size
+    yield "a long line of spaces", b" " * size, b"", b" " * size
     yield "a long comment", b"#" + long, b"", b"#" + long
     # git reads parts of 1,023 bytes. The last one starts with the rest of the name, and those before it have no email.
     name = long + b" <a@x>"

@@ -170,7 +170,7 @@ def hostile_beside(program, size=10_000_000):
         ("brackets that open", b"<" * size, 1, no_contact),
         ("brackets that close", b">" * size, 1, no_contact),
         ("empty emails", b"<>" * (size // 2), 0, b""),
-        ("blanks", b" " * size, 0, b""),
+        ("spaces", b" " * size, 0, b""),
         ("line feeds", b"\n" * size, 0, b""),
         ("zero bytes", b"\0" * size, 1, no_contact),
         ("zero bytes in contacts", b"J\0 <j@x\0>\nj\0 <J@X\0>", 1, zeros),

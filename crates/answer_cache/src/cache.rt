@@ -1,6 +1,6 @@
 //! The cache.
 ghost use Rattle.std.specs.Prelude.{◌≡◌, ◌+◌, ◌<◌, ◌≤◌, [], List, Contains, IfOk, IfSome, length, vec_capacity};
-ghost use Rattle.answer_cache.specs.Kept.{Kept, PutsIn};
+ghost use Rattle.answer_cache.specs.CachedLines.{CachedLine, Inserts};
 
 pub use crate::row::ROW_LEN;
 use crate::row::Row;
@@ -58,7 +58,7 @@ pub struct AnswerCache {
 }
 
 impl Model for AnswerCache {
-    ghost Value = { List Kept };
+    ghost Value = { List CachedLine };
 
     ghost view = { λ t. t.rows.items };
 
@@ -126,7 +126,7 @@ impl AnswerCache {
     /// Does nothing if the line and its answer are longer than [`ROW_LEN`] together.
     pub fn insert(&mut self, hash: u64, line: &[u8], answer: &[u8])
         ensures kept { length line.now + length answer.now ≤ ROW_LEN
-            → PutsIn self.old (record { line = line.now; answer = answer.now }) self.new }
+            → Inserts self.old (record { line = line.now; answer = answer.now }) self.new }
         ensures too_long { ROW_LEN < length line.now + length answer.now → self.new ≡ self.old }
         ensures few { length self.old ≤ ROWS → length self.new ≤ ROWS }
     {
@@ -146,7 +146,7 @@ impl AnswerCache {
     }
 
     fn insert_row(&mut self, row: Row)
-        ensures kept { PutsIn self.old row self.new }
+        ensures kept { Inserts self.old row self.new }
         ensures few { length self.old ≤ ROWS → length self.new ≤ ROWS }
     {
         let index = self.next as usize;

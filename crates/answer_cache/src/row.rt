@@ -1,6 +1,6 @@
 //! A line and its answer in a row of fixed size.
 ghost use Rattle.std.specs.Prelude.{◌≡◌, ◌+◌, ◌≤◌, ◌↔◌, IfSome, IsSome, drop, length, take};
-ghost use Rattle.answer_cache.specs.Kept.{Kept};
+ghost use Rattle.answer_cache.specs.CachedLines.{CachedLine};
 
 use std::marker::Model;
 
@@ -15,7 +15,7 @@ pub(crate) struct Row {
 }
 
 impl Model for Row {
-    ghost Value = { Kept };
+    ghost Value = { CachedLine };
 
     ghost view = { λ r. record {
       line = take r.line_len r.bytes;

@@ -1,1 +1,1 @@
-mod Histories
+mod MergedEntries

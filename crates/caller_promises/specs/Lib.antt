@@ -1,4 +1,4 @@
 pub mod Answers
 pub mod Batches
-pub mod Left
+pub mod Pruned
 pub mod Listings

@@ -3,8 +3,8 @@ ghost use Rattle.std.specs.Prelude.{◌≡◌, ◌≢◌, ◌++◌, [], List, ma
 ghost use Rattle.gix_mailmap.specs.Building.{IsBuilt, IsHeadline};
 ghost use Rattle.gix_mailmap.specs.Entries.{Mapping};
 ghost use Rattle.gix_mailmap.specs.Semantics.{IsNormal, accepted};
-ghost use Rattle.gix_mailmap.specs.Sources.{history, said_by};
-ghost use Rattle.caller_promises.specs.Batches.{AreMarked, AreMarks, history_of};
+ghost use Rattle.gix_mailmap.specs.Sources.{merged_mappings, source_mappings};
+ghost use Rattle.caller_promises.specs.Batches.{AreMarked, AreMarks, batch_mappings};
 
 use gix_mailmap::laws::{law_condense, law_headline, law_reorder, law_shortest};
 use gix_mailmap::snapshot::Source;
@@ -40,7 +40,7 @@ pub struct Built {
 /// for the marks.
 pub fn build(alloc: Global, batches: &[Batch<'_>]) -> Result<Built, AllocError>
     ensures headline { IfOk result (λ built. IsHeadline
-        (history_of batches.now (map (λ marks. marks.items) built.made.items)) built.snapshot) }
+        (batch_mappings batches.now (map (λ marks. marks.items) built.made.items)) built.snapshot) }
     ensures marks { IfOk result (λ built. AreMarked batches.now (map (λ marks. marks.items) built.made.items)) }
 {
     law_headline();
@@ -58,7 +58,7 @@ pub fn build(alloc: Global, batches: &[Batch<'_>]) -> Result<Built, AllocError>
 fn merge_batch(alloc: Global, snapshot: &mut Snapshot, batch: &Batch<'_>, made: &mut [bool])
     requires { length batch.now.sources.now ≡ length made.old }
     ensures built { (h : List Mapping) → IsBuilt h snapshot.old
-        → IsBuilt (h ++ history batch.now.sources.now made.new) snapshot.new }
+        → IsBuilt (h ++ merged_mappings batch.now.sources.now made.new) snapshot.new }
     ensures marks { AreMarks batch.now.sources.now made.new }
 {
     match batch.call {
@@ -71,7 +71,7 @@ fn merge_batch(alloc: Global, snapshot: &mut Snapshot, batch: &Batch<'_>, made: 
 fn merge_each(snapshot: &mut Snapshot, sources: &[Source<'_>], made: &mut [bool])
     requires { length sources.now ≡ length made.old }
     ensures built { (h : List Mapping) → IsBuilt h snapshot.old
-        → IsBuilt (h ++ history sources.now made.new) snapshot.new }
+        → IsBuilt (h ++ merged_mappings sources.now made.new) snapshot.new }
     ensures marks { AreMarks sources.now made.new }
 {
     for (i, source) in sources.iter().enumerate() {
@@ -87,7 +87,7 @@ fn merge_snapshots(
 )
     requires { length sources.now ≡ length made.old }
     ensures built { (h : List Mapping) → IsBuilt h snapshot.old
-        → IsBuilt (h ++ history sources.now made.new) snapshot.new }
+        → IsBuilt (h ++ merged_mappings sources.now made.new) snapshot.new }
     ensures marks { AreMarks sources.now made.new }
 {
     for (i, source) in sources.iter().enumerate() {
@@ -97,9 +97,9 @@ fn merge_snapshots(
 
 fn merge_one(snapshot: &mut Snapshot, source: &Source<'_>) -> Result<(), AllocError>
     ensures ok { OnOk result ((h : List Mapping) → IsBuilt h snapshot.old
-        → IsBuilt (h ++ said_by source.now) snapshot.new) }
+        → IsBuilt (h ++ source_mappings source.now) snapshot.new) }
     ensures err { OnErr result (snapshot.new ≡ snapshot.old) }
-    ensures out_of_memory { OnErr result (accepted (said_by source.now) ≢ []) }
+    ensures out_of_memory { OnErr result (accepted (source_mappings source.now) ≢ []) }
 {
     match source {
         Source::Buffer(buf) => snapshot.merge(parse_ignore_errors(buf)),
@@ -113,9 +113,9 @@ fn merge_snapshot(
     source: &Source<'_>,
 ) -> Result<(), AllocError>
     ensures ok { OnOk result ((h : List Mapping) → IsBuilt h snapshot.old
-        → IsBuilt (h ++ said_by source.now) snapshot.new) }
+        → IsBuilt (h ++ source_mappings source.now) snapshot.new) }
     ensures err { OnErr result (snapshot.new ≡ snapshot.old) }
-    ensures out_of_memory { OnErr result (accepted (said_by source.now) ≢ []) }
+    ensures out_of_memory { OnErr result (accepted (source_mappings source.now) ≢ []) }
 {
     law_condense();
     law_reorder();
@@ -125,8 +125,8 @@ fn merge_snapshot(
 }
 
 fn snapshot_of(alloc: Global, source: &Source<'_>) -> Result<Snapshot, AllocError>
-    ensures ok { IfOk result (IsNormal (said_by source.now)) }
-    ensures out_of_memory { OnErr result (accepted (said_by source.now) ≢ []) }
+    ensures ok { IfOk result (IsNormal (source_mappings source.now)) }
+    ensures out_of_memory { OnErr result (accepted (source_mappings source.now) ≢ []) }
 {
     match source {
         Source::Buffer(buf) => Snapshot::from_bytes(alloc, buf),

@@ -25,7 +25,7 @@ use gix_mailmap::Snapshot;
 use gix_mailmap::actor::SignatureRef;
 use gix_mailmap::snapshot::Source;
 use listings::{are_equal, copy, list};
-use pruning::{findings_left, pruned_for_git, pruned_twice, say_the_same, snapshot_of_pruned};
+use pruning::{are_equivalent, findings_left, pruned_for_git, pruned_twice, snapshot_of_pruned};
 use rebuilding::{read_back, rebuilt};
 use std::alloc::Global;
 use std::io::{self, Read, Write};
@@ -111,7 +111,7 @@ fn write_pruned<W: Write>(alloc: Global, output: &mut W, mailmap: &[u8]) -> Resu
     }
     write_snapshot(alloc, output, &snapshot_of_pruned(alloc, mailmap)?)?;
     let is_for_git = pruned_for_git(alloc, mailmap)?.is_some();
-    let is_spare = say_the_same(alloc, pruned.as_slice(), after_first_line(&pruned))?;
+    let is_spare = are_equivalent(alloc, pruned.as_slice(), after_first_line(&pruned))?;
     writeln!(output, "git answers as before: {is_for_git}")?;
     writeln!(output, "the same without the first line: {is_spare}")?;
     Ok(())

@@ -7,7 +7,7 @@ ghost use Rattle.gix_mailmap.specs.Folding.{Text};
 ghost use Rattle.gix_mailmap.specs.GitAnswers.{git_answer};
 ghost use Rattle.gix_mailmap.specs.Semantics.{IsNormal};
 ghost use Rattle.gix_mailmap.specs.Lines.{mappings_of};
-ghost use Rattle.caller_promises.specs.Left.{AreLeft, IsWithoutOne};
+ghost use Rattle.caller_promises.specs.Pruned.{AreFindingsLeft, IsWithoutOne};
 
 use gix_mailmap::Snapshot;
 use gix_mailmap::laws::{
@@ -31,7 +31,7 @@ pub fn pruned_twice(alloc: Global, buffer: &[u8]) -> Result<Vec<u8>, AllocError>
 /// those of the mailmap's kept lines, with their new line numbers.
 pub fn findings_left<'a>(alloc: Global, pruned: &'a [u8]) -> Result<Vec<Finding<'a>>, AllocError>
     ensures { IfOk result (λ left. (buffer : Text) (found : List Found) → IsPruned buffer pruned.now
-        → AreFindings (buffer ∷ []) found → AreLeft buffer found (map finding_of left.items)) }
+        → AreFindings (buffer ∷ []) found → AreFindingsLeft buffer found (map finding_of left.items)) }
 {
     law_equal_contacts();
     law_pruned_findings();
@@ -49,7 +49,7 @@ pub fn snapshot_of_pruned(alloc: Global, buffer: &[u8]) -> Result<Snapshot, Allo
 
 /// Whether two texts map the same, that is, have the same normal list. They don't if `pruned` is a pruned mailmap and
 /// `shorter` lacks one of its lines that have an entry.
-pub fn say_the_same(alloc: Global, pruned: &[u8], shorter: &[u8]) -> Result<bool, AllocError>
+pub fn are_equivalent(alloc: Global, pruned: &[u8], shorter: &[u8]) -> Result<bool, AllocError>
     ensures exactly { IfOk result (λ same. (same ≡ true)
         ↔ ((n : List Mapping) → IsNormal (mappings_of pruned.now) n ↔ IsNormal (mappings_of shorter.now) n)) }
     ensures without_one { IfOk result (λ same. (buffer : Text) → IsPruned buffer pruned.now

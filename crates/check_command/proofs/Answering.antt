@@ -33,7 +33,7 @@ on_ok (Err e) f p = tt
 
 -- ---- one part
 
--- `taken` bytes of a part were taken, and the answers to its whole lines were written
+-- the stream has read `taken` bytes of a part, and the answers to its whole lines were written
 pub record HasWritten (old : Stream) (part : Text) (taken : ℕ) (new : Stream) (before after : Option Text) : Type 0 where
   pub within : taken ≤ length part
   pub made : Text
@@ -85,7 +85,7 @@ next old part taken mid before between after count new empty text shown h more f
       written = Appends-trans before between after h.made w.0 h.written (subst (Appends between after) (made_is empty text shown w.0 none w.1 is) written);
     }
 
--- answers to the start of a part
+-- the text has the answers to the start of a part
 abbrev Some_answered : Stream → Text → Text → Type 0
 Some_answered old part made = (rest : Text) × AnswersFront old.mappings (old.kept ++ part) made rest
 
@@ -133,7 +133,7 @@ begun buffers old s before new = record {
   same = new.1;
 }
 
--- after one more part
+-- the answers so far and those to one more part
 part-front : (buffers : List Text) (old now : Option Text) (s : Stream) (before after : Option Text) (part made rest : Text) → (h : HasAnswered buffers old now s before after)
     → AnswersFront s.mappings (s.kept ++ part) made rest → AnswersFront (flat_map mappings_of buffers) (h.read ++ part) (h.made ++ made) rest
 part-front buffers old now s before after part made rest h a =
@@ -157,11 +157,11 @@ answered_all buffers None now read text consumed end is = tt
 answered_all buffers (Some x) None read text consumed end is = absurd consumed
 answered_all buffers (Some x) (Some y) read text consumed end is = is ∙ ap (answers_by buffers) (sym (consumed ∙ ap (λ l. read ++ l) end ∙ append-nil read))
 
--- including the last line, which no line feed ends
+-- the answers so far, followed by the answer to a last line without a line feed
 rest_is : (buffers : List Text) (old now : Option Text) (s : Stream) (before after : Option Text) → (h : HasAnswered buffers old now s before after) → h.made ++ answers s.mappings s.kept ≡ answers_by buffers h.read
 rest_is buffers old now s before after h = ap (λ l. h.made ++ l) (h.same s.kept) ∙ front-all (flat_map mappings_of buffers) h.read h.made s.kept h.front
 
--- the read that finds the end
+-- all answers are written once a read finds the end of the input
 ended_text : (buffers : List Text) (old now later : Option Text) (s : Stream) (before after : Option Text) → (h : HasAnswered buffers old now s before after) → Consumes now later [] → IsAtEnd later
     → AnswersContacts (Some buffers) old (h.made ++ answers s.mappings s.kept)
 ended_text buffers old now later s before after h none end =

@@ -1,4 +1,4 @@
--- Weakening what a run has written.
+-- Weaker statements about what a run has written, from stronger ones.
 use Rattle.std.proofs.Common.{List, ℕ, Option, Result}
 use Rattle.std.proofs.lemmas.Result.{IfErr-weaker, on_ok_weaker}
 use Rattle.command_line.specs.Leaving.{LeavesAnswers}

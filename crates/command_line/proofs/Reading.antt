@@ -71,7 +71,7 @@ pub read_more : (before now later : Option (List ℕ)) (lines held part : List �
 read_more before now later lines held part h more none =
     record { consumed = consumed_more before now later lines held part h more; ends = h.ends; no_feed = all_held held part none h.no_feed }
 
--- a chunk with one
+-- a chunk with a line feed
 pub read_ended : (before now later : Option (List ℕ)) (lines held part text rest : List ℕ) (feed : ℕ) → HasRead before now lines held → Consumes now later part → IsLastByte (is_byte 10) part (Some feed)
     → text ≡ held ++ take (feed + 1) part → rest ≡ take (length part - (feed + 1)) (drop (feed + 1) part) → ReadsText before later lines text rest true
 read_ended before now later lines held part text rest feed h more last text_is rest_is =
@@ -94,7 +94,7 @@ read_rest before now later lines text rest h none end no_rest = record {
 
 -- ---- consequences
 
--- another call can follow
+-- after a call that finds more, another call can follow
 pub read_on : (before now : Option (List ℕ)) (lines text held : List ℕ) → ReadsText before now lines text held true → HasRead before now (lines ++ text) held
 read_on before now lines text held r = record { consumed = r.consumed; ends = r.ends refl; no_feed = r.no_feed }
 

@@ -6,7 +6,7 @@ use Rattle.mailmap_entries.specs.Entries.{Mapping}
 use Rattle.mailmap_entries.specs.Folding.{Text}
 use Rattle.mailmap_grammar.specs.Lines.{Absent, Closed, IsCut, FaultKind, ParsedContact, Reading, Unclosed, empty_email, fault, missing_closing_bracket, no_email, nothing_to_map, unclosed_second, after_second, cut, first_contact, is_comment, strict_contacts, strict_line_reading, strict_reading, trailing_text, trimmed_contact, unless_blank}
 use Rattle.mailmap_grammar.specs.Trimming.{AreWhite, EndsWhite, trim}
-use Rattle.mailmap_grammar.proofs.Cut.{absent_kind, closed_kind, cut-absent, cut-closed, kind, unclosed_kind}
+use Rattle.mailmap_grammar.proofs.Cut.{absent_kind, closed_kind, cut-absent, cut-cut_at_closing, kind, unclosed_kind}
 use Rattle.mailmap_grammar.proofs.Trimmed.{trim-white_end, trim-white_start, trimmed-made}
 use Rattle.mailmap_findings.specs.Findings.{ignored}
 use Rattle.gix_mailmap.specs.IgnoredText.{ReadsWithoutIgnored}
@@ -91,27 +91,27 @@ without line a u k rest parts closed =
     side : (w x y z : Text) → (w ++ x) ++ (y ++ z) ≡ w ++ ((x ++ y) ++ z)
     side w x y z = simp append_assoc
 
--- ---- what the line says
+-- ---- the reading of the line
 
--- neither nothing nor a fault is an entry
-says_nothing : (o : Option Reading) (e : Mapping) → o ≡ None → o ≡ Some (Ok e) → ⊥
-says_nothing o e none is = cc
+-- a blank line and a fault have no entry
+no_entry : (o : Option Reading) (e : Mapping) → o ≡ None → o ≡ Some (Ok e) → ⊥
+no_entry o e none is = cc
 
 says_fault : (k : FaultKind) (n : ℕ) (t : Text) (e : Mapping) → fault k n t ≡ Ok e → ⊥
 says_fault k n t e is = cc
 
--- what a trimmed line t with this first contact says
-abbrev said : ℕ → Text → Text → Text → Text → Reading
-said n t name email rest = first_contact (λ name email rest. strict_contacts n t name email rest (trimmed_contact (cut rest))) n t (Closed name email rest)
+-- the reading of a trimmed line t with this first contact
+abbrev contact_reading : ℕ → Text → Text → Text → Text → Reading
+contact_reading n t name email rest = first_contact (λ name email rest. strict_contacts n t name email rest (trimmed_contact (cut rest))) n t (Closed name email rest)
 
 first_said : (n : ℕ) (t : Text) (h : ParsedContact) → cut t ≡ h → strict_line_reading n t ≡ first_contact (λ name email rest. strict_contacts n t name email rest (trimmed_contact (cut rest))) n t (trimmed_contact h)
 first_said n t h is = ap (λ g. first_contact (λ name email rest. strict_contacts n t name email rest (trimmed_contact (cut rest))) n t (trimmed_contact g)) is
 
-closed_said : (n : ℕ) (t a b rest : Text) → cut t ≡ Closed a b rest → strict_line_reading n t ≡ said n t (trim a) (trim b) rest
+closed_said : (n : ℕ) (t a b rest : Text) → cut t ≡ Closed a b rest → strict_line_reading n t ≡ contact_reading n t (trim a) (trim b) rest
 closed_said n t a b rest is = first_said n t (Closed a b rest) is
 
--- with one contact, whatever follows it
-one_contact : (n : ℕ) (t k name email rest : Text) (e : Mapping) → cut rest ≡ Absent → said n t name email rest ≡ Ok e → said n k name email [] ≡ Ok e
+-- a line with one contact has the same entry with any text after it
+one_contact : (n : ℕ) (t k name email rest : Text) (e : Mapping) → cut rest ≡ Absent → contact_reading n t name email rest ≡ Ok e → contact_reading n k name email [] ≡ Ok e
 one_contact n t k name [] rest e none is = absurd (says_fault empty_email n t e is)
 one_contact n t k [] (x ∷ email) rest e none is =
     absurd (says_fault nothing_to_map n t e (ap (λ h. strict_contacts n t [] (x ∷ email) rest (trimmed_contact h)) (sym none) ∙ is))
@@ -119,8 +119,8 @@ one_contact n t k (y ∷ name) (x ∷ email) rest e none is =
     let f : strict_contacts n t (y ∷ name) (x ∷ email) rest Absent ≡ Ok e = ap (λ h. strict_contacts n t (y ∷ name) (x ∷ email) rest (trimmed_contact h)) (sym none) ∙ is in
     ap (λ h. strict_contacts n k (y ∷ name) (x ∷ email) [] (trimmed_contact h)) (cut-absent [] tt) ∙ f
 
--- with two contacts
-two_contacts_alike : (n : ℕ) (t k name email rest other a b c d : Text) (e : Mapping) → cut rest ≡ Closed a b c → cut other ≡ Closed a b d → said n t name email rest ≡ Ok e → said n k name email other ≡ Ok e
+-- a line with two contacts has the same entry with any text after them
+two_contacts_alike : (n : ℕ) (t k name email rest other a b c d : Text) (e : Mapping) → cut rest ≡ Closed a b c → cut other ≡ Closed a b d → contact_reading n t name email rest ≡ Ok e → contact_reading n k name email other ≡ Ok e
 two_contacts_alike n t k name [] rest other a b c d e first second is = absurd (says_fault empty_email n t e is)
 two_contacts_alike n t k [] (x ∷ email) rest other a b c d e first second is =
     ap (λ h. strict_contacts n k [] (x ∷ email) other (trimmed_contact h)) second
@@ -132,7 +132,7 @@ two_contacts_alike n t k (y ∷ name) (x ∷ email) rest other a b c d e first s
     ∙ is
 
 -- a second contact without `>` is a fault
-not_open : (n : ℕ) (t name email rest : Text) (e : Mapping) → cut rest ≡ Unclosed → said n t name email rest ≡ Ok e → ⊥
+not_open : (n : ℕ) (t name email rest : Text) (e : Mapping) → cut rest ≡ Unclosed → contact_reading n t name email rest ≡ Ok e → ⊥
 not_open n t name [] rest e unclosed is = says_fault empty_email n t e is
 not_open n t name (x ∷ email) rest e unclosed is =
     says_fault unclosed_second n rest e (ap (λ h. strict_contacts n t name (x ∷ email) rest (trimmed_contact h)) (sym unclosed) ∙ is)
@@ -161,25 +161,25 @@ module _ (n : ℕ) (line : Text) (e : Mapping) (no_comment : is_comment line ≡
         none = ap (λ t. trim (trailing_text (cut t))) w.left ∙ none;
       }
 
-  -- one contact counts
+  -- the law for a line with one contact
   one : (a b rest : Text) → IsCut (trim line) a b rest → cut (trim line) ≡ Closed a b rest → cut rest ≡ Absent → strict_line_reading n (trim line) ≡ Ok e → ReadsWithoutIgnored n line e
   one a b rest is_cut first second is =
       let counts : Text = a ++ 60 ∷ (b ++ 62 ∷ []) in
-      let counted : cut counts ≡ Closed a b [] = cut-closed counts a b [] (record { whole = refl; no_opening = is_cut.no_opening; no_closing = is_cut.no_closing }) in
+      let counted : cut counts ≡ Closed a b [] = cut-cut_at_closing counts a b [] (record { whole = refl; no_opening = is_cut.no_opening; no_closing = is_cut.no_closing }) in
       let parts : trim line ≡ counts ++ rest = is_cut.whole ∙ sym (append_assoc a (60 ∷ (b ++ 62 ∷ [])) rest ∙ ap (λ s. a ++ 60 ∷ s) (append_assoc b (62 ∷ []) rest)) in
       made a (b ++ 62 ∷ []) (a ++ 60 ∷ b) rest parts (sym (append_assoc a (60 ∷ b) (62 ∷ [])))
       (ap (λ h. trim (trailing_text h)) first ∙ ap (λ h. trim (after_second rest h)) second)
       (closed_said n counts a b [] counted ∙ one_contact n (trim line) counts (trim a) (trim b) rest e second (sym (closed_said n (trim line) a b rest first) ∙ is))
       (ap (λ h. trim (trailing_text h)) counted ∙ ap (λ h. trim (after_second [] h)) (cut-absent [] tt) ∙ trim-nil)
 
-  -- two contacts count
+  -- the law for a line with two contacts
   two : (a b rest c d more : Text) → IsCut (trim line) a b rest → cut (trim line) ≡ Closed a b rest → IsCut rest c d more → cut rest ≡ Closed c d more → strict_line_reading n (trim line) ≡ Ok e
       → ReadsWithoutIgnored n line e
   two a b rest c d more is_cut first is_second second is =
       let other : Text = c ++ 60 ∷ (d ++ 62 ∷ []) in
       let counts : Text = a ++ 60 ∷ (b ++ 62 ∷ other) in
-      let others : cut other ≡ Closed c d [] = cut-closed other c d [] (record { whole = refl; no_opening = is_second.no_opening; no_closing = is_second.no_closing }) in
-      let counted : cut counts ≡ Closed a b other = cut-closed counts a b other (record { whole = refl; no_opening = is_cut.no_opening; no_closing = is_cut.no_closing }) in
+      let others : cut other ≡ Closed c d [] = cut-cut_at_closing other c d [] (record { whole = refl; no_opening = is_second.no_opening; no_closing = is_second.no_closing }) in
+      let counted : cut counts ≡ Closed a b other = cut-cut_at_closing counts a b other (record { whole = refl; no_opening = is_cut.no_opening; no_closing = is_cut.no_closing }) in
       let parts : trim line ≡ counts ++ more = is_cut.whole ∙ ap (λ s. a ++ 60 ∷ (b ++ 62 ∷ s)) is_second.whole ∙ join a b c d more in
       made a (b ++ 62 ∷ other) (a ++ 60 ∷ (b ++ 62 ∷ (c ++ 60 ∷ d))) more parts (close a b c d)
       (ap (λ h. trim (trailing_text h)) first ∙ ap (λ h. trim (after_second rest h)) second)
@@ -206,12 +206,12 @@ module _ (n : ℕ) (line : Text) (e : Mapping) (no_comment : is_comment line ≡
       ]
 
 unblank : (says : ℕ → Text → Reading) (n : ℕ) (t : Text) (e : Mapping) → unless_blank says n t ≡ Some (Ok e) → says n t ≡ Ok e
-unblank says n [] e is = absurd (says_nothing None e refl is)
+unblank says n [] e is = absurd (no_entry None e refl is)
 unblank says n (b ∷ t) e is = cc
 
 pub reads_without : (n : ℕ) (line : Text) (e : Mapping) → strict_reading n line ≡ Some (Ok e) → ReadsWithoutIgnored n line e
 reads_without n line e =
     elim (is_comment line) as (λ b. is_comment line ≡ b → cond b None (unless_blank strict_line_reading n (trim line)) ≡ Some (Ok e) → ReadsWithoutIgnored n line e) [
-      | true ↦ λ _ is. absurd (says_nothing None e refl is)
+      | true ↦ λ _ is. absurd (no_entry None e refl is)
       | false ↦ λ no_comment is. by_contacts n line e no_comment (unblank strict_line_reading n (trim line) e is)
     ] refl

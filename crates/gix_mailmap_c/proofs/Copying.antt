@@ -5,7 +5,7 @@ use Rattle.std.proofs.Math.ListN.{set}
 use Rattle.std.proofs.lemmas.List.{take_more_set, drop-set-lt, drop-drop, take-append-drop}
 use Rattle.mailmap_entries.specs.Entries.{Mapping}
 use Rattle.mailmap_entries.specs.Folding.{Text}
-use Rattle.gix_mailmap_c.specs.Listed.{IsAfter, all_listed, entry_text, given}
+use Rattle.gix_mailmap_c.specs.Listed.{IsAfter, all_listed, entry_texts, text_or_empty}
 
 module _ {X : Type 0} where
   -- the part of `all` before `left` is at the front of the buffer, up to `end`; from there on the buffer is unchanged
@@ -14,7 +14,7 @@ module _ {X : Type 0} where
     pub front : take end now ++ left ≡ all
     pub rest : drop end now ≡ drop end old
 
-  -- unchanged from an index on, so also from a later one on
+  -- a list that is unchanged from one index on is unchanged from any later index on
   later : (n k e : ℕ) (xs ys : List X) → e ≡ n + k → drop n xs ≡ drop n ys → drop e xs ≡ drop e ys
   later n k e xs ys at same =
       ap (λ p. drop p xs) at ∙ sym (drop-drop k n xs) ∙ ap (drop k) same ∙ drop-drop k n ys ∙ ap (λ p. drop p ys) (sym at)
@@ -61,7 +61,7 @@ module _ {X : Type 0} where
 
 pub length-all_listed : (start : ℕ) (ms : List Mapping) → length (all_listed start ms) ≡ length ms
 length-all_listed start [] = refl
-length-all_listed start (m ∷ ms) = ap suc (length-all_listed (start + length (entry_text m)) ms)
+length-all_listed start (m ∷ ms) = ap suc (length-all_listed (start + length (entry_texts m)) ms)
 
 -- one more entry fits
 pub listed_room : (start index n : ℕ) (left rest all : List Mapping) (m : Mapping) → left ≡ m ∷ rest → index + length (all_listed start left) ≡ length (all_listed 0 all) → length all ≤ n → index < n
@@ -70,11 +70,11 @@ listed_room start index n left rest all m e until room =
 
 -- the four texts of an entry
 pub after_entry : (m : Mapping) (name email old : Option Text) (last : Text) → name ≡ m.new_name → email ≡ m.new_email → old ≡ m.old_name → last ≡ m.old_email
-    → (o p q r s : Text) (a b c d e : ℕ) → IsAfter (given name) a o p b → IsAfter (given email) b p q c → IsAfter (given old) c q r d → IsAfter last d r s e
-    → IsAfter (entry_text m) a o s e
+    → (o p q r s : Text) (a b c d e : ℕ) → IsAfter (text_or_empty name) a o p b → IsAfter (text_or_empty email) b p q c → IsAfter (text_or_empty old) c q r d → IsAfter last d r s e
+    → IsAfter (entry_texts m) a o s e
 after_entry m name email old last n k l t o p q r s a b c d e first second third fourth =
     let P : Text → Type 0 = λ text. IsAfter text a o s e in
-    let two = after_both (given name) (given email) o p q a b c first second in
-    let three = after_both (given name ++ given email) (given old) o q r a c d two third in
-    let four = after_both (given name ++ given email ++ given old) last o r s a d e three fourth in
-    subst P (λ i. given (n i) ++ given (k i) ++ given (l i) ++ t i) four
+    let two = after_both (text_or_empty name) (text_or_empty email) o p q a b c first second in
+    let three = after_both (text_or_empty name ++ text_or_empty email) (text_or_empty old) o q r a c d two third in
+    let four = after_both (text_or_empty name ++ text_or_empty email ++ text_or_empty old) last o r s a d e three fourth in
+    subst P (λ i. text_or_empty (n i) ++ text_or_empty (k i) ++ text_or_empty (l i) ++ t i) four

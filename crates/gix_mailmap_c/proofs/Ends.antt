@@ -3,7 +3,7 @@ use Rattle.std.proofs.Common.{◌≡◌, ℕ, ◌+◌, ◌-◌, ◌≤◌, List,
 use Rattle.std.proofs.lemmas.List.{drop-drop, drop_all, length-drop, length-take-le, take-append-drop, take-append-le, take-take, take_rest}
 use Rattle.std.proofs.lemmas.Simd.{length-chunk, length-put_chunk, put_chunk_is}
 use Rattle.std.proofs.lemmas.Slice.{drop-append-drop, drop-put_mid, take-put_mid}
-use Rattle.gix_mailmap_c.specs.Handed.{IsWritten}
+use Rattle.gix_mailmap_c.specs.Buffers.{IsWritten}
 use borrow.Rule.Slice.PartMut.{put_mid}
 use lib.Lanes.{chunk, put_chunk}
 
@@ -49,7 +49,7 @@ module _ {X : Type 0} where
       ∙ ap (λ (l : List X). (take a xs ++ ys) ++ l) (drop-put_mid a (n - a) xs ys n (omega arith) within long ∙ drop_all n xs (omega arith))
       ∙ append-nil (take a xs ++ ys)
 
-  -- the same, as `copy_ends` does it
+  -- copying the first n elements, and then the last n, as `copy_ends` does, writes the whole list
   pub ends_written : (s b first part : List X) (n : ℕ) → length s ≤ length b → n ≤ length s → length s ≤ n + n
       → IsWritten (take n s) b first → IsWritten (drop (length s - n) s) (drop (length s - n) first) part
       → IsWritten s b (put_mid (length s - n) (length first - (length s - n)) first part)

@@ -2,7 +2,7 @@
 use Rattle.std.specs.Prelude.{◌≡◌, ℕ, Option, length, is_some, unwrap_or}
 use Rattle.mailmap_entries.specs.Folding.{Text}
 use Rattle.mailmap_entries.specs.Semantics.{Fields}
-use Rattle.gix_mailmap_c.specs.Handed.{ArePut}
+use Rattle.gix_mailmap_c.specs.Buffers.{ArePut}
 use Rattle.gix_mailmap_c.specs.declared.field.Field.{Field}
 
 -- the length of a text, or of the other one that is used if it is missing, and whether it is there

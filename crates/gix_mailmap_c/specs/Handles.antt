@@ -11,17 +11,17 @@ if_open true held = Some held
 if_open false held = None
 
 -- the listing of the snapshot in an open handle
-abbrev pub contents : Mailmap → Option (List Mapping)
-contents m = if_open m.is_open m.entries
+abbrev pub handle_listing : Mailmap → Option (List Mapping)
+handle_listing m = if_open m.is_open m.entries
 
 -- the call returns this status and leaves the handle unchanged
 abbrev pub Leaves : {X : Type 0} → ℕ → Option X → Option X → ℕ → Type 0
 Leaves code old new status = (status ≡ code) × (new ≡ old)
 
 -- status 0: the closed handle is opened with a text's entries; 2: out of memory; 7: it was open, and is unchanged
-abbrev pub Opens : List Mapping → Option (List Mapping) → Option (List Mapping) → ℕ → Type 0
-Opens said (Some n) new status = Leaves 7 (Some n) new status
-Opens said None new status =
+abbrev pub OpensMailmap : List Mapping → Option (List Mapping) → Option (List Mapping) → ℕ → Type 0
+OpensMailmap said (Some n) new status = Leaves 7 (Some n) new status
+OpensMailmap said None new status =
     ((status ≡ 0) × ((n : List Mapping) × (new ≡ Some n) × IsNormal said n))
     ⊎ Leaves 2 None new status
 

@@ -1,6 +1,6 @@
-pub mod Handed
-pub mod Held
-pub mod Lent
+pub mod Buffers
+pub mod Ownership
+pub mod Borrowing
 pub mod Handles
 pub mod Fields
 pub mod Listed
@@ -8,8 +8,8 @@ pub mod Findings
 pub mod Adding
 pub mod Written
 pub mod Streamed
-pub mod StreamHeld
-pub mod StreamLent
+pub mod StreamOwnership
+pub mod StreamBorrowing
 pub mod StreamCalls
-pub mod Reported
+pub mod Report
 pub mod Unneeded

@@ -3,24 +3,24 @@ use Rattle.std.specs.Prelude.{◌≡◌, ◌+◌, ◌<◌, ◌⊎◌, ◌++◌, 
 use Rattle.std.specs.List.{flat_map}
 use Rattle.mailmap_entries.specs.Entries.{Mapping}
 use Rattle.mailmap_entries.specs.Folding.{Text}
-use Rattle.gix_mailmap_c.specs.Handed.{IsWrittenOrShort}
+use Rattle.gix_mailmap_c.specs.Buffers.{IsWrittenOrShort}
 use Rattle.gix_mailmap_c.specs.declared.field.Field.{Field}
 use Rattle.gix_mailmap_c.specs.declared.listing.Listed.{Listed}
 
 -- a missing text is empty
-abbrev pub given : Option Text → Text
-given t = unwrap_or t []
+abbrev pub text_or_empty : Option Text → Text
+text_or_empty t = unwrap_or t []
 
 -- the texts of an entry, one after another
-abbrev pub entry_text : Mapping → Text
-entry_text m = given m.new_name ++ given m.new_email ++ given m.old_name ++ m.old_email
+abbrev pub entry_texts : Mapping → Text
+entry_texts m = text_or_empty m.new_name ++ text_or_empty m.new_email ++ text_or_empty m.old_name ++ m.old_email
 
-abbrev pub all_text : List Mapping → Text
-all_text ms = flat_map entry_text ms
+abbrev pub all_texts : List Mapping → Text
+all_texts ms = flat_map entry_texts ms
 
 -- the length of a text, and whether it is there
 abbrev pub field_of : Option Text → Field
-field_of t = record { len = length (given t); is_given = is_some t }
+field_of t = record { len = length (text_or_empty t); is_given = is_some t }
 
 -- an entry whose texts start at this offset
 abbrev pub listed_at : ℕ → Mapping → Listed
@@ -35,7 +35,7 @@ listed_at start m = record {
 -- entries whose texts follow one another from this offset on
 abbrev pub all_listed : ℕ → List Mapping → List Listed
 all_listed start [] = []
-all_listed start (m ∷ ms) = listed_at start m ∷ all_listed (start + length (entry_text m)) ms
+all_listed start (m ∷ ms) = listed_at start m ∷ all_listed (start + length (entry_texts m)) ms
 
 -- a list is written at an index; what is before it and after its end is unchanged
 pub record IsAfter {X : Type 0} (s : List X) (start : ℕ) (before after : List X) (end : ℕ) : Type 0 where
@@ -48,13 +48,13 @@ pub record AreListed (ms : List Mapping) (before after : List Listed) : Type 0 w
   pub listed : after ≡ all_listed 0 ms ++ drop (length ms) before
 
 pub record IsAllWritten (ms : List Mapping) (before after : Text) : Type 0 where
-  pub written : after ≡ all_text ms ++ drop (length (all_text ms)) before
+  pub written : after ≡ all_texts ms ++ drop (length (all_texts ms)) before
 
 -- status 0: all entries are listed, and their texts copied; 1: one of the buffers is too short, and both are unchanged
 abbrev pub Lists : List Mapping → List Listed → List Listed → Text → Text → ℕ → Type 0
 Lists ms e_before e_after t_before t_after status =
     ((status ≡ 0) × AreListed ms e_before e_after × IsAllWritten ms t_before t_after)
-    ⊎ ((status ≡ 1) × ((length e_before < length ms) ⊎ (length t_before < length (all_text ms)))
+    ⊎ ((status ≡ 1) × ((length e_before < length ms) ⊎ (length t_before < length (all_texts ms)))
     × (e_after ≡ e_before) × (t_after ≡ t_before))
 
 -- the entry is listed, and its texts are copied if they fit; status 3: there is no such entry, and both are unchanged
@@ -62,4 +62,4 @@ abbrev pub ListsOne : Option Mapping → Listed → Listed → Text → Text →
 ListsOne None e_before e_after t_before t_after status =
     (status ≡ 3) × (e_after ≡ e_before) × (t_after ≡ t_before)
 ListsOne (Some m) e_before e_after t_before t_after status =
-    (e_after ≡ listed_at 0 m) × IsWrittenOrShort (entry_text m) t_before t_after status
+    (e_after ≡ listed_at 0 m) × IsWrittenOrShort (entry_texts m) t_before t_after status

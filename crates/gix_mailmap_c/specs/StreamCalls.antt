@@ -16,7 +16,7 @@ OpensStream mailmap None new status =
     ((status ≡ 0) × ((p : Pending) × (new ≡ Some p) × IsNew mailmap p))
     ⊎ Leaves 2 None new status
 
--- status 0: bytes are taken from the front of the part; 2: out of memory, and none are; 6: the handle is closed
+-- status 0: bytes are read from the front of the part; 2: out of memory, and none are; 6: the handle is closed
 abbrev pub Pushes : Text → Option Pending → Option Pending → ℕ → ℕ → ℕ → Type 0
 Pushes part (Some p) new before taken status =
     ((status ≡ 0) × ((q : Pending) × (new ≡ Some q) × HasTakenOf part taken p q))
@@ -29,8 +29,8 @@ Finishes (Some p) new status = ((status ≡ 0) × (new ≡ Some (ended p))) ⊎ 
 Finishes None new status = Leaves 6 None new status
 
 -- status 0: unread answers are moved to the buffer; 6: the handle is closed, and the buffer is unchanged
-abbrev pub Reads : Option Pending → Option Pending → Text → Text → ℕ → ℕ → ℕ → Type 0
-Reads (Some p) new out_before out before count status =
+abbrev pub ReadsAnswers : Option Pending → Option Pending → Text → Text → ℕ → ℕ → ℕ → Type 0
+ReadsAnswers (Some p) new out_before out before count status =
     (status ≡ 0) × ((q : Pending) × (new ≡ Some q) × AreRead p q out_before out count)
-Reads None new out_before out before count status =
+ReadsAnswers None new out_before out before count status =
     (out ≡ out_before) × (count ≡ before) × Leaves 6 None new status

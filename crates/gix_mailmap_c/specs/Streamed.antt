@@ -21,7 +21,7 @@ pub record IsNew (mailmap : Text) (new : Pending) : Type 0 where
   pub unread : new.unread ≡ []
   pub same : (contacts : Text) → answers new.mappings contacts ≡ answers_by (mailmap ∷ []) contacts
 
--- the stream has taken these bytes: the lines that ended are answered, and the rest is kept
+-- the stream has read these bytes: the lines that ended are answered, and the rest is kept
 pub record HasTaken (bytes : Text) (old new : Pending) : Type 0 where
   pub made : Text
   pub mappings : new.mappings ≡ old.mappings
@@ -29,7 +29,7 @@ pub record HasTaken (bytes : Text) (old new : Pending) : Type 0 where
   pub front : AnswersFront old.mappings (old.kept ++ bytes) made new.kept
   pub kept : HoldsNo 10 old.kept → HoldsNo 10 new.kept
 
--- bytes are taken from the front of the part, at least one if there is one
+-- bytes are read from the front of the part, at least one if there is one
 pub record HasTakenOf (part : Text) (taken : ℕ) (old new : Pending) : Type 0 where
   pub within : taken ≤ length part
   pub some : 0 < length part → 0 < taken

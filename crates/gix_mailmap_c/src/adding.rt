@@ -2,7 +2,7 @@
 ghost use Rattle.std.specs.Prelude.{◌≡◌, ◌∷◌, [], option_map, OnOk, OnErr};
 ghost use Rattle.mailmap_entries.specs.Entries.{mapping_of};
 ghost use Rattle.mailmap_entries.specs.Building.{IsMerged};
-ghost use Rattle.gix_mailmap_c.specs.Handles.{contents};
+ghost use Rattle.gix_mailmap_c.specs.Handles.{handle_listing};
 ghost use Rattle.gix_mailmap_c.specs.Adding.{entry_given, AddsGiven};
 
 use crate::held::lent::snapshot;
@@ -26,8 +26,8 @@ pub extern "C" fn gix_mailmap_handle_add_entry(
     old_name: &[u8],
     old_email: &[u8],
 ) -> u32
-    ensures { AddsGiven (contents m.old) (entry_given new_name.now new_email.now old_name.now old_email.now)
-        (contents m.new) result }
+    ensures { AddsGiven (handle_listing m.old) (entry_given new_name.now new_email.now old_name.now old_email.now)
+        (handle_listing m.new) result }
 {
     if !is_open(m) {
         return CLOSED;

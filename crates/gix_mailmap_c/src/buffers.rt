@@ -1,6 +1,6 @@
 //! Copies results into the caller's buffers.
 ghost use Rattle.std.specs.Prelude.{◌≡◌, IfOk, OnErr};
-ghost use Rattle.gix_mailmap_c.specs.Handed.{ArePut, IsOutOfMemory, IsPut};
+ghost use Rattle.gix_mailmap_c.specs.Buffers.{ArePut, IsOutOfMemory, IsPut};
 
 use crate::copies::copy;
 use crate::status::{OK, OUT_OF_MEMORY, TOO_SHORT};

@@ -1,6 +1,6 @@
 //! Copies short texts fast.
 ghost use Rattle.std.specs.Prelude.{◌≤◌, ◌+◌, length};
-ghost use Rattle.gix_mailmap_c.specs.Handed.{IsWritten};
+ghost use Rattle.gix_mailmap_c.specs.Buffers.{IsWritten};
 
 use std::simd::Simd;
 

@@ -1,8 +1,8 @@
 //! Explains which lines of mailmaps map contacts, as `mailmap_verify --explain` does.
 ghost use Rattle.std.specs.Prelude.{◌≡◌, IfOk, Some, map};
 ghost use Rattle.verify_command.specs.Explained.{ExplainsAll, each_line, explained_line};
-ghost use Rattle.gix_mailmap_c.specs.Handed.{IsHanded};
-ghost use Rattle.gix_mailmap_c.specs.Reported.{cut_by};
+ghost use Rattle.gix_mailmap_c.specs.Buffers.{IsOutput};
+ghost use Rattle.gix_mailmap_c.specs.Report.{cut_by};
 
 use crate::buffers::hand;
 use crate::named::{Lengths, names_of, texts_of};
@@ -28,7 +28,7 @@ pub extern "C" fn gix_mailmap_text_explain(
     out: &mut [u8],
     needed: &mut usize,
 ) -> u32
-    ensures { IsHanded (ExplainsAll (cut_by (map (λ l. l.name) lengths.now) names.now)
+    ensures { IsOutput (ExplainsAll (cut_by (map (λ l. l.name) lengths.now) names.now)
         (cut_by (map (λ l. l.text) lengths.now) texts.now) (Some contacts.now))
         out.old out.new needed.new result }
 {

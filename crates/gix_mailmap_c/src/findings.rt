@@ -1,9 +1,9 @@
 //! Verifies a mailmap.
 ghost use Rattle.std.specs.Prelude.{◌≡◌, ◌≤◌, length, map};
 ghost use Rattle.mailmap_grammar.specs.Lines.{fault_of};
-ghost use Rattle.mailmap_findings.specs.Findings.{finding_of, reported_of};
-ghost use Rattle.gix_mailmap_c.specs.Findings.{all_reported, beside_line, fault_number, number, one_reported, AreReportedOf};
-ghost use Rattle.gix_mailmap_c.specs.Handed.{IsHanded, IsPut, IsWritten};
+ghost use Rattle.mailmap_findings.specs.Findings.{finding_of, kind_of};
+ghost use Rattle.gix_mailmap_c.specs.Findings.{c_findings, beside_line, fault_number, kind_number, c_finding, AreFindingsOf};
+ghost use Rattle.gix_mailmap_c.specs.Buffers.{IsOutput, IsPut, IsWritten};
 
 use crate::buffers::out_of_memory;
 use crate::status::{OK, TOO_SHORT};
@@ -12,8 +12,8 @@ use mailmap_findings::verify::FindingKind;
 use mailmap_grammar::lines::Error;
 use std::alloc::Global;
 
-/// A finding. `line` counts from 1. If the line has no effect, `beside` is the line that it has none beside; otherwise
-/// it is 0.
+/// A finding. `line` counts from 1. If the line has no effect, `beside` is the last line with an effect for the same old
+/// name and old email; otherwise it is 0.
 ///
 /// `kind` is 1 to 5 for the faults, in the order of [`Error`], 6 for ignored text, 7 for no effect, 8 for a contact
 /// that is itself mapped, and 9 for a line that git reads in another way.
@@ -27,7 +27,7 @@ pub struct Finding {
 
 impl Finding {
     fn of(found: &verify::Finding<'_>) -> Finding
-        ensures { result ≡ one_reported (finding_of found.now) }
+        ensures { result ≡ c_finding (finding_of found.now) }
     {
         Finding {
             line: found.position.line,
@@ -49,7 +49,7 @@ pub extern "C" fn gix_mailmap_text_verify(
     out: &mut [Finding],
     needed: &mut usize,
 ) -> u32
-    ensures { IsHanded (AreReportedOf mailmap.now) out.old out.new needed.new result }
+    ensures { IsOutput (AreFindingsOf mailmap.now) out.old out.new needed.new result }
 {
     match verify::verify(alloc, &[mailmap]) {
         Ok(found) => put(found.as_slice(), out, needed),
@@ -59,7 +59,7 @@ pub extern "C" fn gix_mailmap_text_verify(
 
 // Copies findings to the front of `out`, if they fit, and sets `needed` to their number.
 fn put(found: &[verify::Finding<'_>], out: &mut [Finding], needed: &mut usize) -> u32
-    ensures { IsPut (all_reported (map finding_of found.now)) out.old out.new needed.new result }
+    ensures { IsPut (c_findings (map finding_of found.now)) out.old out.new needed.new result }
 {
     *needed = found.len();
     if found.len() > out.len() {
@@ -71,7 +71,7 @@ fn put(found: &[verify::Finding<'_>], out: &mut [Finding], needed: &mut usize) -
 
 fn report(found: &[verify::Finding<'_>], out: &mut [Finding])
     requires { length found.now ≤ length out.old }
-    ensures { IsWritten (all_reported (map finding_of found.now)) out.old out.new }
+    ensures { IsWritten (c_findings (map finding_of found.now)) out.old out.new }
 {
     let mut index = 0;
     for finding in found {
@@ -82,7 +82,7 @@ fn report(found: &[verify::Finding<'_>], out: &mut [Finding])
 }
 
 fn number_of(kind: &FindingKind<'_>) -> u32
-    ensures { result ≡ number (reported_of kind.now) }
+    ensures { result ≡ kind_number (kind_of kind.now) }
 {
     match kind {
         FindingKind::Fault(fault) => number_of_fault(fault),
@@ -106,7 +106,7 @@ fn number_of_fault(fault: &Error<'_>) -> u32
 }
 
 fn beside_of(kind: &FindingKind<'_>) -> usize
-    ensures { result ≡ beside_line (reported_of kind.now) }
+    ensures { result ≡ beside_line (kind_of kind.now) }
 {
     match kind {
         FindingKind::NoEffect { beside } => beside.line,

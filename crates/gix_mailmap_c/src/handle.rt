@@ -3,7 +3,7 @@ ghost use Rattle.std.specs.Prelude.{◌≡◌, ◌≢◌, [], Some, None, option
 ghost use Rattle.mailmap_grammar.specs.Lines.{mappings_of};
 ghost use Rattle.mailmap_entries.specs.Building.{IsMerged};
 ghost use Rattle.mailmap_entries.specs.Semantics.{IsNormal, accepted};
-ghost use Rattle.gix_mailmap_c.specs.Handles.{contents, Opens, Adds};
+ghost use Rattle.gix_mailmap_c.specs.Handles.{handle_listing, OpensMailmap, Adds};
 
 use crate::held::lent::snapshot;
 use crate::held::{Mailmap, Parts, closed, discard_closed, into_parts, is_open, opened};
@@ -17,7 +17,7 @@ use std::alloc::{AllocError, Global};
 /// Returns `OK`; `OUT_OF_MEMORY`; or `OPEN` if the handle is open already. Unless it is `OK`, the handle is unchanged.
 #[unsafe(no_mangle)]
 pub extern "C" fn gix_mailmap_handle_open(alloc: Global, m: &mut Mailmap, text: &[u8]) -> u32
-    ensures { Opens (mappings_of text.now) (contents m.old) (contents m.new) result }
+    ensures { OpensMailmap (mappings_of text.now) (handle_listing m.old) (handle_listing m.new) result }
 {
     if is_open(m) {
         return OPEN;
@@ -36,7 +36,7 @@ pub extern "C" fn gix_mailmap_handle_open(alloc: Global, m: &mut Mailmap, text: 
 /// Returns `OK`; `OUT_OF_MEMORY`, and the mailmap is unchanged; or `CLOSED`.
 #[unsafe(no_mangle)]
 pub extern "C" fn gix_mailmap_handle_add(m: &mut Mailmap, text: &[u8]) -> u32
-    ensures { Adds (mappings_of text.now) (contents m.old) (contents m.new) result }
+    ensures { Adds (mappings_of text.now) (handle_listing m.old) (handle_listing m.new) result }
 {
     if !is_open(m) {
         return CLOSED;
@@ -50,7 +50,7 @@ pub extern "C" fn gix_mailmap_handle_add(m: &mut Mailmap, text: &[u8]) -> u32
 /// Closes a handle and frees its memory. A closed handle stays closed.
 #[unsafe(no_mangle)]
 pub extern "C" fn gix_mailmap_handle_close(alloc: Global, m: &mut Mailmap)
-    ensures { contents m.new ≡ None }
+    ensures { handle_listing m.new ≡ None }
 {
     drop(take(alloc, m));
 }
@@ -72,8 +72,8 @@ fn add(snapshot: &mut Snapshot, text: &[u8]) -> Result<(), AllocError>
 
 // Takes the snapshot out of an open handle. The handle is closed afterwards.
 fn take(alloc: Global, m: &mut Mailmap) -> Option<Box<Snapshot>>
-    ensures taken { option_map (λ b. b.value) result ≡ contents m.old }
-    ensures closed { contents m.new ≡ None }
+    ensures taken { option_map (λ b. b.value) result ≡ handle_listing m.old }
+    ensures closed { handle_listing m.new ≡ None }
 {
     let mut taken = std::mem::replace(m, closed(alloc));
     if is_open(&mut taken) {
@@ -85,8 +85,8 @@ fn take(alloc: Global, m: &mut Mailmap) -> Option<Box<Snapshot>>
 }
 
 fn put_back(m: &mut Mailmap, snapshot: Box<Snapshot>)
-    requires { contents m.old ≡ None }
-    ensures { contents m.new ≡ Some snapshot.value }
+    requires { handle_listing m.old ≡ None }
+    ensures { handle_listing m.new ≡ Some snapshot.value }
 {
     discard_closed(std::mem::replace(m, opened(Parts::of(snapshot))));
 }

@@ -1,7 +1,7 @@
 //! The struct behind a handle, and the only functions that look inside: they convert it from and to the box it owns.
 ghost use Rattle.std.specs.Prelude.{◌≡◌, List, true, false};
 ghost use Rattle.mailmap_entries.specs.Entries.{Mapping};
-ghost use Rattle.gix_mailmap_c.specs.Held.{held};
+ghost use Rattle.gix_mailmap_c.specs.Ownership.{owns_snapshot};
 
 pub(crate) mod lent;
 mod parts;
@@ -24,7 +24,7 @@ pub struct Mailmap {
 }
 
 impl Model for Mailmap {
-    ghost also_owns = { λ m. held m.alloc m.is_open m.at m.entries };
+    ghost also_owns = { λ m. owns_snapshot m.alloc m.is_open m.at m.entries };
 }
 
 // Sound, because a handle alone owns its snapshot, which is `Send`.

@@ -1,8 +1,8 @@
 //! Lists the entries of a handle's mailmap.
 ghost use Rattle.std.specs.Prelude.{◌≡◌, ◌≤◌, ◌^◌, length, min, option_map, slice_get, IfSome, IfNone, MatchOption};
 ghost use Rattle.mailmap_entries.specs.Entries.{mapping_of};
-ghost use Rattle.gix_mailmap_c.specs.Handles.{contents};
-ghost use Rattle.gix_mailmap_c.specs.Listed.{all_text, listed_at, Lists, ListsOne};
+ghost use Rattle.gix_mailmap_c.specs.Handles.{handle_listing};
+ghost use Rattle.gix_mailmap_c.specs.Listed.{all_texts, listed_at, Lists, ListsOne};
 
 mod copying;
 
@@ -50,10 +50,10 @@ pub extern "C" fn gix_mailmap_handle_len(
     entries_len: &mut usize,
     texts_len: &mut usize,
 ) -> u32
-    ensures kept { contents m.new ≡ contents m.old }
-    ensures listed { IfSome (contents m.old)
-        (λ n. (result ≡ 0) × (entries_len.new ≡ length n) × (texts_len.new ≡ min usize.MAX (length (all_text n)))) }
-    ensures closed { IfNone (contents m.old)
+    ensures unchanged { handle_listing m.new ≡ handle_listing m.old }
+    ensures listed { IfSome (handle_listing m.old)
+        (λ n. (result ≡ 0) × (entries_len.new ≡ length n) × (texts_len.new ≡ min usize.MAX (length (all_texts n)))) }
+    ensures closed { IfNone (handle_listing m.old)
         ((result ≡ 6) × (entries_len.new ≡ entries_len.old) × (texts_len.new ≡ texts_len.old)) }
 {
     if !is_open(m) {
@@ -75,9 +75,9 @@ pub extern "C" fn gix_mailmap_handle_list(
     entries: &mut [Listed],
     texts: &mut [u8],
 ) -> u32
-    ensures kept { contents m.new ≡ contents m.old }
-    ensures listed { IfSome (contents m.old) (λ n. Lists n entries.old entries.new texts.old texts.new result) }
-    ensures closed { IfNone (contents m.old) ((result ≡ 6) × (entries.new ≡ entries.old) × (texts.new ≡ texts.old)) }
+    ensures unchanged { handle_listing m.new ≡ handle_listing m.old }
+    ensures listed { IfSome (handle_listing m.old) (λ n. Lists n entries.old entries.new texts.old texts.new result) }
+    ensures closed { IfNone (handle_listing m.old) ((result ≡ 6) × (entries.new ≡ entries.old) × (texts.new ≡ texts.old)) }
 {
     if !is_open(m) {
         return CLOSED;
@@ -96,10 +96,10 @@ pub extern "C" fn gix_mailmap_handle_entry(
     entry: &mut Listed,
     texts: &mut [u8],
 ) -> u32
-    ensures kept { contents m.new ≡ contents m.old }
-    ensures entry { IfSome (contents m.old)
+    ensures unchanged { handle_listing m.new ≡ handle_listing m.old }
+    ensures entry { IfSome (handle_listing m.old)
         (λ n. ListsOne (slice_get n index) entry.old entry.new texts.old texts.new result) }
-    ensures closed { IfNone (contents m.old) ((result ≡ 6) × (entry.new ≡ entry.old) × (texts.new ≡ texts.old)) }
+    ensures closed { IfNone (handle_listing m.old) ((result ≡ 6) × (entry.new ≡ entry.old) × (texts.new ≡ texts.old)) }
 {
     if !is_open(m) {
         return CLOSED;
@@ -109,7 +109,7 @@ pub extern "C" fn gix_mailmap_handle_entry(
 
 // The length of the texts of all entries, `None` if it exceeds `usize::MAX`.
 fn texts_len_of(snapshot: &Snapshot) -> Option<usize>
-    ensures { let len = length (all_text snapshot.now) in MatchOption result (2 ^ 64 ≤ len) (λ n. n ≡ len) }
+    ensures { let len = length (all_texts snapshot.now) in MatchOption result (2 ^ 64 ≤ len) (λ n. n ≡ len) }
 {
     let mut len = 0;
     for entry in snapshot.iter() {

@@ -2,7 +2,7 @@
 ghost use Rattle.std.specs.Prelude.{◌≡◌, IfSome, IfNone};
 ghost use Rattle.std.specs.Option.{option_copied};
 ghost use Rattle.mailmap_entries.specs.Semantics.{fields_for};
-ghost use Rattle.gix_mailmap_c.specs.Handles.{contents};
+ghost use Rattle.gix_mailmap_c.specs.Handles.{handle_listing};
 ghost use Rattle.gix_mailmap_c.specs.Fields.{IsAnswered, IsDescribed};
 
 use crate::buffers::put_both;
@@ -28,13 +28,13 @@ pub extern "C" fn gix_mailmap_handle_lookup(
     email_out: &mut [u8],
     email_field: &mut Field,
 ) -> u32
-    ensures kept { contents m.new ≡ contents m.old }
-    ensures described { IfSome (contents m.old) (λ n. let f = fields_for n name.now email.now in
+    ensures unchanged { handle_listing m.new ≡ handle_listing m.old }
+    ensures described { IfSome (handle_listing m.old) (λ n. let f = fields_for n name.now email.now in
         IsDescribed f.name name.now name_field.new × IsDescribed f.email email.now email_field.new) }
-    ensures answer { IfSome (contents m.old) (λ n.
+    ensures answer { IfSome (handle_listing m.old) (λ n.
         IsAnswered (fields_for n name.now email.now) name.now email.now name_out.old name_out.new
         email_out.old email_out.new result) }
-    ensures closed { IfNone (contents m.old)
+    ensures closed { IfNone (handle_listing m.old)
         ((result ≡ 6) × (name_out.new ≡ name_out.old) × (name_field.new ≡ name_field.old)
         × (email_out.new ≡ email_out.old) × (email_field.new ≡ email_field.old)) }
 {

@@ -1,6 +1,6 @@
 //! Splits two buffers into the names and texts of several mailmaps.
 ghost use Rattle.std.specs.Prelude.{◌≡◌, IfOk, map};
-ghost use Rattle.gix_mailmap_c.specs.Reported.{cut_by};
+ghost use Rattle.gix_mailmap_c.specs.Report.{cut_by};
 
 use std::alloc::{AllocError, Global};
 

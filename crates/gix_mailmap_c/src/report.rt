@@ -1,7 +1,7 @@
 //! Reports on several mailmaps, as `mailmap_verify` does.
 ghost use Rattle.std.specs.Prelude.{◌≡◌, IfOk, map};
-ghost use Rattle.gix_mailmap_c.specs.Handed.{IsHanded};
-ghost use Rattle.gix_mailmap_c.specs.Reported.{IsReportOf, cut_by};
+ghost use Rattle.gix_mailmap_c.specs.Buffers.{IsOutput};
+ghost use Rattle.gix_mailmap_c.specs.Report.{IsReportOf, cut_by};
 
 use crate::buffers::hand;
 use crate::named::{Lengths, names_of, texts_of};
@@ -25,7 +25,7 @@ pub extern "C" fn gix_mailmap_text_report(
     out: &mut [u8],
     needed: &mut usize,
 ) -> u32
-    ensures { IsHanded (IsReportOf (cut_by (map (λ l. l.name) lengths.now) names.now)
+    ensures { IsOutput (IsReportOf (cut_by (map (λ l. l.name) lengths.now) names.now)
         (cut_by (map (λ l. l.text) lengths.now) texts.now)) out.old out.new needed.new result }
 {
     hand(report(alloc, lengths, names, texts), out, needed)

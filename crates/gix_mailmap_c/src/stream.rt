@@ -1,7 +1,7 @@
 //! A stream of contacts that C opens, feeds with contacts in parts, reads answers from, and closes.
 ghost use Rattle.std.specs.Prelude.{◌≡◌, Some, None, option_map, IfOk};
 ghost use Rattle.gix_mailmap_c.specs.Streamed.{IsNew};
-ghost use Rattle.gix_mailmap_c.specs.StreamCalls.{pending, OpensStream, Pushes, Finishes, Reads};
+ghost use Rattle.gix_mailmap_c.specs.StreamCalls.{pending, OpensStream, Pushes, Finishes, ReadsAnswers};
 
 pub mod contacts;
 mod held;
@@ -88,7 +88,7 @@ pub extern "C" fn gix_mailmap_stream_handle_read(
     out: &mut [u8],
     count: &mut usize,
 ) -> u32
-    ensures { Reads (pending s.old) (pending s.new) out.old out.new count.old count.new result }
+    ensures { ReadsAnswers (pending s.old) (pending s.new) out.old out.new count.old count.new result }
 {
     if !is_open(s) {
         return CLOSED;

@@ -3,7 +3,7 @@ ghost use Rattle.std.specs.Prelude.{◌≡◌, ◌∷◌, []};
 ghost use Rattle.mailmap_snapshot.specs.Contacts.{answers_by};
 ghost use Rattle.mailmap_findings.specs.Findings.{IsPruned};
 ghost use Rattle.mailmap_snapshot.specs.Writing.{IsCompacted};
-ghost use Rattle.gix_mailmap_c.specs.Handed.{IsHanded};
+ghost use Rattle.gix_mailmap_c.specs.Buffers.{IsOutput};
 
 use crate::buffers::hand;
 use mailmap_findings::verify;
@@ -22,7 +22,7 @@ pub extern "C" fn gix_mailmap_text_check(
     out: &mut [u8],
     needed: &mut usize,
 ) -> u32
-    ensures { IsHanded (λ text. text ≡ answers_by (mailmap.now ∷ []) contacts.now) out.old out.new needed.new result }
+    ensures { IsOutput (λ text. text ≡ answers_by (mailmap.now ∷ []) contacts.now) out.old out.new needed.new result }
 {
     hand(check::check(alloc, &[mailmap], contacts), out, needed)
 }
@@ -36,7 +36,7 @@ pub extern "C" fn gix_mailmap_text_compact(
     out: &mut [u8],
     needed: &mut usize,
 ) -> u32
-    ensures { IsHanded (IsCompacted (mailmap.now ∷ [])) out.old out.new needed.new result }
+    ensures { IsOutput (IsCompacted (mailmap.now ∷ [])) out.old out.new needed.new result }
 {
     hand(check::compact(alloc, &[mailmap]), out, needed)
 }
@@ -50,7 +50,7 @@ pub extern "C" fn gix_mailmap_text_prune(
     out: &mut [u8],
     needed: &mut usize,
 ) -> u32
-    ensures { IsHanded (IsPruned mailmap.now) out.old out.new needed.new result }
+    ensures { IsOutput (IsPruned mailmap.now) out.old out.new needed.new result }
 {
     hand(verify::prune(alloc, mailmap), out, needed)
 }

@@ -1,9 +1,9 @@
 //! Lists the lines of mailmaps that no contact needs.
 ghost use Rattle.std.specs.Prelude.{◌≡◌, ◌≤◌, IfOk, length, map};
 ghost use Rattle.mailmap_findings.specs.Needs.{AreUnneeded};
-ghost use Rattle.gix_mailmap_c.specs.Handed.{IsHanded, IsPut, IsWritten};
-ghost use Rattle.gix_mailmap_c.specs.Reported.{cut_by};
-ghost use Rattle.gix_mailmap_c.specs.Unneeded.{all_positions, one_position, AreUnneededOf};
+ghost use Rattle.gix_mailmap_c.specs.Buffers.{IsOutput, IsPut, IsWritten};
+ghost use Rattle.gix_mailmap_c.specs.Report.{cut_by};
+ghost use Rattle.gix_mailmap_c.specs.Unneeded.{c_positions, c_position, AreUnneededOf};
 
 use crate::buffers::out_of_memory;
 use crate::named::{Lengths, texts_of};
@@ -21,7 +21,7 @@ pub struct Position {
 
 impl Position {
     fn of(found: &verify::Position) -> Position
-        ensures { result ≡ one_position found.now }
+        ensures { result ≡ c_position found.now }
     {
         Position {
             buffer: found.buffer,
@@ -47,7 +47,7 @@ pub extern "C" fn gix_mailmap_text_unneeded(
     out: &mut [Position],
     needed: &mut usize,
 ) -> u32
-    ensures { IsHanded (AreUnneededOf (cut_by (map (λ l. l.text) lengths.now) texts.now) contacts.now)
+    ensures { IsOutput (AreUnneededOf (cut_by (map (λ l. l.text) lengths.now) texts.now) contacts.now)
         out.old out.new needed.new result }
 {
     match unneeded(alloc, lengths, texts, contacts) {
@@ -71,7 +71,7 @@ fn unneeded(
 
 // Copies positions to the front of `out`, if they fit, and sets `needed` to their number.
 fn put(found: &[verify::Position], out: &mut [Position], needed: &mut usize) -> u32
-    ensures { IsPut (all_positions found.now) out.old out.new needed.new result }
+    ensures { IsPut (c_positions found.now) out.old out.new needed.new result }
 {
     *needed = found.len();
     if found.len() > out.len() {
@@ -83,7 +83,7 @@ fn put(found: &[verify::Position], out: &mut [Position], needed: &mut usize) -> 
 
 fn list(found: &[verify::Position], out: &mut [Position])
     requires { length found.now ≤ length out.old }
-    ensures { IsWritten (all_positions found.now) out.old out.new }
+    ensures { IsWritten (c_positions found.now) out.old out.new }
 {
     let mut index = 0;
     for position in found {

@@ -1,6 +1,6 @@
 //! Writes a handle's mailmap as text.
 ghost use Rattle.std.specs.Prelude.{◌≡◌, IfSome, IfNone};
-ghost use Rattle.gix_mailmap_c.specs.Handles.{contents};
+ghost use Rattle.gix_mailmap_c.specs.Handles.{handle_listing};
 ghost use Rattle.gix_mailmap_c.specs.Written.{Writes};
 
 use crate::buffers::{out_of_memory, put};
@@ -23,9 +23,9 @@ pub extern "C" fn gix_mailmap_handle_write(
     out: &mut [u8],
     needed: &mut usize,
 ) -> u32
-    ensures kept { contents m.new ≡ contents m.old }
-    ensures written { IfSome (contents m.old) (λ n. Writes n out.old out.new needed.new result) }
-    ensures closed { IfNone (contents m.old) ((result ≡ 6) × (out.new ≡ out.old) × (needed.new ≡ needed.old)) }
+    ensures unchanged { handle_listing m.new ≡ handle_listing m.old }
+    ensures written { IfSome (handle_listing m.old) (λ n. Writes n out.old out.new needed.new result) }
+    ensures closed { IfNone (handle_listing m.old) ((result ≡ 6) × (out.new ≡ out.old) × (needed.new ≡ needed.old)) }
 {
     if !is_open(m) {
         return CLOSED;

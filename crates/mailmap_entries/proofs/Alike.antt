@@ -7,7 +7,7 @@ use Rattle.std.specs.List.{list_any}
 use Rattle.std.specs.Ordering.{eq_by_cmp}
 use Rattle.mailmap_entries.specs.Entries.{Mapping}
 use Rattle.mailmap_entries.specs.Folding.{text_cmp, Text, folded}
-use Rattle.mailmap_entries.specs.Semantics.{key_cmp, of_email, Key, key, first, last, accepted, of_key, has_key, given_fields, last_fields, last_given, spelling, mapping_with, no_fields, value, answer_of, answered, IsNormal, is_accepted, new_fields}
+use Rattle.mailmap_entries.specs.Semantics.{key_cmp, of_email, Key, key, first, last, accepted, of_key, has_key, given_fields, last_fields, last_given, spelling, mapping_with, no_fields, value, answer_of, fields_with_spelling, IsNormal, is_accepted, new_fields}
 use Rattle.mailmap_entries.proofs.Parts.{first-append, last-append, option_map-or, list_any-append, and_then-flatten}
 pub use Rattle.mailmap_entries.specs.Alike.{Alike, first_name}
 
@@ -29,7 +29,7 @@ same_normal h g n a d =
 
 pub same_scan : (h g : List Mapping) (name email : Text) → Alike h g → answer_of h name email ≡ answer_of g name email
 same_scan h g name email a =
-    λ i. answered email (unwrap_or (a.lasts (folded email) (folded name) i) (a.given (folded email) i)) (a.spellings (folded email) i)
+    λ i. fields_with_spelling email (unwrap_or (a.lasts (folded email) (folded name) i) (a.given (folded email) i)) (a.spellings (folded email) i)
 
 pub alike_itself : (h : List Mapping) → Alike h h
 alike_itself h = record { keys = λ k. refl; spellings = λ e. refl; given = λ e. refl; lasts = λ e n. refl; names = λ e n. refl }

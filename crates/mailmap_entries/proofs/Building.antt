@@ -10,7 +10,7 @@ use Rattle.std.proofs.lemmas.Map.Lookups.{exact_bytes}
 use Rattle.mailmap_entries.specs.Entries.{Mapping}
 use Rattle.mailmap_entries.specs.Folding.{Text, folded, text_cmp}
 use Rattle.mailmap_entries.specs.Building.{IsMerged, IsBuilt, nothing, merged, out_of_memory}
-use Rattle.mailmap_entries.specs.Semantics.{Key, Fields, has_key, key, key_cmp, last, first, new_fields, last_given, last_fields, given_fields, spelling, IsNormal, accepted, is_accepted, of_email, of_key, no_fields, unless_empty, answered, answer_of, fields_for}
+use Rattle.mailmap_entries.specs.Semantics.{Key, Fields, has_key, key, key_cmp, last, first, new_fields, last_given, last_fields, given_fields, spelling, IsNormal, accepted, is_accepted, of_email, of_key, no_fields, unless_empty, fields_with_spelling, answer_of, fields_for}
 use Rattle.mailmap_entries.proofs.Alike.{Alike, first_name, same_normal, alike_accepted, alike_back, alike_itself, alike_joined, first_parts, last_parts, given_parts, key_parts}
 use Rattle.mailmap_entries.proofs.Exists.{normal, is_normal}
 use Rattle.mailmap_entries.proofs.Joined.{IsApart, alike_trans, alike_swapped}
@@ -73,7 +73,7 @@ option_or_itself : {X : Type 0} (o : Option X) → option_or o o ≡ o
 option_or_itself None = refl
 option_or_itself (Some x) = refl
 
--- a list followed by itself says nothing new
+-- a list followed by itself is alike the list
 pub alike_repeated : (h : List Mapping) → Alike (h ++ h) h
 alike_repeated h =
     record {
@@ -113,7 +113,7 @@ alike_neighbours a b x y differ =
 
 -- ---- what an answer depends on
 
--- only on the accepted entries for its email
+-- an answer depends only on the accepted entries for its email
 pub scan_by_email : (h g : List Mapping) (name email : Text) → of_email h (folded email) ≡ of_email g (folded email) → answer_of h name email ≡ answer_of g name email
 scan_by_email h g name email same =
     let keyed : (o : Option Text) → of_key h (folded email, o) ≡ of_key g (folded email, o) =
@@ -123,9 +123,9 @@ scan_by_email h g name email same =
     let given : given_fields h (folded email) ≡ given_fields g (folded email) =
     λ i. record { name = last_given (λ e. e.new_name) (keyed None i); email = last_given (λ e. e.new_email) (keyed None i) } in
     let spelled : spelling h (folded email) ≡ spelling g (folded email) = ap (λ l. option_map (λ e. e.old_email) (first l)) same in
-    λ i. answered email (unwrap_or (lasts i) (given i)) (spelled i)
+    λ i. fields_with_spelling email (unwrap_or (lasts i) (given i)) (spelled i)
 
--- the email that an answer leaves, whether or not the stored spelling is exactly the signature's
+-- without a new email, the email after resolving is the stored spelling, whether or not the signature has exactly that
 one_email : (name new : Option Text) (kept email : Text) (same : Bool) → (same ≡ true → kept ≡ email)
     → unwrap_or (unwrap_or (unless_empty (record { name = name; email = option_or new (if same then None else Some kept) })) no_fields).email email ≡ unwrap_or new kept
 one_email None (Some e) kept email same is = refl
@@ -136,7 +136,7 @@ one_email None None kept email false is = refl
 one_email (Some n) None kept email false is = refl
 
 one_of : (f : Fields) (spelled : Option Text) (email other : Text) → IsSome spelled
-    → unwrap_or (unwrap_or (answered email f spelled) no_fields).email email ≡ unwrap_or (unwrap_or (answered other f spelled) no_fields).email other
+    → unwrap_or (unwrap_or (fields_with_spelling email f spelled) no_fields).email email ≡ unwrap_or (unwrap_or (fields_with_spelling other f spelled) no_fields).email other
 one_of f None email other is = absurd (true≢false (sym is))
 one_of f (Some kept) email other is =
     one_email f.name f.email kept email _ (equal_texts kept email) ∙ sym (one_email f.name f.email kept other _ (equal_texts kept other))
@@ -146,7 +146,7 @@ pub one_resolved : (h : List Mapping) (name other_name email other_email : Text)
     → unwrap_or (fields_for h name email).email email ≡ unwrap_or (fields_for h other_name other_email).email other_email
 one_resolved h name other_name email other_email names emails some =
     one_of (unwrap_or (last_fields h (folded email, Some (folded name))) (given_fields h (folded email))) (spelling h (folded email)) email other_email some
-    ∙ (λ i. unwrap_or (unwrap_or (answered other_email (unwrap_or (last_fields h (emails i, Some (names i))) (given_fields h (emails i))) (spelling h (emails i))) no_fields).email other_email)
+    ∙ (λ i. unwrap_or (unwrap_or (fields_with_spelling other_email (unwrap_or (last_fields h (emails i, Some (names i))) (given_fields h (emails i))) (spelling h (emails i))) no_fields).email other_email)
 
 -- ---- texts and keys that compare as equal
 

@@ -22,7 +22,7 @@ less-smaller (x ∷ xs) (y ∷ ys) e =
     (cases_eq x y))
     (cases_lt x y)
 
--- the converse
+-- and the other way round
 pub smaller-less : (xs ys : List ℕ) → IsSmaller xs ys → slice_cmp nat_cmp xs ys ≡ Less
 smaller-less [] [] h = absurd h
 smaller-less [] (y ∷ ys) h = refl
@@ -48,10 +48,10 @@ text_cmp-end [] (y ∷ t) k l long empty = nat_cmp_is k l Less (omega arith)
 text_cmp-end (x ∷ s) [] k l long empty = nat_cmp_is k l Greater (omega arith)
 text_cmp-end (x ∷ s) (y ∷ t) k l long empty = absurd (omega arith)
 
--- `Less` means below
+-- a comparison without case gives `Less` exactly if the first text is below the second
 pub less-below : (a b : Text) (o : Ordering) → o ≡ text_cmp (folded a) (folded b) → (o ≡ Less) ↔ IsBelow a b
 less-below a b o is = (λ e. less-smaller _ _ (sym is ∙ e), λ h. is ∙ smaller-less _ _ h)
 
--- `Equal` means equal once folded
+-- a comparison without case gives `Equal` exactly if the folded texts are equal
 pub equal-folded : (a b : Text) (o : Ordering) → o ≡ text_cmp (folded a) (folded b) → (o ≡ Equal) ↔ (folded a ≡ folded b)
 equal-folded a b o is = (λ e. equal-same _ _ (sym is ∙ e), λ h. is ∙ ap (λ t. text_cmp t (folded b)) h ∙ same-equal (folded b))

@@ -11,11 +11,11 @@ use Rattle.std.proofs.lemmas.Option.{slice_get_within, get_or_from_slice_get}
 use Rattle.mailmap_entries.specs.Search.{IsPartitioned}
 
 module _ {K : Type 0} {R : K → K → Ordering} (o : IsTotalOrder R) where
-  -- q is below y, so y is above q
+  -- if q is below y, y is above q
   above : (y q : K) → R q y ≡ Less → R y q ≡ Greater
   above y q e = o.antisymm y q ∙ ap ordering_reverse e
 
-  -- k is not below q, and y is above k: so y is above q
+  -- if k is not below q and y is above k, y is above q
   above_other : (k y q : K) (a : Ordering) → R k q ≡ a → a ≢ Less → R k y ≡ Less → R y q ≡ Greater
   above_other k y q Less is other up = absurd (other refl)
   above_other k y q Equal is other up = above y q (sym (o.congr k q y is) ∙ up)
@@ -63,7 +63,7 @@ module _ {X K : Type 0} (R : K → K → Ordering) (key : X → K) (q : K) where
   missing-above xs i missing = λ k d low high.
       sym (get_or-map (λ x. R (key x) q) xs k d Less high) ∙ missing.1 k Less low (omega (arith, length-map xs (λ x. R (key x) q)))
 
-  -- so no key of the table compares as equal
+  -- if the search fails, no key of the table compares as equal
   pub missing-all : (xs : List X) (i : ℕ) → i ≤ length xs → IsPartitionPoint (λ a. a ≡ Less) (λ a. a ≡ Greater) (map (λ x. R (key x) q) xs) i → All (λ x. R (key x) q ≢ Equal) xs
   missing-all xs i le missing = λ k d high e. ⊎_elim
       (λ low. let is = missing-below xs i le missing k d (omega arith) low in absurd (cc))

@@ -42,10 +42,10 @@ prefix_less (suc n) (x ∷ xs) (y ∷ ys) ps qs lt =
     ] refl
 
 -- texts whose prefixes differ are in the order of these
-pub prefix_settles : (n : ℕ) (xs ys : Text) → AreBytes xs → AreBytes ys → (r : Ordering) → r ≡ nat_cmp (key_prefix n xs) (key_prefix n ys) → r ≢ Equal → text_cmp xs ys ≡ r
-prefix_settles n xs ys ps qs Less e other = prefix_less n xs ys ps qs (ranked _ _ Less e)
-prefix_settles n xs ys ps qs Equal e other = absurd (other refl)
-prefix_settles n xs ys ps qs Greater e other = nat_list_cmp_total.antisymm xs ys ∙ ap ordering_reverse (prefix_less n ys xs qs ps (ranked _ _ Greater e))
+pub prefix_decides : (n : ℕ) (xs ys : Text) → AreBytes xs → AreBytes ys → (r : Ordering) → r ≡ nat_cmp (key_prefix n xs) (key_prefix n ys) → r ≢ Equal → text_cmp xs ys ≡ r
+prefix_decides n xs ys ps qs Less e other = prefix_less n xs ys ps qs (ranked _ _ Less e)
+prefix_decides n xs ys ps qs Equal e other = absurd (other refl)
+prefix_decides n xs ys ps qs Greater e other = nat_list_cmp_total.antisymm xs ys ∙ ap ordering_reverse (prefix_less n ys xs qs ps (ranked _ _ Greater e))
 
 -- if the prefixes are equal, the bytes after them decide
 pub prefix_alike : (n : ℕ) (xs ys : Text) → AreBytes xs → AreBytes ys → n ≤ length xs → n ≤ length ys → key_prefix n xs ≡ key_prefix n ys → text_cmp xs ys ≡ text_cmp (drop n xs) (drop n ys)

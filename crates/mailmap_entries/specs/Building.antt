@@ -33,8 +33,8 @@ pub data IsBuilt : List Mapping → List Mapping → Type 0 where
 
 -- what holds for each listing n that was built from the merged entries h
 pub record IsHeadline (h n : List Mapping) : Type 0 where
-  -- n has one entry for each distinct key of the accepted entries, in ascending order, with what all entries of that
-  -- key say together
+  -- n has one entry for each distinct key of the accepted entries, in ascending order, which combines all entries of
+  -- that key
   pub normal : IsNormal h n
   -- the entries of n rebuild n, and no other list
   pub rebuilds : IsNormal n n × ((m : List Mapping) → IsNormal n m → m ≡ n)

@@ -1,4 +1,4 @@
--- What one entry of a mailmap says.
+-- One entry of a mailmap: its four texts.
 use Rattle.std.specs.Prelude.{ℕ, Option, None, List, [], ◌++◌}
 use Rattle.std.specs.Hash as fed
 use Rattle.std.specs.Ordering.{ordering_then}
@@ -18,7 +18,7 @@ abbrev pub mapping : Option Text → Option Text → Option Text → Text → Ma
 mapping new_name new_email old_name old_email =
     record { new_name = new_name; new_email = new_email; old_name = old_name; old_email = old_email }
 
--- what an entry says: the texts that it borrows
+-- the texts that an entry borrows
 abbrev pub mapping_of : Entry → Mapping
 mapping_of e = record {
   new_name = option_copied e.new_name;

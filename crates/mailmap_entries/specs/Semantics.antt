@@ -22,7 +22,7 @@ key e = (folded e.old_email, option_map folded e.old_name)
 abbrev pub key_cmp : Key → Key → Ordering
 key_cmp a b = ordering_then (text_cmp a.0 b.0) (option_cmp text_cmp a.1 b.1)
 
--- ---- what the mappings of an email and of a key say
+-- ---- the mappings of an email and of a key
 
 abbrev pub is_accepted : Mapping → Bool
 is_accepted e = is_some e.new_name || is_some e.new_email
@@ -104,20 +104,21 @@ pub record IsNormal (h n : List Mapping) : Type 0 where
 
 -- the stored spelling of an email, unless the signature has exactly that one
 abbrev pub respelled : Text → Text → Option Text
-respelled kept email = if eq_by_cmp text_cmp kept email then None else Some kept
+respelled stored email = if eq_by_cmp text_cmp stored email then None else Some stored
 
 abbrev pub unless_empty : Fields → Option Fields
 unless_empty f = if is_some f.name || is_some f.email then Some f else None
 
 -- the answer for an email, given its fields and its stored spelling, if there is one
-abbrev pub answered : Text → Fields → Option Text → Option Fields
-answered email f None = None
-answered email f (Some kept) = unless_empty (record { name = f.name; email = option_or f.email (respelled kept email) })
+abbrev pub fields_with_spelling : Text → Fields → Option Text → Option Fields
+fields_with_spelling email f None = None
+fields_with_spelling email f (Some stored) =
+    unless_empty (record { name = f.name; email = option_or f.email (respelled stored email) })
 
 abbrev pub answer_of : List Mapping → Text → Text → Option Fields
 answer_of h name email =
     let f = unwrap_or (last_fields h (folded email, Some (folded name))) (given_fields h (folded email)) in
-    answered email f (spelling h (folded email))
+    fields_with_spelling email f (spelling h (folded email))
 
 -- the fields that replace a name and an email, none if there is no answer
 abbrev pub fields_for : List Mapping → Text → Text → Fields

@@ -70,6 +70,6 @@ accepted_items : (xs : List LocatedEntry) → AreAccepted (map located_of xs) �
 accepted_items [] a = tt
 accepted_items (x ∷ xs) a = (a.0, accepted_items xs a.1)
 
--- so without_redundant can be called with them
+-- all entries of lines are accepted, as without_redundant requires
 pub items_accepted : (ls : List Line) (xs : List LocatedEntry) → map located_of xs ≡ located ls → All (λ x. is_accepted (mapping_of x.entry) ≡ true) xs
 items_accepted ls xs e = All-from_recursion _ xs (accepted_items xs (subst AreAccepted (sym e) (located_accepted ls)))

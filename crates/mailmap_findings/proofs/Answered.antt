@@ -19,14 +19,14 @@ use Rattle.mailmap_redundancy.proofs.Giving.{needed_answer}
 use Rattle.mailmap_redundancy.proofs.Kept.{one_reduced, some_reduced}
 use Rattle.mailmap_redundancy.proofs.Positions.{positions_exact}
 use Rattle.mailmap_findings.specs.Explanations.{in_order, needed_positions, two_in_order}
-use Rattle.mailmap_findings.specs.Findings.{AreFindings, Finding, is_redundant}
-use Rattle.mailmap_findings.specs.Positions.{Line, entry, lines, located, same_position, whole_lines}
+use Rattle.mailmap_findings.specs.Findings.{AreFindings, Finding, is_reported_redundant}
+use Rattle.mailmap_findings.specs.Positions.{Line, entry, located_lines, located, same_position, whole_lines}
 use Rattle.mailmap_findings.proofs.Deleted.{left_entries}
-use Rattle.mailmap_findings.proofs.Read.{mappings_of-lines}
+use Rattle.mailmap_findings.proofs.Read.{mappings_of-located_lines}
 use Rattle.mailmap_findings.proofs.Walking.{same_is, same_itself}
 use Rattle.mailmap_grammar.specs.Lines.{contact_in}
 use Rattle.mailmap_findings.specs.Needs.{AreUnneeded, any_needs, contact_needs, is_reported, needs, unneeded}
-use Rattle.mailmap_findings.proofs.Taking.{filter_both}
+use Rattle.mailmap_findings.proofs.ContactNeeds.{filter_both}
 
 -- ---- the positions that an answer needs are those of the entries it needs
 
@@ -100,15 +100,15 @@ module _ (p : Position → Bool) where
 
 pub answered : (buffers : List Text) (contacts : Text) (found : List Finding) (missing : List Position) (line name email rest : Text) → AreFindings buffers found → AreUnneeded buffers contacts missing
     → Contains (whole_lines contacts) line → contact_in line ≡ Closed name email rest
-    → answer_of (entries (located (filter (λ l. not (is_reported found missing l)) (lines buffers)))) name email ≡ answer_of (flat_map mappings_of buffers) name email
+    → answer_of (entries (located (filter (λ l. not (is_reported found missing l)) (located_lines buffers)))) name email ≡ answer_of (flat_map mappings_of buffers) name email
 answered buffers contacts found missing line name email rest are un there is =
-    let ls = lines buffers in
+    let ls = located_lines buffers in
     let all = whole_lines contacts in
     let is_missing : Position → Bool = λ p. list_any (same_position p) missing in
     let stays : LocatedMapping → Bool = λ x. not (is_missing x.position) in
     let left : located (filter (λ (l : Line). not (is_reported found missing l)) ls) ≡ filter stays un.kept =
-    ap located (sym (filter_both (is_redundant found) (λ (l : Line). is_missing l.position) ls))
-    ∙ located_filter (λ p. not (is_missing p)) (filter (λ (l : Line). not (is_redundant found l)) ls)
+    ap located (sym (filter_both (is_reported_redundant found) (λ (l : Line). is_missing l.position) ls))
+    ∙ located_filter (λ p. not (is_missing p)) (filter (λ (l : Line). not (is_reported_redundant found l)) ls)
     ∙ ap (filter stays) (left_entries buffers found are ∙ one_reduced (located ls) are.kept un.kept are.effective un.effective) in
     let stay : AllByRecursion (λ (x : LocatedMapping). stays x ≡ true) (needed (origins un.kept name email)) =
     all_weaker (needed (origins un.kept name email))
@@ -116,15 +116,15 @@ answered buffers contacts found missing line name email rest are un there is =
     (all_among _ _ _) in
     ap (λ xs. answer_of (entries xs) name email) left
     ∙ needed_answer stays (located ls) un.kept name email un.effective stay
-    ∙ ap (λ h. answer_of h name email) (mappings_of-lines 0 buffers)
+    ∙ ap (λ h. answer_of h name email) (mappings_of-located_lines 0 buffers)
 
 -- ---- the list of unneeded lines is unique
 
 pub some_unneeded : (buffers : List Text) (contacts : Text) → (missing : List Position) × AreUnneeded buffers contacts missing
 some_unneeded buffers contacts =
-    let effective = some_reduced (located (lines buffers)) in
+    let effective = some_reduced (located (located_lines buffers)) in
     (unneeded effective.0 (whole_lines contacts), record { kept = effective.0; effective = effective.1; whole = refl })
 
 pub one_unneeded : (buffers : List Text) (contacts : Text) (missing other : List Position) → AreUnneeded buffers contacts missing → AreUnneeded buffers contacts other → missing ≡ other
 one_unneeded buffers contacts missing other a b =
-    a.whole ∙ ap (λ kept. unneeded kept (whole_lines contacts)) (one_reduced (located (lines buffers)) a.kept b.kept a.effective b.effective) ∙ sym b.whole
+    a.whole ∙ ap (λ kept. unneeded kept (whole_lines contacts)) (one_reduced (located (located_lines buffers)) a.kept b.kept a.effective b.effective) ∙ sym b.whole

@@ -14,13 +14,13 @@ use Rattle.mailmap_entries.specs.Semantics.{IsNormal, is_accepted, key}
 use Rattle.mailmap_redundancy.specs.Redundancy.{AreEffective, LocatedMapping, entries, last_position}
 use Rattle.mailmap_redundancy.specs.declared.located.Position.{Position}
 use Rattle.mailmap_redundancy.proofs.Kept.{last_stays, one_reduced, reduced_normal, reduced_sublist, some_reduced}
-use Rattle.mailmap_findings.specs.Findings.{AreFindings, Contact, Finding, IsPruned, Reported, contact, findings, git_reads, has_no_effect, ignored, ignored_text, is_redundant, is_line_kept, mapped, no_effect, read_otherwise, same_contact, reported_of_contact, reported_of_entry, reported_of_line, reported_of_reading, itself_mapped}
-use Rattle.mailmap_findings.specs.Positions.{Line, entry, lines, located, same_position, has_entry_at}
+use Rattle.mailmap_findings.specs.Findings.{AreFindings, Contact, Finding, IsPruned, FindingKind, proper_contact, findings, git_reads, has_no_effect, ignored, ignored_text, is_reported_redundant, is_line_kept, mapped_contact, no_effect, read_otherwise, same_contact, reported_of_contact, reported_of_entry, reported_of_line, reported_of_reading, itself_mapped}
+use Rattle.mailmap_findings.specs.Positions.{Line, entry, located_lines, located, same_position, has_entry_at}
 use Rattle.mailmap_findings.specs.Marked.{AreApart}
 use Rattle.mailmap_findings.proofs.Accepted.{located_accepted}
-use Rattle.mailmap_findings.proofs.Placing.{apart_lines}
+use Rattle.mailmap_findings.proofs.BufferLines.{apart_lines}
 use Rattle.mailmap_findings.proofs.Pruned.{located_left}
-use Rattle.mailmap_findings.proofs.Read.{mappings_of-lines}
+use Rattle.mailmap_findings.proofs.Read.{mappings_of-located_lines}
 use Rattle.mailmap_findings.proofs.Walking.{differs, same_itself, starts}
 
 -- ---- filters
@@ -43,21 +43,21 @@ filter_same p q (l ∷ ls) all = ap (λ b. if b then l ∷ filter p ls else filt
 
 -- ---- the findings of one line
 
-abbrev pub reported_at : Position → List Reported → List Finding
-reported_at position ts = map (λ t. record { position = position; reported = t }) ts
+abbrev pub reported_at : Position → List FindingKind → List Finding
+reported_at position ts = map (λ t. record { position = position; kind = t }) ts
 
 -- a finding that reports the line at this position as without effect
 abbrev pub redundant_at : Position → Finding → Bool
-redundant_at position f = has_no_effect f.reported && same_position f.position position
+redundant_at position f = has_no_effect f.kind && same_position f.position position
 
-any_here : (position : Position) (ts : List Reported) → list_any (redundant_at position) (reported_at position ts) ≡ list_any has_no_effect ts
+any_here : (position : Position) (ts : List FindingKind) → list_any (redundant_at position) (reported_at position ts) ≡ list_any has_no_effect ts
 any_here position [] = refl
 any_here position (t ∷ ts) =
     ap (λ b. (has_no_effect t && b) || list_any (redundant_at position) (reported_at position ts)) (same_itself position)
     ∙ ap (λ b. b || list_any (redundant_at position) (reported_at position ts)) (and_true (has_no_effect t))
     ∙ ap (λ b. has_no_effect t || b) (any_here position ts)
 
-none_there : (position there : Position) (ts : List Reported) → there ≢ position → list_any (redundant_at position) (reported_at there ts) ≡ false
+none_there : (position there : Position) (ts : List FindingKind) → there ≢ position → list_any (redundant_at position) (reported_at there ts) ≡ false
 none_there position there [] other = refl
 none_there position there (t ∷ ts) other =
     ap (λ b. b || list_any (redundant_at position) (reported_at there ts)) (and_right (has_no_effect t) (same_position there position) (differs there position other))
@@ -84,28 +84,28 @@ position_some None e = absurd (true≢false (sym e))
 position_some (Some p) e = refl
 
 -- an effective entry has this key
-abbrev pub IfStays : List LocatedMapping → Option Mapping → Type 0
-IfStays kept None = Unit {0}
-IfStays kept (Some e) = is_some (last_position kept (key e)) ≡ true
+abbrev pub IfEffective : List LocatedMapping → Option Mapping → Type 0
+IfEffective kept None = Unit {0}
+IfEffective kept (Some e) = is_some (last_position kept (key e)) ≡ true
 
 module _ (h : List Mapping) (kept : List LocatedMapping) where
-  entry_any : (stays : Bool) (e : Mapping) → IfStays kept (Some e) → list_any has_no_effect (option_to_list (reported_of_entry h kept stays e)) ≡ not stays
-  entry_any true e beside = contact_none (contact e) (mapped h (contact e))
+  entry_any : (stays : Bool) (e : Mapping) → IfEffective kept (Some e) → list_any has_no_effect (option_to_list (reported_of_entry h kept stays e)) ≡ not stays
+  entry_any true e beside = contact_none (proper_contact e) (mapped_contact h (proper_contact e))
   entry_any false e beside = position_some (last_position kept (key e)) beside
 
-  line_any : (l : Line) → IfStays kept (entry l) → list_any has_no_effect (reported_of_line h kept (has_entry_at kept l.position) l) ≡ not (is_line_kept kept l)
+  line_any : (l : Line) → IfEffective kept (entry l) → list_any has_no_effect (reported_of_line h kept (has_entry_at kept l.position) l) ≡ not (is_line_kept kept l)
   line_any l beside =
       let stays = has_entry_at kept l.position in
-      let of_text : List Reported = option_to_list (reported_of_reading l.text (strict_reading l.position.line l.text)) in
-      let of_git : List Reported = option_to_list (option_map git_reads (read_otherwise l)) in
-      let of_entry : List Reported = option_to_list (option_and_then (reported_of_entry h kept stays) (entry l)) in
+      let of_text : List FindingKind = option_to_list (reported_of_reading l.text (strict_reading l.position.line l.text)) in
+      let of_git : List FindingKind = option_to_list (option_map git_reads (read_otherwise l)) in
+      let of_entry : List FindingKind = option_to_list (option_and_then (reported_of_entry h kept stays) (entry l)) in
       let none : list_any has_no_effect (of_text ++ of_git) ≡ false =
       list_any-append has_no_effect of_text of_git
       ∙ ap (λ b. b || list_any has_no_effect of_git) (reading_none l.text (strict_reading l.position.line l.text))
       ∙ git_none (read_otherwise l) in
       list_any-append has_no_effect (of_text ++ of_git) of_entry
       ∙ ap (λ b. b || list_any has_no_effect of_entry) none
-      ∙ elim (entry l) as (λ o. IfStays kept o → list_any has_no_effect (option_to_list (option_and_then (reported_of_entry h kept stays) o)) ≡ not (is_none o || stays)) [
+      ∙ elim (entry l) as (λ o. IfEffective kept o → list_any has_no_effect (option_to_list (option_and_then (reported_of_entry h kept stays) o)) ≡ not (is_none o || stays)) [
         | None ↦ λ _. refl
         | Some e ↦ λ is. entry_any stays e is
       ] beside
@@ -127,7 +127,7 @@ module _ (h : List Mapping) (kept : List LocatedMapping) where
     after_line l fs ls apart.1 all.1,
   )
 
-  pub reported_redundant : (ls : List Line) → AreApart ls → AllByRecursion (λ l. IfStays kept (entry l)) ls → AllByRecursion (λ l. list_any (redundant_at l.position) (flat_map (findings h kept) ls) ≡ not (is_line_kept kept l)) ls
+  pub reported_redundant : (ls : List Line) → AreApart ls → AllByRecursion (λ l. IfEffective kept (entry l)) ls → AllByRecursion (λ l. list_any (redundant_at l.position) (flat_map (findings h kept) ls) ≡ not (is_line_kept kept l)) ls
   reported_redundant [] apart stay = tt
   reported_redundant (l ∷ ls) apart stay = (
     list_any-append (redundant_at l.position) (findings h kept l) (flat_map (findings h kept) ls)
@@ -145,11 +145,11 @@ module _ (h : List Mapping) (kept : List LocatedMapping) where
 -- ---- the lines that are not reported
 
 module _ (kept : List LocatedMapping) where
-  pub lines_stay : (ls : List Line) → AllByRecursion (λ x. is_some (last_position kept (key x.entry)) ≡ true) (located ls) → AllByRecursion (λ l. IfStays kept (entry l)) ls
+  pub lines_stay : (ls : List Line) → AllByRecursion (λ x. is_some (last_position kept (key x.entry)) ≡ true) (located ls) → AllByRecursion (λ l. IfEffective kept (entry l)) ls
   lines_stay [] = λ all. tt
   lines_stay (l ∷ ls) =
       elim (entry l) as (λ o. AllByRecursion (λ x. is_some (last_position kept (key x.entry)) ≡ true) (cons_option (option_map (λ e. record { position = l.position; entry = e }) o) (located ls))
-      → IfStays kept o × AllByRecursion (λ m. IfStays kept (entry m)) ls) [
+      → IfEffective kept o × AllByRecursion (λ m. IfEffective kept (entry m)) ls) [
         | None ↦ λ all. (tt, lines_stay ls all)
         | Some e ↦ λ all. (all.0, lines_stay ls all.1)
       ]
@@ -161,35 +161,35 @@ each_stays xs kept effective accepted = both xs (recursion_from_All (Contains xs
     both [] inside mappings_of = tt
     both (y ∷ ys) inside mappings_of = (last_stays xs kept y effective inside.0 mappings_of.0, both ys inside.1 mappings_of.1)
 
-pub left_lines : (buffers : List Text) (found : List Finding) (are : AreFindings buffers found) → filter (λ l. not (is_redundant found l)) (lines buffers) ≡ filter (is_line_kept are.kept) (lines buffers)
+pub left_lines : (buffers : List Text) (found : List Finding) (are : AreFindings buffers found) → filter (λ l. not (is_reported_redundant found l)) (located_lines buffers) ≡ filter (is_line_kept are.kept) (located_lines buffers)
 left_lines buffers found are =
-    let ls = lines buffers in
+    let ls = located_lines buffers in
     let h = entries (located ls) in
     let all : List Finding = flat_map (findings h are.kept) ls in
     let stay = lines_stay are.kept ls (each_stays (located ls) are.kept are.effective (located_accepted ls)) in
-    ap (λ fs. filter (λ (l : Line). not (is_redundant fs l)) ls) are.whole
-    ∙ filter_same (λ (l : Line). not (is_redundant all l)) (is_line_kept are.kept) ls (not_reported h are.kept all ls (reported_redundant h are.kept ls (apart_lines 0 buffers) stay))
+    ap (λ fs. filter (λ (l : Line). not (is_reported_redundant fs l)) ls) are.whole
+    ∙ filter_same (λ (l : Line). not (is_reported_redundant all l)) (is_line_kept are.kept) ls (not_reported h are.kept all ls (reported_redundant h are.kept ls (apart_lines 0 buffers) stay))
 
-pub left_entries : (buffers : List Text) (found : List Finding) (are : AreFindings buffers found) → located (filter (λ l. not (is_redundant found l)) (lines buffers)) ≡ are.kept
+pub left_entries : (buffers : List Text) (found : List Finding) (are : AreFindings buffers found) → located (filter (λ l. not (is_reported_redundant found l)) (located_lines buffers)) ≡ are.kept
 left_entries buffers found are =
-    let ls = lines buffers in
+    let ls = located_lines buffers in
     ap located (left_lines buffers found are)
     ∙ located_left are.kept ls are.kept (starts are.kept ls (record { sublist = reduced_sublist (located ls) are.kept are.effective; apart = apart_lines 0 buffers }))
 
 pub same_listing : (buffers : List Text) (found : List Finding) (n : List Mapping) → AreFindings buffers found
-    → IsNormal (flat_map mappings_of buffers) n ↔ IsNormal (entries (located (filter (λ l. not (is_redundant found l)) (lines buffers)))) n
+    → IsNormal (flat_map mappings_of buffers) n ↔ IsNormal (entries (located (filter (λ l. not (is_reported_redundant found l)) (located_lines buffers)))) n
 same_listing buffers found n are =
-    let there = reduced_normal (located (lines buffers)) are.kept n are.effective in
-    let e : entries (located (filter (λ (l : Line). not (is_redundant found l)) (lines buffers))) ≡ entries are.kept = ap entries (left_entries buffers found are) in (
-      λ d. subst (λ g. IsNormal g n) (sym e) (there.0 (subst (λ g. IsNormal g n) (sym (mappings_of-lines 0 buffers)) d)),
-      λ d. subst (λ g. IsNormal g n) (mappings_of-lines 0 buffers) (there.1 (subst (λ g. IsNormal g n) e d)),
+    let there = reduced_normal (located (located_lines buffers)) are.kept n are.effective in
+    let e : entries (located (filter (λ (l : Line). not (is_reported_redundant found l)) (located_lines buffers))) ≡ entries are.kept = ap entries (left_entries buffers found are) in (
+      λ d. subst (λ g. IsNormal g n) (sym e) (there.0 (subst (λ g. IsNormal g n) (sym (mappings_of-located_lines 0 buffers)) d)),
+      λ d. subst (λ g. IsNormal g n) (mappings_of-located_lines 0 buffers) (there.1 (subst (λ g. IsNormal g n) e d)),
     )
 
 -- pruning keeps exactly the lines that are not reported as without effect
 pub pruned_reported : (buffer text : Text) (found : List Finding) → AreFindings (buffer ∷ []) found → IsPruned buffer text
-    → text ≡ flat_map (λ l. l.text) (filter (λ l. not (is_redundant found l)) (lines (buffer ∷ [])))
+    → text ≡ flat_map (λ l. l.text) (filter (λ l. not (is_reported_redundant found l)) (located_lines (buffer ∷ [])))
 pruned_reported buffer text found are pruned =
-    let ls = lines (buffer ∷ []) in
+    let ls = located_lines (buffer ∷ []) in
     pruned.whole
     ∙ ap (λ kept. flat_map (λ (l : Line). l.text) (filter (is_line_kept kept) ls)) (one_reduced (located ls) pruned.kept are.kept pruned.effective are.effective)
     ∙ ap (flat_map (λ (l : Line). l.text)) (sym (left_lines (buffer ∷ []) found are))
@@ -198,22 +198,22 @@ pruned_reported buffer text found are pruned =
 
 pub some_findings : (buffers : List Text) → (found : List Finding) × AreFindings buffers found
 some_findings buffers =
-    let ls = lines buffers in
+    let ls = located_lines buffers in
     let effective = some_reduced (located ls) in
     (flat_map (findings (entries (located ls)) effective.0) ls, record { kept = effective.0; effective = effective.1; whole = refl })
 
 pub one_findings : (buffers : List Text) (found other : List Finding) → AreFindings buffers found → AreFindings buffers other → found ≡ other
 one_findings buffers found other a b =
-    let ls = lines buffers in
+    let ls = located_lines buffers in
     a.whole ∙ ap (λ kept. flat_map (findings (entries (located ls)) kept) ls) (one_reduced (located ls) a.kept b.kept a.effective b.effective) ∙ sym b.whole
 
 pub some_pruned : (buffer : Text) → (text : Text) × IsPruned buffer text
 some_pruned buffer =
-    let ls = lines (buffer ∷ []) in
+    let ls = located_lines (buffer ∷ []) in
     let effective = some_reduced (located ls) in
     (flat_map (λ (l : Line). l.text) (filter (is_line_kept effective.0) ls), record { kept = effective.0; effective = effective.1; whole = refl })
 
 pub one_pruned : (buffer text other : Text) → IsPruned buffer text → IsPruned buffer other → text ≡ other
 one_pruned buffer text other a b =
-    let ls = lines (buffer ∷ []) in
+    let ls = located_lines (buffer ∷ []) in
     a.whole ∙ ap (λ kept. flat_map (λ (l : Line). l.text) (filter (is_line_kept kept) ls)) (one_reduced (located ls) a.kept b.kept a.effective b.effective) ∙ sym b.whole

@@ -7,7 +7,7 @@ use Rattle.mailmap_entries.specs.Semantics.{Fields, respelled, unless_empty}
 use Rattle.mailmap_redundancy.specs.Origins.{Origins, given}
 use Rattle.mailmap_redundancy.specs.Redundancy.{LocatedMapping, position_cmp}
 use Rattle.mailmap_redundancy.proofs.Keyed.{some_out}
-use Rattle.mailmap_findings.specs.Explanations.{giving_positions, in_order}
+use Rattle.mailmap_findings.specs.Explanations.{origin_positions, in_order}
 
 some_of_two : (x : LocatedMapping) (o : Option LocatedMapping) → in_order (Some x) o ≡ [] → ⊥
 some_of_two x None e = cc
@@ -33,5 +33,5 @@ by_parts None (Some y) first email f e none = one_line y (option_or y.entry.new_
 by_parts None None (Some y) email f e none = one_line y (respelled y.entry.old_email email) f e none
 by_parts None None None email f e none = cc
 
-pub some_line : (g : Origins) (email : Text) (f : Fields) → given g email ≡ Some f → giving_positions g f ≡ [] → ⊥
+pub some_line : (g : Origins) (email : Text) (f : Fields) → given g email ≡ Some f → origin_positions g f ≡ [] → ⊥
 some_line g = by_parts g.name g.email g.spelling

@@ -15,11 +15,11 @@ use Rattle.mailmap_entries.proofs.Normal.{alike_normal}
 use Rattle.mailmap_redundancy.specs.Redundancy.{entries}
 use Rattle.mailmap_redundancy.specs.declared.located.Position.{Position}
 use Rattle.mailmap_findings.specs.Findings.{IsPruned, first_read_otherwise, is_line_kept, read_otherwise}
-use Rattle.mailmap_findings.specs.GitAnswers.{git_answer, git_history, git_scan}
-use Rattle.mailmap_findings.specs.Positions.{Line, entry, lines, located, located_from, whole_lines}
+use Rattle.mailmap_findings.specs.GitAnswers.{git_answer, git_mappings, git_answer_from}
+use Rattle.mailmap_findings.specs.Positions.{Line, entry, located_lines, located, located_from, whole_lines}
 use Rattle.mailmap_findings.proofs.Pruned.{mappings_of-one, kept_entries, kept_lines, one_buffer, same_listing, text_entries, text_lines}
 use Rattle.mailmap_findings.proofs.Renumbered.{entry_same, texts-located}
-use Rattle.mailmap_findings.proofs.Wholes.{texts}
+use Rattle.mailmap_findings.proofs.Concatenated.{texts}
 
 -- git reads exactly the entry of this library
 abbrev IsAlike : Line → Type 0
@@ -77,22 +77,22 @@ renumbered_alike buffer line (l ∷ ls) all = (
   renumbered_alike buffer (line + 1) ls all.1,
 )
 
-buffer_history : (s : Text) → AreAlike (lines (s ∷ [])) → git_history s ≡ mappings_of s
+buffer_history : (s : Text) → AreAlike (located_lines (s ∷ [])) → git_mappings s ≡ mappings_of s
 buffer_history s all =
     ap (flat_map git_entries) (sym (ap texts (one_buffer s) ∙ texts-located 0 1 (whole_lines s)))
-    ∙ alike_entries (lines (s ∷ [])) all
+    ∙ alike_entries (located_lines (s ∷ [])) all
     ∙ mappings_of-one s
 
 -- ---- a pruned text
 
 module _ (buffer text : Text) (pruned : IsPruned buffer text) (none : first_read_otherwise (buffer ∷ []) ≡ None) where
-  all_alike : AreAlike (lines (buffer ∷ []))
-  all_alike = read_alike (lines (buffer ∷ [])) none
+  all_alike : AreAlike (located_lines (buffer ∷ []))
+  all_alike = read_alike (located_lines (buffer ∷ [])) none
 
   kept_alike : AreAlike (kept_lines buffer text pruned)
-  kept_alike = some_alike (is_line_kept pruned.kept) (lines (buffer ∷ [])) all_alike
+  kept_alike = some_alike (is_line_kept pruned.kept) (located_lines (buffer ∷ [])) all_alike
 
-  text_history : git_history text ≡ mappings_of text
+  text_history : git_mappings text ≡ mappings_of text
   text_history =
       ap (flat_map git_entries) (text_lines buffer text pruned)
       ∙ alike_entries (kept_lines buffer text pruned) kept_alike
@@ -111,10 +111,10 @@ module _ (buffer text : Text) (pruned : IsPruned buffer text) (none : first_read
       let d : IsNormal (mappings_of buffer) n = is_normal (mappings_of buffer) in
       let of_buffer = alike_normal (mappings_of buffer) n d in
       let of_text = alike_normal (mappings_of text) n ((same_listing buffer text n pruned).0 d) in
-      ap (λ h. git_scan h name email) text_history
+      ap (λ h. git_answer_from h name email) text_history
       ∙ alike_scan (mappings_of text) n name email of_text
       ∙ sym (alike_scan (mappings_of buffer) n name email of_buffer)
-      ∙ ap (λ h. git_scan h name email) (sym (buffer_history buffer all_alike))
+      ∙ ap (λ h. git_answer_from h name email) (sym (buffer_history buffer all_alike))
     where
-      alike_scan : (h g : List Mapping) (name email : Text) → Alike h g → git_scan h name email ≡ git_scan g name email
+      alike_scan : (h g : List Mapping) (name email : Text) → Alike h g → git_answer_from h name email ≡ git_answer_from g name email
       alike_scan h g name email a = λ i. unless_empty (unwrap_or (a.lasts (folded email) (folded name) i) (a.given (folded email) i))

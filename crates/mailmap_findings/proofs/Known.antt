@@ -7,11 +7,11 @@ use Rattle.std.proofs.lemmas.List.{drop_all}
 use Rattle.mailmap_entries.specs.Entries.{Mapping, mapping_of}
 use Rattle.mailmap_redundancy.specs.Redundancy.{LocatedMapping, located_of}
 use Rattle.mailmap_redundancy.specs.declared.located.LocatedEntry.{LocatedEntry}
-use Rattle.mailmap_findings.specs.Findings.{Reported}
+use Rattle.mailmap_findings.specs.Findings.{FindingKind}
 use Rattle.mailmap_findings.specs.Positions.{Line, entry, located, same_position}
 use Rattle.mailmap_findings.specs.Marked.{AreApart, IsReadWalk, MarkedLine, marked}
-use Rattle.mailmap_findings.specs.Clean.{SaysOnly, is_clean, are_clean}
-use Rattle.mailmap_findings.proofs.Meeting.{with_position}
+use Rattle.mailmap_findings.specs.Clean.{HasOnlyEntry, is_clean, are_clean}
+use Rattle.mailmap_findings.proofs.LineFindings.{with_position}
 use Rattle.mailmap_findings.proofs.Walking.{Elsewhere, is_first_at, located_elsewhere, same_is, same_itself}
 
 pub none_mapped : {X Y : Type 0} (f : X → Y) (o : Option X) (is : Bool) → is_some o ≡ not is → is ≡ is_none (option_map f o)
@@ -20,7 +20,7 @@ none_mapped f None false e = absurd (true≢false (sym e))
 none_mapped f (Some x) true e = absurd (true≢false e)
 none_mapped f (Some x) false e = refl
 
-pub none_of : (o : Option Reported) → is_none o ≡ true → o ≡ None
+pub none_of : (o : Option FindingKind) → is_none o ≡ true → o ≡ None
 none_of None is = refl
 none_of (Some x) is = absurd (true≢false (sym is))
 
@@ -30,7 +30,7 @@ lines-marked kept (l ∷ ls) = ap (λ xs. l ∷ xs) (lines-marked kept ls)
 
 -- ---- the next entry of the first parse, and the first line
 
--- it is the entry of a later line
+-- if the next entry has another position than the line, it is the entry of a later line
 other_by : (l : Line) (rest : List Line) (found : List LocatedMapping) (clean : List Bool) (o : Option Mapping) → AreApart (l ∷ rest)
     → found ≡ cons_option (option_map (with_position l) o) (located rest) → clean ≡ cons_option (option_map (λ e. is_clean l) o) (are_clean rest)
     → is_first_at found l.position ≡ false → IsReadWalk found clean rest
@@ -42,7 +42,7 @@ other : (l : Line) (rest : List Line) (found : List LocatedMapping) (clean : Lis
     → is_first_at found l.position ≡ false → IsReadWalk found clean rest
 other l rest found clean walk differs = other_by l rest found clean (entry l) walk.apart walk.entries walk.clean_too differs
 
--- it is the entry of this line
+-- the next entry is that of this line: whether the line is clean, and the entries of the other lines
 pub record IsMet (x : LocatedMapping) (xs : List LocatedMapping) (clean : List Bool) (l : Line) (rest : List Line) : Type 0 where
   pub same : entry l ≡ Some x.entry
   pub clean_is : clean ≡ is_clean l ∷ are_clean rest
@@ -109,7 +109,7 @@ module _ (read : List LocatedEntry) (clean : List Bool) (i : ℕ) (marks left : 
           let parts_too = clean_parts in
           record { entries = meets.left; clean_too = cc; apart = here.apart.1 }
 
-      pub known_here : get_or clean i false ≡ true → SaysOnly l (mapping_of x.entry)
+      pub known_here : get_or clean i false ≡ true → HasOnlyEntry l (mapping_of x.entry)
       known_here is_so =
           let parts_too = clean_parts in
           let same : is_clean l ≡ true = cc in

@@ -1,13 +1,13 @@
 pub mod Strict
 pub mod WholeLines
-pub mod Placing
+pub mod BufferLines
 pub mod Accepted
 pub mod Mapped
 pub mod Walking
-pub mod Meeting
+pub mod LineFindings
 pub mod Known
-pub mod Kept
-pub mod Wholes
+pub mod PrunedText
+pub mod Concatenated
 pub mod Read
 pub mod Renumbered
 pub mod Pruned
@@ -22,7 +22,7 @@ pub mod GitParts
 pub mod GitCases
 pub mod GitNames
 pub mod LinesAscend
-pub mod Taking
+pub mod ContactNeeds
 pub mod Answered
 pub mod TextsLeft
 pub mod Merging

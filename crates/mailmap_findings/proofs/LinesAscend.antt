@@ -12,8 +12,8 @@ use Rattle.mailmap_redundancy.specs.Redundancy.{AreEffective, LocatedMapping, po
 use Rattle.mailmap_redundancy.specs.declared.located.Position.{Position}
 use Rattle.mailmap_redundancy.proofs.Kept.{reduced_sublist}
 use Rattle.mailmap_redundancy.proofs.Sublists.{sublist_sorted}
-use Rattle.mailmap_findings.specs.Positions.{Line, entry, lines, lines_from, located, located_from, whole_lines}
-use Rattle.mailmap_findings.proofs.Placing.{all_append, all_lines, all_located, position_at}
+use Rattle.mailmap_findings.specs.Positions.{Line, entry, located_lines, lines_from, located, located_from, whole_lines}
+use Rattle.mailmap_findings.proofs.BufferLines.{all_append, all_lines, all_located, position_at}
 
 later_line : (buffer m n : ℕ) → m < n → position_cmp (position_at buffer m) (position_at buffer n) ≡ Less
 later_line buffer m n less = ap (λ o. ordering_then o (nat_cmp m n)) (tied_itself nat_cmp_total buffer) ∙ sym (nat_cmp_is m n Less less)
@@ -45,7 +45,7 @@ lines_ascend buffer (s ∷ ss) =
     (all_located (λ x. AllByRecursion (λ (y : Line). position_cmp x.position y.position ≡ Less) (lines_from (buffer + 1) ss)) buffer 1 (whole_lines s)
     (λ n t le. all_lines (λ y. position_cmp (position_at buffer n) y.position ≡ Less) (buffer + 1) ss (λ m k u later. later_buffer buffer m n k (omega arith))))
 
--- so do their entries
+-- the entries of lines above a position are above it
 entries_above : (p : Position) (ls : List Line) → AllByRecursion (λ (m : Line). position_cmp p m.position ≡ Less) ls → AllByRecursion (λ (x : LocatedMapping). position_cmp p x.position ≡ Less) (located ls)
 entries_above p [] a = tt
 entries_above p (l ∷ ls) a =
@@ -63,7 +63,7 @@ entries_ascend (l ∷ ls) a =
       | Some e ↦ (all_mapped (λ (x : LocatedMapping). x.position) (λ q. position_cmp l.position q ≡ Less) (located ls) (entries_above l.position ls a.0), entries_ascend ls a.1)
     ]
 
--- and the effective ones among them
-pub kept_ascend : (buffers : List Text) (kept : List LocatedMapping) → AreEffective (located (lines buffers)) kept → IsStrictlySortedBy position_cmp (map (λ x. x.position) kept)
+-- the positions of effective entries ascend
+pub kept_ascend : (buffers : List Text) (kept : List LocatedMapping) → AreEffective (located (located_lines buffers)) kept → IsStrictlySortedBy position_cmp (map (λ x. x.position) kept)
 kept_ascend buffers kept effective =
-    sublist_sorted position_cmp (λ (x : LocatedMapping). x.position) kept (located (lines buffers)) (reduced_sublist (located (lines buffers)) kept effective) (entries_ascend (lines buffers) (lines_ascend 0 buffers))
+    sublist_sorted position_cmp (λ (x : LocatedMapping). x.position) kept (located (located_lines buffers)) (reduced_sublist (located (located_lines buffers)) kept effective) (entries_ascend (located_lines buffers) (lines_ascend 0 buffers))

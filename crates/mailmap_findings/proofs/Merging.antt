@@ -13,35 +13,35 @@ use Rattle.mailmap_redundancy.specs.Redundancy.{IsSublist, LocatedMapping, entri
 use Rattle.mailmap_redundancy.specs.declared.located.Position.{Position}
 use Rattle.mailmap_redundancy.proofs.Kept.{one_reduced, reduced_sublist}
 use Rattle.mailmap_redundancy.proofs.Positions.{positions_total}
-use Rattle.mailmap_findings.specs.Findings.{AreFindings, Finding, Reported, finding_of, reported_of_line}
+use Rattle.mailmap_findings.specs.Findings.{AreFindings, Finding, FindingKind, finding_of, reported_of_line}
 use Rattle.mailmap_findings.specs.declared.verify.Finding.{Finding as the_finding}
-use Rattle.mailmap_findings.specs.Positions.{Line, has_entry_at, lines, located, same_position, whole_lines}
-use Rattle.mailmap_findings.proofs.Placing.{apart_lines}
+use Rattle.mailmap_findings.specs.Positions.{Line, has_entry_at, located_lines, located, same_position, whole_lines}
+use Rattle.mailmap_findings.proofs.BufferLines.{apart_lines}
 use Rattle.mailmap_findings.proofs.Walking.{InStep, is_first_at, same_is, starts, step, without_first_at}
 use Rattle.mailmap_findings.specs.Needs.{AreUnneeded, any_needs}
-use Rattle.mailmap_findings.specs.Remarks.{AreRemarks, Remark, found, first_before, merged, unneeded, with_finding}
+use Rattle.mailmap_findings.specs.Remarks.{AreRemarks, Remark, found, first_before, merged_remarks, unneeded, with_finding}
 use Rattle.mailmap_findings.proofs.LinesAscend.{Ascend, lines_ascend}
 
 -- ---- one step
 
 merged_first : (f : Finding) (fs : List Finding) (p : Position) (ps : List Position) (b : Bool) → is_lt (position_cmp p f.position) ≡ b
-    → merged (f ∷ fs) (p ∷ ps) ≡ cond b (unneeded p ∷ merged (f ∷ fs) ps) (found f ∷ merged fs (p ∷ ps))
-merged_first f fs p ps b is = ap (λ t. cond t (unneeded p ∷ with_finding f (merged fs) ps) (found f ∷ merged fs (p ∷ ps))) is
+    → merged_remarks (f ∷ fs) (p ∷ ps) ≡ cond b (unneeded p ∷ merged_remarks (f ∷ fs) ps) (found f ∷ merged_remarks fs (p ∷ ps))
+merged_first f fs p ps b is = ap (λ t. cond t (unneeded p ∷ with_finding f (merged_remarks fs) ps) (found f ∷ merged_remarks fs (p ∷ ps))) is
 
--- a position is next
+-- the next remark is a position
 pub position_next : (ahead : Option Finding) (fs : List Finding) (ps rest : List Position) (p : Position) → (ahead ≡ None → fs ≡ []) → ps ≡ p ∷ rest → first_before ahead ps ≡ Some p
-    → merged (option_to_list ahead ++ fs) ps ≡ unneeded p ∷ merged (option_to_list ahead ++ fs) rest
+    → merged_remarks (option_to_list ahead ++ fs) ps ≡ unneeded p ∷ merged_remarks (option_to_list ahead ++ fs) rest
 position_next None fs ps rest p nothing is comes =
-    ap (λ l. merged l ps) (nothing refl) ∙ ap (merged []) is ∙ sym (ap (λ l. unneeded p ∷ merged l rest) (nothing refl))
+    ap (λ l. merged_remarks l ps) (nothing refl) ∙ ap (merged_remarks []) is ∙ sym (ap (λ l. unneeded p ∷ merged_remarks l rest) (nothing refl))
 position_next (Some f) fs ps rest p nothing is comes =
-    ap (merged (f ∷ fs)) is ∙ merged_first f fs p rest true (before (is_lt (position_cmp p f.position)) (sym (ap (first_before (Some f)) is) ∙ comes))
+    ap (merged_remarks (f ∷ fs)) is ∙ merged_first f fs p rest true (before (is_lt (position_cmp p f.position)) (sym (ap (first_before (Some f)) is) ∙ comes))
   where
     before : (b : Bool) → cond b (Some p) None ≡ Some p → b ≡ true
     before true e = refl
     before false e = cc
 
--- the finding is next
-pub finding_next : (f : Finding) (fs : List Finding) (ps : List Position) → first_before (Some f) ps ≡ None → merged (f ∷ fs) ps ≡ found f ∷ merged fs ps
+-- the next remark is the finding
+pub finding_next : (f : Finding) (fs : List Finding) (ps : List Position) → first_before (Some f) ps ≡ None → merged_remarks (f ∷ fs) ps ≡ found f ∷ merged_remarks fs ps
 finding_next f fs [] comes = refl
 finding_next f fs (p ∷ ps) comes = merged_first f fs p ps false (after (is_lt (position_cmp p f.position)) comes)
   where
@@ -49,12 +49,12 @@ finding_next f fs (p ∷ ps) comes = merged_first f fs p ps false (after (is_lt 
     after true e = cc
     after false e = refl
 
--- nothing is left
-pub nothing_next : (fs : List Finding) (ps : List Position) → fs ≡ [] → first_before None ps ≡ None → merged fs ps ≡ []
-nothing_next fs [] empty comes = ap (λ l. merged l []) empty
+-- there is no next remark
+pub nothing_next : (fs : List Finding) (ps : List Position) → fs ≡ [] → first_before None ps ≡ None → merged_remarks fs ps ≡ []
+nothing_next fs [] empty comes = ap (λ l. merged_remarks l []) empty
 nothing_next fs (p ∷ ps) empty comes = cc
 
--- advancing past a position
+-- the positions after the first one
 pub position_left : (ahead : Option Finding) (ps : List Position) (n : ℕ) (p : Position) → first_before ahead (drop n ps) ≡ Some p → drop n ps ≡ p ∷ drop (n + 1) ps
 position_left ahead ps n p comes = ⊎_elim
     (λ within.
@@ -77,24 +77,24 @@ position_left ahead ps n p comes = ⊎_elim
 -- ---- line by line
 
 -- findings at one position
-abbrev reported_at : Position → List Reported → List Finding
-reported_at q ts = map (λ t. record { position = q; reported = t }) ts
+abbrev reported_at : Position → List FindingKind → List Finding
+reported_at q ts = map (λ t. record { position = q; kind = t }) ts
 
 abbrev NoneBefore : Position → List Position → Type 0
 NoneBefore q ps = AllByRecursion (λ (p : Position). is_lt (position_cmp p q) ≡ false) ps
 
-findings_first : (q : Position) (ts : List Reported) (gs : List Finding) (ps : List Position) → NoneBefore q ps → merged (reported_at q ts ++ gs) ps ≡ map found (reported_at q ts) ++ merged gs ps
+findings_first : (q : Position) (ts : List FindingKind) (gs : List Finding) (ps : List Position) → NoneBefore q ps → merged_remarks (reported_at q ts ++ gs) ps ≡ map found (reported_at q ts) ++ merged_remarks gs ps
 findings_first q [] gs ps after = refl
-findings_first q (t ∷ ts) gs [] after = ap (λ l. found (record { position = q; reported = t }) ∷ l) (findings_first q ts gs [] after)
+findings_first q (t ∷ ts) gs [] after = ap (λ l. found (record { position = q; kind = t }) ∷ l) (findings_first q ts gs [] after)
 findings_first q (t ∷ ts) gs (p ∷ ps) after =
-    let f : Finding = record { position = q; reported = t } in
+    let f : Finding = record { position = q; kind = t } in
     merged_first f (reported_at q ts ++ gs) p ps false after.0 ∙ ap (λ l. found f ∷ l) (findings_first q ts gs (p ∷ ps) after)
 
-position_first : (q : Position) (gs : List Finding) (ps : List Position) → AllByRecursion (λ (g : Finding). position_cmp q g.position ≡ Less) gs → merged gs (q ∷ ps) ≡ unneeded q ∷ merged gs ps
+position_first : (q : Position) (gs : List Finding) (ps : List Position) → AllByRecursion (λ (g : Finding). position_cmp q g.position ≡ Less) gs → merged_remarks gs (q ∷ ps) ≡ unneeded q ∷ merged_remarks gs ps
 position_first q [] ps after = refl
 position_first q (g ∷ gs) ps after = merged_first g gs q ps true (ap is_lt after.0)
 
-module _ (tell : Line → List Reported) (marked : Line → Bool) where
+module _ (tell : Line → List FindingKind) (marked : Line → Bool) where
   abbrev told : List Line → List Finding
   told ls = flat_map (λ (l : Line). reported_at l.position (tell l)) ls
 
@@ -107,7 +107,7 @@ module _ (tell : Line → List Reported) (marked : Line → Bool) where
   abbrev both : Line → List Remark
   both l = map found (reported_at l.position (tell l)) ++ cond (marked l) (unneeded l.position ∷ []) []
 
-  all_here : (P : Position → Type 0) (q : Position) (ts : List Reported) (gs : List Finding) → P q → AllByRecursion (λ (g : Finding). P g.position) gs → AllByRecursion (λ (g : Finding). P g.position) (reported_at q ts ++ gs)
+  all_here : (P : Position → Type 0) (q : Position) (ts : List FindingKind) (gs : List Finding) → P q → AllByRecursion (λ (g : Finding). P g.position) gs → AllByRecursion (λ (g : Finding). P g.position) (reported_at q ts ++ gs)
   all_here P q [] gs h a = a
   all_here P q (t ∷ ts) gs h a = (h, all_here P q ts gs h a)
 
@@ -126,14 +126,14 @@ module _ (tell : Line → List Reported) (marked : Line → Bool) where
   not_before q [] a = tt
   not_before q (l ∷ ls) a = (ap is_lt (positions_total.antisymm l.position q ∙ ap ordering_reverse a.0), not_before q ls a.1)
 
-  pub line_by_line : (ls : List Line) → Ascend ls → merged (told ls) (marks ls) ≡ flat_map both ls
+  pub line_by_line : (ls : List Line) → Ascend ls → merged_remarks (told ls) (marks ls) ≡ flat_map both ls
   line_by_line [] a = refl
   line_by_line (l ∷ ls) a =
       let q = l.position in
       let itself : is_lt (position_cmp q q) ≡ false = ap is_lt (tied_itself positions_total q) in
       findings_first q (tell l) (told ls) (own l ++ marks ls) (all_own (λ p. is_lt (position_cmp p q) ≡ false) l (marks ls) itself (all_marks (λ p. is_lt (position_cmp p q) ≡ false) ls (not_before q ls a.0)))
       ∙ ap (λ r. map found (reported_at q (tell l)) ++ r)
-      ((elim (marked l) as (λ b. merged (told ls) (cond b (q ∷ []) [] ++ marks ls) ≡ cond b (unneeded q ∷ []) [] ++ merged (told ls) (marks ls)) [
+      ((elim (marked l) as (λ b. merged_remarks (told ls) (cond b (q ∷ []) [] ++ marks ls) ≡ cond b (unneeded q ∷ []) [] ++ merged_remarks (told ls) (marks ls)) [
         | true ↦ position_first q (told ls) (marks ls) (all_told (λ p. position_cmp q p ≡ Less) ls a.0)
         | false ↦ refl
       ])
@@ -173,13 +173,13 @@ module _ (kept : List LocatedMapping) where
       filter-append test (of_kept l) (flat_map of_kept ls)
       ∙ (λ i. (elim (has_entry_at kept l.position) as (λ b. filter test (cond b (l.position ∷ []) []) ≡ cond (b && test l.position) (l.position ∷ []) []) [ true ↦ refl | false ↦ refl ]) i ++ some_left test ls i)
 
-pub are_remarks : (buffers : List Text) (contacts : Text) (fs : List Finding) (ps : List Position) → AreFindings buffers fs → AreUnneeded buffers contacts ps → AreRemarks buffers contacts (merged fs ps)
+pub are_remarks : (buffers : List Text) (contacts : Text) (fs : List Finding) (ps : List Position) → AreFindings buffers fs → AreUnneeded buffers contacts ps → AreRemarks buffers contacts (merged_remarks fs ps)
 are_remarks buffers contacts fs ps are un =
-    let ls = lines buffers in
+    let ls = located_lines buffers in
     let h = entries (located ls) in
     let kept = are.kept in
     let test : Position → Bool = λ p. not (any_needs kept (whole_lines contacts) p) in
-    let tell : Line → List Reported = λ l. reported_of_line h kept (has_entry_at kept l.position) l in
+    let tell : Line → List FindingKind = λ l. reported_of_line h kept (has_entry_at kept l.position) l in
     let marked : Line → Bool = λ l. has_entry_at kept l.position && test l.position in
     let same : un.kept ≡ kept = one_reduced (located ls) un.kept kept un.effective are.effective in
     let starting = starts kept ls (record { sublist = reduced_sublist (located ls) kept are.effective; apart = apart_lines 0 buffers }) in
@@ -191,7 +191,7 @@ are_remarks buffers contacts fs ps are un =
     record {
       kept = kept;
       effective = are.effective;
-      whole = (λ i. merged (are.whole i) (positions i)) ∙ line_by_line tell marked ls (lines_ascend 0 buffers);
+      whole = (λ i. merged_remarks (are.whole i) (positions i)) ∙ line_by_line tell marked ls (lines_ascend 0 buffers);
     }
 
 -- ---- the finding that is ahead

@@ -3,9 +3,9 @@ use Rattle.std.proofs.Common.{◌+◌, ℕ, List, [], ◌∷◌, ◌++◌, map, 
 use Rattle.std.specs.List.{AllByRecursion, flat_map}
 use Rattle.mailmap_entries.specs.Folding.{Text}
 use Rattle.mailmap_redundancy.specs.declared.located.Position.{Position}
-use Rattle.mailmap_findings.specs.Findings.{AreFindings, AreInOrder, Finding, IsUpTo, Reported}
-use Rattle.mailmap_findings.specs.Positions.{Line, whole_lines, located_from, lines_from, lines}
-use Rattle.mailmap_findings.proofs.Placing.{position_at, all_located, all_lines, all_append}
+use Rattle.mailmap_findings.specs.Findings.{AreFindings, AreInOrder, Finding, IsUpTo, FindingKind}
+use Rattle.mailmap_findings.specs.Positions.{Line, whole_lines, located_from, lines_from, located_lines}
+use Rattle.mailmap_findings.proofs.BufferLines.{position_at, all_located, all_lines, all_append}
 
 abbrev LinesInOrder : List Line → Type 0
 LinesInOrder [] = Unit {0}
@@ -32,10 +32,10 @@ lines_in_order buffer (s ∷ ss) =
     (λ n t le. all_lines (λ y. IsUpTo (position_at buffer n) y.position) (buffer + 1) ss (λ m k u later. inl (omega arith))))
 
 -- findings at one position
-abbrev reported_at : Position → List Reported → List Finding
-reported_at position ts = map (λ t. record { position = position; reported = t }) ts
+abbrev reported_at : Position → List FindingKind → List Finding
+reported_at position ts = map (λ t. record { position = position; kind = t }) ts
 
-all_at : (P : Position → Type 0) (position : Position) (ts : List Reported) → P position → AllByRecursion (λ g. P g.position) (reported_at position ts)
+all_at : (P : Position → Type 0) (position : Position) (ts : List FindingKind) → P position → AllByRecursion (λ g. P g.position) (reported_at position ts)
 all_at P position [] h = tt
 all_at P position (t ∷ ts) h = (h, all_at P position ts h)
 
@@ -43,14 +43,14 @@ all_both : (P : Position → Type 0) (fs gs : List Finding) → AllByRecursion (
 all_both P [] gs a b = b
 all_both P (f ∷ fs) gs a b = (a.0, all_both P fs gs a.1 b)
 
-one_position : (position : Position) (ts : List Reported) (gs : List Finding) → AllByRecursion (λ g. IsUpTo position g.position) gs → AreInOrder gs → AreInOrder (reported_at position ts ++ gs)
+one_position : (position : Position) (ts : List FindingKind) (gs : List Finding) → AllByRecursion (λ g. IsUpTo position g.position) gs → AreInOrder gs → AreInOrder (reported_at position ts ++ gs)
 one_position position [] gs after ordered = ordered
 one_position position (t ∷ ts) gs after ordered = (
   all_both (IsUpTo position) (reported_at position ts) gs (all_at (IsUpTo position) position ts (inr (refl, omega arith))) after,
   one_position position ts gs after ordered,
 )
 
-module _ (tell : Line → List Reported) where
+module _ (tell : Line → List FindingKind) where
   abbrev reported_of_all : List Line → List Finding
   reported_of_all ls = flat_map (λ l. reported_at l.position (tell l)) ls
 
@@ -63,4 +63,4 @@ module _ (tell : Line → List Reported) where
   reported_in_order (l ∷ ls) a = one_position l.position (tell l) (reported_of_all ls) (all_reported (IsUpTo l.position) ls a.0) (reported_in_order ls a.1)
 
 pub findings_in_order : (buffers : List Text) (found : List Finding) → AreFindings buffers found → AreInOrder found
-findings_in_order buffers found are = subst AreInOrder (sym are.whole) (reported_in_order _ (lines buffers) (lines_in_order 0 buffers))
+findings_in_order buffers found are = subst AreInOrder (sym are.whole) (reported_in_order _ (located_lines buffers) (lines_in_order 0 buffers))

@@ -13,15 +13,15 @@ use Rattle.mailmap_redundancy.specs.Redundancy.{LocatedMapping, IsPass, done, st
 use Rattle.mailmap_redundancy.proofs.Kept.{none_can_go, reduced_normal, reduced_sublist}
 use Rattle.mailmap_redundancy.proofs.Sublists.{sublist_all}
 use Rattle.mailmap_findings.specs.Findings.{IsPruned, is_line_kept}
-use Rattle.mailmap_findings.specs.Positions.{Line, entry, located, same_position, has_entry_at, whole_lines, located_from, lines_from, lines}
+use Rattle.mailmap_findings.specs.Positions.{Line, entry, located, same_position, has_entry_at, whole_lines, located_from, lines_from, located_lines}
 use Rattle.mailmap_findings.specs.Marked.{AreApart}
-use Rattle.mailmap_findings.proofs.Placing.{apart_lines}
-use Rattle.mailmap_findings.proofs.Read.{mappings_of-lines}
+use Rattle.mailmap_findings.proofs.BufferLines.{apart_lines}
+use Rattle.mailmap_findings.proofs.Read.{mappings_of-located_lines}
 use Rattle.mailmap_findings.proofs.Renumbered.{entries-renumbered, texts-located}
 use Rattle.mailmap_findings.proofs.Walking.{InStep, First, is_first_at, without_first_at, passes, meets, first_met, step_by, starts, no_entry_at, located_elsewhere, same_itself}
-use Rattle.mailmap_findings.proofs.Wholes.{joined, joined-whole_lines, are_whole, whole_lines-joined, texts, some_whole, without_one, AreWhole}
+use Rattle.mailmap_findings.proofs.Concatenated.{joined, joined-whole_lines, are_whole, whole_lines-joined, texts, some_whole, without_one, AreWhole}
 
--- ---- the lines that are kept have exactly the effective entries
+-- ---- the lines that pruning keeps have exactly the effective entries
 
 by_first : (kept left : List LocatedMapping) (l : Line) (ls : List Line) → ((xs : List LocatedMapping) → InStep kept xs ls → located (filter (is_line_kept kept) ls) ≡ xs)
     → First l ls left → AllByRecursion (λ x. has_entry_at kept x.position ≡ has_entry_at left x.position) (l ∷ ls) → AreApart (l ∷ ls) → located (filter (is_line_kept kept) (l ∷ ls)) ≡ left
@@ -55,40 +55,40 @@ pub joined-texts : (ls : List Line) → flat_map (λ l. l.text) ls ≡ joined (t
 joined-texts [] = refl
 joined-texts (l ∷ ls) = ap (λ t. l.text ++ t) (joined-texts ls)
 
-pub one_buffer : (s : Text) → lines (s ∷ []) ≡ located_from 0 1 (whole_lines s)
+pub one_buffer : (s : Text) → located_lines (s ∷ []) ≡ located_from 0 1 (whole_lines s)
 unfolding lines_from
 one_buffer s = append-nil (located_from 0 1 (whole_lines s))
 
-lines_whole : (s : Text) → AreWhole (texts (lines (s ∷ [])))
+lines_whole : (s : Text) → AreWhole (texts (located_lines (s ∷ [])))
 lines_whole s = subst AreWhole (sym (ap texts (one_buffer s) ∙ texts-located 0 1 (whole_lines s))) (are_whole s)
 
 -- the text splits into the kept lines again, whose entries are the effective ones
 module _ (buffer text : Text) (pruned : IsPruned buffer text) where
   abbrev pub kept_lines : List Line
-  kept_lines = filter (is_line_kept pruned.kept) (lines (buffer ∷ []))
+  kept_lines = filter (is_line_kept pruned.kept) (located_lines (buffer ∷ []))
 
   pub text_lines : whole_lines text ≡ texts kept_lines
   text_lines =
       ap whole_lines (pruned.whole ∙ joined-texts kept_lines)
-      ∙ whole_lines-joined (texts kept_lines) (some_whole (is_line_kept pruned.kept) (lines (buffer ∷ [])) (lines_whole buffer))
+      ∙ whole_lines-joined (texts kept_lines) (some_whole (is_line_kept pruned.kept) (located_lines (buffer ∷ [])) (lines_whole buffer))
 
   pub kept_entries : located kept_lines ≡ pruned.kept
   kept_entries =
-      located_left pruned.kept (lines (buffer ∷ [])) pruned.kept
-      (starts pruned.kept (lines (buffer ∷ []))
-      (record { sublist = reduced_sublist (located (lines (buffer ∷ []))) pruned.kept pruned.effective; apart = apart_lines 0 (buffer ∷ []) }))
+      located_left pruned.kept (located_lines (buffer ∷ [])) pruned.kept
+      (starts pruned.kept (located_lines (buffer ∷ []))
+      (record { sublist = reduced_sublist (located (located_lines (buffer ∷ []))) pruned.kept pruned.effective; apart = apart_lines 0 (buffer ∷ []) }))
 
-  pub text_entries : entries (located (lines (text ∷ []))) ≡ entries pruned.kept
+  pub text_entries : entries (located (located_lines (text ∷ []))) ≡ entries pruned.kept
   text_entries =
       ap (λ ls. entries (located ls)) (one_buffer text ∙ ap (located_from 0 1) text_lines)
       ∙ entries-renumbered 0 1 kept_lines
       ∙ ap entries kept_entries
 
-pub mappings_of-one : (s : Text) → entries (located (lines (s ∷ []))) ≡ mappings_of s
-mappings_of-one s = mappings_of-lines 0 (s ∷ []) ∙ append-nil (mappings_of s)
+pub mappings_of-one : (s : Text) → entries (located (located_lines (s ∷ []))) ≡ mappings_of s
+mappings_of-one s = mappings_of-located_lines 0 (s ∷ []) ∙ append-nil (mappings_of s)
 
 -- deleting one line from a text leaves the entries of the other lines
-pub mappings_of-without : (s : Text) (a c : List Line) (l : Line) → lines (s ∷ []) ≡ a ++ l ∷ c → mappings_of (flat_map (λ k. k.text) (a ++ c)) ≡ entries (located (a ++ c))
+pub mappings_of-without : (s : Text) (a c : List Line) (l : Line) → located_lines (s ∷ []) ≡ a ++ l ∷ c → mappings_of (flat_map (λ k. k.text) (a ++ c)) ≡ entries (located (a ++ c))
 mappings_of-without s a c l whole =
     let rest = flat_map (λ k. k.text) (a ++ c) in
     let are = without_one a c l (subst (λ ls. AreWhole (texts ls)) whole (lines_whole s)) in
@@ -99,7 +99,7 @@ mappings_of-without s a c l whole =
 
 pub same_listing : (buffer text : Text) (n : List Mapping) → IsPruned buffer text → IsNormal (mappings_of buffer) n ↔ IsNormal (mappings_of text) n
 same_listing buffer text n pruned =
-    let there = reduced_normal (located (lines (buffer ∷ []))) pruned.kept n pruned.effective in
+    let there = reduced_normal (located (located_lines (buffer ∷ []))) pruned.kept n pruned.effective in
     let e : mappings_of text ≡ entries pruned.kept = sym (mappings_of-one text) ∙ text_entries buffer text pruned in (
       λ d. subst (λ h. IsNormal h n) (sym e) (there.0 (subst (λ h. IsNormal h n) (sym (mappings_of-one buffer)) d)),
       λ d. subst (λ h. IsNormal h n) (mappings_of-one buffer) (there.1 (subst (λ h. IsNormal h n) e d)),
@@ -108,11 +108,11 @@ same_listing buffer text n pruned =
 -- ---- pruning again
 
 -- in entries equal to the effective ones, none is redundant
-none_goes : (ys kept a c b d : List LocatedMapping) → AreEffective ys kept → kept ≡ a ++ c → entries a ≡ entries b → entries c ≡ entries d → IsPass b d (b ++ d)
-none_goes ys kept a [] b [] effective parts front after = subst (IsPass b []) (sym (append-nil b)) (done b)
-none_goes ys kept a [] b (y ∷ d) effective parts front after = cc
-none_goes ys kept a (x ∷ c) b [] effective parts front after = cc
-none_goes ys kept a (x ∷ c) b (y ∷ d) effective parts front after =
+none_redundant : (ys kept a c b d : List LocatedMapping) → AreEffective ys kept → kept ≡ a ++ c → entries a ≡ entries b → entries c ≡ entries d → IsPass b d (b ++ d)
+none_redundant ys kept a [] b [] effective parts front after = subst (IsPass b []) (sym (append-nil b)) (done b)
+none_redundant ys kept a [] b (y ∷ d) effective parts front after = cc
+none_redundant ys kept a (x ∷ c) b [] effective parts front after = cc
+none_redundant ys kept a (x ∷ c) b (y ∷ d) effective parts front after =
     let here : x.entry ≡ y.entry = cc in
     let after : entries c ≡ entries d = cc in
     let busy : IsRedundant (entries b) y.entry (entries d) → ⊥ =
@@ -120,7 +120,7 @@ none_goes ys kept a (x ∷ c) b (y ∷ d) effective parts front after =
     none_can_go ys a c x (subst (AreEffective ys) parts effective)
     (subst (λ h. IsRedundant h x.entry (entries c)) (sym front) (subst (λ e. IsRedundant (entries b) e (entries c)) (sym here) (subst (IsRedundant (entries b) y.entry) (sym after) redundant))) in
     let next : IsPass (b ++ y ∷ []) d ((b ++ y ∷ []) ++ d) =
-    none_goes ys kept (a ++ x ∷ []) c (b ++ y ∷ []) d effective (parts ∙ sym (append_assoc a (x ∷ []) c))
+    none_redundant ys kept (a ++ x ∷ []) c (b ++ y ∷ []) d effective (parts ∙ sym (append_assoc a (x ∷ []) c))
     (map-append (λ (z : LocatedMapping). z.entry) a (x ∷ []) ∙ (λ i. front i ++ here i ∷ []) ∙ sym (map-append (λ (z : LocatedMapping). z.entry) b (y ∷ [])))
     after in
     stays b y d (b ++ y ∷ d) busy (subst (IsPass (b ++ y ∷ []) d) (append_assoc b (y ∷ []) d) next)
@@ -143,19 +143,19 @@ all_left kept (l ∷ ls) =
     ]
 
 -- no entry of a pruned text is redundant
-pub text_reduced : (buffer text : Text) → IsPruned buffer text → AreEffective (located (lines (text ∷ []))) (located (lines (text ∷ [])))
+pub text_reduced : (buffer text : Text) → IsPruned buffer text → AreEffective (located (located_lines (text ∷ []))) (located (located_lines (text ∷ [])))
 text_reduced buffer text pruned =
-    let xs = located (lines (text ∷ [])) in
-    settled xs (none_goes (located (lines (buffer ∷ []))) pruned.kept [] pruned.kept [] xs pruned.effective refl refl (sym (text_entries buffer text pruned)))
+    let xs = located (located_lines (text ∷ [])) in
+    settled xs (none_redundant (located (located_lines (buffer ∷ []))) pruned.kept [] pruned.kept [] xs pruned.effective refl refl (sym (text_entries buffer text pruned)))
 
 pub nothing_to_prune : (buffer text : Text) → IsPruned buffer text → IsPruned text text
 nothing_to_prune buffer text pruned =
-    let xs = located (lines (text ∷ [])) in record {
+    let xs = located (located_lines (text ∷ [])) in record {
       kept = xs;
       effective = text_reduced buffer text pruned;
       whole =
           sym (joined-whole_lines text)
           ∙ ap joined (sym (texts-located 0 1 (whole_lines text)) ∙ ap texts (sym (one_buffer text)))
-          ∙ sym (joined-texts (lines (text ∷ [])))
-          ∙ ap (flat_map (λ (l : Line). l.text)) (sym (all_left xs (lines (text ∷ [])) (all_stand xs)));
+          ∙ sym (joined-texts (located_lines (text ∷ [])))
+          ∙ ap (flat_map (λ (l : Line). l.text)) (sym (all_left xs (located_lines (text ∷ [])) (all_stand xs)));
     }

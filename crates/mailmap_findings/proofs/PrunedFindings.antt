@@ -15,17 +15,17 @@ use Rattle.mailmap_entries.specs.Semantics.{IsNormal, no_fields, answer_of}
 use Rattle.mailmap_redundancy.specs.Redundancy.{AreEffective, LocatedMapping, entries}
 use Rattle.mailmap_redundancy.specs.declared.located.Position.{Position}
 use Rattle.mailmap_redundancy.proofs.Kept.{listing_differs, one_reduced, reduced_scan}
-use Rattle.mailmap_findings.specs.Findings.{AreFindings, Contact, Finding, IsPruned, Reported, contact, findings, git_reads, has_no_effect, ignored, ignored_text, is_line_kept, is_redundant, mapped, read_otherwise, replaced, reported_of_contact, reported_of_entry, reported_of_line, reported_of_reading, same_contact, itself_mapped}
+use Rattle.mailmap_findings.specs.Findings.{AreFindings, Contact, Finding, IsPruned, FindingKind, proper_contact, findings, git_reads, has_no_effect, ignored, ignored_text, is_line_kept, is_reported_redundant, mapped_contact, read_otherwise, replaced_contact, reported_of_contact, reported_of_entry, reported_of_line, reported_of_reading, same_contact, itself_mapped}
 use Rattle.mailmap_findings.specs.Marked.{AreApart}
-use Rattle.mailmap_findings.specs.Positions.{Line, entry, has_entry_at, lines, located, located_entry, located_from, same_position}
+use Rattle.mailmap_findings.specs.Positions.{Line, entry, has_entry_at, located_lines, located, located_entry, located_from, same_position}
 use Rattle.mailmap_findings.specs.Pruning.{at_line, is_left, lines_left, number_among, renumbered, with_number}
 use Rattle.mailmap_findings.proofs.Accepted.{located_accepted}
 use Rattle.mailmap_findings.proofs.Deleted.{contact_none, each_stays, git_none, left_lines, lines_stay, not_reported, one_findings, reading_none, redundant_at, reported_at, reported_redundant}
-use Rattle.mailmap_findings.proofs.Placing.{apart_lines, line_at}
+use Rattle.mailmap_findings.proofs.BufferLines.{apart_lines, line_at}
 use Rattle.mailmap_findings.proofs.Pruned.{all_stand, mappings_of-one, one_buffer, text_entries, text_lines, text_reduced}
 use Rattle.mailmap_findings.proofs.Renumbered.{entry_same}
 use Rattle.mailmap_findings.proofs.Walking.{differs, same_itself}
-use Rattle.mailmap_findings.proofs.Wholes.{texts}
+use Rattle.mailmap_findings.proofs.Concatenated.{texts}
 
 -- ---- line numbers
 
@@ -118,26 +118,26 @@ contact_numbered : (n : ℕ) (c to : Contact) → reported_of_contact c to ≡ o
 contact_numbered n c to =
     elim (same_contact c to) as (λ b. (if b then None else Some (itself_mapped c to)) ≡ option_map (with_number n) (if b then None else Some (itself_mapped c to))) [ true ↦ refl | false ↦ refl ]
 
-to_list-map : (n : ℕ) (o : Option Reported) → option_to_list (option_map (with_number n) o) ≡ map (with_number n) (option_to_list o)
+to_list-map : (n : ℕ) (o : Option FindingKind) → option_to_list (option_map (with_number n) o) ≡ map (with_number n) (option_to_list o)
 to_list-map n None = refl
 to_list-map n (Some t) = refl
 
 -- the findings of a line whose entry is effective
-abbrev kept_reported : List Mapping → Line → List Reported
+abbrev kept_reported : List Mapping → Line → List FindingKind
 kept_reported h l = reported_of_line h [] true l
 
 abbrev kept_findings : List Mapping → Line → List Finding
 kept_findings h l = reported_at l.position (kept_reported h l)
 
-numbered_at : (n : ℕ) (position : Position) (ts : List Reported) → reported_at (record { buffer = 0; line = n }) (map (with_number n) ts) ≡ map (at_line n) (reported_at position ts)
+numbered_at : (n : ℕ) (position : Position) (ts : List FindingKind) → reported_at (record { buffer = 0; line = n }) (map (with_number n) ts) ≡ map (at_line n) (reported_at position ts)
 numbered_at n position [] = refl
-numbered_at n position (t ∷ ts) = ap (λ fs. record { position = record { buffer = 0; line = n }; reported = with_number n t } ∷ fs) (numbered_at n position ts)
+numbered_at n position (t ∷ ts) = ap (λ fs. record { position = record { buffer = 0; line = n }; kind = with_number n t } ∷ fs) (numbered_at n position ts)
 
 -- two lists of entries that map each contact alike
-module _ (g h : List Mapping) (same : (c : Contact) → mapped g c ≡ mapped h c) where
+module _ (g h : List Mapping) (same : (c : Contact) → mapped_contact g c ≡ mapped_contact h c) where
   entry_numbered : (n : ℕ) (o : Option Mapping) → option_and_then (reported_of_entry g [] true) o ≡ option_map (with_number n) (option_and_then (reported_of_entry h [] true) o)
   entry_numbered n None = refl
-  entry_numbered n (Some e) = ap (reported_of_contact (contact e)) (same (contact e)) ∙ contact_numbered n (contact e) (mapped h (contact e))
+  entry_numbered n (Some e) = ap (reported_of_contact (proper_contact e)) (same (proper_contact e)) ∙ contact_numbered n (proper_contact e) (mapped_contact h (proper_contact e))
 
   line_numbered : (n : ℕ) (l : Line) → kept_reported g (line_at 0 n l.text) ≡ map (with_number n) (kept_reported h l)
   line_numbered n l =
@@ -195,7 +195,7 @@ abbrev numbered_findings : List Mapping → ℕ → List Line → List Finding
 numbered_findings h n [] = []
 numbered_findings h n (l ∷ ls) = map (at_line n) (kept_findings h l) ++ numbered_findings h (n + 1) ls
 
-text_found : (g h : List Mapping) → ((c : Contact) → mapped g c ≡ mapped h c) → (kept : List LocatedMapping) (n : ℕ) (ls : List Line)
+text_found : (g h : List Mapping) → ((c : Contact) → mapped_contact g c ≡ mapped_contact h c) → (kept : List LocatedMapping) (n : ℕ) (ls : List Line)
     → AllByRecursion (λ l. Stands kept l.position (entry l)) (located_from 0 n (texts ls)) → flat_map (findings g kept) (located_from 0 n (texts ls)) ≡ numbered_findings h n ls
 unfolding located_from
 text_found g h same kept n [] all = refl
@@ -205,16 +205,16 @@ text_found g h same kept n (l ∷ ls) all =
 
 -- ---- the findings of the buffer's kept lines
 
-line_left : (found : List Finding) (position : Position) (b : Bool) (ts : List Reported) → not (list_any (redundant_at position) found) ≡ b
+line_left : (found : List Finding) (position : Position) (b : Bool) (ts : List FindingKind) → not (list_any (redundant_at position) found) ≡ b
     → filter (is_left found) (reported_at position ts) ≡ (if b then reported_at position ts else [])
 line_left found position true [] is = refl
 line_left found position false [] is = refl
 line_left found position true (t ∷ ts) is =
-    let f : Finding = record { position = position; reported = t } in
+    let f : Finding = record { position = position; kind = t } in
     let rest = filter (is_left found) (reported_at position ts) in
     ap (λ c. if c then f ∷ rest else rest) is ∙ ap (λ fs. f ∷ fs) (line_left found position true ts is)
 line_left found position false (t ∷ ts) is =
-    let f : Finding = record { position = position; reported = t } in
+    let f : Finding = record { position = position; kind = t } in
     let rest = filter (is_left found) (reported_at position ts) in
     ap (λ c. if c then f ∷ rest else rest) is ∙ line_left found position false ts is
 
@@ -233,11 +233,11 @@ left_found found h kept (l ∷ ls) all =
 
 -- ---- renumbering them
 
-renumbered_at : (all : List Line) (n : ℕ) (position : Position) (ts : List Reported) → number_among all position ≡ n → map (renumbered all) (reported_at position ts) ≡ map (at_line n) (reported_at position ts)
+renumbered_at : (all : List Line) (n : ℕ) (position : Position) (ts : List FindingKind) → number_among all position ≡ n → map (renumbered all) (reported_at position ts) ≡ map (at_line n) (reported_at position ts)
 renumbered_at all n position [] is = refl
 renumbered_at all n position (t ∷ ts) is =
     let rest = renumbered_at all n position ts is in
-    λ i. at_line (is i) (record { position = position; reported = t }) ∷ rest i
+    λ i. at_line (is i) (record { position = position; kind = t }) ∷ rest i
 
 renumbered_all : (h : List Mapping) (all : List Line) (n : ℕ) (ls : List Line) → AreNumbered all n ls → map (renumbered all) (flat_map (kept_findings h) ls) ≡ numbered_findings h n ls
 renumbered_all h all n [] are = refl
@@ -250,28 +250,28 @@ renumbered_all h all n (l ∷ ls) are =
 
 module _ (buffer text : Text) (pruned : IsPruned buffer text) where
   abbrev own : List LocatedMapping
-  own = located (lines (text ∷ []))
+  own = located (located_lines (text ∷ []))
 
   abbrev whole_history : List Mapping
-  whole_history = entries (located (lines (buffer ∷ [])))
+  whole_history = entries (located (located_lines (buffer ∷ [])))
 
   abbrev left_ones : List Line
-  left_ones = filter (is_line_kept pruned.kept) (lines (buffer ∷ []))
+  left_ones = filter (is_line_kept pruned.kept) (located_lines (buffer ∷ []))
 
-  same_mapped : (c : Contact) → mapped (entries own) c ≡ mapped whole_history c
+  same_mapped : (c : Contact) → mapped_contact (entries own) c ≡ mapped_contact whole_history c
   same_mapped c =
       let name = unwrap_or c.name [] in
-      ap (λ o. replaced (unwrap_or o no_fields) c)
-      (ap (λ es. answer_of es name c.email) (text_entries buffer text pruned) ∙ reduced_scan (located (lines (buffer ∷ []))) pruned.kept name c.email pruned.effective)
+      ap (λ o. replaced_contact (unwrap_or o no_fields) c)
+      (ap (λ es. answer_of es name c.email) (text_entries buffer text pruned) ∙ reduced_scan (located (located_lines (buffer ∷ []))) pruned.kept name c.email pruned.effective)
 
-  own_lines : lines (text ∷ []) ≡ located_from 0 1 (texts left_ones)
+  own_lines : located_lines (text ∷ []) ≡ located_from 0 1 (texts left_ones)
   own_lines = one_buffer text ∙ ap (located_from 0 1) (text_lines buffer text pruned)
 
-  own_stand : AllByRecursion (λ l. Stands own l.position (entry l)) (lines (text ∷ []))
-  own_stand = all_stands own (lines (text ∷ [])) (all_stand own)
+  own_stand : AllByRecursion (λ l. Stands own l.position (entry l)) (located_lines (text ∷ []))
+  own_stand = all_stands own (located_lines (text ∷ [])) (all_stand own)
 
-  own_found : (left : List Finding) → AreFindings (text ∷ []) left → left ≡ flat_map (findings (entries own) own) (lines (text ∷ []))
-  own_found left are = one_findings (text ∷ []) left (flat_map (findings (entries own) own) (lines (text ∷ []))) are (record { kept = own; effective = text_reduced buffer text pruned; whole = refl })
+  own_found : (left : List Finding) → AreFindings (text ∷ []) left → left ≡ flat_map (findings (entries own) own) (located_lines (text ∷ []))
+  own_found left are = one_findings (text ∷ []) left (flat_map (findings (entries own) own) (located_lines (text ∷ []))) are (record { kept = own; effective = text_reduced buffer text pruned; whole = refl })
 
   text_findings : (left : List Finding) → AreFindings (text ∷ []) left → left ≡ numbered_findings whole_history 1 left_ones
   text_findings left are =
@@ -283,11 +283,11 @@ module _ (buffer text : Text) (pruned : IsPruned buffer text) where
   buffer_left : (found : List Finding) → AreFindings (buffer ∷ []) found → lines_left buffer found ≡ left_ones
   buffer_left found are =
       left_lines (buffer ∷ []) found are
-      ∙ ap (λ kept. filter (is_line_kept kept) (lines (buffer ∷ []))) (one_reduced (located (lines (buffer ∷ []))) are.kept pruned.kept are.effective pruned.effective)
+      ∙ ap (λ kept. filter (is_line_kept kept) (located_lines (buffer ∷ []))) (one_reduced (located (located_lines (buffer ∷ []))) are.kept pruned.kept are.effective pruned.effective)
 
   buffer_findings : (found : List Finding) → AreFindings (buffer ∷ []) found → filter (is_left found) found ≡ flat_map (kept_findings whole_history) left_ones
   buffer_findings found are =
-      let ls = lines (buffer ∷ []) in
+      let ls = located_lines (buffer ∷ []) in
       let stay = lines_stay are.kept ls (each_stays (located ls) are.kept are.effective (located_accepted ls)) in
       let all : List Finding = flat_map (findings whole_history are.kept) ls in
       let none = not_reported whole_history are.kept all ls (reported_redundant whole_history are.kept ls (apart_lines 0 (buffer ∷ [])) stay) in
@@ -296,7 +296,7 @@ module _ (buffer text : Text) (pruned : IsPruned buffer text) where
       ∙ ap (λ kept. flat_map (kept_findings whole_history) (filter (is_line_kept kept) ls)) (one_reduced (located ls) are.kept pruned.kept are.effective pruned.effective)
 
   left_numbered : AreNumbered left_ones 1 left_ones
-  left_numbered = are_numbered [] left_ones (some_apart (is_line_kept pruned.kept) (lines (buffer ∷ [])) (apart_lines 0 (buffer ∷ [])))
+  left_numbered = are_numbered [] left_ones (some_apart (is_line_kept pruned.kept) (located_lines (buffer ∷ [])) (apart_lines 0 (buffer ∷ [])))
 
 pub others_stay : (buffer text : Text) (found left : List Finding) → AreFindings (buffer ∷ []) found → IsPruned buffer text → AreFindings (text ∷ []) left
     → left ≡ map (renumbered (lines_left buffer found)) (filter (is_left found) found)
@@ -310,7 +310,7 @@ others_stay buffer text found left are pruned left_are =
 
 -- ---- no line is without effect
 
-none_of : (position there : Position) (ts : List Reported) → list_any has_no_effect ts ≡ false → list_any (redundant_at position) (reported_at there ts) ≡ false
+none_of : (position there : Position) (ts : List FindingKind) → list_any has_no_effect ts ≡ false → list_any (redundant_at position) (reported_at there ts) ≡ false
 none_of position there [] = λ none. refl
 none_of position there (t ∷ ts) =
     elim (has_no_effect t) as (λ b. (b || list_any has_no_effect ts) ≡ false → ((b && same_position there position) || list_any (redundant_at position) (reported_at there ts)) ≡ false) [
@@ -330,7 +330,7 @@ kept_none h l =
     ∙ git_none (read_otherwise l))
     ∙ elim (entry l) as (λ o. list_any has_no_effect (option_to_list (option_and_then (reported_of_entry h [] true) o)) ≡ false) [
       | None ↦ refl
-      | Some e ↦ contact_none (contact e) (mapped h (contact e))
+      | Some e ↦ contact_none (proper_contact e) (mapped_contact h (proper_contact e))
     ]
 
 none_found : (h : List Mapping) (kept : List LocatedMapping) (position : Position) (ls : List Line) → AllByRecursion (λ l. Stands kept l.position (entry l)) ls
@@ -342,17 +342,17 @@ none_found h kept position (l ∷ ls) all =
     (ap (list_any (redundant_at position)) (standing h kept l all.0) ∙ none_of position l.position (kept_reported h l) (kept_none h l))
     ∙ none_found h kept position ls all.1
 
-pub none_redundant : (buffer text : Text) (left : List Finding) (l : Line) → IsPruned buffer text → AreFindings (text ∷ []) left → is_redundant left l ≡ false
+pub none_redundant : (buffer text : Text) (left : List Finding) (l : Line) → IsPruned buffer text → AreFindings (text ∷ []) left → is_reported_redundant left l ≡ false
 none_redundant buffer text left l pruned are =
     let xs = own buffer text pruned in
-    ap (λ fs. is_redundant fs l) (own_found buffer text pruned left are) ∙ none_found (entries xs) xs l.position (lines (text ∷ [])) (own_stand buffer text pruned)
+    ap (λ fs. is_reported_redundant fs l) (own_found buffer text pruned left are) ∙ none_found (entries xs) xs l.position (located_lines (text ∷ [])) (own_stand buffer text pruned)
 
 -- ---- no line with an entry can be deleted
 
-pub none_can_go : (buffer text : Text) (a c : List Line) (l : Line) (e : Mapping) (n m : List Mapping) → IsPruned buffer text → lines (text ∷ []) ≡ a ++ l ∷ c → entry l ≡ Some e
+pub none_can_go : (buffer text : Text) (a c : List Line) (l : Line) (e : Mapping) (n m : List Mapping) → IsPruned buffer text → located_lines (text ∷ []) ≡ a ++ l ∷ c → entry l ≡ Some e
     → IsNormal (mappings_of text) n → IsNormal (entries (located (a ++ c))) m → n ≢ m
 none_can_go buffer text a c l e n m pruned whole given with_l without =
-    let xs = located (lines (text ∷ [])) in
+    let xs = located (located_lines (text ∷ [])) in
     let x : LocatedMapping = record { position = l.position; entry = e } in
     let parts : xs ≡ located a ++ x ∷ located c =
     ap located whole ∙ filter_map-append located_entry a (l ∷ c)

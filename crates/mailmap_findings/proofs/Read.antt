@@ -15,7 +15,7 @@ use Rattle.mailmap_findings.specs.Findings.{ignored, ignored_text, reported_of_r
 use Rattle.mailmap_grammar.specs.Lines.{trailing_text, cut, non_empty, Reading, reading_by, line_reading, strict_line_reading, unless_blank, reading, strict_reading, readings_from, pieces, with_first, mappings_of, mappings_in}
 use Rattle.mailmap_grammar.proofs.Trimmed.{trim-white_end}
 use Rattle.mailmap_redundancy.specs.Redundancy.{LocatedMapping, entries}
-use Rattle.mailmap_findings.specs.Positions.{IsPieceOf, Line, entry, located, located_entry, located_from, whole_lines, lines_from, lines}
+use Rattle.mailmap_findings.specs.Positions.{IsPieceOf, Line, entry, located, located_entry, located_from, whole_lines, lines_from, located_lines}
 
 -- a line feed at the end changes nothing
 reading_by-feed : (says : ℕ → Text → Reading) (n : ℕ) (z : Text) → reading_by says n (z ++ 10 ∷ []) ≡ reading_by says n z
@@ -47,7 +47,7 @@ are_pieces (b ∷ s) =
 pub same_reading : (says : ℕ → Text → Reading) (n : ℕ) (w p : Text) → IsPieceOf w p → reading_by says n w ≡ reading_by says n p
 same_reading says n w p is = ⊎_elim (λ e. ap (reading_by says n) e) (λ e. ap (reading_by says n) e ∙ reading_by-feed says n p) is
 
--- including the finding about the text
+-- the finding about the text is the same, too
 reported_alike : (w p : Text) → ignored w ≡ ignored p → (o : Option Reading) → reported_of_reading w o ≡ reported_of_reading p o
 reported_alike w p is None = refl
 reported_alike w p is (Some (Err f)) = refl
@@ -85,7 +85,7 @@ said-located says buffer n (w ∷ ws) (p ∷ ps) are =
     ap (λ o. option_to_list o ++ said (reading_by says) (located_from buffer (n + 1) ws)) (same_reading says n w p are.0)
     ∙ ap (λ rs. option_to_list (reading_by says n p) ++ rs) (said-located says buffer (n + 1) ws ps are.1)
 
-pub said-buffer : (says : ℕ → Text → Reading) (s : Text) → said (reading_by says) (lines (s ∷ [])) ≡ readings_from (reading_by says) 1 (pieces s)
+pub said-buffer : (says : ℕ → Text → Reading) (s : Text) → said (reading_by says) (located_lines (s ∷ [])) ≡ readings_from (reading_by says) 1 (pieces s)
 unfolding lines_from
 said-buffer says s = ap (said (reading_by says)) (append-nil (located_from 0 1 (whole_lines s))) ∙ said-located says 0 1 (whole_lines s) (pieces s) (are_pieces s)
 
@@ -111,10 +111,10 @@ mappings_of-located buffer n (w ∷ ws) (p ∷ ps) are =
 pub entries-append : (xs ys : List Line) → entries (located (xs ++ ys)) ≡ entries (located xs) ++ entries (located ys)
 entries-append xs ys = ap entries (filter_map-append located_entry xs ys) ∙ map-append (λ (x : LocatedMapping). x.entry) (located xs) (located ys)
 
-pub mappings_of-lines : (buffer : ℕ) (ss : List Text) → entries (located (lines_from buffer ss)) ≡ flat_map mappings_of ss
+pub mappings_of-located_lines : (buffer : ℕ) (ss : List Text) → entries (located (lines_from buffer ss)) ≡ flat_map mappings_of ss
 unfolding lines_from
-mappings_of-lines buffer [] = refl
-mappings_of-lines buffer (s ∷ ss) =
+mappings_of-located_lines buffer [] = refl
+mappings_of-located_lines buffer (s ∷ ss) =
     entries-append (located_from buffer 1 (whole_lines s)) (lines_from (buffer + 1) ss)
     ∙ ap (λ es. es ++ entries (located (lines_from (buffer + 1) ss))) (mappings_of-located buffer 1 (whole_lines s) (pieces s) (are_pieces s))
-    ∙ ap (λ es. mappings_of s ++ es) (mappings_of-lines (buffer + 1) ss)
+    ∙ ap (λ es. mappings_of s ++ es) (mappings_of-located_lines (buffer + 1) ss)

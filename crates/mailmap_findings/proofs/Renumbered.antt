@@ -8,7 +8,7 @@ use Rattle.mailmap_grammar.specs.Lines.{ParsedContact, Absent, Unclosed, Closed,
 use Rattle.mailmap_grammar.specs.Trimming.{trim}
 use Rattle.mailmap_redundancy.specs.Redundancy.{entries}
 use Rattle.mailmap_findings.specs.Positions.{Line, entry, located, located_from}
-use Rattle.mailmap_findings.proofs.Wholes.{texts}
+use Rattle.mailmap_findings.proofs.Concatenated.{texts}
 
 two_same : (n m : ℕ) (t name email : Text) (h : ParsedContact) → result_ok (two_contacts n t name email h) ≡ result_ok (two_contacts m t name email h)
 two_same n m t [] email Absent = refl

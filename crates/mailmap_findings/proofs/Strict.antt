@@ -25,9 +25,9 @@ unless n (b ∷ t) e is = λ i. Some (first n (b ∷ t) (trimmed_contact (cut (b
     inside : {r : Reading} → Some r ≡ Some (Ok e) → r ≡ Ok e
     inside q = cc
 
--- a line with an entry
-pub taken : (n : ℕ) (line : Text) (e : Mapping) → strict_reading n line ≡ Some (Ok e) → reading n line ≡ Some (Ok e)
-taken n line e = by (is_comment line)
+-- a line with an entry in strict parsing has the same entry in lenient parsing
+pub same_entry : (n : ℕ) (line : Text) (e : Mapping) → strict_reading n line ≡ Some (Ok e) → reading n line ≡ Some (Ok e)
+same_entry n line e = by (is_comment line)
   where
     by : (b : Bool) → cond b None (unless_blank strict_line_reading n (trim line)) ≡ Some (Ok e) → cond b None (unless_blank line_reading n (trim line)) ≡ Some (Ok e)
     by true is = is
@@ -37,9 +37,9 @@ blank : (n : ℕ) (t : Text) → unless_blank strict_line_reading n t ≡ None �
 blank n [] is = is
 blank n (b ∷ t) is = cc
 
--- a line without an entry or a fault
-pub passed_over : (n : ℕ) (line : Text) → strict_reading n line ≡ None → reading n line ≡ None
-passed_over n line = by (is_comment line)
+-- a comment or a blank line has no entry in either
+pub no_entry : (n : ℕ) (line : Text) → strict_reading n line ≡ None → reading n line ≡ None
+no_entry n line = by (is_comment line)
   where
     by : (b : Bool) → cond b None (unless_blank strict_line_reading n (trim line)) ≡ None → cond b None (unless_blank line_reading n (trim line)) ≡ None
     by true is = is

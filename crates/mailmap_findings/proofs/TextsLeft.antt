@@ -9,15 +9,15 @@ use Rattle.mailmap_entries.specs.Semantics.{IsNormal, answer_of}
 use Rattle.mailmap_grammar.specs.Lines.{Closed, contact_in, mappings_of}
 use Rattle.mailmap_redundancy.specs.Redundancy.{entries}
 use Rattle.mailmap_redundancy.specs.declared.located.Position.{Position}
-use Rattle.mailmap_findings.specs.Findings.{AreFindings, Finding, is_redundant}
+use Rattle.mailmap_findings.specs.Findings.{AreFindings, Finding, is_reported_redundant}
 use Rattle.mailmap_findings.specs.Needs.{AreUnneeded, is_reported}
-use Rattle.mailmap_findings.specs.Positions.{Line, buffer_lines, lines, lines_from, located, located_from, texts_from, texts_left, whole_lines}
+use Rattle.mailmap_findings.specs.Positions.{Line, buffer_lines, located_lines, lines_from, located, located_from, texts_from, texts_left, whole_lines}
 use Rattle.mailmap_findings.proofs.Answered.{answered}
 use Rattle.mailmap_findings.proofs.Deleted.{same_listing}
 use Rattle.mailmap_findings.proofs.Pruned.{joined-texts, mappings_of-one, one_buffer}
 use Rattle.mailmap_findings.proofs.Read.{entries-append}
 use Rattle.mailmap_findings.proofs.Renumbered.{entries-renumbered, texts-located}
-use Rattle.mailmap_findings.proofs.Wholes.{AreWhole, are_whole, some_whole, texts, whole_lines-joined}
+use Rattle.mailmap_findings.proofs.Concatenated.{AreWhole, are_whole, some_whole, texts, whole_lines-joined}
 
 module _ (is_left : Line → Bool) where
   -- the text of some lines of a buffer has their entries
@@ -41,13 +41,13 @@ module _ (is_left : Line → Bool) where
       ∙ sym (entries-append (filter is_left first) (filter is_left rest))
       ∙ ap (λ ls. entries (located ls)) (sym (filter-append is_left first rest))
 
-  pub entries_left : (buffers : List Text) → flat_map mappings_of (texts_left is_left buffers) ≡ entries (located (filter is_left (lines buffers)))
+  pub entries_left : (buffers : List Text) → flat_map mappings_of (texts_left is_left buffers) ≡ entries (located (filter is_left (located_lines buffers)))
   entries_left buffers = entries_from 0 buffers
 
 pub listing_left : (buffers : List Text) (found : List Finding) (n : List Mapping) → AreFindings buffers found
-    → IsNormal (flat_map mappings_of buffers) n ↔ IsNormal (flat_map mappings_of (texts_left (λ l. not (is_redundant found l)) buffers)) n
+    → IsNormal (flat_map mappings_of buffers) n ↔ IsNormal (flat_map mappings_of (texts_left (λ l. not (is_reported_redundant found l)) buffers)) n
 listing_left buffers found n are =
-    subst (λ h. IsNormal (flat_map mappings_of buffers) n ↔ IsNormal h n) (sym (entries_left (λ l. not (is_redundant found l)) buffers)) (same_listing buffers found n are)
+    subst (λ h. IsNormal (flat_map mappings_of buffers) n ↔ IsNormal h n) (sym (entries_left (λ l. not (is_reported_redundant found l)) buffers)) (same_listing buffers found n are)
 
 pub answered_left : (buffers : List Text) (contacts : Text) (found : List Finding) (missing : List Position) (line name email rest : Text) → AreFindings buffers found → AreUnneeded buffers contacts missing
     → Contains (whole_lines contacts) line → contact_in line ≡ Closed name email rest

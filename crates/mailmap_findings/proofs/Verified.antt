@@ -7,13 +7,13 @@ use Rattle.mailmap_entries.specs.Folding.{Text}
 use Rattle.mailmap_redundancy.specs.Redundancy.{LocatedMapping, AreEffective, IsSublist, done, entries, settled}
 use Rattle.mailmap_redundancy.proofs.Kept.{reduced_sublist}
 use Rattle.mailmap_findings.specs.Findings.{AreFindings, Finding, IsPruned, findings, is_line_kept}
-use Rattle.mailmap_findings.specs.Positions.{Line, lines, located}
+use Rattle.mailmap_findings.specs.Positions.{Line, located_lines, located}
 
-pub are_kept : (buffers : List Text) (xs kept : List LocatedMapping) → xs ≡ located (lines buffers) → AreEffective xs kept → IsSublist kept (located (lines buffers))
+pub are_kept : (buffers : List Text) (xs kept : List LocatedMapping) → xs ≡ located (located_lines buffers) → AreEffective xs kept → IsSublist kept (located (located_lines buffers))
 are_kept buffers xs kept given effective = subst (IsSublist kept) given (reduced_sublist xs kept effective)
 
-pub is_pruned : (buffer text : Text) (xs kept : List LocatedMapping) → xs ≡ located (lines (buffer ∷ [])) → AreEffective xs kept
-    → text ≡ flat_map (λ l. l.text) (filter (is_line_kept kept) (lines (buffer ∷ []))) → IsPruned buffer text
+pub is_pruned : (buffer text : Text) (xs kept : List LocatedMapping) → xs ≡ located (located_lines (buffer ∷ [])) → AreEffective xs kept
+    → text ≡ flat_map (λ l. l.text) (filter (is_line_kept kept) (located_lines (buffer ∷ []))) → IsPruned buffer text
 is_pruned buffer text xs kept given effective whole = record { kept = kept; effective = subst (λ ys. AreEffective ys kept) given effective; whole = whole }
 
 -- carries a property of the expected value over to a successful result
@@ -23,19 +23,19 @@ if_given (Err e) read P given is h = tt
 
 -- ---- buffers without lines
 
-no_line : (buffers : List Text) → lines buffers ≡ [] → AreEffective (located (lines buffers)) []
+no_line : (buffers : List Text) → located_lines buffers ≡ [] → AreEffective (located (located_lines buffers)) []
 no_line buffers none = subst (λ ls. AreEffective (located ls) []) (sym none) (settled [] (done []))
 
-pub no_findings : (buffers : List Text) (found : List Finding) → lines buffers ≡ [] → found ≡ [] → AreFindings buffers found
-no_findings buffers found none is = record { kept = []; effective = no_line buffers none; whole = is ∙ ap (flat_map (findings (entries (located (lines buffers))) [])) (sym none) }
+pub no_findings : (buffers : List Text) (found : List Finding) → located_lines buffers ≡ [] → found ≡ [] → AreFindings buffers found
+no_findings buffers found none is = record { kept = []; effective = no_line buffers none; whole = is ∙ ap (flat_map (findings (entries (located (located_lines buffers))) [])) (sym none) }
 
-pub nothing_left : (buffer text : Text) → lines (buffer ∷ []) ≡ [] → text ≡ [] → IsPruned buffer text
+pub nothing_left : (buffer text : Text) → located_lines (buffer ∷ []) ≡ [] → text ≡ [] → IsPruned buffer text
 nothing_left buffer text none is =
     record { kept = []; effective = no_line (buffer ∷ []) none; whole = is ∙ ap (λ ls. flat_map (λ (l : Line). l.text) (filter (is_line_kept []) ls)) (sym none) }
 
 -- ---- equal findings
 
 -- findings are equal exactly if their positions and what they report are
-pub same_finding : (p q : Bool) (a b : Finding) → (p ≡ true) ↔ (a.position ≡ b.position) → (q ≡ true) ↔ (a.reported ≡ b.reported) → ((p && q) ≡ true) ↔ (a ≡ b)
-same_finding true q a b place what = (λ e i. record { position = place.0 refl i; reported = what.0 e i }, λ e. what.1 (ap (λ f. f.reported) e))
+pub same_finding : (p q : Bool) (a b : Finding) → (p ≡ true) ↔ (a.position ≡ b.position) → (q ≡ true) ↔ (a.kind ≡ b.kind) → ((p && q) ≡ true) ↔ (a ≡ b)
+same_finding true q a b place what = (λ e i. record { position = place.0 refl i; kind = what.0 e i }, λ e. what.1 (ap (λ f. f.kind) e))
 same_finding false q a b place what = (λ e. absurd (true≢false (sym e)), λ e. absurd (true≢false (sym (place.1 (ap (λ f. f.position) e)))))

@@ -23,8 +23,8 @@ abbrev pub needed_positions : Origins → List Position
 needed_positions g = in_order g.name (option_or g.email g.spelling)
 
 -- the lines behind the answer's new fields: the one that spells the email only if the email changes
-abbrev pub giving_positions : Origins → Fields → List Position
-giving_positions g f = in_order g.name (if is_some f.email then option_or g.email g.spelling else None)
+abbrev pub origin_positions : Origins → Fields → List Position
+origin_positions g f = in_order g.name (if is_some f.email then option_or g.email g.spelling else None)
 
 -- the specification's view of a `Needed`
 abbrev pub positions_of : Needed → List Position

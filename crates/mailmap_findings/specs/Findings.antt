@@ -12,7 +12,7 @@ use Rattle.mailmap_entries.specs.Semantics.{Fields, fields_for, first, key}
 use Rattle.mailmap_entries.specs.Listings.{same_optional}
 use Rattle.mailmap_redundancy.specs.Redundancy.{LocatedMapping, AreEffective, entries, last_position}
 use Rattle.mailmap_redundancy.specs.declared.located.Position.{Position}
-use Rattle.mailmap_findings.specs.Positions.{Line, entry, lines, located, same_position, has_entry_at}
+use Rattle.mailmap_findings.specs.Positions.{Line, entry, located_lines, located, same_position, has_entry_at}
 use Rattle.mailmap_findings.specs.declared.verify.Contact as the_contact
 use Rattle.mailmap_findings.specs.declared.verify.Finding as the_finding
 use Rattle.mailmap_findings.specs.declared.verify.FindingKind as the_kind
@@ -23,30 +23,30 @@ pub record Contact : Type 0 where
   pub email : Text
 
 -- the kinds of findings
-pub data Reported : Type 0 where
-  fault : Fault → Reported
-  ignored_text : Text → Reported
-  git_reads : GitReading → Reported
-  no_effect : Position → Reported
-  itself_mapped : Contact → Contact → Reported
+pub data FindingKind : Type 0 where
+  fault : Fault → FindingKind
+  ignored_text : Text → FindingKind
+  git_reads : GitReading → FindingKind
+  no_effect : Position → FindingKind
+  itself_mapped : Contact → Contact → FindingKind
 
 pub record Finding : Type 0 where
   pub position : Position
-  pub reported : Reported
+  pub kind : FindingKind
 
 -- the specification's view of a contact, a kind and a finding
 abbrev pub contact_of : the_contact.Contact → Contact
 contact_of c = record { name = option_copied c.name; email = c.email.now }
 
-abbrev pub reported_of : the_kind.FindingKind → Reported
-reported_of (variant.Fault e) = fault (fault_of e)
-reported_of (variant.IgnoredText text) = ignored_text text.now
-reported_of (variant.GitReads reading) = git_reads (git_reading_of reading)
-reported_of (variant.NoEffect beside) = no_effect beside
-reported_of (variant.ItselfMapped contact to) = itself_mapped (contact_of contact) (contact_of to)
+abbrev pub kind_of : the_kind.FindingKind → FindingKind
+kind_of (variant.Fault e) = fault (fault_of e)
+kind_of (variant.IgnoredText text) = ignored_text text.now
+kind_of (variant.GitReads reading) = git_reads (git_reading_of reading)
+kind_of (variant.NoEffect beside) = no_effect beside
+kind_of (variant.ItselfMapped contact to) = itself_mapped (contact_of contact) (contact_of to)
 
 abbrev pub finding_of : the_finding.Finding → Finding
-finding_of f = record { position = f.position; reported = reported_of f.kind }
+finding_of f = record { position = f.position; kind = kind_of f.kind }
 
 -- ---- findings about the text of a line
 
@@ -55,7 +55,7 @@ abbrev pub ignored : Text → Text
 ignored line = trim (trailing_text (cut (trim line)))
 
 -- the fault that strict parsing finds, or else the ignored text, if it isn't blank
-abbrev pub reported_of_reading : Text → Option Reading → Option Reported
+abbrev pub reported_of_reading : Text → Option Reading → Option FindingKind
 reported_of_reading line None = None
 reported_of_reading line (Some (Err f)) = Some (fault f)
 reported_of_reading line (Some (Ok e)) = option_map ignored_text (non_empty (ignored line))
@@ -67,39 +67,39 @@ read_otherwise l = read_in_place (entry l) l.text
 -- the position of the first line that git reads in another way
 abbrev pub first_read_otherwise : List Text → Option Position
 first_read_otherwise buffers = option_map (λ l. l.position)
-    (first (filter (λ l. is_some (read_otherwise l)) (lines buffers)))
+    (first (filter (λ l. is_some (read_otherwise l)) (located_lines buffers)))
 
 -- ---- findings about the entry of a line
 
 -- the contact that an entry maps to: its new fields where it has them, else its old ones
-abbrev pub contact : Mapping → Contact
-contact e = record { name = option_or e.new_name e.old_name; email = unwrap_or e.new_email e.old_email }
+abbrev pub proper_contact : Mapping → Contact
+proper_contact e = record { name = option_or e.new_name e.old_name; email = unwrap_or e.new_email e.old_email }
 
 -- the contact with its fields overridden; one without a name gets none
-abbrev pub replaced : Fields → Contact → Contact
-replaced f c = record { name = option_map (unwrap_or f.name) c.name; email = unwrap_or f.email c.email }
+abbrev pub replaced_contact : Fields → Contact → Contact
+replaced_contact f c = record { name = option_map (unwrap_or f.name) c.name; email = unwrap_or f.email c.email }
 
 -- what a contact maps to; one without a name is looked up by its email
-abbrev pub mapped : List Mapping → Contact → Contact
-mapped h c = replaced (fields_for h (unwrap_or c.name []) c.email) c
+abbrev pub mapped_contact : List Mapping → Contact → Contact
+mapped_contact h c = replaced_contact (fields_for h (unwrap_or c.name []) c.email) c
 
 abbrev pub same_contact : Contact → Contact → Bool
 same_contact a b = same_optional a.name b.name && pointwise nat_eq a.email b.email
 
 -- a contact that is mapped to another one
-abbrev pub reported_of_contact : Contact → Contact → Option Reported
+abbrev pub reported_of_contact : Contact → Contact → Option FindingKind
 reported_of_contact c to = if same_contact c to then None else Some (itself_mapped c to)
 
 -- For an effective entry, whether its contact is itself mapped; for another one, the last effective entry of its key.
-abbrev pub reported_of_entry : List Mapping → List LocatedMapping → Bool → Mapping → Option Reported
-reported_of_entry h kept true e = reported_of_contact (contact e) (mapped h (contact e))
+abbrev pub reported_of_entry : List Mapping → List LocatedMapping → Bool → Mapping → Option FindingKind
+reported_of_entry h kept true e = reported_of_contact (proper_contact e) (mapped_contact h (proper_contact e))
 reported_of_entry h kept false e = option_map no_effect (last_position kept (key e))
 
 -- ---- all findings of all lines
 
 -- the findings of a line: h has the entries of all lines, `kept` the effective ones, and is_kept tells whether the
 -- line's own entry is among those
-abbrev pub reported_of_line : List Mapping → List LocatedMapping → Bool → Line → List Reported
+abbrev pub reported_of_line : List Mapping → List LocatedMapping → Bool → Line → List FindingKind
 reported_of_line h kept is_kept l =
     option_to_list (reported_of_reading l.text (strict_reading l.position.line l.text)) ++
     option_to_list (option_map git_reads (read_otherwise l)) ++
@@ -107,7 +107,7 @@ reported_of_line h kept is_kept l =
 
 abbrev pub line_findings : List Mapping → List LocatedMapping → Bool → Line → List Finding
 line_findings h kept is_kept l =
-    map (λ t. record { position = l.position; reported = t }) (reported_of_line h kept is_kept l)
+    map (λ t. record { position = l.position; kind = t }) (reported_of_line h kept is_kept l)
 
 -- the line's entry is effective if `kept` has an entry at its position
 abbrev pub findings : List Mapping → List LocatedMapping → Line → List Finding
@@ -116,8 +116,8 @@ findings h kept l = line_findings h kept (has_entry_at kept l.position) l
 -- the findings of all lines of the buffers, in their order: all that there are, and nothing else
 pub record AreFindings (buffers : List Text) (found : List Finding) : Type 0 where
   pub kept : List LocatedMapping
-  pub effective : AreEffective (located (lines buffers)) kept
-  pub whole : found ≡ flat_map (findings (entries (located (lines buffers))) kept) (lines buffers)
+  pub effective : AreEffective (located (located_lines buffers)) kept
+  pub whole : found ≡ flat_map (findings (entries (located (located_lines buffers))) kept) (located_lines buffers)
 
 abbrev pub IsUpTo : Position → Position → Type 0
 IsUpTo a b = (a.buffer < b.buffer) ⊎ ((a.buffer ≡ b.buffer) × (a.line ≤ b.line))
@@ -129,15 +129,15 @@ AreInOrder (f ∷ fs) = AllByRecursion (λ g. IsUpTo f.position g.position) fs �
 
 -- ---- pruned texts
 
-abbrev pub has_no_effect : Reported → Bool
+abbrev pub has_no_effect : FindingKind → Bool
 has_no_effect (fault f) = false
 has_no_effect (ignored_text text) = false
 has_no_effect (git_reads reading) = false
 has_no_effect (no_effect beside) = true
 has_no_effect (itself_mapped c to) = false
 
-abbrev pub is_redundant : List Finding → Line → Bool
-is_redundant found l = list_any (λ f. has_no_effect f.reported && same_position f.position l.position) found
+abbrev pub is_reported_redundant : List Finding → Line → Bool
+is_reported_redundant found l = list_any (λ f. has_no_effect f.kind && same_position f.position l.position) found
 
 -- lines without an entry are kept, and those with an effective one
 abbrev pub is_line_kept : List LocatedMapping → Line → Bool
@@ -146,5 +146,5 @@ is_line_kept kept l = is_none (entry l) || has_entry_at kept l.position
 -- the buffer's lines, byte for byte, without those whose entries have no effect
 pub record IsPruned (buffer text : Text) : Type 0 where
   pub kept : List LocatedMapping
-  pub effective : AreEffective (located (lines (buffer ∷ []))) kept
-  pub whole : text ≡ flat_map (λ l. l.text) (filter (is_line_kept kept) (lines (buffer ∷ [])))
+  pub effective : AreEffective (located (located_lines (buffer ∷ []))) kept
+  pub whole : text ≡ flat_map (λ l. l.text) (filter (is_line_kept kept) (located_lines (buffer ∷ [])))

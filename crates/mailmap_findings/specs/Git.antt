@@ -64,8 +64,8 @@ unfoldable pub git_entries : Text → List Mapping
 git_entries line = filter_map part_entry (parts line)
 
 -- the entry that this library reads from a line
-abbrev pub own_entry : Text → Option Mapping
-own_entry line = option_and_then result_ok (reading 1 line)
+abbrev pub library_entry : Text → Option Mapping
+library_entry line = option_and_then result_ok (reading 1 line)
 
 -- what git reads from a line: no entry, one, or the number of several
 pub data GitReading : Type 0 where

@@ -8,14 +8,14 @@ use Rattle.mailmap_entries.specs.Semantics.{Fields, given_fields, last_fields, u
 use Rattle.mailmap_findings.specs.Positions.{whole_lines}
 
 -- the entries that git reads from a text, line by line
-abbrev pub git_history : Text → List Mapping
-git_history text = flat_map git_entries (whole_lines text)
+abbrev pub git_mappings : Text → List Mapping
+git_mappings text = flat_map git_entries (whole_lines text)
 
 -- git's answer from entries; if they set no new email, the contact keeps its own, spelled as it is
-abbrev pub git_scan : List Mapping → Text → Text → Option Fields
-git_scan h name email = unless_empty
+abbrev pub git_answer_from : List Mapping → Text → Text → Option Fields
+git_answer_from h name email = unless_empty
     (unwrap_or (last_fields h (folded email, Some (folded name))) (given_fields h (folded email)))
 
 -- git's answer to a contact with a mailmap
 abbrev pub git_answer : Text → Text → Text → Option Fields
-git_answer text name email = git_scan (git_history text) name email
+git_answer text name email = git_answer_from (git_mappings text) name email

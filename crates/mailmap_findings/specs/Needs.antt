@@ -8,8 +8,8 @@ use Rattle.mailmap_redundancy.specs.Origins.{origins}
 use Rattle.mailmap_redundancy.specs.Redundancy.{AreEffective, LocatedMapping}
 use Rattle.mailmap_redundancy.specs.declared.located.Position.{Position}
 use Rattle.mailmap_findings.specs.Explanations.{needed_positions}
-use Rattle.mailmap_findings.specs.Findings.{Finding, is_redundant}
-use Rattle.mailmap_findings.specs.Positions.{Line, lines, located, same_position, whole_lines}
+use Rattle.mailmap_findings.specs.Findings.{Finding, is_reported_redundant}
+use Rattle.mailmap_findings.specs.Positions.{Line, located_lines, located, same_position, whole_lines}
 
 -- ---- lines of contacts
 
@@ -49,12 +49,12 @@ unneeded kept contacts = filter (λ p. not (any_needs kept contacts p)) (map (λ
 -- `found` has the lines of the buffers that have an effect but that no contact needs
 pub record AreUnneeded (buffers : List Text) (contacts : Text) (found : List Position) : Type 0 where
   pub kept : List LocatedMapping
-  pub effective : AreEffective (located (lines buffers)) kept
+  pub effective : AreEffective (located (located_lines buffers)) kept
   pub whole : found ≡ unneeded kept (whole_lines contacts)
 
 -- whether a line is reported as without effect, or as needed by no contact
 abbrev pub is_reported : List Finding → List Position → Line → Bool
-is_reported found missing l = is_redundant found l || list_any (same_position l.position) missing
+is_reported found missing l = is_reported_redundant found l || list_any (same_position l.position) missing
 
 -- ---- contacts added one by one
 

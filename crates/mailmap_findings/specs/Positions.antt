@@ -44,8 +44,8 @@ lines_from buffer [] = []
 lines_from buffer (s ∷ ss) = buffer_lines buffer s ++ lines_from (buffer + 1) ss
 
 -- the lines of buffers
-abbrev pub lines : List Text → List Line
-lines buffers = lines_from 0 buffers
+abbrev pub located_lines : List Text → List Line
+located_lines buffers = lines_from 0 buffers
 
 -- the texts of buffers without the lines that fail a test, byte for byte; the first buffer has this index
 abbrev pub texts_from : (Line → Bool) → ℕ → List Text → List Text

@@ -3,16 +3,16 @@ use Rattle.std.specs.Prelude.{◌+◌, ◌&&◌, ℕ, Bool, if◌then◌else◌,
 use Rattle.std.specs.List.{list_any}
 use Rattle.mailmap_entries.specs.Folding.{Text}
 use Rattle.mailmap_redundancy.specs.declared.located.Position.{Position}
-use Rattle.mailmap_findings.specs.Findings.{Finding, Reported, fault, git_reads, has_no_effect, ignored_text, is_redundant, itself_mapped, no_effect}
-use Rattle.mailmap_findings.specs.Positions.{Line, lines, same_position}
+use Rattle.mailmap_findings.specs.Findings.{Finding, FindingKind, fault, git_reads, has_no_effect, ignored_text, is_reported_redundant, itself_mapped, no_effect}
+use Rattle.mailmap_findings.specs.Positions.{Line, located_lines, same_position}
 
 -- the lines of a buffer that pruning keeps: those not reported as without effect
 abbrev pub lines_left : Text → List Finding → List Line
-lines_left buffer found = filter (λ l. not (is_redundant found l)) (lines (buffer ∷ []))
+lines_left buffer found = filter (λ l. not (is_reported_redundant found l)) (located_lines (buffer ∷ []))
 
 -- whether the line of a finding is kept
 abbrev pub is_left : List Finding → Finding → Bool
-is_left found f = not (list_any (λ g. has_no_effect g.reported && same_position g.position f.position) found)
+is_left found f = not (list_any (λ g. has_no_effect g.kind && same_position g.position f.position) found)
 
 -- the number, from 1, of the line at this position among these lines
 abbrev pub number_among : List Line → Position → ℕ
@@ -20,7 +20,7 @@ number_among [] position = 1
 number_among (l ∷ ls) position = if same_position l.position position then 1 else number_among ls position + 1
 
 -- only a fault contains the number of its line
-abbrev pub with_number : ℕ → Reported → Reported
+abbrev pub with_number : ℕ → FindingKind → FindingKind
 with_number n (fault f) = fault (record f { line = n })
 with_number n (ignored_text text) = ignored_text text
 with_number n (git_reads reading) = git_reads reading
@@ -29,7 +29,7 @@ with_number n (itself_mapped contact to) = itself_mapped contact to
 
 -- moves a finding to line n of a text of its own
 abbrev pub at_line : ℕ → Finding → Finding
-at_line n f = record { position = record { buffer = 0; line = n }; reported = with_number n f.reported }
+at_line n f = record { position = record { buffer = 0; line = n }; kind = with_number n f.kind }
 
 -- moves a finding to where its line is among these lines
 abbrev pub renumbered : List Line → Finding → Finding

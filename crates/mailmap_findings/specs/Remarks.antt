@@ -7,7 +7,7 @@ use Rattle.mailmap_entries.specs.Folding.{Text}
 use Rattle.mailmap_redundancy.specs.Redundancy.{AreEffective, LocatedMapping, entries, position_cmp}
 use Rattle.mailmap_redundancy.specs.declared.located.Position.{Position}
 use Rattle.mailmap_findings.specs.Findings.{Finding, finding_of, findings}
-use Rattle.mailmap_findings.specs.Positions.{Line, has_entry_at, lines, located, whole_lines}
+use Rattle.mailmap_findings.specs.Positions.{Line, has_entry_at, located_lines, located, whole_lines}
 use Rattle.mailmap_findings.specs.Needs.{any_needs}
 use Rattle.mailmap_findings.specs.declared.remarks.Remark.{Remark as the_remark}
 use Rattle.mailmap_findings.specs.declared.remarks.Remark.TheVariants as variant
@@ -30,9 +30,10 @@ line_remarks h kept contacts l =
 -- the remarks on the lines of the buffers, in the order of the lines
 pub record AreRemarks (buffers : List Text) (contacts : Text) (remarks : List Remark) : Type 0 where
   pub kept : List LocatedMapping
-  pub effective : AreEffective (located (lines buffers)) kept
+  pub effective : AreEffective (located (located_lines buffers)) kept
   pub whole :
-      remarks ≡ flat_map (line_remarks (entries (located (lines buffers))) kept (whole_lines contacts)) (lines buffers)
+      remarks ≡ flat_map (line_remarks (entries (located (located_lines buffers))) kept (whole_lines contacts))
+      (located_lines buffers)
 
 -- ---- merging findings and positions, each in the order of the lines
 
@@ -43,9 +44,9 @@ with_finding f rest (p ∷ ps) =
     if is_lt (position_cmp p f.position) then unneeded p ∷ with_finding f rest ps else found f ∷ rest (p ∷ ps)
 
 -- merged by line; a line's findings come first
-abbrev pub merged : List Finding → List Position → List Remark
-merged [] ps = map unneeded ps
-merged (f ∷ fs) ps = with_finding f (merged fs) ps
+abbrev pub merged_remarks : List Finding → List Position → List Remark
+merged_remarks [] ps = map unneeded ps
+merged_remarks (f ∷ fs) ps = with_finding f (merged_remarks fs) ps
 
 -- the first position, if it comes before the finding
 abbrev pub first_before : Option Finding → List Position → Option Position

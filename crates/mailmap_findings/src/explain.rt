@@ -13,8 +13,8 @@ ghost use Rattle.mailmap_redundancy.specs.Origins.{origins};
 ghost use Rattle.mailmap_redundancy.specs.Numbers.{fields_of, origins_of, referred};
 ghost use Rattle.mailmap_redundancy.specs.Redundancy.{AreEffective, entries};
 ghost use Rattle.mailmap_findings.specs.Explanations as spec;
-ghost use Rattle.mailmap_findings.specs.Explanations.{explained, explained_by, giving_positions, needed_positions, positions_of};
-ghost use Rattle.mailmap_findings.specs.Positions.{lines, located};
+ghost use Rattle.mailmap_findings.specs.Explanations.{explained, explained_by, origin_positions, needed_positions, positions_of};
+ghost use Rattle.mailmap_findings.specs.Positions.{located_lines, located};
 
 use crate::verify::Mailmaps;
 use mailmap_redundancy::{Effective, Fields, LocatedEntry, Origins, Position, without_redundant};
@@ -69,7 +69,7 @@ impl<'m, 'a> Explanations<'m, 'a> {
         alloc: Global,
         mailmaps: &'m Mailmaps<'_, 'a>,
     ) -> Result<Explanations<'m, 'a>, AllocError>
-        ensures history { IfOk result (λ s. s.history ≡ located (lines mailmaps.now)) }
+        ensures history { IfOk result (λ s. s.history ≡ located (located_lines mailmaps.now)) }
         ensures effective { IfOk result (λ s. AreEffective s.history s.kept) }
     {
         Ok(Explanations {
@@ -82,7 +82,7 @@ impl<'m, 'a> Explanations<'m, 'a> {
     pub fn of(&self, name: &[u8], email: &[u8]) -> Option<Explanation<'a>>
         ensures fields { option_map explained result ≡ answer_of (entries self.now.history) name.now email.now }
         ensures positions { IfSome result (λ e. explained_by e
-            ≡ giving_positions (origins self.now.kept name.now email.now) (explained e)) }
+            ≡ origin_positions (origins self.now.kept name.now email.now) (explained e)) }
     {
         let origins = self.effective.origins(name, email);
         let fields = origins.fields(email)?;
@@ -121,7 +121,7 @@ fn positions_in(alloc: Global, entries: &[&LocatedEntry<'_>]) -> Result<Vec<Posi
 
 // The lines behind the new fields. The line that spells the email counts only if it changes the email.
 fn giving(origins: &Origins<'_, '_>, fields: &Fields<'_>) -> Needed
-    ensures positions { positions_of result ≡ giving_positions (origins_of origins.now) (fields_of fields.now) }
+    ensures positions { positions_of result ≡ origin_positions (origins_of origins.now) (fields_of fields.now) }
     ensures second { result.first ≡ None → result.second ≡ None }
 {
     let emails = if fields.email.is_some() {

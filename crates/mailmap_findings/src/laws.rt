@@ -1,4 +1,4 @@
-//! What is proved of lines, findings and pruned texts. These functions do nothing: the contract of each is a law.
+//! Laws about lines, findings and pruned texts. These functions do nothing: each states its law in its contract.
 ghost use Rattle.std.specs.Prelude.{◌≡◌, ◌↔◌, ◌∷◌, [], List, None, filter, not, option_to_list, true};
 ghost use Rattle.std.specs.List.{flat_map};
 ghost use Rattle.mailmap_entries.specs.Entries.{Mapping};
@@ -7,9 +7,9 @@ ghost use Rattle.mailmap_grammar.specs.Lines.{mappings_of, readings, reading, st
 ghost use Rattle.mailmap_entries.specs.Semantics.{IsNormal};
 ghost use Rattle.mailmap_redundancy.specs.Redundancy.{entries};
 ghost use Rattle.mailmap_redundancy.specs.declared.located.Position.{Position};
-ghost use Rattle.mailmap_findings.specs.Findings.{AreFindings, AreInOrder, Contact, Finding, IsPruned, first_read_otherwise, is_redundant, same_contact};
+ghost use Rattle.mailmap_findings.specs.Findings.{AreFindings, AreInOrder, Contact, Finding, IsPruned, first_read_otherwise, is_reported_redundant, same_contact};
 ghost use Rattle.mailmap_findings.specs.GitAnswers.{git_answer};
-ghost use Rattle.mailmap_findings.specs.Positions.{lines, located, same_position, whole_lines};
+ghost use Rattle.mailmap_findings.specs.Positions.{located_lines, located, same_position, whole_lines};
 
 mod equal;
 mod git;
@@ -25,11 +25,12 @@ pub use pruning::{law_none_left, law_pruned_findings};
 /// readings and entries as the whole.
 pub fn law_whole_lines()
     ensures whole { (s : Text) → flat_map (λ t. t) (whole_lines s) ≡ s }
-    ensures said { (s : Text) → flat_map (λ l. option_to_list (reading l.position.line l.text)) (lines (s ∷ []))
+    ensures said { (s : Text) → flat_map (λ l. option_to_list (reading l.position.line l.text)) (located_lines (s ∷ []))
         ≡ readings s }
     ensures said_strictly { (s : Text)
-        → flat_map (λ l. option_to_list (strict_reading l.position.line l.text)) (lines (s ∷ [])) ≡ strict_readings s }
-    ensures entries { (buffers : List Text) → entries (located (lines buffers)) ≡ flat_map mappings_of buffers }
+        → flat_map (λ l. option_to_list (strict_reading l.position.line l.text)) (located_lines (s ∷ []))
+        ≡ strict_readings s }
+    ensures entries { (buffers : List Text) → entries (located (located_lines buffers)) ≡ flat_map mappings_of buffers }
 {}
 
 /// Buffers have exactly one list of findings, and a buffer has exactly one pruned text.
@@ -56,7 +57,7 @@ pub fn law_in_order()
 pub fn law_deleted()
     ensures { (buffers : List Text) (found : List Finding) (n : List Mapping) → AreFindings buffers found
         → IsNormal (flat_map mappings_of buffers) n
-        ↔ IsNormal (entries (located (filter (λ l. not (is_redundant found l)) (lines buffers)))) n }
+        ↔ IsNormal (entries (located (filter (λ l. not (is_reported_redundant found l)) (located_lines buffers)))) n }
 {}
 
 /// A pruned text has the lines of its buffer that are not reported as without effect. It has the buffer's normal list,
@@ -64,7 +65,8 @@ pub fn law_deleted()
 pub fn law_pruned()
     ensures reported { (buffer text : Text) (found : List Finding) → AreFindings (buffer ∷ []) found
         → IsPruned buffer text
-        → text ≡ flat_map (λ l. l.text) (filter (λ l. not (is_redundant found l)) (lines (buffer ∷ []))) }
+        → text ≡ flat_map (λ l. l.text)
+        (filter (λ l. not (is_reported_redundant found l)) (located_lines (buffer ∷ []))) }
     ensures listing { (buffer text : Text) (n : List Mapping) → IsPruned buffer text
         → IsNormal (mappings_of buffer) n ↔ IsNormal (mappings_of text) n }
     ensures settled { (buffer text : Text) → IsPruned buffer text → IsPruned text text }

@@ -13,7 +13,7 @@ ghost use Rattle.std.specs.Prelude.{◌≡◌, IfOk, filter, map, not, option_to
 ghost use Rattle.std.specs.List.{list_any};
 ghost use Rattle.std.specs.Option.{option_map};
 ghost use Rattle.mailmap_findings.specs.Explanations.{explained};
-ghost use Rattle.mailmap_findings.specs.Positions.{lines, located, same_position, whole_lines};
+ghost use Rattle.mailmap_findings.specs.Positions.{located_lines, located, same_position, whole_lines};
 ghost use Rattle.mailmap_entries.specs.Semantics.{answer_of};
 ghost use Rattle.mailmap_findings.specs.Needs as spec;
 ghost use Rattle.mailmap_grammar.specs.Lines.{contact_in};
@@ -66,8 +66,8 @@ impl<'m, 'a> Model for Needs<'m, 'a> {
 impl<'m, 'a> Needs<'m, 'a> {
     /// Starts without contacts, so no line is needed yet. After this, only [`Needs::unneeded`] allocates.
     pub fn new(alloc: Global, mailmaps: &'m Mailmaps<'_, 'a>) -> Result<Needs<'m, 'a>, AllocError>
-        ensures history { IfOk result (λ s. s.history ≡ located (lines mailmaps.now)) }
-        ensures effective { IfOk result (λ s. AreEffective (located (lines mailmaps.now)) s.kept) }
+        ensures history { IfOk result (λ s. s.history ≡ located (located_lines mailmaps.now)) }
+        ensures effective { IfOk result (λ s. AreEffective (located (located_lines mailmaps.now)) s.kept) }
         ensures left { IfOk result (λ s. s.left ≡ map (λ x. x.position) s.kept) }
     {
         let explanations = Explanations::new(alloc, mailmaps)?;
@@ -75,7 +75,7 @@ impl<'m, 'a> Needs<'m, 'a> {
         Ok(Needs { explanations, left })
     }
 
-    /// Adds a contact: the lines that it needs are no longer left.
+    /// Adds a contact, and crosses off the lines that it needs.
     pub fn add_contact(&mut self, name: &[u8], email: &[u8])
         ensures history { self.new.history ≡ self.old.history }
         ensures kept { self.new.kept ≡ self.old.kept }

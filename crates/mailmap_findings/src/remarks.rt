@@ -42,11 +42,11 @@ impl<'v, 'a> Model for Remarks<'v, 'a> {
     ghost use Rattle.std.specs.Prelude.{◌≡◌, ◌++◌, [], List, None, drop, option_to_list};
     ghost use Rattle.std.specs.Option.{option_map};
     ghost use Rattle.mailmap_findings.specs.Findings.{finding_of};
-    ghost use Rattle.mailmap_findings.specs.Remarks.{Remark, merged};
+    ghost use Rattle.mailmap_findings.specs.Remarks.{Remark, merged_remarks};
 
     ghost Value = { List Remark };
 
-    ghost view = { λ s. merged (option_to_list (option_map finding_of s.ahead) ++ s.findings)
+    ghost view = { λ s. merged_remarks (option_to_list (option_map finding_of s.ahead) ++ s.findings)
         (drop s.given s.unneeded.now) };
 
     ghost invariant = { λ s. s.ahead ≡ None → s.findings ≡ [] };

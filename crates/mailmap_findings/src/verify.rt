@@ -22,7 +22,7 @@ ghost use Rattle.std.specs.Prelude.{◌≡◌, ◌≢◌, ◌∷◌, [], map, If
 ghost use Rattle.std.specs.Iterator.{YieldsFirstBy, item_count};
 ghost use Rattle.mailmap_redundancy.specs.Redundancy.{located_of};
 ghost use Rattle.mailmap_findings.specs.Findings.{AreFindings, IsPruned, finding_of};
-ghost use Rattle.mailmap_findings.specs.Positions.{lines, located};
+ghost use Rattle.mailmap_findings.specs.Positions.{located_lines, located};
 
 mod effects;
 mod git;
@@ -92,7 +92,7 @@ pub fn verify<'a>(alloc: Global, buffers: &[&'a [u8]]) -> Result<Vec<Finding<'a>
         (λ findings. AreFindings (map (λ b. b.now) buffers.now) (map finding_of findings.items)) }
 
     // Without a line in the buffers it can't fail.
-    ensures out_of_memory { OnErr result (lines (map (λ b. b.now) buffers.now) ≢ []) }
+    ensures out_of_memory { OnErr result (located_lines (map (λ b. b.now) buffers.now) ≢ []) }
 {
     if !has_lines(buffers) {
         return Ok(Vec::new(alloc));
@@ -108,7 +108,7 @@ pub fn prune(alloc: Global, buffer: &[u8]) -> Result<Vec<u8>, AllocError>
     ensures pruned { IfOk result (λ text. IsPruned buffer.now text.items) }
 
     // Without a line in the buffer it can't fail.
-    ensures out_of_memory { OnErr result (lines (buffer.now ∷ []) ≢ []) }
+    ensures out_of_memory { OnErr result (located_lines (buffer.now ∷ []) ≢ []) }
 {
     let buffers = [buffer];
     if !has_lines(&buffers) {
@@ -133,14 +133,14 @@ impl<'b, 'a> Model for Mailmaps<'b, 'a> {
     ghost use Rattle.std.specs.Prelude.{◌≡◌, List, map};
     ghost use Rattle.mailmap_entries.specs.Folding.{Text};
     ghost use Rattle.mailmap_redundancy.specs.Redundancy.{located_of};
-    ghost use Rattle.mailmap_findings.specs.Positions.{lines, located};
+    ghost use Rattle.mailmap_findings.specs.Positions.{located_lines, located};
     ghost use Rattle.mailmap_findings.specs.Clean.{are_clean};
 
     ghost Value = { List Text };
 
     ghost view = { λ s. map (λ b. b.now) s.buffers.now };
 
-    ghost invariant = { λ s. let ls = lines (map (λ b. b.now) s.buffers.now) in
+    ghost invariant = { λ s. let ls = located_lines (map (λ b. b.now) s.buffers.now) in
         (map located_of s.read.entries.items ≡ located ls) × (s.read.clean.items ≡ are_clean ls) };
 }
 
@@ -157,7 +157,7 @@ impl<'b, 'a> Mailmaps<'b, 'a> {
 
     /// The entries, in the order of their lines.
     pub(crate) fn entries(&self) -> &[LocatedEntry<'a>]
-        ensures { map located_of result.now ≡ located (lines self.now) }
+        ensures { map located_of result.now ≡ located (located_lines self.now) }
     {
         &self.read.entries
     }
@@ -178,15 +178,15 @@ impl<'m, 'a> Model for Verification<'m, 'a> {
     ghost use Rattle.std.specs.List.{flat_map};
     ghost use Rattle.mailmap_redundancy.specs.Redundancy.{IsSublist, entries, located_of};
     ghost use Rattle.mailmap_findings.specs.Findings.{Finding, findings};
-    ghost use Rattle.mailmap_findings.specs.Positions.{lines, located};
+    ghost use Rattle.mailmap_findings.specs.Positions.{located_lines, located};
     ghost use Rattle.mailmap_findings.specs.Clean.{are_clean};
 
     ghost Value = { List Finding };
 
     ghost view = { λ s. flat_map (findings (entries s.effective.history) s.effective.kept)
-        (lines (map (λ b. b.now) s.buffers.now)) };
+        (located_lines (map (λ b. b.now) s.buffers.now)) };
 
-    ghost invariant = { λ s. let ls = lines (map (λ b. b.now) s.buffers.now) in
+    ghost invariant = { λ s. let ls = located_lines (map (λ b. b.now) s.buffers.now) in
         IsSublist s.effective.kept (located ls) × (map located_of s.read.now.entries.items ≡ located ls)
         × (s.read.now.clean.items ≡ are_clean ls) };
 }

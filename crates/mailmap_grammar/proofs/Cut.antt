@@ -1,7 +1,7 @@
 -- A text split at its first `<` and the first `>` after it.
 use Rattle.std.proofs.Common.{◌≡◌, ◌⊎◌, ℕ, Some, None, option_map, List, [], ◌∷◌, ◌++◌, refl, sym, ap, ◌∙◌, inl, inr, ⊎_elim}
 use Rattle.std.proofs.lemmas.Bool.{cases_eq, cond-true, cond-false, ne_eqb, eq-eqb}
-use Rattle.mailmap_grammar.specs.Lines.{split_once, opened, closed, cut, Absent, Unclosed, Closed, HoldsNo, IsCut, IsUnclosed}
+use Rattle.mailmap_grammar.specs.Lines.{split_once, cut_at_opening, cut_at_closing, cut, Absent, Unclosed, Closed, HoldsNo, IsCut, IsUnclosed}
 
 module _ (x : ℕ) where
   once-none : (s : List ℕ) → HoldsNo x s → split_once x s ≡ None
@@ -31,13 +31,13 @@ pub data Kind (s : List ℕ) : Type 0 where
   closed_kind : (a b c : List ℕ) → IsCut s a b c → cut s ≡ Closed a b c → Kind s
 
 pub cut-absent : (s : List ℕ) → HoldsNo 60 s → cut s ≡ Absent
-cut-absent s h = ap opened (once-none 60 s h)
+cut-absent s h = ap cut_at_opening (once-none 60 s h)
 
 pub cut-unclosed : (s : List ℕ) → IsUnclosed s → cut s ≡ Unclosed
-cut-unclosed s h = ap cut h.whole ∙ ap opened (once-some 60 h.before h.after h.no_opening) ∙ ap (closed h.before) (once-none 62 h.after h.no_closing)
+cut-unclosed s h = ap cut h.whole ∙ ap cut_at_opening (once-some 60 h.before h.after h.no_opening) ∙ ap (cut_at_closing h.before) (once-none 62 h.after h.no_closing)
 
-pub cut-closed : (s a b c : List ℕ) → IsCut s a b c → cut s ≡ Closed a b c
-cut-closed s a b c h = ap cut h.whole ∙ ap opened (once-some 60 a (b ++ 62 ∷ c) h.no_opening) ∙ ap (closed a) (once-some 62 b c h.no_closing)
+pub cut-cut_at_closing : (s a b c : List ℕ) → IsCut s a b c → cut s ≡ Closed a b c
+cut-cut_at_closing s a b c h = ap cut h.whole ∙ ap cut_at_opening (once-some 60 a (b ++ 62 ∷ c) h.no_opening) ∙ ap (cut_at_closing a) (once-some 62 b c h.no_closing)
 
 pub kind : (s : List ℕ) → Kind s
 kind s = ⊎_elim
@@ -48,7 +48,7 @@ kind s = ⊎_elim
     unclosed_kind is (cut-unclosed s is))
     (λ k.
     let is : IsCut s h.0 k.0 k.1 = record { whole = h.3 ∙ ap (λ t. h.0 ++ 60 ∷ t) k.3; no_opening = h.2; no_closing = k.2 } in
-    closed_kind h.0 k.0 k.1 is (cut-closed s h.0 k.0 k.1 is))
+    closed_kind h.0 k.0 k.1 is (cut-cut_at_closing s h.0 k.0 k.1 is))
     (once-cases 62 h.1))
     (once-cases 60 s)
 
@@ -58,8 +58,8 @@ absent-cut s e = elim (kind s) [ absent_kind h f ↦ h | unclosed_kind h f ↦ l
 pub unclosed-cut : (s : List ℕ) → cut s ≡ Unclosed → IsUnclosed s
 unclosed-cut s e = elim (kind s) [ absent_kind h f ↦ let w : Absent ≡ Unclosed = sym f ∙ e in absurd (cc) | unclosed_kind h f ↦ h | closed_kind a b c h f ↦ let w : Closed a b c ≡ Unclosed = sym f ∙ e in absurd (cc) ]
 
-pub closed-cut : (s a b c : List ℕ) → cut s ≡ Closed a b c → IsCut s a b c
-closed-cut s a b c e = elim (kind s) [
+pub cut_at_closing-cut : (s a b c : List ℕ) → cut s ≡ Closed a b c → IsCut s a b c
+cut_at_closing-cut s a b c e = elim (kind s) [
   | absent_kind h f ↦ let w : Absent ≡ Closed a b c = sym f ∙ e in absurd (cc)
   | unclosed_kind h f ↦ let w : Unclosed ≡ Closed a b c = sym f ∙ e in absurd (cc)
   | closed_kind a' b' c' h f ↦

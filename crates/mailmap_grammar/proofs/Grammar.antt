@@ -3,15 +3,15 @@ use Rattle.std.proofs.Common.{◌≡◌, ◌≢◌, ◌⊎◌, ℕ, true, false,
 use Rattle.std.proofs.lemmas.Bool.{cond-true, cond-false, eqb-true, cases_Bool}
 use Rattle.mailmap_entries.specs.Folding.{Text}
 use Rattle.mailmap_grammar.specs.Trimming.{trim, IsTrimmed}
-use Rattle.mailmap_grammar.specs.Lines.{Reading, ParsedContact, Absent, Unclosed, Closed, cut, trimmed_contact, fault, nothing_to_map, by_both, by_name, two_contacts, strict_contacts, first_contact, is_comment, unless_blank, reading_by, line_reading, strict_line_reading, reading, strict_reading, HoldsNo, IsUnclosed, IsContact, NoContact, IsSecondRead, second, name_alone, neither, IsSecondReadStrictly, open_second, as_ever, IsFirstRead, no_bracket, open_first, blank_email, first, IsComment, IsReadBy, comment, blank, said, IsRead, IsReadStrictly}
-use Rattle.mailmap_grammar.proofs.Cut.{kind, absent_kind, unclosed_kind, closed_kind, cut-absent, cut-unclosed, cut-closed}
+use Rattle.mailmap_grammar.specs.Lines.{Reading, ParsedContact, Absent, Unclosed, Closed, cut, trimmed_contact, fault, nothing_to_map, by_both, by_name, two_contacts, strict_contacts, first_contact, is_comment, unless_blank, reading_by, line_reading, strict_line_reading, reading, strict_reading, HoldsNo, IsUnclosed, IsContact, NoContact, IsSecondRead, second, name_alone, neither, IsSecondReadStrictly, open_second, as_lenient, IsFirstRead, no_bracket, open_first, blank_email, first, IsComment, IsReadBy, comment, blank, non_blank, IsRead, IsReadStrictly}
+use Rattle.mailmap_grammar.proofs.Cut.{kind, absent_kind, unclosed_kind, closed_kind, cut-absent, cut-unclosed, cut-cut_at_closing}
 use Rattle.mailmap_grammar.proofs.Trimmed.{trimmed-same, trimmed-made}
 
 contact-cut : (s name email rest : Text) → IsContact s name email rest → trimmed_contact (cut s) ≡ Closed name email rest
 contact-cut s name email rest h =
     let is_name : name ≡ trim h.before = trimmed-same _ _ h.is_name in
     let is_email : email ≡ trim h.between = trimmed-same _ _ h.is_email in
-    ap trimmed_contact (cut-closed _ _ _ _ h.is_cut) ∙ rw (← is_name, ← is_email) refl
+    ap trimmed_contact (cut-cut_at_closing _ _ _ _ h.is_cut) ∙ rw (← is_name, ← is_email) refl
 
 -- each text has no `<`, no `>` after the first one, or a contact
 data ContactKind (s : Text) : Type 0 where
@@ -86,17 +86,17 @@ strict-second-made : (n : ℕ) (t name email rest : Text) → IsSecondReadStrict
 strict-second-made n t name email rest = elim (contact_kind rest) [
   | absent_contact h e ↦
       let other : trimmed_contact (cut rest) ≢ Unclosed = λ u. let w : Absent ≡ Unclosed = sym e ∙ u in absurd (cc) in
-      as_ever (not_unclosed rest other) (subst (IsSecondRead n t name email rest) (sym (strict-other n t name email rest _ other)) (second-made n t name email rest))
+      as_lenient (not_unclosed rest other) (subst (IsSecondRead n t name email rest) (sym (strict-other n t name email rest _ other)) (second-made n t name email rest))
   | unclosed_contact h e ↦ open_second h (ap (strict_contacts n t name email rest) e)
   | closed_contact a b c h e ↦
       let other : trimmed_contact (cut rest) ≢ Unclosed = λ u. let w : Closed a b c ≡ Unclosed = sym e ∙ u in absurd (cc) in
-      as_ever (not_unclosed rest other) (subst (IsSecondRead n t name email rest) (sym (strict-other n t name email rest _ other)) (second-made n t name email rest))
+      as_lenient (not_unclosed rest other) (subst (IsSecondRead n t name email rest) (sym (strict-other n t name email rest _ other)) (second-made n t name email rest))
 ]
 
 strict-second-same : (n : ℕ) (t name email rest : Text) (r : Reading) → IsSecondReadStrictly n t name email rest r → strict_contacts n t name email rest (trimmed_contact (cut rest)) ≡ r
 strict-second-same n t name email rest r h = elim h [
   | open_second u is ↦ ap (λ k. strict_contacts n t name email rest (trimmed_contact k)) (cut-unclosed rest u) ∙ sym is
-  | as_ever not s ↦ elim (contact_kind rest) [
+  | as_lenient not s ↦ elim (contact_kind rest) [
     | absent_contact a e ↦ ap (strict_contacts n t name email rest) e ∙ sym (ap (two_contacts n t name email) e) ∙ second-same n t name email rest r s
     | unclosed_contact u e ↦ absurd (not u)
     | closed_contact a b c k e ↦ ap (strict_contacts n t name email rest) e ∙ sym (ap (two_contacts n t name email) e) ∙ second-same n t name email rest r s
@@ -143,7 +143,7 @@ comment-test line h = ap is_comment h.1
 module _ (says : ℕ → Text → Reading) (Says : Text → Reading → Type 0) (n : ℕ) (line : Text) where
   line-none : ((t : Text) → Says t (says n t)) → (IsComment line → ⊥) → (t : Text) → IsTrimmed line t → IsReadBy Says line (unless_blank says n t)
   line-none made plain [] is = blank plain is refl
-  line-none made plain (b ∷ t) is = said (b ∷ t) (says n (b ∷ t)) plain is (some b t) (made (b ∷ t)) refl
+  line-none made plain (b ∷ t) is = non_blank (b ∷ t) (says n (b ∷ t)) plain is (some b t) (made (b ∷ t)) refl
 
   line-made : ((t : Text) → Says t (says n t)) → (o : Option Reading) → reading_by says n line ≡ o → IsReadBy Says line o
   line-made made o e =
@@ -166,7 +166,7 @@ module _ (says : ℕ → Text → Reading) (Says : Text → Reading → Type 0) 
   line-same same o h = elim h [
     | comment is e ↦ cond-true _ _ _ (comment-test line is) ∙ sym e
     | blank plain is e ↦ cond-false _ _ _ (not_comment plain) ∙ ap (unless_blank says n) (sym (trimmed-same line [] is)) ∙ sym e
-    | said t r plain is other s e ↦ cond-false _ _ _ (not_comment plain) ∙ ap (unless_blank says n) (sym (trimmed-same line t is)) ∙ some_said t other ∙ ap (λ x. Some x) (same t r s) ∙ sym e
+    | non_blank t r plain is other s e ↦ cond-false _ _ _ (not_comment plain) ∙ ap (unless_blank says n) (sym (trimmed-same line t is)) ∙ some_said t other ∙ ap (λ x. Some x) (same t r s) ∙ sym e
   ]
 
 pub reading-made : (n : ℕ) (line : Text) (o : Option Reading) → reading n line ≡ o → IsRead n line o

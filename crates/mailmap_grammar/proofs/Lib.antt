@@ -1,11 +1,11 @@
 pub mod Cut
 pub mod NearFeeds
-pub mod Good
+pub mod MappingsIn
 pub mod Grammar
 pub mod Pieces
 pub mod Plain
 pub mod Readings
-pub mod Rising
+pub mod FaultLines
 pub mod SplitOnce
 pub mod Trims
 pub mod Trimmed

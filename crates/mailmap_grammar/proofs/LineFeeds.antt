@@ -3,7 +3,7 @@ use Rattle.std.proofs.Common.{◌≡◌, ◌≢◌, ◌⊎◌, ℕ, ◌==◌, Li
 use Rattle.std.specs.List.{AllByRecursion}
 use Rattle.std.proofs.lemmas.Bool.{cond-false, cond_both, ne_eqb, eqb-false, eqb-true}
 use Rattle.mailmap_entries.specs.Folding.{Text}
-use Rattle.mailmap_grammar.specs.Lines.{ArePieces, HoldsNo, fed, pieces, with_first}
+use Rattle.mailmap_grammar.specs.Lines.{ArePieces, HoldsNo, with_line_feeds, pieces, with_first}
 
 -- a line and its line feed make one piece
 pub pieces-line : (l rest : List ℕ) → HoldsNo 10 l → pieces (l ++ 10 ∷ rest) ≡ l ∷ pieces rest
@@ -30,12 +30,12 @@ pieces-open (b ∷ []) h some = cond-false _ _ _ (ne_eqb b 10 h.0)
 pieces-open (b ∷ c ∷ l) h some = cond-false _ _ _ (ne_eqb b 10 h.0) ∙ ap (with_first b) (pieces-open (c ∷ l) h.1 (λ e. cc))
 
 -- lines with their line feeds, followed by more text
-pub pieces-fed : (ls : List Text) (rest : Text) → AllByRecursion (HoldsNo 10) ls → pieces (fed ls ++ rest) ≡ ls ++ pieces rest
-pieces-fed [] rest h = refl
-pieces-fed (l ∷ ls) rest h =
-    ap pieces (append_assoc (l ++ 10 ∷ []) (fed ls) rest ∙ append_assoc l (10 ∷ []) (fed ls ++ rest))
-    ∙ pieces-line l (fed ls ++ rest) h.0
-    ∙ ap (λ ps. l ∷ ps) (pieces-fed ls rest h.1)
+pub pieces-with_line_feeds : (ls : List Text) (rest : Text) → AllByRecursion (HoldsNo 10) ls → pieces (with_line_feeds ls ++ rest) ≡ ls ++ pieces rest
+pieces-with_line_feeds [] rest h = refl
+pieces-with_line_feeds (l ∷ ls) rest h =
+    ap pieces (append_assoc (l ++ 10 ∷ []) (with_line_feeds ls) rest ∙ append_assoc l (10 ∷ []) (with_line_feeds ls ++ rest))
+    ∙ pieces-line l (with_line_feeds ls ++ rest) h.0
+    ∙ ap (λ ps. l ∷ ps) (pieces-with_line_feeds ls rest h.1)
 
 pieces-nil : pieces [] ≡ []
 unfolding pieces
@@ -49,14 +49,14 @@ all_parts P (x ∷ xs) ys all = let rest = all_parts P xs ys all.1 in ((all.0, r
 -- no other texts are the lines of the buffer
 pub pieces-are : (s : Text) (ls : List Text) → ArePieces s ls → pieces s ≡ ls
 pieces-are s ls are = ⊎_elim
-    (λ e. ap pieces (e ∙ sym (append-nil (fed ls))) ∙ pieces-fed ls [] are.no_feed ∙ ap (λ ps. ls ++ ps) pieces-nil ∙ append-nil ls)
+    (λ e. ap pieces (e ∙ sym (append-nil (with_line_feeds ls))) ∙ pieces-with_line_feeds ls [] are.no_feed ∙ ap (λ ps. ls ++ ps) pieces-nil ∙ append-nil ls)
     (λ h.
     let all = all_parts (HoldsNo 10) h.0 (h.1 ∷ []) (subst (AllByRecursion (HoldsNo 10)) h.2 are.no_feed) in
-    ap pieces h.4 ∙ pieces-fed h.0 h.1 all.0 ∙ ap (λ ps. h.0 ++ ps) (pieces-open h.1 all.1.0 h.3) ∙ sym h.2)
+    ap pieces h.4 ∙ pieces-with_line_feeds h.0 h.1 all.0 ∙ ap (λ ps. h.0 ++ ps) (pieces-open h.1 all.1.0 h.3) ∙ sym h.2)
     are.whole
 
 abbrev IsWhole : Text → List Text → Type 0
-IsWhole s ls = (s ≡ fed ls) ⊎ ((front : List Text) × (last : Text) × (ls ≡ front ++ last ∷ []) × (last ≢ []) × (s ≡ fed front ++ last))
+IsWhole s ls = (s ≡ with_line_feeds ls) ⊎ ((front : List Text) × (last : Text) × (ls ≡ front ++ last ∷ []) × (last ≢ []) × (s ≡ with_line_feeds front ++ last))
 
 fed_line : (s : Text) (ls : List Text) → IsWhole s ls → IsWhole (10 ∷ s) ([] ∷ ls)
 fed_line s ls h = ⊎_elim
@@ -78,8 +78,8 @@ more_byte b s (l ∷ ls) h = ⊎_elim
     (λ w. inr (more w.0 w.1 w.2 w.3 w.4))
     h
   where
-    more : (front : List Text) (last : Text) → l ∷ ls ≡ front ++ last ∷ [] → last ≢ [] → s ≡ fed front ++ last
-        → (front : List Text) × (last : Text) × ((b ∷ l) ∷ ls ≡ front ++ last ∷ []) × (last ≢ []) × (b ∷ s ≡ fed front ++ last)
+    more : (front : List Text) (last : Text) → l ∷ ls ≡ front ++ last ∷ [] → last ≢ [] → s ≡ with_line_feeds front ++ last
+        → (front : List Text) × (last : Text) × ((b ∷ l) ∷ ls ≡ front ++ last ∷ []) × (last ≢ []) × (b ∷ s ≡ with_line_feeds front ++ last)
     more [] last e some whole = ([], b ∷ last, (let first : l ≡ last = cc in let none : ls ≡ [] = cc in λ i. (b ∷ first i) ∷ none i), (λ n. cc), ap (λ t. b ∷ t) whole)
     more (f ∷ front) last e some whole =
         ((b ∷ f) ∷ front, last, (let first : l ≡ f = cc in let rest : ls ≡ front ++ last ∷ [] = cc in λ i. (b ∷ first i) ∷ rest i), some, ap (λ t. b ∷ t) whole)

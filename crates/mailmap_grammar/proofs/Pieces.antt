@@ -56,13 +56,13 @@ first_piece (b ∷ c ∷ s) some = ⊎_elim
     })
     (cases_Bool (b == 10))
 
--- a reader that trims ignores a carriage return at the end
+-- a reader that trims its line ignores a carriage return at the end
 pub reading_by-cr : (says : ℕ → Text → Reading) (n : ℕ) (z : Text) → reading_by says n (z ++ 13 ∷ []) ≡ reading_by says n z
 unfolding encode_utf8
 reading_by-cr says n [] = ap (unless_blank says n) (trim-white_end 13 [] refl)
 reading_by-cr says n (b ∷ z) = ap (λ t. cond (b == 35) None (unless_blank says n t)) (trim-white_end 13 (b ∷ z) refl)
 
--- a reader that ignores a carriage return at the end
+-- for any reader that ignores a carriage return at the end
 module _ (read : ℕ → Text → Option Reading) (reading-cr : (n : ℕ) (z : Text) → read n (z ++ 13 ∷ []) ≡ read n z) where
   reading-no_cr : (n : ℕ) (z : List ℕ) → read n (no_cr z) ≡ read n z
   reading-no_cr n z = ⊎_elim

@@ -1,4 +1,4 @@
--- The readings of some lines, by what the first line says.
+-- The readings of a list of lines, from the reading of the first line and those of the others.
 use Rattle.std.proofs.Common.{◌≡◌, ◌+◌, ℕ, Some, Option, None, option_to_list, List, [], ◌∷◌, ◌++◌, refl, sym, ap, ◌∙◌}
 use Rattle.mailmap_entries.specs.Folding.{Text}
 use Rattle.mailmap_grammar.specs.Lines.{Reading, readings_from}

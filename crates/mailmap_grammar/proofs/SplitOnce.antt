@@ -23,7 +23,7 @@ at_some b (c ∷ s) (suc k) l is before =
 pub split_once-none : (b : ℕ) (s : List ℕ) → IsFirstByte (is_byte b) s None → split_once b s ≡ None
 split_once-none b s h = at_none b s (λ k l is. h k (omega arith) l (eq-eqb _ _ is))
 
--- as the code slices the text after the byte
+-- the text after the first byte b, as the code slices it
 pub split_once-some : (b : ℕ) (s : List ℕ) (k : ℕ) → IsFirstByte (is_byte b) s (Some k)
     → split_once b s ≡ Some (take k s, take (length s - (k + 1)) (drop (k + 1) s))
 split_once-some b s k h =

@@ -40,7 +40,7 @@ start-white = trims.start-passed is_whitespace white-scalar refl
 end-white : (front : List ℕ) (c : ℕ) → is_whitespace c ≡ true → trim_end_by is_whitespace (front ++ encode_utf8 c) ≡ trim_end_by is_whitespace front
 end-white = trims.end-passed is_whitespace white-scalar refl
 
--- other bytes stay
+-- a text that doesn't begin with white space stays as it is
 pub start-other : (bs : List ℕ) → (BeginsWhite bs → ⊥) → trim_start_by is_whitespace bs ≡ bs
 start-other = trims.start-other is_whitespace white-scalar refl
 

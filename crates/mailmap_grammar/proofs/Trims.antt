@@ -78,7 +78,7 @@ module _ (t : ℕ → Bool) (scalars : (c : ℕ) → t c ≡ true → scalar c �
   begins bs None is passes = absurd (cc)
   begins bs (Some c) is passes = (c, drop (decoded bs).size bs, passes, (SpellsChar-decoded bs c is).bytes)
 
-  -- other bytes stay
+  -- a text that doesn't begin with such a character stays as it is
   pub start-other : (bs : List ℕ) → (BeginsBy t bs → ⊥) → trim_start_by t bs ≡ bs
   start-other [] other = start-nil
   start-other (b ∷ s) other =

@@ -26,7 +26,7 @@ pub record IsWritable (e : Mapping) : Type 0 where
   pub emails : IfSome e.new_email IsWritableEmail × IsWritableEmail e.old_email
   pub some_new : IfSome e.new_email (λ email. email ≢ [])
   pub some_old : IfNone e.new_email (e.old_email ≢ [])
-  pub beside : OnSome e.old_name (IsSome e.new_email)
+  pub paired : OnSome e.old_name (IsSome e.new_email)
 
 -- a name and a space, if there is a name
 abbrev pub name_part : Option Text → Text
@@ -42,9 +42,9 @@ email_part None = []
 email_part (Some email) = bracketed_email email ++ 32 ∷ []
 
 -- a space, the new name, the new email, the old name, the old email and a line feed
-abbrev pub line : Mapping → Text
-line e = 32 ∷ (name_part e.new_name ++ email_part e.new_email ++ name_part e.old_name
+abbrev pub canonical_line : Mapping → Text
+canonical_line e = 32 ∷ (name_part e.new_name ++ email_part e.new_email ++ name_part e.old_name
     ++ bracketed_email e.old_email ++ 10 ∷ [])
 
-abbrev pub text : List Mapping → Text
-text es = flat_map line es
+abbrev pub canonical_text : List Mapping → Text
+canonical_text es = flat_map canonical_line es

@@ -1,4 +1,4 @@
--- What the lines of a mailmap say.
+-- How the lines of a mailmap are parsed.
 use Rattle.std.specs.List.{AllByRecursion, flat_map}
 use Rattle.std.specs.Result.{result_ok}
 use Rattle.std.specs.Prelude.{◌≡◌, ◌≢◌, ◌⊎◌, ◌+◌, ◌==◌, ℕ, if◌then◌else◌, Bool, false, Option, Some, None, option_map}
@@ -39,16 +39,16 @@ fault_of (EmptyEmail line input) = record { kind = empty_email; line = line; inp
 fault_of (NothingToMap line input) = record { kind = nothing_to_map; line = line; input = input.now }
 fault_of (UnclosedSecond line input) = record { kind = unclosed_second; line = line; input = input.now }
 
--- what a line says: a mapping or a fault
+-- what a line parses to: a mapping or a fault
 abbrev pub Reading : Type 0
 Reading = Result Mapping Fault
 
--- what an item of a line iterator says
+-- the reading that an item of a line iterator represents
 abbrev pub reading_of : Result Entry Error → Reading
 reading_of (Ok e) = Ok (mapping_of e)
 reading_of (Err e) = Err (fault_of e)
 
--- what an item says if the trailing text is ignored
+-- the reading that an item represents if its trailing text is ignored
 abbrev pub reading_with_trailing : Result WithTrailing Error → Reading
 reading_with_trailing (Ok w) = Ok (mapping_of w.entry)
 reading_with_trailing (Err e) = Err (fault_of e)
@@ -65,17 +65,17 @@ pub data ParsedContact : Type 0 where
   Closed : Text → Text → Text → ParsedContact
 
 -- the two steps of `cut`: split at `>` after the `<`, and split at `<`
-abbrev pub closed : Text → Option (Text × Text) → ParsedContact
-closed a None = Unclosed
-closed a (Some p) = Closed a p.0 p.1
+abbrev pub cut_at_closing : Text → Option (Text × Text) → ParsedContact
+cut_at_closing a None = Unclosed
+cut_at_closing a (Some p) = Closed a p.0 p.1
 
-abbrev pub opened : Option (Text × Text) → ParsedContact
-opened None = Absent
-opened (Some p) = closed p.0 (split_once 62 p.1)
+abbrev pub cut_at_opening : Option (Text × Text) → ParsedContact
+cut_at_opening None = Absent
+cut_at_opening (Some p) = cut_at_closing p.0 (split_once 62 p.1)
 
 -- splits a text at the first `<` and the first `>` after it; IsCut, IsUnclosed and HoldsNo describe the three results
 abbrev pub cut : Text → ParsedContact
-cut s = opened (split_once 60 s)
+cut s = cut_at_opening (split_once 60 s)
 
 abbrev pub non_empty : Text → Option Text
 non_empty [] = None
@@ -124,7 +124,7 @@ by_both name email old_name old_email = record {
 abbrev pub by_name : Text → Text → Mapping
 by_name name email = record { new_name = Some name; new_email = None; old_name = None; old_email = email }
 
--- what a line with this name and email in its first contact says, depending on its second contact
+-- what a line with this name and email in its first contact parses to, depending on its second contact
 abbrev pub two_contacts : ℕ → Text → Text → Text → ParsedContact → Reading
 two_contacts n t [] email Absent = fault nothing_to_map n t
 two_contacts n t [] email Unclosed = fault nothing_to_map n t
@@ -138,19 +138,19 @@ strict_contacts n t name email rest Absent = two_contacts n t name email Absent
 strict_contacts n t name email rest Unclosed = fault unclosed_second n rest
 strict_contacts n t name email rest (Closed a b c) = two_contacts n t name email (Closed a b c)
 
--- what a line says by its first contact; `both` goes on if that contact has an email
+-- what a line parses to by its first contact; `both` parses the rest if that contact has an email
 abbrev pub first_contact : (Text → Text → Text → Reading) → ℕ → Text → ParsedContact → Reading
 first_contact both n t Absent = fault no_email n t
 first_contact both n t Unclosed = fault missing_closing_bracket n t
 first_contact both n t (Closed name [] rest) = fault empty_email n t
 first_contact both n t (Closed name (b ∷ email) rest) = both name (b ∷ email) rest
 
--- what the trimmed line t says as line n
+-- what the trimmed line t parses to as line n
 abbrev pub line_reading : ℕ → Text → Reading
 line_reading n t = first_contact (λ name email rest. two_contacts n t name email (trimmed_contact (cut rest))) n t
     (trimmed_contact (cut t))
 
--- what t says in strict parsing
+-- what t parses to in strict parsing
 abbrev pub strict_line_reading : ℕ → Text → Reading
 strict_line_reading n t = first_contact
     (λ name email rest. strict_contacts n t name email rest (trimmed_contact (cut rest))) n t (trimmed_contact (cut t))
@@ -160,16 +160,16 @@ abbrev pub is_comment : Text → Bool
 is_comment [] = false
 is_comment (b ∷ s) = b == 35
 
--- what `says` makes of a trimmed line, None if the line is empty
+-- what a trimmed line parses to by `parse`, None if the line is empty
 abbrev pub unless_blank : (ℕ → Text → Reading) → ℕ → Text → Option Reading
-unless_blank says n [] = None
-unless_blank says n (b ∷ t) = Some (says n (b ∷ t))
+unless_blank parse n [] = None
+unless_blank parse n (b ∷ t) = Some (parse n (b ∷ t))
 
--- what a line says if `says` reads trimmed lines; None for a comment and for a blank line
+-- what a line parses to if `parse` parses trimmed lines; None for a comment and for a blank line
 abbrev pub reading_by : (ℕ → Text → Reading) → ℕ → Text → Option Reading
-reading_by says n line = if is_comment line then None else unless_blank says n (trim line)
+reading_by parse n line = if is_comment line then None else unless_blank parse n (trim line)
 
--- what a line says as line n
+-- what a line parses to as line n
 abbrev pub reading : ℕ → Text → Option Reading
 reading = reading_by line_reading
 
@@ -181,7 +181,7 @@ abbrev pub line_reader : Strictness → ℕ → Text → Reading
 line_reader Lenient = line_reading
 line_reader Strict = strict_line_reading
 
--- what the lines say if `read` reads one line, and the first of them is line n
+-- the readings of lines if `read` reads one line, and the first of them is line n
 unfoldable pub readings_from : (ℕ → Text → Option Reading) → ℕ → List Text → List Reading
 readings_from read n [] = []
 readings_from read n (l ∷ ls) = option_to_list (read n l) ++ readings_from read (n + 1) ls
@@ -197,10 +197,10 @@ pieces [] = []
 pieces (b ∷ s) = if b == 10 then [] ∷ pieces s else with_first b (pieces s)
 
 -- lines, each followed by a line feed
-abbrev pub fed : List Text → Text
-fed ls = flat_map (λ l. l ++ 10 ∷ []) ls
+abbrev pub with_line_feeds : List Text → Text
+with_line_feeds ls = flat_map (λ l. l ++ 10 ∷ []) ls
 
--- what a buffer says; its lines are numbered from 1, and comments and blank lines count
+-- the readings of a buffer; its lines are numbered from 1, and comments and blank lines count
 abbrev pub readings : Text → List Reading
 readings buf = readings_from reading 1 (pieces buf)
 
@@ -224,8 +224,9 @@ HoldsNo b = AllByRecursion (λ x. x ≢ b)
 -- is not empty, needs no line feed
 pub record ArePieces (s : Text) (ls : List Text) : Type 0 where
   pub no_feed : AllByRecursion (HoldsNo 10) ls
-  pub whole : (s ≡ fed ls)
-      ⊎ ((front : List Text) × (last : Text) × (ls ≡ front ++ last ∷ []) × (last ≢ []) × (s ≡ fed front ++ last))
+  pub whole : (s ≡ with_line_feeds ls)
+      ⊎ ((front : List Text) × (last : Text) × (ls ≡ front ++ last ∷ []) × (last ≢ [])
+      × (s ≡ with_line_feeds front ++ last))
 
 -- s is a, `<`, b, `>` and c, where the `<` is the first one, and the `>` the first one after it
 pub record IsCut (s a b c : Text) : Type 0 where
@@ -241,7 +242,7 @@ pub record IsUnclosed (s : Text) : Type 0 where
   pub no_opening : HoldsNo 60 before
   pub no_closing : HoldsNo 62 after
 
--- s begins with a name and an email in brackets, given here trimmed, and rest comes after the `>`
+-- s begins with a contact, whose trimmed name and email these are; rest is the text after its `>`
 pub record IsContact (s name email rest : Text) : Type 0 where
   pub before : Text
   pub between : Text
@@ -253,8 +254,8 @@ pub record IsContact (s name email rest : Text) : Type 0 where
 abbrev pub NoContact : Text → Type 0
 NoContact s = HoldsNo 60 s ⊎ IsUnclosed s
 
--- what line n, trimmed t, says if its first contact has this name and this email: there is a second contact, or only a
--- name, or neither
+-- r is what line n, trimmed t, parses to if its first contact has this name and email: there is a second contact, or
+-- only a name, or neither
 pub data IsSecondRead (n : ℕ) (t name email rest : Text) (r : Reading) : Type 0 where
   second : (old_name old_email tail : Text) → IsContact rest old_name old_email tail
       → r ≡ Ok (by_both name email old_name old_email) → IsSecondRead n t name email rest r
@@ -264,9 +265,9 @@ pub data IsSecondRead (n : ℕ) (t name email rest : Text) (r : Reading) : Type 
 -- strict parsing: a second contact without `>` is a fault with the rest as input
 pub data IsSecondReadStrictly (n : ℕ) (t name email rest : Text) (r : Reading) : Type 0 where
   open_second : IsUnclosed rest → r ≡ fault unclosed_second n rest → IsSecondReadStrictly n t name email rest r
-  as_ever : (IsUnclosed rest → ⊥) → IsSecondRead n t name email rest r → IsSecondReadStrictly n t name email rest r
+  as_lenient : (IsUnclosed rest → ⊥) → IsSecondRead n t name email rest r → IsSecondReadStrictly n t name email rest r
 
--- what line n, trimmed t, says, if Second describes how it goes on after a first contact with an email
+-- r is what line n, trimmed t, parses to, if Second describes this for lines whose first contact has an email
 pub data IsFirstRead (Second : Text → Text → Text → Reading → Type 0) (n : ℕ) (t : Text) (r : Reading) : Type 0 where
   no_bracket : HoldsNo 60 t → r ≡ fault no_email n t → IsFirstRead Second n t r
   open_first : IsUnclosed t → r ≡ fault missing_closing_bracket n t → IsFirstRead Second n t r
@@ -277,14 +278,14 @@ pub data IsFirstRead (Second : Text → Text → Text → Reading → Type 0) (n
 abbrev pub IsComment : Text → Type 0
 IsComment line = (after : Text) × (line ≡ 35 ∷ after)
 
--- what a line says, or None, if Says describes what its trimmed text says
-pub data IsReadBy (Says : Text → Reading → Type 0) (line : Text) (o : Option Reading) : Type 0 where
-  comment : IsComment line → o ≡ None → IsReadBy Says line o
-  blank : (IsComment line → ⊥) → IsTrimmed line [] → o ≡ None → IsReadBy Says line o
-  said : (t : Text) (r : Reading) → (IsComment line → ⊥) → IsTrimmed line t → t ≢ [] → Says t r → o ≡ Some r
-      → IsReadBy Says line o
+-- o is what a line parses to, or None, if Parses describes this for its trimmed text
+pub data IsReadBy (Parses : Text → Reading → Type 0) (line : Text) (o : Option Reading) : Type 0 where
+  comment : IsComment line → o ≡ None → IsReadBy Parses line o
+  blank : (IsComment line → ⊥) → IsTrimmed line [] → o ≡ None → IsReadBy Parses line o
+  non_blank : (t : Text) (r : Reading) → (IsComment line → ⊥) → IsTrimmed line t → t ≢ [] → Parses t r → o ≡ Some r
+      → IsReadBy Parses line o
 
--- what the line says as line n, by cases; each line is exactly one of them
+-- what the line parses to as line n, by cases; each line is exactly one of them
 abbrev pub IsRead : ℕ → Text → Option Reading → Type 0
 IsRead n = IsReadBy (λ t. IsFirstRead (IsSecondRead n t) n t)
 

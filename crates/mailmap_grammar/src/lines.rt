@@ -88,7 +88,8 @@ pub fn parse_ignore_errors(buf: &[u8]) -> GoodLines<'_>
 #[derive(Drop)]
 pub struct Lines<'a> {
     lines: bstr::Lines<'a>,
-    line_no: usize,
+    // the number of the line that was parsed last
+    line_number: usize,
     strictness: Strictness,
 }
 
@@ -107,9 +108,9 @@ impl<'a> Model for Lines<'a> {
 
     ghost Value = { List Reading };
 
-    ghost view = { λ s. readings_from (reading_by (line_reader s.strictness)) (s.line_no + 1) s.lines };
+    ghost view = { λ s. readings_from (reading_by (line_reader s.strictness)) (s.line_number + 1) s.lines };
 
-    ghost invariant = { λ s. s.line_no + length s.lines < 2 ^ 64 };
+    ghost invariant = { λ s. s.line_number + length s.lines < 2 ^ 64 };
 }
 
 impl<'a> Lines<'a> {
@@ -121,7 +122,7 @@ impl<'a> Lines<'a> {
     {
         Lines {
             lines: buf.lines(),
-            line_no: 0,
+            line_number: 0,
             strictness,
         }
     }
@@ -135,13 +136,13 @@ impl<'a> Iterator for Lines<'a> {
     ghost remaining = { item_count (λ s. s) };
 
     fn next(&mut self) -> Option<Result<Entry<'a>, Error<'a>>> {
-        self.line_no += skip_silent(&mut self.lines);
-        while let Some(line) = self.lines.next() {
-            self.line_no += 1;
-            if let Some(item) = read_line(line, self.line_no, self.strictness) {
+        self.line_number += skip_silent(&mut self.lines);
+        while let Some(text) = self.lines.next() {
+            self.line_number += 1;
+            if let Some(item) = read_line(text, self.line_number, self.strictness) {
                 return Some(item);
             }
-            self.line_no += skip_silent(&mut self.lines);
+            self.line_number += skip_silent(&mut self.lines);
         }
         None
     }
@@ -202,7 +203,8 @@ pub enum Error<'a> {
     #[error("{line}: Emails without a name or email to map to are invalid")]
     NothingToMap { line: usize, input: &'a [u8] },
     /// There is no `>` after the second `<`, as in `Jane <a@x> <b`. `input` is the text after the `>` of the first
-    /// contact, up to the end of the trimmed line. Only strict parsing reports this fault: [`parse_strict`], or [`read_line`] if called so.
+    /// contact, up to the end of the trimmed line. Only strict parsing reports this fault: [`parse_strict`], or
+    /// [`read_line`] with [`Strictness::Strict`].
     #[error("{line}: Missing closing bracket '>' in second email")]
     UnclosedSecond { line: usize, input: &'a [u8] },
 }
@@ -240,8 +242,8 @@ impl<'a> Error<'a> {
 
 /// Parses one line. `None` means a comment or a blank line.
 ///
-/// `line` is the number that a fault shows. `text` may end with a line feed or a carriage return, which are trimmed
-/// like other white space. `Jane <j@x>` gives the entry that maps `j@x` to `Jane`.
+/// `line` is the line's number, which a fault shows. `text` may end with a line feed or a carriage return, which are
+/// trimmed like other white space. `Jane <j@x>` gives the entry that maps `j@x` to `Jane`.
 #[inline(always)]
 pub fn read_line(
     text: &[u8],
@@ -256,7 +258,7 @@ pub fn read_line(
     }
 }
 
-/// Parses one line, and keeps the text after the last email that counts.
+/// Parses the line with this number, and keeps the text after the last email that counts.
 #[inline(always)]
 pub(crate) fn read_with_trailing(
     text: &[u8],

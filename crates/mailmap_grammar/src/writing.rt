@@ -3,7 +3,7 @@ ghost use Rattle.std.specs.Prelude.{◌≡◌, ◌≢◌, ◌++◌, ◌∷◌, �
 ghost use Rattle.std.specs.Prelude.{MatchOption, option_map, unwrap_or};
 ghost use Rattle.std.specs.Option.{option_copied};
 ghost use Rattle.mailmap_grammar.specs.CanonicalText.{IsWritable, IsWritableName, IsWritableEmail, name_part};
-ghost use Rattle.mailmap_grammar.specs.CanonicalText.{bracketed_email, email_part, line};
+ghost use Rattle.mailmap_grammar.specs.CanonicalText.{bracketed_email, email_part, canonical_line};
 ghost use Rattle.mailmap_entries.specs.Entries.{mapping_of};
 ghost use Rattle.mailmap_grammar.specs.Lines.{HoldsNo};
 ghost use Rattle.mailmap_grammar.specs.Trimming.{trim as spec_trim};
@@ -69,7 +69,8 @@ fn is_line_without(text: &[u8], byte: u8) -> bool
 
 /// The sum of `len` and the length of the entry's line, `None` if it overflows.
 pub fn len_with_line(len: usize, entry: &Entry<'_>) -> Option<usize>
-    ensures { let all = len + length (line (mapping_of entry.now)) in MatchOption result (2 ^ 64 ≤ all) (λ n. n ≡ all) }
+    ensures { let all = len + length (canonical_line (mapping_of entry.now))
+        in MatchOption result (2 ^ 64 ≤ all) (λ n. n ≡ all) }
 {
     // What is written beside the texts: a space; brackets and a space; a space; brackets, the space at the start of the
     // line and the line feed.
@@ -79,20 +80,20 @@ pub fn len_with_line(len: usize, entry: &Entry<'_>) -> Option<usize>
     len_with_part(len, Some(entry.old_email()), 4)
 }
 
-// Adds `beside` and the length of the text to `len`, if there is a text. `None` if the sum overflows.
-fn len_with_part(len: usize, text: Option<&[u8]>, beside: usize) -> Option<usize>
-    ensures { let all = len + unwrap_or (option_map (λ t. length t + beside) (option_copied text.entry)) 0
+// Adds `extra` and the length of the text to `len`, if there is a text. `None` if the sum overflows.
+fn len_with_part(len: usize, text: Option<&[u8]>, extra: usize) -> Option<usize>
+    ensures { let all = len + unwrap_or (option_map (λ t. length t + extra) (option_copied text.entry)) 0
         in MatchOption result (2 ^ 64 ≤ all) (λ n. n ≡ all) }
 {
     match text {
-        Some(text) => len.checked_add(text.len())?.checked_add(beside),
+        Some(text) => len.checked_add(text.len())?.checked_add(extra),
         None => Some(len),
     }
 }
 
 /// Appends the line of an entry to the output.
 pub fn push_line(out: &mut Vec<u8>, entry: &Entry<'_>) -> Result<(), AllocError>
-    ensures { OnOk result (out.new.items ≡ out.old.items ++ line (mapping_of entry.now)) }
+    ensures { OnOk result (out.new.items ≡ out.old.items ++ canonical_line (mapping_of entry.now)) }
 {
     push_new_fields(out, entry)?;
     push_old_fields(out, entry)

@@ -69,7 +69,7 @@ pushed (x ∷ ks) k up above =
 
 -- ---- a key that is not above the last one
 
--- the last key has the email of k if it lies between the key of this email and k
+-- a last key that is neither below the key of the email of k nor above k has this email
 same_email : (l k : Key) → is_lt (key_cmp l (email_key k.0)) ≡ false → is_lt (key_cmp k l) ≡ false → l.0 ≡ k.0
 same_email l k not_above reached =
     elim (text_cmp l.0 k.0) as (λ o. text_cmp l.0 k.0 ≡ o → l.0 ≡ k.0) [
@@ -100,7 +100,7 @@ own_email_first k =
 
 -- ---- pushing both keys of an entry
 
--- first the key of its email, then its own
+-- pushing the key of its email, and then its own key
 module _ (ks : List Key) (k : Key) (is_above : Bool) (ks' : List Key) where
   pub keeps : {q : Key} → IsPushed ks q is_above ks' → (l : Key) (i : ℕ) → IsNumber ks l i → IsNumber ks' l i
   keeps {q} p l i n =

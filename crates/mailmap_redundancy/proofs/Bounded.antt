@@ -36,7 +36,7 @@ and_carry true q true s e f g = g e
 and_carry true q false s e f g = absurd (true≢false (sym (f refl)))
 and_carry false q r s e f g = absurd (true≢false (sym e))
 
--- unchanged, or gone
+-- the second value is the first one, or None
 abbrev AsBefore : {X : Type 0} → Option X → Option X → Type 0
 AsBefore old new = (new ≡ old) ⊎ (new ≡ None)
 
@@ -184,8 +184,8 @@ one_goes a b e f none =
 
 -- ---- a pass as a list of kept and dropped entries
 
--- A pass over the fourth list leaves the fifth, having begun with the entries in the first and kept those in the
--- second. Q holds for each entry that is dropped.
+-- A pass that has kept the entries in the first list goes over those in the fourth, and keeps those in the fifth. Q
+-- holds for each entry that it drops.
 data Walks (Q : List LocatedMapping → LocatedMapping → Type 0) : List LocatedMapping → List LocatedMapping → List LocatedMapping → List LocatedMapping → Type 0 where
   ends : (seen kept : List LocatedMapping) → Walks Q seen kept [] []
   drops : (seen kept : List LocatedMapping) (x : LocatedMapping) (xs left : List LocatedMapping) → Q seen x → IsRedundant (entries kept) x.entry (entries xs) → Walks Q (seen ++ x ∷ []) kept xs left
@@ -213,7 +213,7 @@ none_drops _ _ _ _ (keeps seen kept x xs left busy w) = ap (λ l. x ∷ l) (none
 accepted_if : (a : List Mapping) (e : Mapping) (c : List Mapping) → (IsRedundant a e c → ⊥) → is_accepted e ≡ true
 accepted_if a e c busy = either (is_accepted e) (λ own. own) (λ other. absurd (busy (unaccepted_redundant a e c other)))
 
--- what the remaining entries have, all entries had
+-- a key or an email that the remaining entries set a field for has one in all entries, too
 record Gives (all left : List Mapping) : Type 0 where
   lasts : (k : Key) → is_some (key_summary left k).last ≡ true → is_some (key_summary all k).last ≡ true
   names : (k : Key) → is_some (key_summary left k).name ≡ true → is_some (key_summary all k).name ≡ true
@@ -275,7 +275,7 @@ module _ (Q R : List LocatedMapping → LocatedMapping → Type 0) (first_of_key
 
 -- ---- why an entry is dropped only now
 
--- otherwise the pass before would have dropped it
+-- an entry that a pass drops, though the pass before kept it
 module _ (kept next : List LocatedMapping) (x : LocatedMapping) (xs left : List LocatedMapping) (busy : IsRedundant (entries kept) x.entry (entries xs) → ⊥)
     (follows : Follows (entries kept) (entries next)) (gives : Gives (entries xs) (entries left)) (redundant : IsRedundant (entries next) x.entry (entries left)) where
   abbrev own : Key

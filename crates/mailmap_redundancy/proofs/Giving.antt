@@ -8,7 +8,7 @@ use Rattle.std.specs.Ordering.{eq_by_cmp, is_eq}
 use Rattle.std.proofs.lemmas.List.Elements.{All-filter, All-from_recursion, filter_passes, recursion_from_All}
 use Rattle.mailmap_entries.specs.Entries.{Mapping}
 use Rattle.mailmap_entries.specs.Folding.{Text, folded, text_cmp}
-use Rattle.mailmap_entries.specs.Semantics.{Fields, Key, accepted, answered, first, is_accepted, key, key_cmp, last, last_given, new_fields, of_email, of_key, respelled, answer_of, unless_empty}
+use Rattle.mailmap_entries.specs.Semantics.{Fields, Key, accepted, fields_with_spelling, first, is_accepted, key, key_cmp, last, last_given, new_fields, of_email, of_key, respelled, answer_of, unless_empty}
 use Rattle.mailmap_entries.proofs.Parts.{all_head, all_last, all_mapped, all_tail, and_then-flatten, filter-filter, filter_all, last_of_one}
 use Rattle.mailmap_batches.proofs.Stable.{filter-map}
 use Rattle.mailmap_redundancy.specs.Origins.{entries_of_email, given, origins, last_or_all, last_with, needed, those_that_count, with_spelling}
@@ -142,7 +142,7 @@ first_of_two (Some x) p q _ = refl
 
 -- the first entry's spelling counts if no entry sets an email
 spelled : (email : Text) (name : Option Text) (origin head : Option LocatedMapping) → is_some origin ≡ is_some (option_and_then (λ x. x.entry.new_email) origin) → (head ≡ None → (name ≡ None) × (origin ≡ None))
-    → answered email (record { name = name; email = option_and_then (λ x. x.entry.new_email) origin }) (option_map (λ e. e.old_email) (option_map (λ x. x.entry) head))
+    → fields_with_spelling email (record { name = name; email = option_and_then (λ x. x.entry.new_email) origin }) (option_map (λ e. e.old_email) (option_map (λ x. x.entry) head))
     ≡ unless_empty (record {
       name = name;
       email = option_or (option_and_then (λ x. x.entry.new_email) origin) (option_and_then (λ x. respelled x.entry.old_email email) (cond (is_some origin) None head));
@@ -168,7 +168,7 @@ origins_answer kept name email all =
     ∙ count (last (entries_of_key kept n)) (entries_of_key kept u) in
     let head : first (of_email (entries kept) (folded email)) ≡ option_map (λ x. x.entry) (first (entries_of_email kept (folded email))) =
     ap first (located_email kept all (folded email)) ∙ first-map (λ (x : LocatedMapping). x.entry) (entries_of_email kept (folded email)) in
-    ap₂ (λ f o. answered email f (option_map (λ e. e.old_email) o)) fields head
+    ap₂ (λ f o. fields_with_spelling email f (option_map (λ e. e.old_email) o)) fields head
     ∙ spelled email (fields_that_count those).name (last_with (λ e. e.new_email) those) (first (entries_of_email kept (folded email))) (gives (λ e. e.new_email) those) nobody
   where
     no_head : {X : Type 0} (xs : List X) → first xs ≡ None → xs ≡ []

@@ -24,7 +24,7 @@ use Rattle.mailmap_redundancy.proofs.Sublists.{sublist_itself, sublist_keep, sub
 abbrev pub IndexedEntry : Type 0
 IndexedEntry = List LocatedMapping
 
--- an entry moves from those still to come to those kept
+-- moving an entry from the remaining ones to the kept ones
 pub entries_kept : (kept : IndexedEntry) (x : LocatedMapping) (xs : IndexedEntry) → entries (kept ++ x ∷ []) ++ entries xs ≡ entries kept ++ x.entry ∷ entries xs
 entries_kept kept x xs = ap (λ l. l ++ entries xs) (map-append (λ (y : LocatedMapping). y.entry) kept (x ∷ [])) ∙ append_assoc (entries kept) (x.entry ∷ []) (entries xs)
 
@@ -47,7 +47,7 @@ reduced_normal _ _ n (again xs some kept p s) =
     let rest = reduced_normal some kept n s in
     (λ d. rest.0 (first.0 d), λ d. first.1 (rest.1 d))
 
--- so answers are the same
+-- effective entries give the same answers
 pub reduced_scan : (xs kept : IndexedEntry) (name email : Text) → AreEffective xs kept → answer_of (entries kept) name email ≡ answer_of (entries xs) name email
 reduced_scan xs kept name email s =
     let n = normal (entries xs) in
@@ -61,7 +61,7 @@ pass_length _ _ _ (done kept) = omega arith
 pass_length _ _ _ (goes kept x xs out redundant p) = omega (arith, pass_length kept xs out p)
 pass_length _ _ _ (stays kept x xs out busy p) = omega (arith, pass_length (kept ++ x ∷ []) xs out p, length-append kept (x ∷ []))
 
--- no entry of the second list is redundant, once those before it are kept
+-- no entry of the second list is redundant between the entries before it, with the first list in front, and those after it
 abbrev pub NoneRedundant : IndexedEntry → IndexedEntry → Type 0
 NoneRedundant kept [] = Unit {0}
 NoneRedundant kept (x ∷ xs) = (IsRedundant (entries kept) x.entry (entries xs) → ⊥) × NoneRedundant (kept ++ x ∷ []) xs

@@ -13,8 +13,8 @@ use Rattle.mailmap_redundancy.specs.declared.table.Table.{Table}
 use Rattle.mailmap_redundancy.proofs.Redundant.{redundant_decides}
 use Rattle.mailmap_redundancy.proofs.Walked.{same_ends, mappings_next}
 
--- Before entry i: the results of each_later that remain, the table of the kept entries, and that a pass over the
--- remaining entries completes the whole pass.
+-- The state before entry i: the remaining results of each_later, the table of the kept entries, and the fact that a
+-- pass over the remaining entries completes the whole pass.
 pub record IsPassing (keys : List Key) (all : List NumberedEntry) (i : ℕ) (later_ones : List Later) (before : Table)
     (kept : List NumberedEntry) : Type 0 where
   pub asked : later_ones ≡ later_of_each (mappings (drop i all))

@@ -42,7 +42,7 @@ row_changed {X} keys key_of view f g rows x i z up one table is new others y j n
           )
     ] refl
 
--- the table of no entry: all rows are the same
+-- before the first entry, all rows of the table are equal
 pub blank : {X Y Z : Type 0} (keys : List Key) (key_of : X → Key) (view : Z → Y) (f : X → Y) (z : Z)
     (rows : List Z) (n : ℕ) → rows ≡ replicate n z → n ≡ length keys → ((x : X) → view z ≡ f x) → IsTableOf keys key_of f view rows
 blank keys key_of view f z rows n is counted says x i number =

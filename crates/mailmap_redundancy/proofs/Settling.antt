@@ -1,9 +1,9 @@
--- Repeated passes.
+-- Passes that are repeated until one drops nothing.
 use Rattle.std.proofs.Common.{◌≡◌, ◌≤◌, ℕ, List, [], length, sym, subst, arith}
 use Rattle.mailmap_redundancy.specs.Redundancy.{LocatedMapping, IsPass, AreEffective, settled, again}
 use Rattle.mailmap_redundancy.proofs.Kept.{pass_whole}
 
--- the latest pass went over `len` entries, which earlier passes left, and kept these
+-- the last pass went over `len` entries, and kept the entries `kept`; passes before it may have dropped others
 pub record IsSettling (history : List LocatedMapping) (len : ℕ) (kept : List LocatedMapping) : Type 0 where
   pub some : List LocatedMapping
   pub counted : length some ≡ len

@@ -1,4 +1,4 @@
--- Sublists.
+-- Lists that have some elements of another list, in its order.
 use Rattle.std.proofs.Common.{◌≡◌, Less, List, [], ◌∷◌, ◌++◌, map, Ordering}
 use Rattle.std.specs.List.{AllByRecursion, Contains}
 use Rattle.std.specs.List.Sorted.{IsStrictlySortedBy}

@@ -14,7 +14,7 @@ use Rattle.mailmap_redundancy.proofs.Keyed.{unequal_emails, unequal_keys}
 
 -- ---- one step
 
--- of a loop forwards, and of one backwards
+-- the entries before the index after one step forwards, and those from it on after one step backwards
 pub mappings_more : (xs : List NumberedEntry) (i : ℕ) (x : NumberedEntry) → i < length xs → x ≡ get_or xs i x
     → mappings (take (i + 1) xs) ≡ mappings (take i xs) ++ located_entry_of x ∷ []
 mappings_more xs i x within is =

@@ -7,11 +7,11 @@ use Rattle.std.proofs.lemmas.Str.Parse.{IsNumeralModel, numerals_by_weight, not_
 use Rattle.std.specs.Result.{OkIff, result_ok}
 use Rattle.std.specs.Str.Parse.{ParsesSigned}
 use Rattle.mailmap_entries.specs.Folding.{Text}
-use Rattle.mailmap_signatures.specs.Times.{AreDigits, number, signed, SpellsSeconds, SpellsOffset, Spells, IsTimeOf}
+use Rattle.mailmap_signatures.specs.Times.{AreDigits, decimal_value, signed, SpellsSeconds, SpellsOffset, Spells, IsTimeOf}
 use Rattle.mailmap_signatures.specs.declared.date.Time.{Time}
 
 -- `parse` reads decimal digits as this number
-decimals : IsNumeralModel AreDigits number
+decimals : IsNumeralModel AreDigits decimal_value
 decimals = numerals_by_weight _ (search rules) _ (search rules)
 
 -- x doesn't occur in the text
@@ -37,7 +37,7 @@ same_cut x (y ∷ a) (z ∷ b) c d p q e =
     let parts : a ≡ b = rest.0 in
     (cc, rest.1)
 
--- after a `-`, all is digits
+-- the text after a `-` is the digits
 minus_form : (negative : Bool) (text digits : Text) → 45 ∷ text ≡ cond negative (45 ∷ digits) digits → AreDigits digits → (negative ≡ true) × (digits ≡ text)
 minus_form true text digits e are = (refl, cc)
 minus_form false text digits e are =
@@ -45,7 +45,7 @@ minus_form false text digits e are =
     let some : 0 < length digits = omega (arith, ap length e) in
     absurd (Lacks-digits 45 digits (omega arith) are 0 some first)
 
--- without a `-` in front, all is digits
+-- a text without a `-` in front is the digits
 plain_form : (negative : Bool) (text digits : Text) → text ≡ cond negative (45 ∷ digits) digits → get_or text 0 0 ≢ 45 → (negative ≡ false) × (digits ≡ text)
 plain_form true text digits e other = absurd (other (ap (λ t. get_or t 0 0) e))
 plain_form false text digits e other = (refl, sym e)
@@ -57,19 +57,19 @@ record IsDigitsOf (digits : Text) (spelled seconds : ℤ) : Type 0 where
   fits : FitsSigned w64 seconds
 
 -- the digits, once the sign is known
-digits_of : (negative : Bool) (digits text : Text) (seconds : ℤ) (s : SpellsSeconds text seconds) → (s.negative ≡ negative) × (s.digits ≡ digits) → IsDigitsOf digits (signed negative (number digits)) seconds
+digits_of : (negative : Bool) (digits text : Text) (seconds : ℤ) (s : SpellsSeconds text seconds) → (s.negative ≡ negative) × (s.digits ≡ digits) → IsDigitsOf digits (signed negative (decimal_value digits)) seconds
 digits_of negative digits text seconds s form = record {
   are = rw form.1 at s.are_digits;
-  value = s.value ∙ ap (λ b. signed b (number s.digits)) form.0 ∙ ap (λ ds. signed negative (number ds)) form.1;
+  value = s.value ∙ ap (λ b. signed b (decimal_value s.digits)) form.0 ∙ ap (λ ds. signed negative (decimal_value ds)) form.1;
   fits = s.fits;
 }
 
--- after a `-`
-minus_digits : (text rest : Text) (seconds : ℤ) → text ≡ 45 ∷ rest → SpellsSeconds text seconds → IsDigitsOf rest (neg_ℤ (pos (number rest))) seconds
+-- the digits after a `-`, and their value
+minus_digits : (text rest : Text) (seconds : ℤ) → text ≡ 45 ∷ rest → SpellsSeconds text seconds → IsDigitsOf rest (neg_ℤ (pos (decimal_value rest))) seconds
 minus_digits text rest seconds e s = digits_of true rest text seconds s (minus_form s.negative rest s.digits (sym e ∙ s.whole) s.are_digits.0)
 
--- without a sign
-plain_digits : (text : Text) (seconds : ℤ) → get_or text 0 0 ≢ 45 → SpellsSeconds text seconds → IsDigitsOf text (pos (number text)) seconds
+-- the digits of a text without a sign, and their value
+plain_digits : (text : Text) (seconds : ℤ) → get_or text 0 0 ≢ 45 → SpellsSeconds text seconds → IsDigitsOf text (pos (decimal_value text)) seconds
 plain_digits text seconds other s = digits_of false text text seconds s (plain_form s.negative text s.digits s.whole other)
 
 -- a text whose first byte is a `-`
@@ -89,9 +89,9 @@ Lacks-seconds text seconds s = ⊎_elim
 
 -- the seconds of a text, depending on whether it begins with a `-`
 abbrev seconds_at : Text → ℤ
-seconds_at text = cond (get_or text 0 0 == 45) (neg_ℤ (pos (number (drop 1 text)))) (pos (number text))
+seconds_at text = cond (get_or text 0 0 == 45) (neg_ℤ (pos (decimal_value (drop 1 text)))) (pos (decimal_value text))
 
--- so a text determines its seconds
+-- a text determines its seconds
 seconds-value : (text : Text) (seconds : ℤ) → SpellsSeconds text seconds → seconds ≡ seconds_at text
 seconds-value text seconds s = ⊎_elim
     (λ minus. (minus_digits text (drop 1 text) seconds (minus_first text minus) s).value ∙ sym (cond-true _ _ _ (eq-eqb _ _ minus)))
@@ -100,13 +100,13 @@ seconds-value text seconds s = ⊎_elim
 
 -- the offset of a text, depending on its sign
 abbrev offset_at : Text → ℤ
-offset_at text = signed (get_or text 0 0 == 45) ((number (take 2 (drop 1 text)) * 60 + number (drop 3 text)) * 60)
+offset_at text = signed (get_or text 0 0 == 45) ((decimal_value (take 2 (drop 1 text)) * 60 + decimal_value (drop 3 text)) * 60)
 
-offset-cases : (negative : Bool) (hours minutes : Text) → length hours ≡ 2 → signed negative ((number hours * 60 + number minutes) * 60) ≡ offset_at (cond negative 45 43 ∷ (hours ++ minutes))
+offset-cases : (negative : Bool) (hours minutes : Text) → length hours ≡ 2 → signed negative ((decimal_value hours * 60 + decimal_value minutes) * 60) ≡ offset_at (cond negative 45 43 ∷ (hours ++ minutes))
 offset-cases true hours minutes two = rw (take_at hours minutes 2 two, drop_at hours minutes 2 two)
 offset-cases false hours minutes two = rw (take_at hours minutes 2 two, drop_at hours minutes 2 two)
 
--- so a text determines its offset
+-- a text determines its offset
 offset-value : (text : Text) (offset : ℤ) → SpellsOffset text offset → offset ≡ offset_at text
 offset-value text offset o = o.value ∙ offset-cases o.negative o.hours o.minutes o.are_hours.1 ∙ ap offset_at (sym o.whole)
 
@@ -119,27 +119,27 @@ fits_minus : (n : ℕ) → n ≤ 2 ^ 63 → FitsSigned w64 (neg_ℤ (pos n))
 fits_minus zero le = record { sfits = omega arith }
 fits_minus (suc n) le = record { sfits = omega arith }
 
--- and no number below it fits
+-- no number below that fits
 fits_minus-le : (n : ℕ) → FitsSigned w64 (neg_ℤ (pos n)) → n ≤ 2 ^ 63
 fits_minus-le zero f = omega arith
 fits_minus-le (suc n) f = let h = f.sfits in omega arith
 
 -- what `parse` gives for a text that begins with `-`
-parse-minus : {E : Type 0} (text rest : Text) (r : Result ℤ E) → text ≡ 45 ∷ rest → OkIff r (AreDigits rest × (0 < length rest) × (number rest ≤ 2 ^ 63)) (neg_ℤ (pos (number rest))) → IsSecondsOf text r
+parse-minus : {E : Type 0} (text rest : Text) (r : Result ℤ E) → text ≡ 45 ∷ rest → OkIff r (AreDigits rest × (0 < length rest) × (decimal_value rest ≤ 2 ^ 63)) (neg_ℤ (pos (decimal_value rest))) → IsSecondsOf text r
 parse-minus text rest (Ok seconds) e h = record {
   negative = true;
   digits = rest;
   whole = e;
   are_digits = (h.0.0, h.0.1);
   value = h.1;
-  fits = rw h.1 (fits_minus (number rest) h.0.2);
+  fits = rw h.1 (fits_minus (decimal_value rest) h.0.2);
 }
 parse-minus text rest (Err why) e h = λ seconds s.
     let d = minus_digits text rest seconds e s in
-    h (d.are.0, d.are.1, fits_minus-le (number rest) (rw d.value at d.fits))
+    h (d.are.0, d.are.1, fits_minus-le (decimal_value rest) (rw d.value at d.fits))
 
 -- what `parse` gives for a text without a sign
-parse-plain : {E : Type 0} (text : Text) (r : Result ℤ E) → get_or text 0 0 ≢ 45 → OkIff r (AreDigits text × (0 < length text) × (number text < 2 ^ 63)) (pos (number text)) → IsSecondsOf text r
+parse-plain : {E : Type 0} (text : Text) (r : Result ℤ E) → get_or text 0 0 ≢ 45 → OkIff r (AreDigits text × (0 < length text) × (decimal_value text < 2 ^ 63)) (pos (decimal_value text)) → IsSecondsOf text r
 parse-plain text (Ok seconds) other h = record {
   negative = false;
   digits = text;
@@ -153,14 +153,14 @@ parse-plain text (Err why) other h = λ seconds s.
     let fits = rw d.value at d.fits in
     h (d.are.0, d.are.1, fits.sfits)
 
--- so `parse` gives what the text spells, unless it begins with `+`
+-- `parse` gives the seconds that the text spells, unless it begins with `+`
 pub seconds-parse : {E : Type 0} (text : Text) (r : Result ℤ E) → ParsesSigned w64 10 text r → get_or text 0 0 ≢ 43 → IsSecondsOf text r
 seconds-parse text r p no_plus = ⊎_elim
     (λ minus. parse-minus text (drop 1 text) r (minus_first text minus) (parse_signed_minus decimals w64 text r p minus))
     (λ other. parse-plain text r other (parse_signed_plain decimals w64 text r p no_plus other))
     (cases_eq (get_or text 0 0) 45)
 
--- this holds if the error is dropped, too
+-- the result without its error is the seconds that the text spells
 pub seconds-ok : {E : Type 0} (text : Text) (r : Result ℤ E) (o : Option ℤ) → IsSecondsOf text r → o ≡ result_ok r → MatchOption o ((seconds : ℤ) → ¬ SpellsSeconds text seconds) (SpellsSeconds text)
 seconds-ok text (Ok seconds) o h e = rw e h
 seconds-ok text (Err why) o h e = rw e h
@@ -176,7 +176,7 @@ Spells-unique text a b s t =
     let offset : a.offset ≡ b.offset = offset-value s.back a.offset s.offset ∙ ap offset_at cut.1 ∙ sym (offset-value t.back b.offset t.offset) in
     ap (λ seconds. time_of seconds a.offset) seconds ∙ ap (time_of b.seconds) offset
 
--- so a signature's text determines its time
+-- a signature's text determines its time
 pub IsTimeOf-unique : (text : Text) (a b : Time) → IsTimeOf text a → IsTimeOf text b → a ≡ b
 IsTimeOf-unique text a b s t = ⊎_elim
     (λ spelled. ⊎_elim (λ other. Spells-unique text a b spelled other) (λ none. absurd (none.0 a spelled)) t)
@@ -184,8 +184,8 @@ IsTimeOf-unique text a b s t = ⊎_elim
     s
 
 -- a text without a space spells no time
-pub Spells-no_blank : (text : Text) → Lacks 32 text → (time : Time) → ¬ Spells text time
-Spells-no_blank text lacks time s =
+pub Spells-no_space : (text : Text) → Lacks 32 text → (time : Time) → ¬ Spells text time
+Spells-no_space text lacks time s =
     let index : get_or text (length s.front) 0 ≡ 32 = ap (λ t. get_or t (length s.front) 0) s.whole ∙ get_or-append_seam s.front 32 s.back 0 in
     let inside : length s.front < length text = omega (arith, ap length s.whole, length-append s.front (32 ∷ s.back)) in
     lacks (length s.front) inside index

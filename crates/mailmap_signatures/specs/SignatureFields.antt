@@ -45,12 +45,12 @@ pub record BorrowsBoth (s : Signature) : Type 0 where
   pub email : IsBorrowedSlice s.email
 
 -- a signature that borrows the texts of `from`, with its time
-pub record IsTakenFrom (from : SignatureRef) (s : Signature) : Type 0 where
+pub record BorrowsTextsOf (from : SignatureRef) (s : Signature) : Type 0 where
   pub borrowed : BorrowsBoth s
   pub name : cow_slice_items s.name ≡ from.name.now
   pub email : cow_slice_items s.email ≡ from.email.now
   pub time : IsTimeOf from.time.now s.time
 
 -- b is owned if a is, and borrowed if a is
-abbrev pub IsHeldAs : CowSlice ℕ Global → CowSlice ℕ Global → Type 0
-IsHeldAs a b = (IsOwnedSlice a → IsOwnedSlice b) × (IsBorrowedSlice a → IsBorrowedSlice b)
+abbrev pub HasOwnershipOf : CowSlice ℕ Global → CowSlice ℕ Global → Type 0
+HasOwnershipOf a b = (IsOwnedSlice a → IsOwnedSlice b) × (IsBorrowedSlice a → IsBorrowedSlice b)

@@ -14,9 +14,9 @@ abbrev pub AreDigits : Text → Type 0
 AreDigits = AllByRecursion IsAsciiDigit
 
 -- the number that decimal digits spell
-abbrev pub number : Text → ℕ
-number [] = 0
-number (d ∷ ds) = (d - 48) * 10 ^ length ds + number ds
+abbrev pub decimal_value : Text → ℕ
+decimal_value [] = 0
+decimal_value (d ∷ ds) = (d - 48) * 10 ^ length ds + decimal_value ds
 
 abbrev pub signed : Bool → ℕ → ℤ
 signed negative n = if negative then neg_ℤ (pos n) else pos n
@@ -27,7 +27,7 @@ pub record SpellsSeconds (text : Text) (seconds : ℤ) : Type 0 where
   pub digits : Text
   pub whole : text ≡ (if negative then 45 ∷ digits else digits)
   pub are_digits : AreDigits digits × (0 < length digits)
-  pub value : seconds ≡ signed negative (number digits)
+  pub value : seconds ≡ signed negative (decimal_value digits)
   pub fits : FitsSigned w64 seconds
 
 -- a `-` or a `+`, any two digits of hours and any two digits of minutes
@@ -38,7 +38,7 @@ pub record SpellsOffset (text : Text) (offset : ℤ) : Type 0 where
   pub whole : text ≡ (if negative then 45 else 43) ∷ (hours ++ minutes)
   pub are_hours : AreDigits hours × (length hours ≡ 2)
   pub are_minutes : AreDigits minutes × (length minutes ≡ 2)
-  pub value : offset ≡ signed negative ((number hours * 60 + number minutes) * 60)
+  pub value : offset ≡ signed negative ((decimal_value hours * 60 + decimal_value minutes) * 60)
 
 -- seconds, one space and an offset
 pub record Spells (text : Text) (time : Time) : Type 0 where
@@ -49,8 +49,8 @@ pub record Spells (text : Text) (time : Time) : Type 0 where
   pub offset : SpellsOffset back time.offset
 
 -- parsing a text gives the time that it spells, or None if it spells none
-abbrev pub Reads : Text → Option Time → Type 0
-Reads text read = MatchOption read ((time : Time) → ¬ Spells text time) (Spells text)
+abbrev pub ParsesTime : Text → Option Time → Type 0
+ParsesTime text read = MatchOption read ((time : Time) → ¬ Spells text time) (Spells text)
 
 -- zero in both fields: the beginning of 1970, on a clock set to UTC
 abbrev pub epoch : Time

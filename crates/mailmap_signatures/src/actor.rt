@@ -1,5 +1,5 @@
 //! The author or committer of a commit: a name, an email and a time.
-ghost use Rattle.mailmap_signatures.specs.Times.{IsTimeOf, Reads};
+ghost use Rattle.mailmap_signatures.specs.Times.{IsTimeOf, ParsesTime};
 
 use crate::date::Time;
 
@@ -20,7 +20,7 @@ pub struct SignatureRef<'a> {
 impl SignatureRef<'_> {
     /// Parses the time as [`Time::read`] does: `None` if the text isn't in git's format.
     pub fn time(&self) -> Option<Time>
-        ensures { Reads self.now.time.now result }
+        ensures { ParsesTime self.now.time.now result }
     {
         Time::read(self.time)
     }

@@ -2,7 +2,7 @@
 ghost use Rattle.std.specs.Prelude.{◌≡◌, ◌⊎◌, IfOk, OnErr};
 ghost use Rattle.std.specs.Cow.{cow_slice_items, IsOwnedSlice, IsBorrowedSlice};
 ghost use Rattle.mailmap_signatures.specs.SignatureFields.{owned_fields, cow_fields, empty_fields, BorrowsBoth};
-ghost use Rattle.mailmap_signatures.specs.SignatureFields.{IsTakenFrom, IsHeldAs};
+ghost use Rattle.mailmap_signatures.specs.SignatureFields.{BorrowsTextsOf, HasOwnershipOf};
 
 use crate::actor;
 use crate::actor::SignatureRef;
@@ -39,7 +39,7 @@ impl Default for Signature<'_> {
 
 /// Borrows the texts, and parses the time. A time that can't be parsed becomes the default time.
 impl<'a> From<SignatureRef<'a>> for Signature<'a> {
-    ghost from_gives = { IsTakenFrom };
+    ghost from_gives = { BorrowsTextsOf };
 
     fn from(signature: SignatureRef<'a>) -> Self {
         Signature {
@@ -56,8 +56,8 @@ impl<'a> Signature<'a> {
     /// Only owned texts need memory, so copying a signature with two borrowed texts always succeeds.
     pub fn try_clone(&self, alloc: Global) -> Result<Signature<'a>, AllocError>
         ensures equal { IfOk result (λ copy. cow_fields copy ≡ cow_fields self.now) }
-        ensures name { IfOk result (λ copy. IsHeldAs self.now.name copy.name) }
-        ensures email { IfOk result (λ copy. IsHeldAs self.now.email copy.email) }
+        ensures name { IfOk result (λ copy. HasOwnershipOf self.now.name copy.name) }
+        ensures email { IfOk result (λ copy. HasOwnershipOf self.now.email copy.email) }
         ensures out_of_memory { OnErr result (IsOwnedSlice self.now.name ⊎ IsOwnedSlice self.now.email) }
     {
         Ok(Signature {
@@ -87,7 +87,7 @@ impl actor::Signature {
 
 fn clone_text<'a>(alloc: Global, text: &CowSlice<'a, u8>) -> Result<CowSlice<'a, u8>, AllocError>
     ensures equal { IfOk result (λ copy. cow_slice_items copy ≡ cow_slice_items text.now) }
-    ensures held { IfOk result (IsHeldAs text.now) }
+    ensures held { IfOk result (HasOwnershipOf text.now) }
     ensures out_of_memory { OnErr result (IsOwnedSlice text.now) }
 {
     match text {

@@ -2,7 +2,7 @@
 ghost use Rattle.std.specs.Prelude.{◌+◌, ◌-◌, ◌*◌, ◌∷◌, [], ℤ, pos, MatchOption};
 ghost use Rattle.std.specs.Option.{SomeIff};
 ghost use Rattle.std.specs.Char.{IsAsciiDigit};
-ghost use Rattle.mailmap_signatures.specs.Times.{AreDigits, number, SpellsSeconds, SpellsOffset, Reads};
+ghost use Rattle.mailmap_signatures.specs.Times.{AreDigits, decimal_value, SpellsSeconds, SpellsOffset, ParsesTime};
 
 /// A point in time, and the offset to UTC of the clock that it was read from.
 ///
@@ -24,7 +24,7 @@ impl Time {
     /// 362340. Any other text is `None`, even one with white space around it. Git understands many more formats of
     /// dates, but writes only this one.
     pub fn read(text: &str) -> Option<Time>
-        ensures { Reads text.now result }
+        ensures { ParsesTime text.now result }
     {
         let (seconds, offset) = text.split_once(' ')?;
         Some(Time {
@@ -62,13 +62,14 @@ fn read_offset(text: &str) -> Option<i32>
 /// Parses two digits of hours and two of minutes, and returns seconds.
 fn read_clock(hour_tens: u8, hour_ones: u8, minute_tens: u8, minute_ones: u8) -> Option<i32>
     ensures { SomeIff result (AreDigits (hour_tens ∷ hour_ones ∷ []) × AreDigits (minute_tens ∷ minute_ones ∷ []))
-        (pos ((number (hour_tens ∷ hour_ones ∷ []) * 60 + number (minute_tens ∷ minute_ones ∷ [])) * 60)) }
+        (pos ((decimal_value (hour_tens ∷ hour_ones ∷ []) * 60
+        + decimal_value (minute_tens ∷ minute_ones ∷ [])) * 60)) }
 {
     Some((read_pair(hour_tens, hour_ones)? * 60 + read_pair(minute_tens, minute_ones)?) * 60)
 }
 
 fn read_pair(tens: u8, ones: u8) -> Option<i32>
-    ensures { SomeIff result (AreDigits (tens ∷ ones ∷ [])) (pos (number (tens ∷ ones ∷ []))) }
+    ensures { SomeIff result (AreDigits (tens ∷ ones ∷ [])) (pos (decimal_value (tens ∷ ones ∷ []))) }
 {
     Some(read_digit(tens)? * 10 + read_digit(ones)?)
 }

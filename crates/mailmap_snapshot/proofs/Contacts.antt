@@ -7,7 +7,7 @@ use Rattle.std.proofs.lemmas.Bool.{cases_Bool, cond-true, cond-false, eqb-false,
 use Rattle.std.proofs.lemmas.Bool.Decides.{nat_tests}
 use Rattle.bstr.specs.Text.{line_len, lines_of, no_cr, without_terminator}
 use Rattle.bstr.proofs.lemmas.LineLemmas.{lines-nil, lines-step}
-use Rattle.mailmap_snapshot.specs.Contacts.{answer, answers, feeds, contact_answer, lines, replaced}
+use Rattle.mailmap_snapshot.specs.Contacts.{answer, answers, feeds, contact_answer, contact_lines, contact_with}
 use Rattle.mailmap_entries.specs.Entries.{Mapping}
 use Rattle.mailmap_entries.specs.Folding.{Text}
 use Rattle.mailmap_entries.specs.Semantics.{IsNormal, fields_for, no_fields}
@@ -39,7 +39,7 @@ no_cr-cons b c z =
     ∙ cond_cons _ b _ _
     ∙ ap (λ l. b ∷ l) (sym (no_cr-some c z))
 
--- nor is it if the line doesn't begin with a line feed
+-- a byte that isn't right before a line feed isn't part of the line end
 without-cons : (b c : ℕ) (z : Text) → c ≢ 10 → without_terminator (b ∷ c ∷ z) ≡ b ∷ without_terminator (c ∷ z)
 without-cons b c [] other = cond-false _ _ _ (ne_eqb c 10 other) ∙ ap (λ l. b ∷ l) (sym (cond-false _ _ _ (ne_eqb c 10 other)))
 without-cons b c (d ∷ z) other =
@@ -90,40 +90,40 @@ with_byte b c s other =
     never false u off x y = refl
 
 -- the lines of a text are those that bstr yields
-pub lines-given : (s : Text) → map without_terminator (lines_of s) ≡ lines s
-unfolding lines line_len
-lines-given [] = ap (map without_terminator) lines-nil
-lines-given (b ∷ []) = ⊎_elim
+pub contact_lines-given : (s : Text) → map without_terminator (lines_of s) ≡ contact_lines s
+unfolding contact_lines line_len
+contact_lines-given [] = ap (map without_terminator) lines-nil
+contact_lines-given (b ∷ []) = ⊎_elim
     (λ feed.
     let len : line_len (b ∷ []) ≡ 1 = cond-true _ _ _ feed in
     ap (map without_terminator) (lines-step (b ∷ []) (omega arith))
     ∙ ap (λ k. without_terminator (take k (b ∷ [])) ∷ map without_terminator (lines_of (drop k (b ∷ [])))) len
     ∙ ap (λ l. l ∷ map without_terminator (lines_of [])) (cond-true _ _ _ feed)
-    ∙ ap (λ ls. [] ∷ ls) (lines-given [])
+    ∙ ap (λ ls. [] ∷ ls) (contact_lines-given [])
     ∙ sym (cond-true _ _ _ feed))
     (λ other.
     let len : line_len (b ∷ []) ≡ 1 = cond-false _ _ _ other in
     ap (map without_terminator) (lines-step (b ∷ []) (omega arith))
     ∙ ap (λ k. without_terminator (take k (b ∷ [])) ∷ map without_terminator (lines_of (drop k (b ∷ [])))) len
     ∙ ap (λ l. l ∷ map without_terminator (lines_of [])) (cond-false _ _ _ other)
-    ∙ ap (λ ls. (b ∷ []) ∷ ls) (lines-given [])
+    ∙ ap (λ ls. (b ∷ []) ∷ ls) (contact_lines-given [])
     ∙ sym (cond-false _ _ _ other ∙ never (b == 13) [] ((b ∷ []) ∷ [])))
     (cases_Bool (b == 10))
   where
     never : (t : Bool) (x y : List Text) → cond (t && false) x y ≡ y
     never true x y = refl
     never false x y = refl
-lines-given (b ∷ c ∷ s) = ⊎_elim
+contact_lines-given (b ∷ c ∷ s) = ⊎_elim
     (λ feed.
     let len : line_len (b ∷ c ∷ s) ≡ 1 = cond-true _ _ _ feed in
     ap (map without_terminator) (lines-step (b ∷ c ∷ s) (omega arith))
     ∙ ap (λ k. without_terminator (take k (b ∷ c ∷ s)) ∷ map without_terminator (lines_of (drop k (b ∷ c ∷ s)))) len
     ∙ ap (λ l. l ∷ map without_terminator (lines_of (c ∷ s))) (cond-true _ _ _ feed)
-    ∙ ap (λ ls. [] ∷ ls) (lines-given (c ∷ s))
+    ∙ ap (λ ls. [] ∷ ls) (contact_lines-given (c ∷ s))
     ∙ sym (cond-true _ _ _ feed))
     (λ other.
     with_byte b c s (eqb-false b 10 other)
-    ∙ ap (λ ls. cond (b == 13 && feeds (c ∷ s)) ls (with_first b ls)) (lines-given (c ∷ s))
+    ∙ ap (λ ls. cond (b == 13 && feeds (c ∷ s)) ls (with_first b ls)) (contact_lines-given (c ∷ s))
     ∙ sym (cond-false _ _ _ other))
     (cases_Bool (b == 10))
 
@@ -136,9 +136,9 @@ module _ (h n : List Mapping) (d : IsNormal h n) where
   same_contact : (line : Text) (contact : ParsedContact) → contact_answer n line contact ≡ contact_answer h line contact
   same_contact line Absent = refl
   same_contact line Unclosed = refl
-  same_contact line (Closed name email rest) = ap (λ f. replaced f name email) (same_fields name email)
+  same_contact line (Closed name email rest) = ap (λ f. contact_with f name email) (same_fields name email)
 
-  -- line by line
+  -- the answers are the same line by line
   same_lines : (ls : List Text) → flat_map (λ line. answer n line ++ 10 ∷ []) ls ≡ flat_map (λ line. answer h line ++ 10 ∷ []) ls
   same_lines [] = refl
   same_lines (l ∷ ls) =
@@ -146,4 +146,4 @@ module _ (h n : List Mapping) (d : IsNormal h n) where
       ∙ ap (λ x. (answer h l ++ 10 ∷ []) ++ x) (same_lines ls)
 
   pub same_answers : (contacts : Text) → answers n contacts ≡ answers h contacts
-  same_answers contacts = same_lines (lines contacts)
+  same_answers contacts = same_lines (contact_lines contacts)

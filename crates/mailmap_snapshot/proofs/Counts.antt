@@ -12,7 +12,7 @@ use Rattle.mailmap_entries.specs.Entries.{Mapping}
 use Rattle.mailmap_entries.specs.Folding.{Text, folded, text_cmp}
 use Rattle.mailmap_tables.specs.Groups.{EmailGroup, IsGroup, email_key, name_row, own_rows, rows, listing}
 use Rattle.mailmap_entries.specs.Semantics.{mapping_with}
-use Rattle.mailmap_snapshot.specs.Signatures.{has_email, email_count, name_count}
+use Rattle.mailmap_snapshot.specs.Signatures.{is_for_email, email_count, name_count}
 use Rattle.mailmap_entries.proofs.Parts.{all_weaker, all_map}
 use Rattle.mailmap_tables.proofs.Grouped.{all_rows, rows_spelled, listing_all}
 
@@ -49,11 +49,11 @@ apart a b other = by (text_cmp a b) refl
 -- the entries of one more email add one to the count
 rows_add : (k : Text) (r : Mapping) (rs rest : List Mapping) → AllByRecursion (λ x. folded x.old_email ≡ k) (r ∷ rs) → AllByRecursion (λ x. eq_by_cmp text_cmp k (folded x.old_email) ≡ false) rest → email_count (r ∷ rs ++ rest) ≡ email_count rest + 1
 rows_add k r [] rest same other =
-    let none : list_any (has_email r.old_email) rest ≡ false = ap (λ t. list_any (λ d. eq_by_cmp text_cmp t (folded d.old_email)) rest) same.0 ∙ none_passes _ rest other in
+    let none : list_any (is_for_email r.old_email) rest ≡ false = ap (λ t. list_any (λ d. eq_by_cmp text_cmp t (folded d.old_email)) rest) same.0 ∙ none_passes _ rest other in
     ap (λ b. if b then email_count rest else email_count rest + 1) none
 rows_add k r (s ∷ rs) rest same other =
-    let tied : has_email r.old_email s ≡ true = ap₂ (eq_by_cmp text_cmp) same.0 same.1.0 ∙ ap is_eq (tied_itself nat_list_cmp_total k) in
-    ap (λ b. if b || list_any (has_email r.old_email) (rs ++ rest) then email_count (s ∷ rs ++ rest) else email_count (s ∷ rs ++ rest) + 1) tied ∙ rows_add k s rs rest same.1 other
+    let tied : is_for_email r.old_email s ≡ true = ap₂ (eq_by_cmp text_cmp) same.0 same.1.0 ∙ ap is_eq (tied_itself nat_list_cmp_total k) in
+    ap (λ b. if b || list_any (is_for_email r.old_email) (rs ++ rest) then email_count (s ∷ rs ++ rest) else email_count (s ∷ rs ++ rest) + 1) tied ∙ rows_add k s rs rest same.1 other
 
 some_add : (k : Text) (rs rest : List Mapping) → rs ≢ [] → AllByRecursion (λ x. folded x.old_email ≡ k) rs → AllByRecursion (λ x. eq_by_cmp text_cmp k (folded x.old_email) ≡ false) rest → email_count (rs ++ rest) ≡ email_count rest + 1
 some_add k [] rest says same other = absurd (says refl)

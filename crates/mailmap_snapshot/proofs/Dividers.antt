@@ -86,7 +86,8 @@ no_bytes (b ∷ bs) none = let some = lines-step (b ∷ bs) (omega arith) in abs
 abbrev by : (A : Type 0) → A → A
 by A a = a
 
--- A walk over the lines of the input has come to this index: these lines are left, and there is no split before it.
+-- The state of a walk over the lines of the input: `left` are the lines from this index on, and the input has no line
+-- `--` before it.
 pub record HasPassed (input : List ℕ) (index : ℕ) (left : List (List ℕ)) : Type 0 where
   pub within : index ≤ length input
   pub starts : index < length input → EndsLine (take index input)
@@ -128,7 +129,7 @@ module _ (input : List ℕ) (index : ℕ) (lines : List (List ℕ)) (line : List
   pub fits : index + length line ≤ length input
   fits = omega (arith, stepped.len, stepped.short, stepped.long)
 
-  -- a line that isn't `--` is passed
+  -- the walk goes past a line that isn't `--`
   pub passes : (IsDividerLine line → ⊥) → HasPassed input (index + length line) left
   passes other = record {
     within = fits;

@@ -1,7 +1,7 @@
 pub mod Counts
 pub mod Resolved
 pub mod Compared
-pub mod Left
+pub mod Remaining
 pub mod Sources
 pub mod Built
 pub mod WhiteEnds

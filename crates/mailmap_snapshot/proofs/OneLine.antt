@@ -10,10 +10,10 @@ use Rattle.mailmap_entries.specs.Entries.{Mapping}
 use Rattle.mailmap_entries.specs.Folding.{Text}
 use Rattle.mailmap_grammar.specs.Lines.{HoldsNo}
 use Rattle.mailmap_grammar.proofs.Plain.{last_at}
-use Rattle.mailmap_snapshot.specs.Contacts.{answer, answers, lines}
+use Rattle.mailmap_snapshot.specs.Contacts.{answer, answers, contact_lines}
 use Rattle.mailmap_snapshot.specs.Streams.{IsOneLine}
-use Rattle.mailmap_snapshot.proofs.ContactLines.{lines-nil, lines-open}
-use Rattle.mailmap_snapshot.proofs.Contacts.{lines-given}
+use Rattle.mailmap_snapshot.proofs.ContactLines.{contact_lines-nil, contact_lines-open}
+use Rattle.mailmap_snapshot.proofs.Contacts.{contact_lines-given}
 use Rattle.mailmap_snapshot.proofs.Streams.{held_both, none_held}
 
 held_at : (s : Text) (k : ℕ) → HoldsNo 10 s → k < length s → slice_index s k ≢ 10
@@ -22,14 +22,14 @@ held_at (b ∷ s) zero h l = h.0
 held_at (b ∷ s) (suc k) h l = held_at s k h.1 (omega arith)
 
 -- the answers to one line
-one_answer : (h : List Mapping) (text line : Text) → lines text ≡ line ∷ [] → answers h text ≡ answer h line ++ 10 ∷ []
+one_answer : (h : List Mapping) (text line : Text) → contact_lines text ≡ line ∷ [] → answers h text ≡ answer h line ++ 10 ∷ []
 one_answer h text line is = ap (flat_map (λ line. answer h line ++ 10 ∷ [])) is ∙ append-nil (answer h line ++ 10 ∷ [])
 
-only_line : (text : Text) → IsOneLine text → lines text ≡ without_terminator text ∷ []
+only_line : (text : Text) → IsOneLine text → contact_lines text ≡ without_terminator text ∷ []
 only_line text one =
     let piece = one.0 in
     let long : length text ≡ length piece + 1 = ap length one.2 ∙ length-append piece (10 ∷ []) in
-    sym (lines-given text)
+    sym (contact_lines-given text)
     ∙ ap (map without_terminator) (lines-one text (omega (arith, long)) (λ k l is.
     let within : k < length piece = omega (arith, l, long) in
     held_at piece k one.1 within (sym (get_or_append_left piece (10 ∷ []) 0 k within) ∙ sym (ap (λ t. slice_index t k) one.2) ∙ is)))
@@ -39,10 +39,10 @@ ended_answers h text one = one_answer h text (without_terminator text) (only_lin
 
 -- a last line without a line feed
 pub open_answers : (h : List Mapping) (kept : Text) → HoldsNo 10 kept → length kept ≢ 0 → answers h kept ≡ answer h kept ++ 10 ∷ []
-open_answers h kept held some = one_answer h kept kept (lines-open kept held (λ none. some (ap length none)))
+open_answers h kept held some = one_answer h kept kept (contact_lines-open kept held (λ none. some (ap length none)))
 
 pub no_answers : (h : List Mapping) (kept : Text) → length kept ≡ 0 → answers h kept ≡ []
-no_answers h [] none = ap (flat_map (λ line. answer h line ++ 10 ∷ [])) lines-nil
+no_answers h [] none = ap (flat_map (λ line. answer h line ++ 10 ∷ [])) contact_lines-nil
 no_answers h (b ∷ kept) none = absurd (omega (arith, none))
 
 pub without_bytes : (s : Text) → length s ≡ 0 → s ≡ []

@@ -6,7 +6,7 @@ use Rattle.std.proofs.lemmas.List.{get_or-map, length-map}
 use Rattle.std.proofs.lemmas.Option.{slice_get-map, slice_get-get_or, get_or_from_slice_get}
 use Rattle.mailmap_entries.specs.Folding.{Text, folded, text_cmp}
 use Rattle.mailmap_tables.specs.Groups.{EmailGroup, IsGroup, AreGroups, email_key, name_key, listing}
-use Rattle.mailmap_entries.specs.Semantics.{answered, answer_of}
+use Rattle.mailmap_entries.specs.Semantics.{fields_with_spelling, answer_of}
 use Rattle.mailmap_tables.specs.KeySearch.{IsFound, IsMissing}
 use Rattle.mailmap_tables.specs.Pool.{NameInPool, fields_of, spelled, name_group, group_of}
 use Rattle.mailmap_tables.specs.RowTexts.{email_span, old_span}
@@ -47,7 +47,7 @@ module _ (gs : List EmailGroup) (are : AreGroups gs) (email : Text) (i : ℕ) (f
 
   module _ (name : Text) (j : ℕ) where
     pub scan_at_name : (d : RowTexts) → AllByRecursion (NameInPool (length pool)) ns → IsFound name_key (folded name) 0 (map (name_group pool) ns) j
-        → answer_of (listing gs) name email ≡ answered email (fields_of pool (get_or ns j d)) (Some (spelled pool (old_span r)))
+        → answer_of (listing gs) name email ≡ fields_with_spelling email (fields_of pool (get_or ns j d)) (Some (spelled pool (old_span r)))
     scan_at_name d lie here =
         let n = name_group pool (get_or ns j d) in
         let lt : j < length ns = omega (arith, here.within, length-map ns (name_group pool)) in
@@ -57,10 +57,10 @@ module _ (gs : List EmailGroup) (are : AreGroups gs) (email : Text) (i : ℕ) (f
         ∙ sym (slice_get-map name_key (map (name_group pool) ns) j ∙ ap (option_map name_key) (slice_get-get_or (map (name_group pool) ns) j n here.within))
         ∙ here.key in
         scan_name_at gs are name email i (group_of pool r ns) found.within (sym (get_or_from_slice_get gs i (group_of pool r ns) (group_of pool r ns) read)) same j n here.within (sym at) (cc)
-        ∙ ap (λ o. answered email (record { name = n.new_name; email = o }) (Some (spelled pool (old_span r)))) (given (email_span (get_or ns j d)) (all_at (NameInPool (length pool)) ns j d lie lt).new_email)
+        ∙ ap (λ o. fields_with_spelling email (record { name = n.new_name; email = o }) (Some (spelled pool (old_span r)))) (given (email_span (get_or ns j d)) (all_at (NameInPool (length pool)) ns j d lie lt).new_email)
 
     pub scan_at_email : IsMissing name_key (folded name) 0 (map (name_group pool) ns) j
-        → answer_of (listing gs) name email ≡ answered email (fields_of pool r) (Some (spelled pool (old_span r)))
+        → answer_of (listing gs) name email ≡ fields_with_spelling email (fields_of pool r) (Some (spelled pool (old_span r)))
     scan_at_email none =
         scan_own_at gs are name email i (group_of pool r ns) found.within (sym (get_or_from_slice_get gs i (group_of pool r ns) (group_of pool r ns) read)) same
         (none_has name_key (folded name) (map (name_group pool) ns) j none.below none.above)

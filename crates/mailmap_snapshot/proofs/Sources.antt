@@ -15,25 +15,25 @@ use Rattle.mailmap_entries.proofs.Building.{is_merged}
 use Rattle.mailmap_entries.specs.Semantics.{IsNormal, accepted, is_accepted}
 use Rattle.mailmap_entries.specs.Folding.{Text}
 use Rattle.mailmap_grammar.specs.Lines.{mappings_of}
-use Rattle.mailmap_snapshot.specs.Sources.{history, said_by}
+use Rattle.mailmap_snapshot.specs.Sources.{merged_mappings, source_mappings}
 use Rattle.mailmap_entries.specs.declared.entry.Entry.{Entry}
 use Rattle.mailmap_snapshot.specs.declared.snapshot.sources.Source.{Source}
 
--- the entries that an iterator yields say this list
-pub record Gives {S : Type 0} (steps : S → Option Entry → S → Type 0) (s : S) (said : List Mapping) : Type 0 where
+-- the entries that an iterator yields are these mappings
+pub record YieldsMappings {S : Type 0} (steps : S → Option Entry → S → Type 0) (s : S) (said : List Mapping) : Type 0 where
   pub whole : (xs : List Entry) → Drains steps s xs → map mapping_of xs ≡ said
   pub front : (xs : List Entry) (t : S) → Yields steps s xs t → map mapping_of xs ≡ take (length xs) said
 
--- an iterator whose contract gives what its entries say
-pub gives_said : {S : Type 0} {steps : S → Option Entry → S → Type 0} {s : S} {said : List Mapping} → YieldsList steps mapping_of s said → Gives steps s said
-gives_said e = record {
+-- an iterator whose contract gives the mappings of its entries
+pub yields_mappings : {S : Type 0} {steps : S → Option Entry → S → Type 0} {s : S} {said : List Mapping} → YieldsList steps mapping_of s said → YieldsMappings steps s said
+yields_mappings e = record {
   whole = λ xs d. items_from_drains xs (d.1.0, d.1.1, λ w. (d.0, d.1.2)) e;
   front = λ xs t y. YieldsList-so_far e xs t y;
 }
 
 -- an iterator whose contract gives its entries
-pub gives_entries : {S : Type 0} {steps : S → Option Entry → S → Type 0} {s : S} {es : List Entry} → YieldsList steps (λ x. x) s es → Gives steps s (map mapping_of es)
-gives_entries {es = es} e = record {
+pub yields_entries : {S : Type 0} {steps : S → Option Entry → S → Type 0} {s : S} {es : List Entry} → YieldsList steps (λ x. x) s es → YieldsMappings steps s (map mapping_of es)
+yields_entries {es = es} e = record {
   whole = λ xs d. ap (map mapping_of) (sym (map-id xs) ∙ items_from_drains xs (d.1.0, d.1.1, λ w. (d.0, d.1.2)) e);
   front = λ xs t y. ap (map mapping_of) (sym (map-id xs) ∙ YieldsList-so_far e xs t y) ∙ sym (take-map mapping_of (length xs) es);
 }
@@ -46,11 +46,11 @@ front_none (x ∷ a) b e = cc
 front_ignored : (n : ℕ) (l : List Mapping) → accepted l ≡ [] → accepted (take n l) ≡ []
 front_ignored n l none = front_none _ _ (sym (filter-append is_accepted (take n l) (drop n l)) ∙ ap accepted (take-append-drop n l) ∙ none)
 
-module _ {S : Type 0} {steps : S → Option Entry → S → Type 0} {s : S} {said : List Mapping} (gives : Gives steps s said) where
+module _ {S : Type 0} {steps : S → Option Entry → S → Type 0} {s : S} {said : List Mapping} (gives : YieldsMappings steps s said) where
   pub merged_whole : (old new : List Mapping) → ((xs : List Entry) × Drains steps s xs × IsMerged old (map mapping_of xs) new) → IsMerged old said new
   merged_whole old new m = subst (λ l. IsMerged old l new) (gives.whole m.0 m.1) m.2
 
-module _ {S E : Type 0} {steps : S → Option Entry → S → Type 0} {s : S} {said : List Mapping} (gives : Gives steps s said) where
+module _ {S E : Type 0} {steps : S → Option Entry → S → Type 0} {s : S} {said : List Mapping} (gives : YieldsMappings steps s said) where
   pub merged_all : (r : Result (Unit {0}) E) (old new : List Mapping) → OnOk r ((xs : List Entry) × Drains steps s xs × IsMerged old (map mapping_of xs) new) → OnOk r (IsMerged old said new)
   merged_all (Ok u) old new m = merged_whole gives old new m
   merged_all (Err e) old new m = tt
@@ -59,73 +59,73 @@ module _ {S E : Type 0} {steps : S → Option Entry → S → Type 0} {s : S} {s
   out_of_memory_some (Ok u) m = tt
   out_of_memory_some (Err e) m = λ none. m.3 (ap accepted (gives.front m.0 m.1 m.2) ∙ front_ignored (length m.0) said none)
 
--- one more source, and its mark
-history-push : (ss : List Source) (ms : List Bool) (s : Source) (m : Bool) → length ms ≡ length ss → history (ss ++ s ∷ []) (ms ++ m ∷ []) ≡ history ss ms ++ cond m (said_by s) []
-unfolding history
-history-push [] [] s m e = append-nil (cond m (said_by s) [])
-history-push [] (n ∷ ms) s m e = absurd (omega (arith, e))
-history-push (x ∷ ss) [] s m e = absurd (omega (arith, e))
-history-push (x ∷ ss) (n ∷ ms) s m e =
-    ap (λ l. cond n (said_by x) [] ++ l) (history-push ss ms s m (omega (arith, e)))
-    ∙ sym (append_assoc (cond n (said_by x) []) (history ss ms) (cond m (said_by s) []))
+-- the merged mappings after one more source
+merged_mappings-push : (ss : List Source) (ms : List Bool) (s : Source) (m : Bool) → length ms ≡ length ss → merged_mappings (ss ++ s ∷ []) (ms ++ m ∷ []) ≡ merged_mappings ss ms ++ cond m (source_mappings s) []
+unfolding merged_mappings
+merged_mappings-push [] [] s m e = append-nil (cond m (source_mappings s) [])
+merged_mappings-push [] (n ∷ ms) s m e = absurd (omega (arith, e))
+merged_mappings-push (x ∷ ss) [] s m e = absurd (omega (arith, e))
+merged_mappings-push (x ∷ ss) (n ∷ ms) s m e =
+    ap (λ l. cond n (source_mappings x) [] ++ l) (merged_mappings-push ss ms s m (omega (arith, e)))
+    ∙ sym (append_assoc (cond n (source_mappings x) []) (merged_mappings ss ms) (cond m (source_mappings s) []))
 
--- before the first source
-pub normal_start : (n : List Mapping) → IsNormal n n → IsNormal (n ++ history [] []) n
-unfolding history
+-- before the first source, the listing is the normal list of itself and no mappings
+pub normal_start : (n : List Mapping) → IsNormal n n → IsNormal (n ++ merged_mappings [] []) n
+unfolding merged_mappings
 normal_start n d = subst (λ l. IsNormal l n) (sym (append-nil n)) d
 
 -- the entries of one more source are merged if it is marked as made, and otherwise nothing changes
-merged_next : (h n m : List Mapping) (s : Source) (r : Result (Unit {0}) AllocError) → IsNormal h n → OnOk r (IsMerged n (said_by s) m) → OnErr r (m ≡ n) → IsNormal (h ++ cond (is_ok r) (said_by s) []) m
+merged_next : (h n m : List Mapping) (s : Source) (r : Result (Unit {0}) AllocError) → IsNormal h n → OnOk r (IsMerged n (source_mappings s) m) → OnErr r (m ≡ n) → IsNormal (h ++ cond (is_ok r) (source_mappings s) []) m
 merged_next h n m s (Ok u) d ok err = ok.history h d
 merged_next h n m s (Err e) d ok err = subst (λ l. IsNormal l m) (sym (append-nil h)) (subst (IsNormal h) (sym err) d)
 
 -- merging a source without an accepted entry doesn't run out of memory
-unchanged_made : (s : Source) (r : Result (Unit {0}) AllocError) → OnErr r (accepted (said_by s) ≢ []) → accepted (said_by s) ≡ [] → is_ok r ≡ true
+unchanged_made : (s : Source) (r : Result (Unit {0}) AllocError) → OnErr r (accepted (source_mappings s) ≢ []) → accepted (source_mappings s) ≡ [] → is_ok r ≡ true
 unchanged_made s (Ok u) out_of_memory none = refl
 unchanged_made s (Err e) out_of_memory none = absurd (out_of_memory none)
 
 -- before an index, every source without an accepted entry is marked as made
 abbrev pub MarksUnchanged : List Source → List Bool → ℕ → Type 0
-MarksUnchanged ss ms i = (k : ℕ) (s : Source) → k < i → slice_get ss k ≡ Some s → accepted (said_by s) ≡ [] → slice_get ms k ≡ Some true
+MarksUnchanged ss ms i = (k : ℕ) (s : Source) → k < i → slice_get ss k ≡ Some s → accepted (source_mappings s) ≡ [] → slice_get ms k ≡ Some true
 
 module _ (ss : List Source) (ms : List Bool) (i : ℕ) (s : Source) (r : Result (Unit {0}) AllocError) (b : Bool) (is : b ≡ is_ok r) (within : i < length ss) (same : length ms ≡ length ss) (here : s ≡ get_or ss i s) where
-  pub normal_more : (h n m : List Mapping) → IsNormal (h ++ history (take i ss) (take i ms)) n → OnOk r (IsMerged n (said_by s) m) → OnErr r (m ≡ n)
-      → IsNormal (h ++ history (take (i + 1) ss) (take (i + 1) (set ms i b))) m
+  pub normal_more : (h n m : List Mapping) → IsNormal (h ++ merged_mappings (take i ss) (take i ms)) n → OnOk r (IsMerged n (source_mappings s) m) → OnErr r (m ≡ n)
+      → IsNormal (h ++ merged_mappings (take (i + 1) ss) (take (i + 1) (set ms i b))) m
   normal_more h n m d ok err =
       let sources : take (i + 1) ss ≡ take i ss ++ s ∷ [] = take_more ss i s within ∙ ap (λ x. take i ss ++ x ∷ []) (sym here) in
       let marks : take (i + 1) (set ms i b) ≡ take i ms ++ b ∷ [] = take_more_set ms i b (omega (arith, same)) in
       let long : length (take i ms) ≡ length (take i ss) = length-take-le i ms (omega (arith, same)) ∙ sym (length-take-le i ss (omega arith)) in
-      let step : history (take (i + 1) ss) (take (i + 1) (set ms i b)) ≡ history (take i ss) (take i ms) ++ cond (is_ok r) (said_by s) [] =
-      ap (λ l. history l (take (i + 1) (set ms i b))) sources ∙ ap (history (take i ss ++ s ∷ [])) marks
-      ∙ history-push (take i ss) (take i ms) s b long ∙ ap (λ t. history (take i ss) (take i ms) ++ cond t (said_by s) []) is in
-      subst (λ l. IsNormal l m) (append_assoc h (history (take i ss) (take i ms)) (cond (is_ok r) (said_by s) []) ∙ ap (λ l. h ++ l) (sym step))
-      (merged_next (h ++ history (take i ss) (take i ms)) n m s r d ok err)
+      let step : merged_mappings (take (i + 1) ss) (take (i + 1) (set ms i b)) ≡ merged_mappings (take i ss) (take i ms) ++ cond (is_ok r) (source_mappings s) [] =
+      ap (λ l. merged_mappings l (take (i + 1) (set ms i b))) sources ∙ ap (merged_mappings (take i ss ++ s ∷ [])) marks
+      ∙ merged_mappings-push (take i ss) (take i ms) s b long ∙ ap (λ t. merged_mappings (take i ss) (take i ms) ++ cond t (source_mappings s) []) is in
+      subst (λ l. IsNormal l m) (append_assoc h (merged_mappings (take i ss) (take i ms)) (cond (is_ok r) (source_mappings s) []) ∙ ap (λ l. h ++ l) (sym step))
+      (merged_next (h ++ merged_mappings (take i ss) (take i ms)) n m s r d ok err)
 
-  pub marks_more : OnErr r (accepted (said_by s) ≢ []) → MarksUnchanged ss ms i → MarksUnchanged ss (set ms i b) (i + 1)
+  pub marks_more : OnErr r (accepted (source_mappings s) ≢ []) → MarksUnchanged ss ms i → MarksUnchanged ss (set ms i b) (i + 1)
   marks_more out_of_memory before k x below at none = ⊎_elim
       (λ (is_here : k ≡ i).
       let x_is : x ≡ s = sym (get_or_from_slice_get ss k x s at) ∙ ap (λ j. get_or ss j s) is_here ∙ sym here in
       slice_get_read (set ms i b) (length (set ms i b)) k true refl (omega (arith, same, length-set ms i b))
-      (sym (ap (λ j. get_or (set ms i b) j true) is_here ∙ get_or-set_same ms i b true (omega (arith, same)) ∙ is ∙ unchanged_made s r out_of_memory (ap (λ y. accepted (said_by y)) (sym x_is) ∙ none))))
+      (sym (ap (λ j. get_or (set ms i b) j true) is_here ∙ get_or-set_same ms i b true (omega (arith, same)) ∙ is ∙ unchanged_made s r out_of_memory (ap (λ y. accepted (source_mappings y)) (sym x_is) ∙ none))))
       (λ (other : k ≢ i).
       let low : k < i = omega arith in
       slice_get_read (set ms i b) (length (set ms i b)) k true refl (omega (arith, same, length-set ms i b))
       (sym (get_or-set_other ms i k b true other ∙ get_or_from_slice_get ms k true true (before k x low at none))))
       (cases_eq k i)
 
--- all sources merged
+-- after all sources, the listing is that of the merge
 pub sources_merged : (ss : List Source) (ms : List Bool) (i : ℕ) (old new : List Mapping) → length ss ≤ i → length ms ≡ length ss → IsNormal old old
-    → IsNormal (old ++ history (take i ss) (take i ms)) new → IsMerged old (history ss ms) new
+    → IsNormal (old ++ merged_mappings (take i ss) (take i ms)) new → IsMerged old (merged_mappings ss ms) new
 sources_merged ss ms i old new all same own d =
-    let whole : history (take i ss) (take i ms) ≡ history ss ms = ap₂ history (take_all i ss all) (take_all i ms (omega (arith, same))) in
-    is_merged old (history ss ms) new own (subst (λ l. IsNormal (old ++ l) new) whole d)
+    let whole : merged_mappings (take i ss) (take i ms) ≡ merged_mappings ss ms = ap₂ merged_mappings (take_all i ss all) (take_all i ms (omega (arith, same))) in
+    is_merged old (merged_mappings ss ms) new own (subst (λ l. IsNormal (old ++ l) new) whole d)
 
 -- if no source is marked as made, nothing is merged
-pub none_said : (ss : List Source) (ms : List Bool) → AllByRecursion (λ m. m ≡ false) ms → history ss ms ≡ []
-unfolding history
-none_said [] ms none = refl
-none_said (s ∷ ss) [] none = refl
-none_said (s ∷ ss) (m ∷ ms) none = ap (λ b. cond b (said_by s) [] ++ history ss ms) none.0 ∙ none_said ss ms none.1
+pub none_merged : (ss : List Source) (ms : List Bool) → AllByRecursion (λ m. m ≡ false) ms → merged_mappings ss ms ≡ []
+unfolding merged_mappings
+none_merged [] ms none = refl
+none_merged (s ∷ ss) [] none = refl
+none_merged (s ∷ ss) (m ∷ ms) none = ap (λ b. cond b (source_mappings s) [] ++ merged_mappings ss ms) none.0 ∙ none_merged ss ms none.1
 
 -- ---- buffers
 

@@ -11,10 +11,10 @@ use Rattle.bstr.proofs.lemmas.LineLemmas.{line_len-at, line_len-bounds, line_len
 use Rattle.mailmap_entries.specs.Entries.{Mapping}
 use Rattle.mailmap_entries.specs.Folding.{Text}
 use Rattle.mailmap_grammar.specs.Lines.{HoldsNo}
-use Rattle.mailmap_snapshot.specs.Contacts.{answer, answers, lines}
+use Rattle.mailmap_snapshot.specs.Contacts.{answer, answers, contact_lines}
 use Rattle.mailmap_snapshot.specs.Parts.{EndsLine}
 use Rattle.mailmap_snapshot.specs.Streams.{AnswersFront, AnswersParts, Stream}
-use Rattle.mailmap_snapshot.proofs.Contacts.{lines-given}
+use Rattle.mailmap_snapshot.proofs.Contacts.{contact_lines-given}
 
 -- whole lines are empty or end with a line feed
 last_byte : (xs : Text) → EndsLine xs → (length xs ≡ 0) ⊎ (slice_index xs (length xs - 1) ≡ 10)
@@ -24,18 +24,18 @@ last_byte xs (inr (front, is)) =
     inr (ap (slice_index xs) long ∙ ap (λ l. slice_index l (length front)) is ∙ get_or-append_seam front 10 [] 0)
 
 -- the lines after whole lines
-lines-append_whole : (xs ys : Text) → EndsLine xs → lines (xs ++ ys) ≡ lines xs ++ lines ys
-lines-append_whole xs ys ends =
-    sym (lines-given (xs ++ ys))
+contact_lines-append_whole : (xs ys : Text) → EndsLine xs → contact_lines (xs ++ ys) ≡ contact_lines xs ++ contact_lines ys
+contact_lines-append_whole xs ys ends =
+    sym (contact_lines-given (xs ++ ys))
     ∙ ap (map without_terminator) (lines-append (length xs) xs ys (omega arith) (last_byte xs ends))
     ∙ map-append without_terminator (lines_of xs) (lines_of ys)
-    ∙ ap (λ l. l ++ map without_terminator (lines_of ys)) (lines-given xs)
-    ∙ ap (λ l. lines xs ++ l) (lines-given ys)
+    ∙ ap (λ l. l ++ map without_terminator (lines_of ys)) (contact_lines-given xs)
+    ∙ ap (λ l. contact_lines xs ++ l) (contact_lines-given ys)
 
 -- the answers to lines after whole lines
 pub answers-append : (m : List Mapping) (xs ys : Text) → EndsLine xs → answers m (xs ++ ys) ≡ answers m xs ++ answers m ys
 answers-append m xs ys ends =
-    ap (flat_map (λ line. answer m line ++ 10 ∷ [])) (lines-append_whole xs ys ends) ∙ flat_map-append (λ line. answer m line ++ 10 ∷ []) (lines xs) (lines ys)
+    ap (flat_map (λ line. answer m line ++ 10 ∷ [])) (contact_lines-append_whole xs ys ends) ∙ flat_map-append (λ line. answer m line ++ 10 ∷ []) (contact_lines xs) (contact_lines ys)
 
 -- whole lines after whole lines are whole lines
 EndsLine-append : (xs ys : Text) → EndsLine xs → EndsLine ys → EndsLine (xs ++ ys)
@@ -43,13 +43,13 @@ EndsLine-append xs ys before (inl none) = subst EndsLine (sym (ap (λ l. xs ++ l
 EndsLine-append xs ys before (inr (front, is)) = inr (xs ++ front, ap (λ l. xs ++ l) is ∙ sym (append_assoc xs front (10 ∷ [])))
 
 answers-none : (m : List Mapping) → answers m [] ≡ []
-unfolding lines
+unfolding contact_lines
 answers-none m = refl
 
 pub front-none : (m : List Mapping) (bytes : Text) → AnswersFront m bytes [] bytes
 front-none m bytes = record { whole = []; ends = inl refl; bytes_are = refl; text_is = sym (answers-none m) }
 
--- the answers to the rest and to more bytes come after those so far
+-- the answers so far, followed by those to the rest and to more bytes
 pub front-more : (m : List Mapping) (bytes text rest more made left : Text) → AnswersFront m bytes text rest → AnswersFront m (rest ++ more) made left
     → AnswersFront m (bytes ++ more) (text ++ made) left
 front-more m bytes text rest more made left a b = record {
@@ -76,7 +76,7 @@ front-parts m kept (part ∷ parts) text rest (made, next, later, is, first, oth
     (subst (λ b. AnswersFront m b (made ++ later) rest) (append_assoc kept part (flat_map (λ p. p) parts))
     (front-more m (kept ++ part) made next (flat_map (λ p. p) parts) later rest first (front-parts m next parts later rest others)))
 
--- with the answers to the kept bytes, these are the answers to all bytes
+-- the answers to the parts and to the kept bytes are the answers to all bytes
 pub all-parts : (m : List Mapping) (parts : List Text) (text kept : Text) → AnswersParts m [] parts text kept → text ++ answers m kept ≡ answers m (flat_map (λ part. part) parts)
 all-parts m parts text kept each = front-all m (flat_map (λ part. part) parts) text kept (front-parts m [] parts text kept each)
 
@@ -90,7 +90,7 @@ pub held_both : (xs ys : Text) → HoldsNo 10 xs → HoldsNo 10 ys → HoldsNo 1
 held_both [] ys a b = b
 held_both (x ∷ xs) ys a b = (a.0, held_both xs ys a.1 b)
 
--- a part without a line feed is kept
+-- a part without a line feed is kept as a whole
 pub kept-len : (part : Text) → IsFirstByte (is_byte 10) part None → length part ≡ line_len part
 kept-len part h = sym (line_len-none part (λ k l is. h k (omega arith) l (eq-eqb _ _ is)))
 
@@ -136,8 +136,8 @@ unfolding line_len
 len_within [] = (omega arith, λ some. some)
 len_within (b ∷ s) = let bounds = line_len-bounds (b ∷ s) (omega arith) in (bounds.1, λ some. bounds.0)
 
--- `taken` bytes of the part were taken, and their whole lines answered
-pub record HasTaken (old : Stream) (before part : Text) (taken : ℕ) (new : Stream) (after : Text) : Type 0 where
+-- the stream has read `taken` bytes of the part, and answered their whole lines
+pub record HasReadPart (old : Stream) (before part : Text) (taken : ℕ) (new : Stream) (after : Text) : Type 0 where
   pub within : taken ≤ length part
   pub some : 0 < length part → 0 < taken
   pub made : Text
@@ -153,7 +153,7 @@ abbrev Keeps : Stream → Stream → Type 0
 Keeps old new = (HoldsNo 10 old.kept → HoldsNo 10 new.kept) × (new.mappings ≡ old.mappings)
 
 pub first : (old : Stream) (before part : Text) (taken : ℕ) (new : Stream) (after : Text) → taken ≡ line_len part → Answered old before part taken new after → Keeps old new
-    → HasTaken old before part taken new after
+    → HasReadPart old before part taken new after
 first old before part taken new after len answered keeps =
     let bounds = len_within part in
     record {
@@ -176,9 +176,9 @@ rest_takes part taken count more len =
     let low : 0 < line_len rest = bounds.1 (omega arith) in
     (omega arith, omega arith)
 
-pub next : (old : Stream) (before part : Text) (taken : ℕ) (mid : Stream) (between : Text) (count : ℕ) (new : Stream) (after : Text) → HasTaken old before part taken mid between
+pub next : (old : Stream) (before part : Text) (taken : ℕ) (mid : Stream) (between : Text) (count : ℕ) (new : Stream) (after : Text) → HasReadPart old before part taken mid between
     → taken < length part → count ≡ line_len (take (length part - taken) (drop taken part)) → Answered mid between (take (length part - taken) (drop taken part)) count new after → Keeps mid new
-    → HasTaken old before part (taken + count) new after
+    → HasReadPart old before part (taken + count) new after
 next old before part taken mid between count new after h more len w keeps =
     let rest = take (length part - taken) (drop taken part) in
     let rest_is : rest ≡ drop taken part = take_all (length part - taken) (drop taken part) (omega (arith, length-drop taken part)) in

@@ -48,7 +48,7 @@ bytes_of c =
     (cases_lt c 2048))
     (cases_lt c 128)
 
--- bytes outside ASCII that lie before an ASCII byte
+-- if a text begins with bytes outside ASCII, and has an ASCII byte, they are before that byte
 front_of : (w rest s r : List ℕ) (b : ℕ) → b < 128 → AllByRecursion (λ x. 128 ≤ x) w → s ++ b ∷ r ≡ w ++ rest → (z : List ℕ) × (s ≡ w ++ z)
 front_of [] rest s r b low high e = (s, refl)
 front_of (x ∷ w) rest [] r b low high e = let same : b ≡ x = cc in absurd (omega (arith, high.0))

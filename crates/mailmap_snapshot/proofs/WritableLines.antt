@@ -1,11 +1,11 @@
--- Whatever lines say can be written.
+-- The entry of any line can be written as a line.
 use Rattle.std.proofs.Common.{◌≡◌, ◌≢◌, ◌+◌, ℕ, true, false, cond, List, [], ◌∷◌, ◌++◌, flat_map, Option, Some, None, IsSome, IfSome, OnSome, option_to_list, Ok, Err, IfOk, refl, sym, subst}
 use Rattle.std.specs.List.{AllByRecursion}
 use Rattle.mailmap_grammar.specs.CanonicalText.{IsWritableName, IsWritableEmail, IsWritable}
 use Rattle.mailmap_entries.specs.Folding.{Text}
 use Rattle.mailmap_grammar.specs.Lines.{Reading, ParsedContact, Absent, Unclosed, Closed, HoldsNo, cut, trimmed_contact, non_empty, two_contacts, first_contact, line_reading, is_comment, unless_blank, reading, readings_from, pieces, mappings_in, mappings_of}
 use Rattle.mailmap_grammar.specs.Trimming.{trim}
-use Rattle.mailmap_grammar.proofs.Cut.{closed-cut}
+use Rattle.mailmap_grammar.proofs.Cut.{cut_at_closing-cut}
 use Rattle.mailmap_grammar.proofs.LineFeeds.{pieces-hold_no}
 use Rattle.mailmap_entries.proofs.Parts.{all_head, all_tail, all_append}
 use Rattle.mailmap_snapshot.proofs.WhiteEnds.{trim-trim, HoldsNo-trim}
@@ -29,7 +29,7 @@ contact_fits s line =
       | Absent ↦ λ e. tt
       | Unclosed ↦ λ e. tt
       | Closed a b c ↦ λ e.
-          let is = closed-cut s a b c e in
+          let is = cut_at_closing-cut s a b c e in
           let whole : HoldsNo 10 (a ++ 60 ∷ (b ++ 62 ∷ c)) = subst (HoldsNo 10) is.whole line in
           let after = all_tail _ a (60 ∷ (b ++ 62 ∷ c)) whole in (
             name_fits (trim a) (sym (trim-trim a)) (HoldsNo-trim 60 a is.no_opening) (HoldsNo-trim 10 a (all_head _ a (60 ∷ (b ++ 62 ∷ c)) whole)),
@@ -38,19 +38,19 @@ contact_fits s line =
           )
     ] refl
 
--- an old name comes with a new email
-beside : (email : Text) (o : Option Text) → OnSome o (IsSome (Some email))
-beside email None = tt
-beside email (Some name) = refl
+-- with an old name there is a new email
+with_new_email : (email : Text) (o : Option Text) → OnSome o (IsSome (Some email))
+with_new_email email None = tt
+with_new_email email (Some name) = refl
 
--- an entry from one contact or two
+-- the entry of one contact or of two can be written
 two_fit : (n : ℕ) (t name email : Text) (h : ParsedContact) → IfSome (non_empty name) IsWritableName → IsWritableEmail email → email ≢ [] → ContactFits h → IfOk (two_contacts n t name email h) IsWritable
 two_fit n t [] email Absent a b some c = tt
 two_fit n t [] email Unclosed a b some c = tt
-two_fit n t (x ∷ name) email Absent a b some c = record { names = (a, tt); emails = (tt, b); some_new = tt; some_old = some; beside = tt }
-two_fit n t (x ∷ name) email Unclosed a b some c = record { names = (a, tt); emails = (tt, b); some_new = tt; some_old = some; beside = tt }
-two_fit n t [] email (Closed d f g) a b some c = record { names = (a, c.0); emails = (b, c.1); some_new = some; some_old = tt; beside = beside email (non_empty d) }
-two_fit n t (x ∷ name) email (Closed d f g) a b some c = record { names = (a, c.0); emails = (b, c.1); some_new = some; some_old = tt; beside = beside email (non_empty d) }
+two_fit n t (x ∷ name) email Absent a b some c = record { names = (a, tt); emails = (tt, b); some_new = tt; some_old = some; paired = tt }
+two_fit n t (x ∷ name) email Unclosed a b some c = record { names = (a, tt); emails = (tt, b); some_new = tt; some_old = some; paired = tt }
+two_fit n t [] email (Closed d f g) a b some c = record { names = (a, c.0); emails = (b, c.1); some_new = some; some_old = tt; paired = with_new_email email (non_empty d) }
+two_fit n t (x ∷ name) email (Closed d f g) a b some c = record { names = (a, c.0); emails = (b, c.1); some_new = some; some_old = tt; paired = with_new_email email (non_empty d) }
 
 first_fits : (n : ℕ) (t : Text) (h : ParsedContact) → ContactFits h → IfOk (first_contact (λ name email rest. two_contacts n t name email (trimmed_contact (cut rest))) n t h) IsWritable
 first_fits n t Absent a = tt

@@ -34,7 +34,7 @@ module _ (f : Mapping → Option Text) where
       last_all [] a = tt
       last_all (y ∷ ys) a = all_last P y ys a.0 a.1
 
-  -- if no entry has the field, a fact that follows from that follows
+  -- what holds if some entry lacks the field holds if none has it and there is an entry
   given_none : (Q : Type 0) (l : List Mapping) → is_some (first l) ≡ true → AllByRecursion (λ x. IfNone (f x) Q) l → IfNone (last_given f l) Q
   given_none Q [] some a = absurd (cc)
   given_none Q (x ∷ l) some a = elim (f x) as (λ o. IfNone o Q → IfNone (last (cons_option o (filter_map f l))) Q) [ None ↦ λ q. none_or (last (filter_map f l)) q | Some y ↦ λ _. tt ] a.0
@@ -76,7 +76,7 @@ none_of_some : (o : Option Text) (Q : Type 0) → IsSome o → IfNone o Q
 none_of_some None Q is = absurd (cc)
 none_of_some (Some s) Q is = tt
 
--- without an old name: the last of each field
+-- a value without an old name can be written: it has the last of each field
 given_fits : (l : List Mapping) (s : Text) → IsWritableEmail s → is_some (first l) ≡ true → AllByRecursion (λ e. IsWritable e × (folded e.old_email ≡ folded s)) l
     → IsWritable (mapping_with (record { name = last_given (λ e. e.new_name) l; email = last_given (λ e. e.new_email) l }) None s)
 given_fits l s email some all =
@@ -85,26 +85,26 @@ given_fits l s email some all =
       emails = (given_all (λ e. e.new_email) IsWritableEmail l (each (λ e. IfSome e.new_email IsWritableEmail) (λ e w same. w.emails.0)), email);
       some_new = given_all (λ e. e.new_email) (λ t. t ≢ []) l (each (λ e. IfSome e.new_email (λ t. t ≢ [])) (λ e w same. w.some_new));
       some_old = given_none (λ e. e.new_email) (s ≢ []) l some (each (λ e. IfNone e.new_email (s ≢ [])) (λ e w same. if_none e.new_email _ _ (some_folded e.old_email s same) w.some_old));
-      beside = tt;
+      paired = tt;
     }
   where
     each : (R : Mapping → Type 0) → ((e : Mapping) → IsWritable e → folded e.old_email ≡ folded s → R e) → AllByRecursion R l
     each R f = all_apply _ _ R (λ e w _. f e w.0 w.1) l all all
 
--- with an old name: the new fields of the last entry, and the name of the first
+-- a value with an old name can be written: it has the new fields of the last entry, and the name of the first
 named_fits : (l : List Mapping) (s : Text) → IsWritableEmail s → is_some (first l) ≡ true → AllByRecursion (λ e. IsWritable e × IsSome e.old_name) l
     → IsWritable (mapping_with (unwrap_or (option_map new_fields (last l)) no_fields) (option_and_then (λ e. e.old_name) (first l)) s)
 named_fits [] s email some all = absurd (cc)
 named_fits (x ∷ l) s email some all =
     let end : Mapping = unwrap_or (last l) x in
     let w : IsWritable end × IsSome end.old_name = all_last (λ e. IsWritable e × IsSome e.old_name) x l all.0 all.1 in
-    let has : IsSome end.new_email = at_some end.old_name (IsSome end.new_email) w.1 w.0.beside in
+    let has : IsSome end.new_email = at_some end.old_name (IsSome end.new_email) w.1 w.0.paired in
     record {
       names = (w.0.names.0, all.0.0.names.1);
       emails = (w.0.emails.0, email);
       some_new = w.0.some_new;
       some_old = none_of_some end.new_email (s ≢ []) has;
-      beside = on_some x.old_name (IsSome end.new_email) has;
+      paired = on_some x.old_name (IsSome end.new_email) has;
     }
 
 module _ (h : List Mapping) (writable : AllByRecursion IsWritable h) where

@@ -3,39 +3,39 @@ use Rattle.std.proofs.Common.{◌≡◌, [], ◌∷◌, ◌++◌, Option, Some, 
 use Rattle.std.proofs.lemmas.List.Elements.{All-from_recursion}
 use Rattle.std.specs.Char.{encode_utf8}
 use Rattle.std.specs.List.Sorted.{IsStrictlySortedBy}
-use Rattle.mailmap_grammar.specs.CanonicalText.{IsWritable, text}
+use Rattle.mailmap_grammar.specs.CanonicalText.{IsWritable, canonical_text}
 use Rattle.mailmap_entries.specs.Entries.{Mapping}
 use Rattle.mailmap_entries.specs.Folding.{Text}
 use Rattle.mailmap_entries.specs.Semantics.{IsNormal, key, value}
 use Rattle.mailmap_grammar.specs.Lines.{mappings_of}
 use Rattle.mailmap_grammar.specs.Trimming.{trim}
 use Rattle.mailmap_snapshot.proofs.WhiteEnds.{BeginsWhite-trimmed, EndsWhite-trimmed, trim-stays, trim-nil, BeginsWhite-ascii, EndsWhite-ascii}
-use Rattle.mailmap_snapshot.proofs.WrittenText.{mappings_of-text}
+use Rattle.mailmap_snapshot.proofs.WrittenText.{mappings_of-canonical_text}
 
 abbrev by : Option Text → Option Text → Option Text → Text → Mapping
 by new_name new_email old_name old_email = record { new_name = new_name; new_email = new_email; old_name = old_name; old_email = old_email }
 
-nothing : text [] ≡ []
+nothing : canonical_text [] ≡ []
 nothing = refl
 
 -- the order of the fields, a name that begins with `#`, and an empty old email
-three : text (by (Some (codes "Jane")) (Some (codes "j@x")) None [] ∷ by (Some (codes "# c")) None None (codes "a@x") ∷ by None (Some (codes "n@y")) (Some (codes "Bob")) (codes "a@x") ∷ [])
+three : canonical_text (by (Some (codes "Jane")) (Some (codes "j@x")) None [] ∷ by (Some (codes "# c")) None None (codes "a@x") ∷ by None (Some (codes "n@y")) (Some (codes "Bob")) (codes "a@x") ∷ [])
     ≡ codes " Jane <j@x> <>" ++ 10 ∷ (codes " # c <a@x>" ++ 10 ∷ (codes " <n@y> Bob <a@x>" ++ 10 ∷ []))
 three = refl
 
 -- brackets that the grammar treats as text
-brackets : text (by (Some (codes "a>b")) (Some (codes "c<d")) (Some (codes "e>f")) (codes "g") ∷ []) ≡ codes " a>b <c<d> e>f <g>" ++ 10 ∷ []
+brackets : canonical_text (by (Some (codes "a>b")) (Some (codes "c<d")) (Some (codes "e>f")) (codes "g") ∷ []) ≡ codes " a>b <c<d> e>f <g>" ++ 10 ∷ []
 brackets = refl
 
 -- a space in front of a name
-blank_front : IsWritable (by (Some (codes " N")) None None (codes "a@x")) → ⊥
+space_front : IsWritable (by (Some (codes " N")) None None (codes "a@x")) → ⊥
 unfolding encode_utf8
-blank_front w = BeginsWhite-trimmed (codes " N") w.names.0.trimmed (32, codes "N", refl, refl)
+space_front w = BeginsWhite-trimmed (codes " N") w.names.0.trimmed (32, codes "N", refl, refl)
 
 -- white space outside ASCII after an email
-blank_end : IsWritable (by (Some (codes "N")) None None (codes "a@x" ++ 194 ∷ 160 ∷ [])) → ⊥
+white_end : IsWritable (by (Some (codes "N")) None None (codes "a@x" ++ 194 ∷ 160 ∷ [])) → ⊥
 unfolding encode_utf8
-blank_end w = EndsWhite-trimmed (codes "a@x" ++ 194 ∷ 160 ∷ []) w.emails.1.trimmed (160, codes "a@x", refl, refl)
+white_end w = EndsWhite-trimmed (codes "a@x" ++ 194 ∷ 160 ∷ []) w.emails.1.trimmed (160, codes "a@x", refl, refl)
 
 -- a bracket in an email
 bracket : IsWritable (by None (Some (codes "n>y")) None (codes "b@x")) → ⊥
@@ -55,7 +55,7 @@ two_lines w = w.names.0.one_line.1.0 refl
 
 -- an old name without a new email
 name_alone : IsWritable (by (Some (codes "N")) None (Some (codes "M")) (codes "a@x")) → ⊥
-name_alone w = let e = w.beside in absurd (cc)
+name_alone w = let e = w.paired in absurd (cc)
 
 -- ---- an entry that a line can hold, alone in a list
 
@@ -74,7 +74,7 @@ writable = All-from_recursion IsWritable (by_empty ∷ []) (
     emails = (record { trimmed = plain; no_closing = (omega arith, (omega arith, (omega arith, tt))); one_line = (omega arith, (omega arith, (omega arith, tt))) }, record { trimmed = sym trim-nil; no_closing = tt; one_line = tt });
     some_new = λ e. cc;
     some_old = tt;
-    beside = tt;
+    paired = tt;
   },
   tt,
 )
@@ -83,7 +83,7 @@ normal : IsNormal (by_empty ∷ []) (by_empty ∷ [])
 unfolding by_empty IsStrictlySortedBy
 normal = record { ascending = (tt, tt); keys = λ k. refl; values = All-from_recursion (λ e. e ≡ value (by_empty ∷ []) (key e)) (by_empty ∷ []) (refl, tt) }
 
--- so parsing its line gives the entry
+-- parsing the line of this entry gives it back
 read_back : mappings_of (codes " <n@y> <>" ++ 10 ∷ []) ≡ by_empty ∷ []
 unfolding by_empty
-read_back = mappings_of-text (by_empty ∷ []) normal writable
+read_back = mappings_of-canonical_text (by_empty ∷ []) normal writable

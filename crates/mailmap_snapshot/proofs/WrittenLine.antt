@@ -1,12 +1,12 @@
 -- Parsing the line of an entry gives the entry.
 use Rattle.std.proofs.Common.{◌≡◌, ◌≢◌, ℕ, true, [], ◌∷◌, ◌++◌, Option, Some, None, IfSome, unwrap_or, Ok, append_assoc, append-nil, arith, refl, sym, ap, subst, ◌∙◌}
-use Rattle.mailmap_grammar.specs.CanonicalText.{IsWritableName, IsWritableEmail, IsWritable, name_part, bracketed_email, email_part, line}
+use Rattle.mailmap_grammar.specs.CanonicalText.{IsWritableName, IsWritableEmail, IsWritable, name_part, bracketed_email, email_part, canonical_line}
 use Rattle.mailmap_entries.specs.Entries.{Mapping}
 use Rattle.mailmap_entries.specs.Folding.{Text}
 use Rattle.mailmap_entries.specs.Semantics.{is_accepted}
 use Rattle.mailmap_grammar.specs.Lines.{HoldsNo, Reading, ParsedContact, Absent, Unclosed, Closed, cut, trimmed_contact, non_empty, two_contacts, strict_contacts, first_contact, line_reading, strict_line_reading, unless_blank, reading_by, reading, strict_reading}
 use Rattle.mailmap_grammar.specs.Trimming.{trim, BeginsWhite, EndsWhite}
-use Rattle.mailmap_grammar.proofs.Cut.{cut-absent, cut-closed}
+use Rattle.mailmap_grammar.proofs.Cut.{cut-absent, cut-cut_at_closing}
 use Rattle.mailmap_entries.proofs.Parts.{all_append}
 use Rattle.mailmap_snapshot.proofs.WhiteEnds.{BeginsWhite-ascii, BeginsWhite-before, EndsWhite-ascii, trim-stays, trim-nil, trim-blank_start, trim-blank_end, BeginsWhite-trimmed}
 
@@ -48,17 +48,17 @@ non_empty-name (Some (b ∷ s)) h = refl
 abbrev pub body : Mapping → Text
 body e = name_part e.new_name ++ email_part e.new_email ++ name_part e.old_name ++ bracketed_email e.old_email
 
-pub line-then : (e : Mapping) (rest : Text) → line e ++ rest ≡ (32 ∷ body e) ++ 10 ∷ rest
-line-then e rest = append_assoc (32 ∷ body e) (10 ∷ []) rest
+pub canonical_line-then : (e : Mapping) (rest : Text) → canonical_line e ++ rest ≡ (32 ∷ body e) ++ 10 ∷ rest
+canonical_line-then e rest = append_assoc (32 ∷ body e) (10 ∷ []) rest
 
--- it has no line feed
+-- this part of the line has no line feed
 pub one_line : (e : Mapping) → IsWritable e → HoldsNo 10 (32 ∷ body e)
 one_line e w =
     let front = all_append _ (name_part e.new_name) (email_part e.new_email) (HoldsNo-name_part 10 e.new_name (omega arith) (name_line e.new_name w.names.0)) (HoldsNo-email_part e.new_email w.emails.0) in
     let names = all_append _ (name_part e.new_name ++ email_part e.new_email) (name_part e.old_name) front (HoldsNo-name_part 10 e.old_name (omega arith) (name_line e.old_name w.names.1)) in
     (omega arith, all_append _ (name_part e.new_name ++ email_part e.new_email ++ name_part e.old_name) (bracketed_email e.old_email) names (HoldsNo-bracketed_email e.old_email w.emails.1.one_line))
 
--- it doesn't end with white space
+-- the body doesn't end with white space
 EndsWhite-body : (s r : Text) → EndsWhite (s ++ bracketed_email r) → ⊥
 EndsWhite-body s r h = let e = EndsWhite-ascii 62 (s ++ 60 ∷ r) (omega arith) (rw (append_assoc s (60 ∷ r) (62 ∷ [])) h) in absurd (cc)
 
@@ -69,7 +69,7 @@ some_end (b ∷ s) r e = cc
 abbrev mapping : Option Text → Option Text → Option Text → Text → Mapping
 mapping nn ne on oe = record { new_name = nn; new_email = ne; old_name = on; old_email = oe }
 
--- it doesn't begin with white space
+-- the body doesn't begin with white space
 BeginsWhite-body : (nn ne on : Option Text) (oe : Text) → IsWritable (mapping nn ne on oe) → is_accepted (mapping nn ne on oe) ≡ true → BeginsWhite (body (mapping nn ne on oe)) → ⊥
 BeginsWhite-body None None on oe w a h = absurd (cc)
 BeginsWhite-body None (Some ne) on oe w a h = let e = BeginsWhite-ascii 60 ((ne ++ 62 ∷ []) ++ 32 ∷ [] ++ name_part on ++ bracketed_email oe) (omega arith) h in absurd (cc)
@@ -82,19 +82,19 @@ BeginsWhite-body (Some nn) ne on oe w a h =
 -- the first contact, if there is a new email
 cut_first : (nn on : Option Text) (ne oe : Text) → IfSome nn (HoldsNo 60) → HoldsNo 62 ne → cut (body (mapping nn (Some ne) on oe)) ≡ Closed (name_part nn) ne (32 ∷ (name_part on ++ bracketed_email oe))
 cut_first nn on ne oe name email =
-    cut-closed _ _ _ _ (record { whole = simp append_assoc; no_opening = HoldsNo-name_part 60 nn (omega arith) name; no_closing = email })
+    cut-cut_at_closing _ _ _ _ (record { whole = simp append_assoc; no_opening = HoldsNo-name_part 60 nn (omega arith) name; no_closing = email })
 
 -- the second contact
 cut_second : (on : Option Text) (oe : Text) → IfSome on (HoldsNo 60) → HoldsNo 62 oe → cut (32 ∷ (name_part on ++ bracketed_email oe)) ≡ Closed (32 ∷ name_part on) oe []
 cut_second on oe name email =
-    cut-closed _ _ _ _ (record { whole = refl; no_opening = (omega arith, HoldsNo-name_part 60 on (omega arith) name); no_closing = email })
+    cut-cut_at_closing _ _ _ _ (record { whole = refl; no_opening = (omega arith, HoldsNo-name_part 60 on (omega arith) name); no_closing = email })
 
 -- the only contact, if there is no new email
 cut_only : (nn oe : Text) → HoldsNo 60 nn → HoldsNo 62 oe → cut (body (mapping (Some nn) None None oe)) ≡ Closed (nn ++ 32 ∷ []) oe []
 cut_only nn oe name email =
-    cut-closed _ _ _ _ (record { whole = simp append-nil; no_opening = HoldsNo-name_part 60 (Some nn) (omega arith) name; no_closing = email })
+    cut-cut_at_closing _ _ _ _ (record { whole = simp append-nil; no_opening = HoldsNo-name_part 60 (Some nn) (omega arith) name; no_closing = email })
 
--- ---- what its contacts say
+-- ---- the entry of its contacts
 
 -- the rest is read if the first contact has an email
 with_email : (both : Text → Text → Text → Reading) (n : ℕ) (t name email rest : Text) → email ≢ [] → first_contact both n t (Closed name email rest) ≡ both name email rest
@@ -119,7 +119,7 @@ Agrees n t both = (name email rest : Text) (h : ParsedContact) → cut rest ≡ 
 says : (both : Text → Text → Text → Reading) (n : ℕ) (t : Text) (nn ne on : Option Text) (oe : Text) → Agrees n t both
     → IsWritable (mapping nn ne on oe) → is_accepted (mapping nn ne on oe) ≡ true → first_contact both n t (trimmed_contact (cut (body (mapping nn ne on oe)))) ≡ Ok (mapping nn ne on oe)
 says both n t None None on oe agrees w a = absurd (cc)
-says both n t (Some nn) None (Some on) oe agrees w a = let e = w.beside in absurd (cc)
+says both n t (Some nn) None (Some on) oe agrees w a = let e = w.paired in absurd (cc)
 says both n t (Some nn) None None oe agrees w a =
     ap (λ h. first_contact both n t (trimmed_contact h)) (cut_only nn oe w.names.0.no_opening w.emails.1.no_closing)
     ∙ (λ i. first_contact both n t (Closed (trim-name_part (Some nn) w.names.0 i) (sym w.emails.1.trimmed i) []))
@@ -140,7 +140,7 @@ says both n t nn (Some ne) on oe agrees w a =
 lenient : (n : ℕ) (t : Text) → Agrees n t (λ name email rest. two_contacts n t name email (trimmed_contact (cut rest)))
 lenient n t name email rest h is other = ap (λ h. two_contacts n t name email (trimmed_contact h)) is
 
--- so is strict parsing, which differs only if the second contact is unclosed
+-- strict parsing is such a reader, too
 strict : (n : ℕ) (t : Text) → Agrees n t (λ name email rest. strict_contacts n t name email rest (trimmed_contact (cut rest)))
 strict n t name email rest Absent is other = ap (λ h. strict_contacts n t name email rest (trimmed_contact h)) is
 strict n t name email rest Unclosed is other = absurd (other refl)
@@ -148,7 +148,7 @@ strict n t name email rest (Closed a b c) is other = ap (λ h. strict_contacts n
 
 -- ---- the whole line
 
--- a line that isn't blank is read
+-- a line that isn't blank has a reading
 unless_some : (reads : ℕ → Text → Reading) (n : ℕ) (t : Text) → t ≢ [] → unless_blank reads n t ≡ Some (reads n t)
 unless_some reads n [] some = absurd (some refl)
 unless_some reads n (b ∷ t) some = refl
@@ -162,11 +162,11 @@ by_body reads n e w a =
     ap (unless_blank reads n) same ∙ unless_some reads n (body e) (some_end front e.old_email)
 
 -- lenient parsing gives the entry
-pub reading-line : (n : ℕ) (e : Mapping) → IsWritable e → is_accepted e ≡ true → reading n (32 ∷ body e) ≡ Some (Ok e)
-reading-line n e w a =
+pub reading-canonical_line : (n : ℕ) (e : Mapping) → IsWritable e → is_accepted e ≡ true → reading n (32 ∷ body e) ≡ Some (Ok e)
+reading-canonical_line n e w a =
     by_body line_reading n e w a ∙ ap (λ r. Some r) (says _ n (body e) e.new_name e.new_email e.old_name e.old_email (lenient n (body e)) w a)
 
--- so does strict parsing
-pub strict_reading-line : (n : ℕ) (e : Mapping) → IsWritable e → is_accepted e ≡ true → strict_reading n (32 ∷ body e) ≡ Some (Ok e)
-strict_reading-line n e w a =
+-- strict parsing gives the entry, too
+pub strict_reading-canonical_line : (n : ℕ) (e : Mapping) → IsWritable e → is_accepted e ≡ true → strict_reading n (32 ∷ body e) ≡ Some (Ok e)
+strict_reading-canonical_line n e w a =
     by_body strict_line_reading n e w a ∙ ap (λ r. Some r) (says _ n (body e) e.new_name e.new_email e.old_name e.old_email (strict n (body e)) w a)

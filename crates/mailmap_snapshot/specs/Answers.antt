@@ -9,8 +9,8 @@ use Rattle.mailmap_signatures.specs.declared.cow.Signature.{Signature}
 use Rattle.mailmap_entries.specs.Semantics.{Fields, fields_for, answer_of}
 
 -- the fields that replace a signature's name and email, if there are any
-abbrev pub mapped : List Mapping → SignatureRef → Option Fields
-mapped h signature = answer_of h signature.name.now signature.email.now
+abbrev pub signature_answer : List Mapping → SignatureRef → Option Fields
+signature_answer h signature = answer_of h signature.name.now signature.email.now
 
 -- a signature with the fields that are there in place of its own, and its time
 pub record IsEnriched (new : Fields) (signature : SignatureRef) (answer : SignatureFields) : Type 0 where

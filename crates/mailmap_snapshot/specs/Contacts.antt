@@ -4,18 +4,21 @@ use Rattle.std.specs.List.{AllByRecursion, AllZip, flat_map}
 use Rattle.mailmap_entries.specs.Entries.{Mapping}
 use Rattle.mailmap_entries.specs.Folding.{Text}
 use Rattle.mailmap_entries.specs.Semantics.{Fields, fields_for}
-use Rattle.mailmap_grammar.specs.Lines.{ParsedContact, Absent, Unclosed, Closed, contact_in, mappings_of, with_first, fed, HoldsNo}
+use Rattle.mailmap_grammar.specs.Lines.{ParsedContact, Absent, Unclosed, Closed, contact_in, mappings_of, with_first, with_line_feeds, HoldsNo}
 
--- a line feed comes next
+-- the text begins with a line feed
 abbrev pub feeds : Text → Bool
 feeds [] = false
 feeds (b ∷ s) = b == 10
 
 -- the lines of a text: each ends before its line feed, and before one carriage return directly before that; the last
 -- line may have no line feed, and then keeps a carriage return at its end
-unfoldable pub lines : Text → List Text
-lines [] = []
-lines (b ∷ s) = if b == 10 then [] ∷ lines s else if b == 13 && feeds s then lines s else with_first b (lines s)
+unfoldable pub contact_lines : Text → List Text
+contact_lines [] = []
+contact_lines (b ∷ s) =
+    if b == 10 then [] ∷ contact_lines s
+    else if b == 13 && feeds s then contact_lines s
+    else with_first b (contact_lines s)
 
 -- the line is the piece without one carriage return at its end
 abbrev pub IsBare : Text → Text → Type 0
@@ -28,23 +31,23 @@ pub record AreLines (s : Text) (ls : List Text) : Type 0 where
   pub bare : List Text
   pub each : AllZip IsBare ended bare
   pub no_feed : AllByRecursion (HoldsNo 10) ended
-  pub whole : ((s ≡ fed ended) × (ls ≡ bare))
-      ⊎ ((last : Text) × (last ≢ []) × HoldsNo 10 last × (s ≡ fed ended ++ last) × (ls ≡ bare ++ last ∷ []))
+  pub whole : ((s ≡ with_line_feeds ended) × (ls ≡ bare))
+      ⊎ ((last : Text) × (last ≢ []) × HoldsNo 10 last × (s ≡ with_line_feeds ended ++ last) × (ls ≡ bare ++ last ∷ []))
 
 -- a name and an email as a contact line; without the space if the name is empty
-abbrev pub contact : Text → Text → Text
-contact [] email = 60 ∷ email ++ 62 ∷ []
-contact (b ∷ name) email = (b ∷ name) ++ 32 ∷ 60 ∷ email ++ 62 ∷ []
+abbrev pub contact_line : Text → Text → Text
+contact_line [] email = 60 ∷ email ++ 62 ∷ []
+contact_line (b ∷ name) email = (b ∷ name) ++ 32 ∷ 60 ∷ email ++ 62 ∷ []
 
 -- a contact with the fields that are there in place of its own
-abbrev pub replaced : Fields → Text → Text → Text
-replaced f name email = contact (unwrap_or f.name name) (unwrap_or f.email email)
+abbrev pub contact_with : Fields → Text → Text → Text
+contact_with f name email = contact_line (unwrap_or f.name name) (unwrap_or f.email email)
 
 -- the answer to a line that starts with this contact; a line without a contact is its own answer
 abbrev pub contact_answer : List Mapping → Text → ParsedContact → Text
 contact_answer h line Absent = line
 contact_answer h line Unclosed = line
-contact_answer h line (Closed name email rest) = replaced (fields_for h name email) name email
+contact_answer h line (Closed name email rest) = contact_with (fields_for h name email) name email
 
 -- the answer to a line; a contact is at the start of the trimmed line, and its email may be empty
 abbrev pub answer : List Mapping → Text → Text
@@ -52,7 +55,7 @@ answer h line = contact_answer h line (contact_in line)
 
 -- the answers to lines of contacts, each followed by a line feed
 abbrev pub answers : List Mapping → Text → Text
-answers h contacts = flat_map (λ line. answer h line ++ 10 ∷ []) (lines contacts)
+answers h contacts = flat_map (λ line. answer h line ++ 10 ∷ []) (contact_lines contacts)
 
 -- the answers to lines of contacts with the mappings of the buffers, one after another
 abbrev pub answers_by : List Text → Text → Text

@@ -9,17 +9,17 @@ use Rattle.mailmap_entries.specs.Semantics.{Fields}
 use Rattle.mailmap_snapshot.specs.declared.snapshot.resolved.ResolvedSignature.{ResolvedSignature}
 
 -- the name and the email of an answer, independent of where they are in memory
-abbrev pub shown : ResolvedSignature → Fields
-shown r = record { name = option_copied r.name; email = option_copied r.email }
+abbrev pub resolved_fields : ResolvedSignature → Fields
+resolved_fields r = record { name = option_copied r.name; email = option_copied r.email }
 
-abbrev pub has_email : Text → Mapping → Bool
-has_email email e = eq_by_cmp text_cmp (folded email) (folded e.old_email)
+abbrev pub is_for_email : Text → Mapping → Bool
+is_for_email email e = eq_by_cmp text_cmp (folded email) (folded e.old_email)
 
 -- the number of distinct old emails, if case is ignored
 abbrev pub email_count : List Mapping → ℕ
 email_count [] = 0
-email_count (e ∷ es) = if list_any (has_email e.old_email) es then email_count es else email_count es + 1
+email_count (e ∷ es) = if list_any (is_for_email e.old_email) es then email_count es else email_count es + 1
 
 -- the number of entries with an old name for this email
 abbrev pub name_count : List Mapping → Text → ℕ
-name_count es email = count_by (λ e. is_some e.old_name && has_email email e) es
+name_count es email = count_by (λ e. is_some e.old_name && is_for_email email e) es

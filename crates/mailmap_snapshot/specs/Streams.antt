@@ -3,7 +3,7 @@ use Rattle.std.specs.Prelude.{◌≡◌, List, [], ◌∷◌, ◌++◌}
 use Rattle.std.specs.List.{All}
 use Rattle.mailmap_entries.specs.Entries.{Mapping}
 use Rattle.mailmap_entries.specs.Folding.{Text}
-use Rattle.answer_cache.specs.Kept.{Kept}
+use Rattle.answer_cache.specs.CachedLines.{CachedLine}
 use Rattle.mailmap_grammar.specs.Lines.{HoldsNo}
 use Rattle.mailmap_snapshot.specs.Contacts.{answers}
 use Rattle.mailmap_snapshot.specs.Parts.{EndsLine}
@@ -33,5 +33,5 @@ abbrev pub IsOneLine : Text → Type 0
 IsOneLine line = (piece : Text) × HoldsNo 10 piece × (line ≡ piece ++ 10 ∷ [])
 
 -- all of these are lines and their answers
-abbrev pub AnswersAll : List Mapping → List Kept → Type 0
-AnswersAll mappings kept = All (λ k. k.answer ≡ answers mappings k.line) kept
+abbrev pub AreCachedAnswers : List Mapping → List CachedLine → Type 0
+AreCachedAnswers mappings kept = All (λ k. k.answer ≡ answers mappings k.line) kept

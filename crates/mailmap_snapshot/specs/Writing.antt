@@ -3,7 +3,7 @@ use Rattle.std.specs.Prelude.{◌≡◌, ℕ, List, Some, take, slice_get}
 use Rattle.std.specs.List.{All, flat_map}
 use Rattle.mailmap_snapshot.specs.declared.snapshot.text.WriteError.{WriteError}
 use Rattle.mailmap_snapshot.specs.declared.snapshot.text.WriteError.TheVariants.{Unwritable, Memory}
-use Rattle.mailmap_grammar.specs.CanonicalText.{IsWritable, text}
+use Rattle.mailmap_grammar.specs.CanonicalText.{IsWritable, canonical_text}
 use Rattle.mailmap_entries.specs.Entries.{Mapping}
 use Rattle.mailmap_entries.specs.Folding.{Text}
 use Rattle.mailmap_entries.specs.Semantics.{IsNormal}
@@ -21,6 +21,6 @@ abbrev pub IsUnwrittenBy : List Mapping → WriteError → Type 0
 IsUnwrittenBy es (Unwritable index) = IsFirstUnwritable es index
 IsUnwrittenBy es (Memory error) = All IsWritable es
 
--- the bytes are the text of the normal list of what the buffers say, one after another
+-- the bytes are the text of the normal list of the buffers' mappings, one buffer after another
 abbrev pub IsCompacted : List Text → Text → Type 0
-IsCompacted buffers bytes = (n : List Mapping) × IsNormal (flat_map mappings_of buffers) n × (bytes ≡ text n)
+IsCompacted buffers bytes = (n : List Mapping) × IsNormal (flat_map mappings_of buffers) n × (bytes ≡ canonical_text n)

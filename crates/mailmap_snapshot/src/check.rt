@@ -2,7 +2,7 @@
 ghost use Rattle.std.specs.Prelude.{◌≡◌, ◌++◌, ◌∷◌, [], map, unwrap_or, IfOk, OnErr, OnOk};
 ghost use Rattle.std.specs.Io.{StartsWith};
 ghost use Rattle.std.specs.List.{flat_map};
-ghost use Rattle.mailmap_snapshot.specs.Contacts.{answer, answers, answers_by, contact};
+ghost use Rattle.mailmap_snapshot.specs.Contacts.{answer, answers, answers_by, contact_line};
 ghost use Rattle.mailmap_entries.specs.Semantics.{IsNormal, fields_for};
 ghost use Rattle.mailmap_grammar.specs.Lines.{mappings_of};
 
@@ -109,7 +109,7 @@ pub fn resolved<'a>(snapshot: &'a Snapshot, name: &'a [u8], email: &'a [u8]) -> 
 ///
 /// The name `Jane` and the email `j@x` are `Jane <j@x>`. If memory runs out, a part of it may have been appended.
 pub fn push_contact(text: &mut Vec<u8>, name: &[u8], email: &[u8]) -> Result<(), AllocError>
-    ensures ok { OnOk result (text.new.items ≡ text.old.items ++ contact name.now email.now) }
+    ensures ok { OnOk result (text.new.items ≡ text.old.items ++ contact_line name.now email.now) }
     ensures front { StartsWith text.new.items text.old.items }
 {
     text.extend_from_slice(name)?;

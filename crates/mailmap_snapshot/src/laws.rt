@@ -3,7 +3,7 @@ ghost use Rattle.std.specs.Prelude.{◌≡◌, ◌↔◌, ◌++◌, [], List, tr
 ghost use Rattle.std.specs.List.{flat_map};
 ghost use Rattle.mailmap_entries.specs.Entries.{Mapping};
 ghost use Rattle.mailmap_entries.specs.Folding.{Text};
-ghost use Rattle.mailmap_snapshot.specs.Contacts.{AreLines, answers, lines};
+ghost use Rattle.mailmap_snapshot.specs.Contacts.{AreLines, answers, contact_lines};
 ghost use Rattle.mailmap_snapshot.specs.Parts.{IsSplit};
 ghost use Rattle.mailmap_snapshot.specs.Streams.{AnswersFront, AnswersParts};
 ghost use Rattle.mailmap_snapshot.specs.declared.snapshot.text.WriteError as the_error;
@@ -26,7 +26,7 @@ pub fn law_parts()
 /// Lines of contacts are split at line feeds, and one carriage return directly before a line feed is removed. If the
 /// last line doesn't end with a line feed, it is kept as it is.
 pub fn law_lines()
-    ensures { (s : Text) (ls : List Text) → (lines s ≡ ls) ↔ AreLines s ls }
+    ensures { (s : Text) (ls : List Text) → (contact_lines s ≡ ls) ↔ AreLines s ls }
 {}
 
 /// Contacts can be pushed to a stream in any parts, where a part is what one push takes. Together, the answers to the

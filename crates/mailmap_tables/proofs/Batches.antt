@@ -1,4 +1,4 @@
--- A batch that is sorted by key can stand for the entries as they came, if its emails have their first spellings.
+-- A batch can be sorted by key without a change to the result, if each email gets its first spelling.
 use Rattle.std.proofs.Common.{◌≡◌, ◌≤◌, ◌<◌, ◌+◌, ℕ, zero, suc, Bool, true, false, cond, List, [], ◌∷◌, ◌++◌, map}
 use Rattle.std.proofs.Common.{filter, length, get_or, All, Contains, Option, Some, None, option_map, is_some, unwrap_or}
 use Rattle.std.proofs.Common.{is_eq, refl, sym, ap, ◌∙◌, arith}

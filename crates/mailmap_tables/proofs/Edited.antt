@@ -272,7 +272,7 @@ module _ (pool : Text) (names : List RowTexts) (p : ℕ) (row : RowTexts) where
       λ i. before_set r (omega (arith, h.0, h.1)) (omega (arith, high, at)) i ∷ groups_set r.names_end n rs index d e
       h.2 lt_tail read at within i
 
--- the range of an email's names lies within all ranges
+-- the range of an email's names ends no later than the last range
 pub range_ends : (k n : ℕ) (es : List EmailRow) (i : ℕ) (d : EmailRow) → Follow k n es → i < length es
     → (get_or es i d).names_end ≤ end_of k es
 range_ends k n [] i d h lt = absurd (omega (arith, lt))

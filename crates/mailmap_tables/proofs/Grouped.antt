@@ -24,7 +24,7 @@ use Rattle.mailmap_tables.specs.Groups.{own_rows, rows, listing}
 use Rattle.mailmap_entries.specs.Building.{IsListing, IsPaired}
 use Rattle.mailmap_entries.specs.Semantics.{Fields, key, key_cmp, first, last, last_given, is_accepted, accepted}
 use Rattle.mailmap_entries.specs.Semantics.{of_key, has_key, given_fields, last_fields, new_fields, no_fields}
-use Rattle.mailmap_entries.specs.Semantics.{mapping_with, spelling, value, answered, answer_of, IsNormal}
+use Rattle.mailmap_entries.specs.Semantics.{mapping_with, spelling, value, fields_with_spelling, answer_of, IsNormal}
 use Rattle.mailmap_entries.proofs.Alike.{Alike, alike_back, same_normal, picked-append}
 use Rattle.mailmap_entries.proofs.Ascending.{before, after}
 use Rattle.mailmap_entries.proofs.Joined.{filter_none, never}
@@ -38,12 +38,12 @@ every : {X : Type 0} {P : X → Type 0} → ((x : X) → P x) → (xs : List X) 
 every f [] = tt
 every f (x ∷ xs) = (f x, every f xs)
 
--- for the rows of names
+-- a predicate that holds for every row of a name
 pub all_rows : (P : Mapping → Type 0) (email : Text) (ns : List NameGroup) → ((n : NameGroup) → P (name_row email n))
     → AllByRecursion P (map (name_row email) ns)
 all_rows P email ns f = all_mapped (name_row email) P ns (every f ns)
 
--- for the row that an email may have for all names
+-- a predicate that holds for the row that an email may have for all names
 own_all : (P : Mapping → Type 0) (g : EmailGroup) → ((is_some g.own.name || is_some g.own.email) ≡ true
     → P (mapping_with g.own None g.old_email)) → AllByRecursion P (own_rows g)
 own_all P g f = by (is_some g.own.name || is_some g.own.email) f
@@ -338,7 +338,7 @@ pub groups_normal : (gs : List EmailGroup) → AreGroups gs → IsNormal (listin
 groups_normal gs are =
     self_normal (listing gs) (listing_sorted gs are.ascending are.each) (groups_accepted gs) (listing_spelled gs are)
 
--- so they are a listing, in which each old name has a new email
+-- the entries of groups are a listing: each old name has a new email
 pub groups_listing : (gs : List EmailGroup) → AreGroups gs → IsListing (listing gs)
 groups_listing gs are =
     record {
@@ -359,24 +359,24 @@ normal_of_groups h gs are alike =
 
 -- ---- the answer to a signature
 
--- the email and the name are there
+-- the answer if the email and the name are there
 pub scan_found_name : (gs : List EmailGroup) → AreGroups gs → (name email : Text) (head : List EmailGroup)
     (g : EmailGroup) (back : List EmailGroup) → gs ≡ head ++ g ∷ back → folded g.old_email ≡ folded email
     → (before : List NameGroup) (n : NameGroup) (after : List NameGroup) → g.names ≡ before ++ n ∷ after
     → folded n.old_name ≡ folded name
-    → answer_of (listing gs) name email ≡ answered email (name_fields n) (Some g.old_email)
+    → answer_of (listing gs) name email ≡ fields_with_spelling email (name_fields n) (Some g.old_email)
 scan_found_name gs are name email head g back parted same before n after names_parted same_name =
     let h : List Mapping = listing gs in
     let named : last_fields h (folded email, Some (folded name)) ≡ Some (name_fields n) =
     (λ i. last_fields h (sym same i, Some (sym same_name i))) ∙ ap (λ l. option_map new_fields (last l))
     (named_at gs are head g back parted before n after names_parted) in
-    ap₂ (λ o s. answered email (unwrap_or o (given_fields h (folded email))) s) named (ap (spelling h) (sym same)
+    ap₂ (λ o s. fields_with_spelling email (unwrap_or o (given_fields h (folded email))) s) named (ap (spelling h) (sym same)
     ∙ spelled_at gs are head g back parted)
 
--- the email is there, but not the name
+-- the answer if the email is there, but not the name
 pub scan_found_own : (gs : List EmailGroup) → AreGroups gs → (name email : Text) (head : List EmailGroup)
     (g : EmailGroup) (back : List EmailGroup) → gs ≡ head ++ g ∷ back → folded g.old_email ≡ folded email
-    → AllByRecursion (λ n. name_key n ≡ folded name → ⊥) g.names → answer_of (listing gs) name email ≡ answered email
+    → AllByRecursion (λ n. name_key n ≡ folded name → ⊥) g.names → answer_of (listing gs) name email ≡ fields_with_spelling email
     g.own (Some g.old_email)
 scan_found_own gs are name email head g back parted same other =
     let h : List Mapping = listing gs in
@@ -387,15 +387,15 @@ scan_found_own gs are name email head g back parted same other =
     ∙ given_at gs are head g back parted in
     let spelled : spelling h (folded email) ≡ Some g.old_email = ap (spelling h) (sym same)
     ∙ spelled_at gs are head g back parted in
-    λ i. answered email (unwrap_or (unnamed i) (given i)) (spelled i)
+    λ i. fields_with_spelling email (unwrap_or (unnamed i) (given i)) (spelled i)
 
--- the email isn't there
+-- the answer if the email isn't there
 pub scan_missing : (gs : List EmailGroup) (name email : Text) → AllByRecursion (λ g. email_key g ≡ folded email → ⊥) gs
     → answer_of (listing gs) name email ≡ None
 scan_missing gs name email other =
     let f : Fields = unwrap_or (last_fields (listing gs) (folded email, Some (folded name))) (given_fields (listing gs)
     (folded email)) in
-    ap (λ l. answered email f (option_map (λ e. e.old_email) (first l)))
+    ap (λ l. fields_with_spelling email f (option_map (λ e. e.old_email) (first l)))
     (picked_none (λ x. eq_by_cmp text_cmp (folded email) (folded x.old_email)) (listing gs)
     (not_mailed (folded email) gs (all_weaker gs (λ g no. false_from_ne_true (eq_by_cmp text_cmp (folded email)
     (email_key g)) (λ same. no (sym (exact_bytes (folded email) (email_key g)
@@ -428,14 +428,14 @@ none_has f k xs i low high = recursion_from_All _ xs (λ j d lt same. ⊎_elim
 pub scan_name_at : (gs : List EmailGroup) → AreGroups gs → (name email : Text) (i : ℕ) (g : EmailGroup) → i < length gs
     → g ≡ get_or gs i g → folded g.old_email ≡ folded email
     → (j : ℕ) (n : NameGroup) → j < length g.names → n ≡ get_or g.names j n → folded n.old_name ≡ folded name
-    → answer_of (listing gs) name email ≡ answered email (name_fields n) (Some g.old_email)
+    → answer_of (listing gs) name email ≡ fields_with_spelling email (name_fields n) (Some g.old_email)
 scan_name_at gs are name email i g lt read same j n lt_name read_name same_name =
     scan_found_name gs are name email (take i gs) g (drop (suc i) gs) (split_at gs i g lt read) same (take j g.names) n
     (drop (suc j) g.names) (split_at g.names j n lt_name read_name) same_name
 
 pub scan_own_at : (gs : List EmailGroup) → AreGroups gs → (name email : Text) (i : ℕ) (g : EmailGroup) → i < length gs
     → g ≡ get_or gs i g → folded g.old_email ≡ folded email
-    → AllByRecursion (λ n. name_key n ≡ folded name → ⊥) g.names → answer_of (listing gs) name email ≡ answered email
+    → AllByRecursion (λ n. name_key n ≡ folded name → ⊥) g.names → answer_of (listing gs) name email ≡ fields_with_spelling email
     g.own (Some g.old_email)
 scan_own_at gs are name email i g lt read same other =
     scan_found_own gs are name email (take i gs) g (drop (suc i) gs) (split_at gs i g lt read) same other

@@ -257,7 +257,7 @@ pub first_reserved : (own : ℕ) (m : Mapping) (ms : List Mapping) (bytes : ℕ)
 first_reserved own m ms bytes le =
     omega (arith, le, sum_by-cons (entry_growth (own + sum_by entry_bytes (m ∷ ms))) m ms)
 
--- and what is left for the others
+-- the memory that is left for the other entries
 pub rest_reserved : (own : ℕ) (m : Mapping) (ms : List Mapping) (bytes left : ℕ)
     → sum_by (entry_growth (own + sum_by entry_bytes (m ∷ ms))) (m ∷ ms) ≤ bytes → bytes ≤ left + entry_growth own m
     → sum_by (entry_growth (own + field_bytes m + sum_by entry_bytes ms)) ms ≤ left
@@ -319,7 +319,7 @@ put_done m index old mid new ready h complete good unassigned_names changed join
           ready.after ready.group h m complete.groups good ready.lookup joined),
     )
 
--- and there is enough memory left for the entries after it
+-- after the merge there is enough memory left for the entries after it
 pub put_fits : (m : Mapping) (ms : List Mapping) (index : ℕ) (old new : Reserved) (mid : Contents)
     (ready : EmailReady m index old.held.groups mid.groups) (h : EmailGroup) → EmailChanged index h mid new.held
     → h.old_email ≡ ready.group.old_email → own_bytes h ≤ own_bytes ready.group + field_bytes m

@@ -12,7 +12,7 @@ use Rattle.mailmap_tables.specs.Groups.{Contents, IsComplete, listing}
 use Rattle.mailmap_tables.proofs.Collected.{accepted-taken}
 use Rattle.mailmap_tables.proofs.Grouped.{groups_normal}
 
--- before the first entry
+-- the state before the first entry
 pub collected_none : (s : Contents) → IsComplete s → IsCollected s [] None []
 collected_none s is =
     let existing = listing s.groups in
@@ -30,7 +30,7 @@ module _ (s : Contents) (h : List Mapping) (made : Option Contents) (batch : Lis
   collected_good =
       all_tail _ c.head batch (subst (AllByRecursion (λ m. is_accepted m ≡ true)) c.parts (accepted_good h))
 
-  -- one more accepted entry
+  -- the state after one more accepted entry
   pub collected_push : (m : Mapping) → is_accepted m ≡ true → IsCollected s (h ++ m ∷ []) made (batch ++ m ∷ [])
   collected_push m good =
       record {
@@ -40,7 +40,7 @@ module _ (s : Contents) (h : List Mapping) (made : Option Contents) (batch : Lis
         normal = c.normal;
       }
 
-  -- an entry that is not accepted
+  -- an entry that is not accepted changes nothing
   pub collected_same : (m : Mapping) → accepted (h ++ m ∷ []) ≡ accepted h → IsCollected s (h ++ m ∷ []) made batch
   collected_same m e = record { head = c.head; parts = e ∙ c.parts; complete = c.complete; normal = c.normal }
 

@@ -40,7 +40,7 @@ module _ (a b c : List Mapping) (apart : AllByRecursion (λ x. AllByRecursion (�
       ((a ++ c) ++ b) d put_after (alike_itself d)))
       (subst (λ l. Alike l (o ++ m)) (sym (append_assoc (a ++ c) b d)) (alike_joined (a ++ c) (b ++ d) o m done joined))
 
--- more of the batch
+-- joining more entries of the batch
 put_more : (a c d o m : List Mapping) → Alike (a ++ c) o → Alike d m → Alike (a ++ (c ++ d)) (o ++ m)
 put_more a c d o m done more =
     subst (λ l. Alike l (o ++ m)) (append_assoc a c d) (alike_joined (a ++ c) d o m done more)

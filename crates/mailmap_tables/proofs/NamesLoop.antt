@@ -26,7 +26,7 @@ use Rattle.mailmap_tables.proofs.PrefixGroups.{AreBelowAll, InOrder, each_back, 
 use Rattle.mailmap_tables.proofs.PrefixGroups.{step_found, step_missing, turned}
 use Rattle.mailmap_batches.proofs.LeadingNames.{name_is}
 
--- ---- what comes after a group
+-- ---- the keys after a group
 
 not_below : (x f : Text) → is_lt (text_cmp x f) ≡ false → x ≢ f → text_cmp f x ≡ Less
 not_below x f e other = at (text_cmp x f) refl e
@@ -125,7 +125,7 @@ value_of : {X : Type 0} (o : Option X) → IsSome o → (x : X) × (o ≡ Some x
 value_of None s = absurd (cc)
 value_of (Some x) s = (x, refl)
 
--- an appended name takes the fields of later entries with the same name
+-- an appended name gets the fields of later entries with the same name
 replaced : (e : Text) (ds os : List NameGroup) (js : List Mapping) (l : NameGroup) (m : Mapping) (more : List Mapping)
     (y : Text)
     → Alike (name_rows e ds ++ (js ++ with_email e m ∷ [])) (name_rows e (os ++ l ∷ [])) → l.new_name ≡ m.new_name

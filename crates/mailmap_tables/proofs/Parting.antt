@@ -40,7 +40,7 @@ part_after xs a i le =
     sym (take-append-drop (i - a) (drop a xs)) ∙ ap (λ l. take (i - a) (drop a xs) ++ l) (drop-drop (i - a) a xs
     ∙ ap (λ k. drop k xs) index)
 
--- with the element at the index
+-- the list from a on, split around the element at the index
 pub split_after : {X : Type 0} (xs : List X) (a i : ℕ) (x : X) → a ≤ i → i < length xs → x ≡ get_or xs i x
     → drop a xs ≡ take (i - a) (drop a xs) ++ x ∷ drop (i + 1) xs
 split_after xs a i x le lt read =
@@ -48,7 +48,7 @@ split_after xs a i x le lt read =
     part_after xs a i le ∙ ap (λ l. take (i - a) (drop a xs) ++ l) (drop-cons xs i x lt
     ∙ (λ j. sym read j ∷ drop (next j) xs))
 
--- split from the start
+-- the whole list, split at the index i
 pub part_head : {X : Type 0} (xs : List X) (i : ℕ) → xs ≡ take i xs ++ drop i xs
 part_head xs i = sym (take-append-drop i xs)
 

@@ -40,7 +40,7 @@ passed_more gs from index g le read =
 abbrev pub names_of_all : List EmailGroup → List NameGroup
 names_of_all gs = flat_map (λ g. g.names) gs
 
--- the names of the next email come first
+-- the names of the next email are the first of the remaining ones
 pub names_ahead : (gs : List EmailGroup) (index to : ℕ) (g : EmailGroup) → index < to → slice_get gs index ≡ Some g
     → names_of_all (take (to - index) (drop index gs)) ≡ g.names ++ names_of_all (take (to - (index + 1))
     (drop (index + 1) gs))
@@ -74,7 +74,7 @@ left_after a row names more count is =
 pub texts_lie_on : (a b : Text) → Extends a b → (t : RowTexts) → TextsInPool (length a) t → TextsInPool (length b) t
 texts_lie_on a b e t lies = subst (λ p. TextsInPool (length p) t) (sym e.1) (texts_lie_more a e.0 t lies)
 
--- and its own prefix
+-- a copied email gets its own prefix
 pub prefix_on : (a b : Text) → Extends a b → (gs : List EmailGroup) (index prefix : ℕ) (text : Text) (row : RowTexts)
     (names : List RowTexts) → TextsInPool (length a) row
     → slice_get gs index ≡ Some (group_of a row names) → slice_get (map (λ (g : EmailGroup). g.old_email) gs) index

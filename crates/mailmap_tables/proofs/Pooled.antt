@@ -191,7 +191,7 @@ module _ (pool : Text) (names : List RowTexts) (emails : List EmailRow) {prefixe
             i;
       }
 
-  -- the same for what contracts see of the tables
+  -- the specification's view of the tables doesn't change, either
   module _ (grown : Text) (to : Extends pool grown) where
     pub tables_on : AreTables grown names emails prefixes
     tables_on = subst (λ p. AreTables p names emails prefixes) (sym to.1) (tables-text to.0)
@@ -297,7 +297,7 @@ pub index_within : (pool : Text) (names : List RowTexts) (emails : List EmailRow
 index_within pool names emails t i is lt =
     omega (arith, lt, ap (λ (v : Contents). length v.groups) is, length-map emails (email_group pool names))
 
--- the range of an email's names lies within the table of names
+-- the range of an email's names is within the table of names
 pub range_at : (k n : ℕ) (es : List EmailRow) (i : ℕ) (d : EmailRow) → Follow k n es → i < length es
     → ((get_or es i d).names_start ≤ (get_or es i d).names_end) × ((get_or es i d).names_end ≤ n)
 range_at k n [] i d h lt = absurd (omega arith)

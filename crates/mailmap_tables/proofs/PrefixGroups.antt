@@ -1,4 +1,4 @@
--- Two ascending lists while they are merged: the output lies below what is left of both.
+-- Two ascending lists while they are merged: the keys of the output are below the remaining keys of both.
 use Rattle.std.proofs.Common.{◌≡◌, List, [], ◌∷◌, ◌++◌, Less, map, append_assoc, sym, ap, subst, subst₂, ◌∙◌}
 use Rattle.std.specs.Cmp.Lexicographic.{nat_list_cmp_total}
 use Rattle.std.specs.List.{AllByRecursion}
@@ -13,8 +13,8 @@ use Rattle.mailmap_entries.proofs.Parts.{all_append, all_head, all_mapped, all_t
 abbrev pub AreBelowAll : List Text → List Text → Type 0
 AreBelowAll xs ys = AllByRecursion (λ x. AllByRecursion (λ y. text_cmp x y ≡ Less) ys) xs
 
--- a merge of two ascending lists: the keys of the output, and those taken from the batch, lie below the remaining keys
--- of both lists
+-- a merge of two ascending lists: the keys of the output, and those of the batch that are merged already, are below the
+-- remaining keys of both lists
 pub record InOrder (out remaining batch taken : List Text) : Type 0 where
   pub out_ascends : IsStrictlySortedBy text_cmp out
   pub remaining_ascend : IsStrictlySortedBy text_cmp remaining

@@ -52,7 +52,7 @@ at_group pool names emails v index e P is lt read p = λ d.
     subst P (ap (email_group pool names) read ∙ sym (get_or-map (email_group pool names) emails index e d lt)
     ∙ ap (λ (c : Contents). get_or c.groups index d) is) p
 
--- the converse
+-- and the other way round
 pub from_group : (pool : Text) (names : List RowTexts) (emails : List EmailRow) (v : Contents) (index : ℕ)
     (e : EmailRow) (P : EmailGroup → Type 0) → contents pool names emails ≡ v → index < length emails
     → e ≡ get_or emails index e

@@ -45,7 +45,7 @@ fronts_same x y u v n r in_x in_y is same =
     sym (parted x y u v n in_x in_y ∙ ap (λ o. ordering_then o (text_cmp (drop n x ++ u) (drop n y ++ v))) (sym is)
     ∙ then_second r (text_cmp (drop n x ++ u) (drop n y ++ v)) same)
 
--- one text has ended
+-- one of the texts is at its end
 ended : (x y u v : Text) → min (length x) (length y) ≡ 0 → (length x ≡ 0 → u ≡ []) → (length y ≡ 0 → v ≡ [])
     → nat_cmp (length x) (length y) ≡ text_cmp (x ++ u) (y ++ v)
 ended [] [] u v one none_u none_v = sym (ap (λ t. text_cmp t v) (none_u refl) ∙ ap (text_cmp []) (none_v refl))
@@ -87,7 +87,7 @@ module _ (x y : Text) (n : ℕ) (r : Ordering) (least : n ≡ min (length x) (le
   none_left : (t : Text) → (length (rest n t) == 0) ≡ true → rest n t ≡ []
   none_left t empty = nothing (rest n t) (eqb-true (length (rest n t)) 0 empty)
 
-  -- the first text goes on with its next part
+  -- the first text continues with its next part
   pub next_of_x : (xs ys : List (Bor Text)) (d : Bor Text) → 1 ≤ length xs → (length (rest n x) == 0) ≡ true
       → text_cmp ((get_or xs 0 d).now ++ joined (rest 1 xs)) (rest n y ++ joined ys) ≡ text_cmp (x ++ joined xs) (y ++ joined ys)
   next_of_x [] ys d some empty = absurd (omega (arith, some))
@@ -96,7 +96,7 @@ module _ (x y : Text) (n : ℕ) (r : Ordering) (least : n ≡ min (length x) (le
       ∙ sym (ap (λ t. text_cmp (t ++ joined (p ∷ ps)) (rest n y ++ joined ys)) (none_left x empty))
       ∙ rests (joined (p ∷ ps)) (joined ys)
 
-  -- the second text does
+  -- the second text continues with its next part
   pub next_of_y : (xs ys : List (Bor Text)) (d : Bor Text) → 1 ≤ length ys → (length (rest n y) == 0) ≡ true
       → text_cmp (rest n x ++ joined xs) ((get_or ys 0 d).now ++ joined (rest 1 ys)) ≡ text_cmp (x ++ joined xs) (y ++ joined ys)
   next_of_y xs [] d some empty = absurd (omega (arith, some))
@@ -105,7 +105,7 @@ module _ (x y : Text) (n : ℕ) (r : Ordering) (least : n ≡ min (length x) (le
       ∙ sym (ap (λ t. text_cmp (rest n x ++ joined xs) (t ++ joined (p ∷ ps))) (none_left y empty))
       ∙ rests (joined xs) (joined (p ∷ ps))
 
-  -- neither does
+  -- no part is left of a text that is at its end
   pub last_of_both : (u v : Text) → ((length (rest n x) == 0) ≡ true → u ≡ []) → ((length (rest n y) == 0) ≡ true → v ≡ [])
       → nat_cmp (length (rest n x)) (length (rest n y)) ≡ text_cmp (x ++ u) (y ++ v)
   last_of_both u v none_u none_v =

@@ -19,7 +19,7 @@ counted_more test texts text = sum_by-append (one test) texts (text ∷ []) ∙ 
 pub passing_more : (test : Text → Bool) (counts : List Counted) (c : Counted) → passing_count test (counts ++ c ∷ []) ≡ passing_count test counts + weight test c
 passing_more test counts c = sum_by-append (weight test) counts (c ∷ []) ∙ (omega arith)
 
--- one more text
+-- the counts after one more text
 pub sums_more : (texts : List Text) (text : Text) (old new : List Counted)
     → SameCounts new (old ++ record { text = text; count = 1 } ∷ []) → AreSums texts old
     → AreSums (texts ++ text ∷ []) new

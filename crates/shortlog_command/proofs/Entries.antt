@@ -15,7 +15,7 @@ use Rattle.std.proofs.lemmas.Map.{lookup-none}
 use Rattle.std.proofs.lemmas.Map.Entries.{none_below_head}
 use Rattle.std.proofs.Math.Seq.{take-suc}
 use Rattle.mailmap_snapshot.specs.Folding.{Text, text_cmp}
-use Rattle.shortlog_command.specs.Counts.{AreSums, Counted, HasMore, SameCounts, counted, entry_of, passing_count}
+use Rattle.shortlog_command.specs.Counts.{AreSums, Counted, HasMore, SameCounts, counted, map_entry, passing_count}
 use Rattle.shortlog_command.specs.declared.counts.Tally.{Tally}
 use Rattle.shortlog_command.proofs.Counting.{passing_cons, passing_more, weight}
 use Rattle.shortlog_command.proofs.Ordered.{same_texts}
@@ -123,7 +123,7 @@ module _ {K : Type 0} (text : K → Text) where
       subst (λ l. AllByRecursion (λ (c : Counted). 0 < c.count) (map entry_counted l)) (sym more.inserted)
       (all_inserted es k (unwrap_or (lookup (is_at (key_cmp k)) es) 0 + n) (omega (arith, lt)) a)
 
-  -- no count is 0 after adding to the count of a key, or after a failure
+  -- if no count is 0, none is after adding to the count of a key, or after an attempt that fails
   pub some_still : {T E : Type 0} (r : Result T E) (es new : List (K × ℕ)) (k : K) (n : ℕ) → 0 < n
       → OnOk r (HasMore key_cmp es k n new) → OnErr r (new ≡ es)
       → AllByRecursion (λ (c : Counted). 0 < c.count) (map entry_counted es)
@@ -148,21 +148,21 @@ module _ {K : Type 0} (text : K → Text) where
 
 -- one step of moving a map's entries into tallies
 pub tallied : {K : Type 0} (old new : List (Tally K)) (t : Tally K) (left rest all : List (K × ℕ)) → new ≡ old ++ t ∷ []
-    → left ≡ entry_of t ∷ rest → map entry_of old ++ left ≡ all → map entry_of new ++ rest ≡ all
+    → left ≡ map_entry t ∷ rest → map map_entry old ++ left ≡ all → map map_entry new ++ rest ≡ all
 tallied old new t left rest all new_is left_is before =
-    ap (λ l. map entry_of l ++ rest) new_is
-    ∙ ap (λ l. l ++ rest) (map-append entry_of old (t ∷ []))
-    ∙ append_assoc (map entry_of old) (entry_of t ∷ []) rest
-    ∙ ap (λ l. map entry_of old ++ l) (sym left_is)
+    ap (λ l. map map_entry l ++ rest) new_is
+    ∙ ap (λ l. l ++ rest) (map-append map_entry old (t ∷ []))
+    ∙ append_assoc (map map_entry old) (map_entry t ∷ []) rest
+    ∙ ap (λ l. map map_entry old ++ l) (sym left_is)
     ∙ before
 
-map_entries : {K : Type 0} (f : K × ℕ → Counted) (ts : List (Tally K)) → map (λ t. f (entry_of t)) ts ≡ map f (map entry_of ts)
+map_entries : {K : Type 0} (f : K × ℕ → Counted) (ts : List (Tally K)) → map (λ t. f (map_entry t)) ts ≡ map f (map map_entry ts)
 map_entries f [] = refl
-map_entries f (t ∷ ts) = ap (λ l. f (entry_of t) ∷ l) (map_entries f ts)
+map_entries f (t ∷ ts) = ap (λ l. f (map_entry t) ∷ l) (map_entries f ts)
 
 -- the views of tallies are those of the entries that they were
-pub tallies_counted : {K : Type 0} (f : K × ℕ → Counted) (ts : List (Tally K)) (es : List (K × ℕ)) → map entry_of ts ≡ es
-    → map (λ t. f (entry_of t)) ts ≡ map f es
+pub tallies_counted : {K : Type 0} (f : K × ℕ → Counted) (ts : List (Tally K)) (es : List (K × ℕ)) → map map_entry ts ≡ es
+    → map (λ t. f (map_entry t)) ts ≡ map f es
 tallies_counted f ts es is = map_entries f ts ∙ ap (map f) is
 
 module _ (test : Text → Bool) where

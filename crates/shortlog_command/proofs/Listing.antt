@@ -3,7 +3,7 @@ use Rattle.std.proofs.Common.{◌≡◌, ◌∙◌, ◌<◌, Bool, Option, List,
 use Rattle.std.specs.List.{AllByRecursion, filter_map, flat_map}
 use Rattle.std.specs.List.Sorted.{IsPermutation, IsStrictlySortedBy}
 use Rattle.std.proofs.lemmas.List.Sorted.{sum_by-IsPermutation}
-use Rattle.mailmap_snapshot.specs.Contacts.{lines}
+use Rattle.mailmap_snapshot.specs.Contacts.{contact_lines}
 use Rattle.mailmap_snapshot.specs.Entries.{Mapping}
 use Rattle.mailmap_snapshot.specs.Folding.{Text, text_cmp}
 use Rattle.mailmap_snapshot.specs.Lines.{mappings_of}
@@ -14,13 +14,13 @@ use Rattle.shortlog_command.specs.Counts.{AreCounts, AreSums, Counted, SameCount
 use Rattle.shortlog_command.specs.Shortlog.{IsListing, IsShortlog, answers_counted, counted_text, line_counted, order, times}
 use Rattle.shortlog_command.proofs.Answered.{same_mapped_counts}
 use Rattle.shortlog_command.proofs.Counting.{sums_mapped, weight}
-use Rattle.shortlog_command.proofs.Ordered.{comes, found, is, moved_all, order_ties, order_total, own, strictly, text_of}
+use Rattle.shortlog_command.proofs.Ordered.{occurs, found, is, moved_all, order_ties, order_total, own, strictly, text_of}
 
 all_both : (P Q : Counted → Type 0) (cs : List Counted) → AllByRecursion P cs → AllByRecursion Q cs → AllByRecursion (λ c. P c × Q c) cs
 all_both P Q [] a b = tt
 all_both P Q (c ∷ cs) a b = ((a.0, b.0), all_both P Q cs a.1 b.1)
 
--- counts of lines, added up by answer and sorted as asked, are the listing of the answers
+-- counts of lines, added up by answer and sorted by text or by count, are the listing of the answers
 pub listing : (by_count : Bool) (f : Text → Option Text) (texts : List Text) (counts answers listed : List Counted)
     → AreCounts texts counts → SameCounts answers (flat_map (mapped_count f) counts)
     → AllByRecursion (λ c. 0 < c.count) answers → IsStrictlySortedBy text_cmp (map text_of answers)
@@ -35,7 +35,7 @@ listing by_count f texts counts answers listed are same some once moved up =
     moved_all (λ c. passing_count (is c.text) answers ≡ c.count) answers listed moved (own answers once) in
     record {
       every = λ answer there. found answer listed
-          (subst (λ n. 0 < n) (sym (last (is answer) ∙ all (is answer))) (comes answer (filter_map f texts) there.0 there.1 there.2));
+          (subst (λ n. 0 < n) (sym (last (is answer) ∙ all (is answer))) (occurs answer (filter_map f texts) there.0 there.1 there.2));
       each = all_both (λ c. c.count ≡ times c.text (filter_map f texts)) (λ c. 0 < c.count) listed
           (all_weaker listed (λ c e. sym e ∙ all (is c.text)) mine) positive;
       in_order = strictly (order by_count) (order_total by_count) (order_ties by_count) listed up positive
@@ -45,7 +45,7 @@ listing by_count f texts counts answers listed are same some once moved up =
 -- the listing that is made of counted lines with a snapshot of the mailmaps is their shortlog
 pub shortlog_made : (by_count with_email : Bool) (buffers : List Text) (snapshot : List Mapping)
     → IsNormal (flat_map mappings_of buffers) snapshot
-    → (contacts : Text) (counts tallied answers listed : List Counted) → AreCounts (lines contacts) counts → tallied ≡ counts
+    → (contacts : Text) (counts tallied answers listed : List Counted) → AreCounts (contact_lines contacts) counts → tallied ≡ counts
     → SameCounts answers (flat_map (mapped_count (line_counted with_email snapshot)) tallied)
     → AllByRecursion (λ c. 0 < c.count) answers → IsStrictlySortedBy text_cmp (map text_of answers)
     → IsPermutation answers listed → IsAscending (order by_count) listed
@@ -55,7 +55,7 @@ shortlog_made by_count with_email buffers snapshot normal contacts counts tallie
     let mapped : SameCounts answers (flat_map (mapped_count (line_counted with_email h)) counts) =
     λ test. same test ∙ ap (λ l. passing_count test (flat_map (mapped_count (line_counted with_email snapshot)) l)) all
     ∙ ap (passing_count test) (same_mapped_counts with_email h snapshot normal counts) in
-    (listed, listing by_count (line_counted with_email h) (lines contacts) counts answers listed are mapped some once moved up, refl)
+    (listed, listing by_count (line_counted with_email h) (contact_lines contacts) counts answers listed are mapped some once moved up, refl)
 
 pub err_then : {T E : Type 0} (r : Result T E) (e : E) (P : Type 0) → OnErr r P → r ≡ Err e → P
 err_then (Ok x) e P p failed = absurd (cc)

@@ -93,12 +93,12 @@ found a (c ∷ cs) lt = ⊎_elim
     (cases_Bool (bytes_eq c.text a))
 
 -- a text in the list occurs at least once
-pub comes : (a : Text) (ts : List Text) (k : ℕ) → k < length ts → get_or ts k a ≡ a → 0 < times a ts
-comes a [] k lt e = absurd (omega (arith, lt))
-comes a (t ∷ ts) zero lt e =
+pub occurs : (a : Text) (ts : List Text) (k : ℕ) → k < length ts → get_or ts k a ≡ a → 0 < times a ts
+occurs a [] k lt e = absurd (omega (arith, lt))
+occurs a (t ∷ ts) zero lt e =
     let mine : one (is a) t ≡ 1 = ap (λ b. cond b 1 0) (ap (λ x. bytes_eq x a) e ∙ itself a) in
     omega (arith, sum_by-cons (one (is a)) t ts, mine)
-comes a (t ∷ ts) (suc k) lt e = omega (arith, sum_by-cons (one (is a)) t ts, comes a ts k (omega (arith, lt)) e)
+occurs a (t ∷ ts) (suc k) lt e = omega (arith, sum_by-cons (one (is a)) t ts, occurs a ts k (omega (arith, lt)) e)
 
 -- ---- strict order
 

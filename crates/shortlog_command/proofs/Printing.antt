@@ -9,7 +9,7 @@ use Rattle.command_line.specs.Printing.{IsUnderway}
 use Rattle.shortlog_command.specs.Shortlog.{counted_text}
 use Rattle.command_line.proofs.Printed.{Appends-longer, underway-broken, underway-more, underway-rest_broken, underway-whole}
 
--- what was held at first comes before all items
+-- printing a list item by item, after text that was in the buffer before
 module _ {X : Type 0} (f : X → Text) (first : Text) (xs : List X) where
   -- the text of the first items
   abbrev pub so_far : ℕ → Text
@@ -66,7 +66,7 @@ pub each_mapped : {X Y : Type 0} (f : Y → Text) (g : X → Y) (xs : List X) �
 each_mapped f g [] = refl
 each_mapped f g (x ∷ xs) = ap (λ t. f (g x) ++ t) (each_mapped f g xs)
 
--- three texts, printed after what was held at first
+-- printing three texts, after text that was in the buffer before
 module _ (first p q r : Text) where
   in_three : first ++ (p ++ (q ++ r)) ≡ ((first ++ p) ++ q) ++ r
   in_three = sym (append_assoc first p (q ++ r)) ∙ sym (append_assoc (first ++ p) q r)

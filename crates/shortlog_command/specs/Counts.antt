@@ -23,8 +23,8 @@ abbrev pub counted_entry : Vec ℕ × ℕ → Counted
 counted_entry e = record { text = e.0.items; count = e.1 }
 
 -- a tally as an entry of a map
-abbrev pub entry_of : {K : Type 0} → Tally K → K × ℕ
-entry_of t = (t.text, t.count)
+abbrev pub map_entry : {K : Type 0} → Tally K → K × ℕ
+map_entry t = (t.text, t.count)
 
 -- adding to the count of a key makes these entries
 pub record HasMore {K : Type 0} (cmp : K → K → Ordering) (old : List (K × ℕ)) (key : K) (count : ℕ) (new : List (K × ℕ)) : Type 0 where

@@ -5,7 +5,7 @@ use Rattle.std.specs.List.Sorted.{IsStrictlySortedBy}
 use Rattle.std.specs.Ordering.{nat_cmp, ordering_then}
 use Rattle.std.specs.Str.{bytes_eq}
 use Rattle.std.specs.declared.cmp.Ordering.{Ordering}
-use Rattle.mailmap_snapshot.specs.Contacts.{lines}
+use Rattle.mailmap_snapshot.specs.Contacts.{contact_lines}
 use Rattle.mailmap_snapshot.specs.Entries.{Mapping}
 use Rattle.mailmap_snapshot.specs.Folding.{Text, text_cmp}
 use Rattle.mailmap_snapshot.specs.Semantics.{Fields, fields_for}
@@ -34,7 +34,7 @@ line_counted with_email h line = contact_counted with_email h (contact_in line)
 -- the answers to all contacts among the lines, with the mailmaps in the buffers
 abbrev pub answers_counted : Bool → List Text → Text → List Text
 answers_counted with_email buffers contacts =
-    filter_map (line_counted with_email (flat_map mappings_of buffers)) (lines contacts)
+    filter_map (line_counted with_email (flat_map mappings_of buffers)) (contact_lines contacts)
 
 -- how often a text occurs among others
 abbrev pub times : Text → List Text → ℕ

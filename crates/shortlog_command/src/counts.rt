@@ -4,7 +4,7 @@ ghost use Rattle.std.specs.List.{AllByRecursion};
 ghost use Rattle.std.specs.List.Sorted.{IsStrictlySortedBy};
 ghost use Rattle.std.specs.Map.{keys_of};
 ghost use Rattle.mailmap_snapshot.specs.Folding.{text_cmp};
-ghost use Rattle.shortlog_command.specs.Counts.{HasMore, SameCounts, counted, counted_entry, entry_of};
+ghost use Rattle.shortlog_command.specs.Counts.{HasMore, SameCounts, counted, counted_entry, map_entry};
 
 use std::alloc::{AllocError, Global};
 use std::collections::BTreeMap;
@@ -102,7 +102,7 @@ pub(crate) fn tallies_of<K: Ord + Drop>(
     alloc: Global,
     counts: BTreeMap<K, u64>,
 ) -> Result<Vec<Tally<K>>, AllocError>
-    ensures all { IfOk result (λ tallies. map entry_of tallies.items ≡ counts.entries) }
+    ensures all { IfOk result (λ tallies. map map_entry tallies.items ≡ counts.entries) }
     ensures once { OnOk result (IsStrictlySortedBy K.cmp (keys_of counts.entries)) }
 {
     let mut tallies = Vec::new(alloc);

@@ -2,7 +2,7 @@
 ghost use Rattle.std.specs.Prelude.{◌≡◌, ◌++◌, List, IfErr, IfOk, IfSome, OnOk};
 ghost use Rattle.std.specs.Io.KnownBytes.{IsAtEnd};
 ghost use Rattle.mailmap_snapshot.specs.Folding.{Text};
-ghost use Rattle.mailmap_snapshot.specs.Contacts.{lines};
+ghost use Rattle.mailmap_snapshot.specs.Contacts.{contact_lines};
 ghost use Rattle.shortlog_command.specs.Counts.{AreCounts, AreSums};
 ghost use Rattle.shortlog_command.specs.Task.{EndsReading};
 
@@ -19,7 +19,7 @@ use std::io::{ErrorKind, Read};
 /// Reads in parts, so memory grows with the distinct lines and with the longest line, not with the number of lines.
 pub fn count_lines<R: Read>(alloc: Global, input: &mut R) -> Result<Counts, Failure>
     ensures ok { IfOk result (λ counts. (text : Text) × IfSome (R.remaining input.old) (λ bytes. text ≡ bytes)
-        × AreCounts (lines text) counts) }
+        × AreCounts (contact_lines text) counts) }
     ensures end { OnOk result (IsAtEnd (R.remaining input.new)) }
     ensures only { IfErr result EndsReading }
 {
@@ -41,7 +41,7 @@ pub fn count_lines<R: Read>(alloc: Global, input: &mut R) -> Result<Counts, Fail
 
 fn count_each(counter: &mut LineCounter, text: &[u8]) -> Result<(), AllocError>
     ensures { OnOk result ((texts : List Text) → AreSums texts counter.old
-        → AreSums (texts ++ lines text.now) counter.new) }
+        → AreSums (texts ++ contact_lines text.now) counter.new) }
 {
     for line in text.lines() {
         counter.add(line)?;

@@ -3,7 +3,7 @@ ghost use Rattle.std.specs.Prelude.{◌≡◌, ◌≢◌, ◌⊎◌, ◌++◌, �
 ghost use Rattle.std.specs.Io.KnownBytes.{Appends};
 ghost use Rattle.std.specs.List.{flat_map};
 ghost use Rattle.std.specs.List.Sorted.{IsPermutation, IsStrictlySortedBy};
-ghost use Rattle.mailmap_snapshot.specs.Contacts.{lines as lines_of};
+ghost use Rattle.mailmap_snapshot.specs.Contacts.{contact_lines as lines_of};
 ghost use Rattle.mailmap_snapshot.specs.Folding.{Text, text_cmp};
 ghost use Rattle.mailmap_batches.specs.Batches.{IsAscending};
 ghost use Rattle.command_line.specs.Printing.{IsUnderway, Prints, PrintsFront};
@@ -35,8 +35,8 @@ use std::io::Write;
 /// with a tab after each count. A line that is no contact isn't counted. Fails if memory runs out, or if a count
 /// exceeds 64 bits, and then prints nothing.
 ///
-/// No text is copied, so memory grows only with the mailmaps and the distinct lines, even if many contacts have one long
-/// email and the shortlog is much longer.
+/// No text is copied, so memory grows only with the mailmaps and the distinct lines, even if many contacts have one
+/// long email and the shortlog is much longer.
 pub fn print_shortlog<W: Write>(
     alloc: Global,
     buffers: &[&[u8]],

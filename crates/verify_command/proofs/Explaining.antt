@@ -14,7 +14,7 @@ use Rattle.command_line.specs.declared.failure.Failure.{Failure}
 use Rattle.command_line.specs.declared.failure.Failure.TheVariants.{File, Input, Memory, Output}
 use Rattle.command_line.proofs.Reading.{all_read, read_none, read_on}
 use Rattle.command_line.proofs.Printed.{Appends-both, Appends-longer, underway-broken, underway-more, underway-rest_broken, underway-whole}
-use Rattle.mailmap_findings.proofs.Wholes.{joined}
+use Rattle.mailmap_findings.proofs.Concatenated.{joined}
 use Rattle.mailmap_entries.specs.Folding.{Text}
 use Rattle.mailmap_findings.specs.Positions.{whole_lines}
 use Rattle.verify_command.specs.Explained.{AnswersAll, AnswersFront, AnswersLines, AnswersWholeLines, each_line}

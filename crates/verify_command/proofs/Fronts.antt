@@ -3,7 +3,7 @@ use Rattle.std.proofs.Common.{◌≡◌, ◌≢◌, ◌==◌, ◌∙◌, ℕ, tr
 use Rattle.std.specs.List.{flat_map}
 use Rattle.std.proofs.lemmas.Bool.{cond_both}
 use Rattle.std.proofs.lemmas.Grind.{flat_map-append}
-use Rattle.mailmap_findings.proofs.Wholes.{AreWhole, are_whole, joined, joined-whole_lines, whole_lines-joined}
+use Rattle.mailmap_findings.proofs.Concatenated.{AreWhole, are_whole, joined, joined-whole_lines, whole_lines-joined}
 use Rattle.mailmap_entries.specs.Folding.{Text}
 use Rattle.mailmap_grammar.specs.Lines.{with_first}
 use Rattle.mailmap_snapshot.specs.Parts.{EndsLine}

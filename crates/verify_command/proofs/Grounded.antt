@@ -4,7 +4,7 @@ use Rattle.std.specs.Result.{IsErrOf}
 use Rattle.command_line.specs.Files.{AreRead, AtPath, MayRead, NamesFile}
 use Rattle.command_line.specs.Printing.{Prints}
 use Rattle.mailmap_entries.specs.Folding.{Text}
-use Rattle.mailmap_findings.specs.Positions.{lines, located}
+use Rattle.mailmap_findings.specs.Positions.{located_lines, located}
 use Rattle.mailmap_redundancy.specs.Redundancy.{AreEffective}
 use Rattle.verify_command.specs.Explained.{Explains, Grounds, explained_line, shown_unless_blank}
 use Rattle.verify_command.specs.Report.{shown}
@@ -25,12 +25,12 @@ not_blank (b ∷ line) text some = refl
 -- the explanations are made from these mailmaps
 pub record AreGrounds (g : Grounds) (paths mailmaps : List Text) : Type 0 where
   pub paths_are : g.paths ≡ paths
-  pub history_is : g.history ≡ located (lines mailmaps)
+  pub history_is : g.history ≡ located (located_lines mailmaps)
   pub effective : AreEffective g.history g.kept
 
 pub explains : (g : Grounds) (paths mailmaps : List Text) (IsText : (Text → Text) → Text → Type 0) (text : Text) → AreGrounds g paths mailmaps → IsText (explained_line g) text → Explains paths mailmaps IsText text
 explains g paths mailmaps IsText text are is =
-    let same : g ≡ record { paths = paths; history = located (lines mailmaps); kept = g.kept } = λ i. record { paths = are.paths_are i; history = are.history_is i; kept = g.kept } in
+    let same : g ≡ record { paths = paths; history = located (located_lines mailmaps); kept = g.kept } = λ i. record { paths = are.paths_are i; history = are.history_is i; kept = g.kept } in
     (g.kept, subst (λ h. AreEffective h g.kept) are.history_is are.effective, subst (λ x. IsText (explained_line x) text) same is)
 
 pub prints_by : (g : Grounds) (paths mailmaps : List Text) (IsText : (Text → Text) → Text → Type 0) (before after : Option Text) → AreGrounds g paths mailmaps → Prints (IsText (explained_line g)) before after

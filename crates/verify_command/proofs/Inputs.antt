@@ -23,7 +23,7 @@ pub has_mailmap : {X : Type 0} (f : X → Text) (mode : Mode) (contacts : Text) 
 has_mailmap f mode contacts paths (no_help, no_version, inl reads) none = cc
 has_mailmap f mode contacts paths (no_help, no_version, inr is) none = none_of f paths is
 
--- the input has the contacts, or the mailmap beside a file of contacts
+-- standard input is read to its end if it has the contacts, or if it has the mailmap and a file has the contacts
 pub ends_beside : {X : Type 0} (f : X → Text) (dash : Bool) (paths : List X) (between after : Option Text) → (dash ≡ true) ⊎ (map f paths ≡ []) → (dash ≡ true → IsAtEnd after)
     → (dash ≡ false → after ≡ between) → (dash ≡ false → paths ≡ [] → IsAtEnd between) → IsAtEnd after
 ends_beside f true paths between after reads contacts unread mailmap = contacts refl

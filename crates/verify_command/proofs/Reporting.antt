@@ -6,7 +6,7 @@ use Rattle.std.proofs.KnownBytes.{Appends-nil, Appends-trans}
 use Rattle.std.proofs.lemmas.Grind.{flat_map-append}
 use Rattle.mailmap_entries.specs.Folding.{Text}
 use Rattle.mailmap_findings.specs.Needs.{AreUnneeded}
-use Rattle.mailmap_findings.specs.Positions.{lines, located, whole_lines}
+use Rattle.mailmap_findings.specs.Positions.{located_lines, located, whole_lines}
 use Rattle.mailmap_redundancy.specs.Redundancy.{entries}
 use Rattle.mailmap_findings.specs.Remarks.{AreRemarks, Remark, line_remarks}
 use Rattle.command_line.specs.Files.{AtPath}
@@ -52,18 +52,18 @@ none_beside (r ∷ remarks) said found is none = refl
 pub are_unneeded : (mailmaps : List Text) (taken : Text) (s : ContactReport) (found : List Position) → HasTaken mailmaps (whole_lines taken) s → found ≡ s.needs.left → AreUnneeded mailmaps taken found
 are_unneeded mailmaps taken s found h is = record { kept = s.needs.kept; effective = h.effective; whole = is ∙ h.left }
 
--- the lines of the remarks, and those of the notices
+-- the text of the remarks, followed by that of the notices
 abbrev pub made_text : List Text → Text → List Remark → ContactReport → Text
 made_text paths file remarks s = both_texts paths file remarks (flat_map (noted s.answers) s.notices.items)
 
 pub is_report : (paths : List Text) (file : Text) (mailmaps : List Text) (taken : Text) (s : ContactReport) (remarks : List Remark) (outcome : Outcome) → HasTaken mailmaps (whole_lines taken) s
-    → AreRemarks mailmaps taken remarks → outcome ≡ outcome_of_both remarks (said_after (entries (located (lines mailmaps))) [] (whole_lines taken))
+    → AreRemarks mailmaps taken remarks → outcome ≡ outcome_of_both remarks (said_after (entries (located (located_lines mailmaps))) [] (whole_lines taken))
     → IsReportBeside paths file mailmaps taken outcome (made_text paths file remarks s)
 is_report paths file mailmaps taken s remarks outcome h are is = (remarks, are, ap (both_texts paths file remarks) h.said, is)
 
 -- both are written
 pub prints_both : (paths : List Text) (file : Text) (mailmaps : List Text) (taken : Text) (s : ContactReport) (remarks : List Remark) (outcome : Outcome) (before between after : Option Text)
-    → HasTaken mailmaps (whole_lines taken) s → AreRemarks mailmaps taken remarks → outcome ≡ outcome_of_both remarks (said_after (entries (located (lines mailmaps))) [] (whole_lines taken))
+    → HasTaken mailmaps (whole_lines taken) s → AreRemarks mailmaps taken remarks → outcome ≡ outcome_of_both remarks (said_after (entries (located (located_lines mailmaps))) [] (whole_lines taken))
     → Appends before between (flat_map (remark_line paths) remarks) → Appends between after (said_text file (flat_map (noted s.answers) s.notices.items))
     → Prints (IsReportBeside paths file mailmaps taken outcome) before after
 prints_both paths file mailmaps taken s remarks outcome before between after h are is first second = (
@@ -79,14 +79,14 @@ BeginsReport paths file mailmaps taken before after = (outcome : Outcome) × Pri
 begins : (paths : List Text) (file : Text) (mailmaps : List Text) (taken : Text) (s : ContactReport) (remarks : List Remark) (before after : Option Text) → HasTaken mailmaps (whole_lines taken) s
     → AreRemarks mailmaps taken remarks → (count : ℕ) × Appends before after (take count (made_text paths file remarks s)) → BeginsReport paths file mailmaps taken before after
 begins paths file mailmaps taken s remarks before after h are part =
-    let outcome = outcome_of_both remarks (said_after (entries (located (lines mailmaps))) [] (whole_lines taken)) in
+    let outcome = outcome_of_both remarks (said_after (entries (located (located_lines mailmaps))) [] (whole_lines taken)) in
     (outcome, (made_text paths file remarks s, is_report paths file mailmaps taken s remarks outcome h are refl, part))
 
 -- nothing is written yet
 pub begins_none : (paths : List Text) (file : Text) (mailmaps : List Text) (taken : Text) (s : ContactReport) (before : Option Text) → HasTaken mailmaps (whole_lines taken) s
     → BeginsReport paths file mailmaps taken before before
 begins_none paths file mailmaps taken s before h =
-    let remarks = flat_map (line_remarks (entries (located (lines mailmaps))) s.needs.kept (whole_lines taken)) (lines mailmaps) in
+    let remarks = flat_map (line_remarks (entries (located (located_lines mailmaps))) s.needs.kept (whole_lines taken)) (located_lines mailmaps) in
     begins paths file mailmaps taken s remarks before before h (record { kept = s.needs.kept; effective = h.effective; whole = refl }) (0, Appends-nil before)
 
 -- a write fails within the remarks

@@ -14,12 +14,12 @@ use Rattle.mailmap_entries.specs.Folding.{Text}
 use Rattle.mailmap_grammar.specs.Lines.{ParsedContact, Absent, Unclosed, Closed}
 use Rattle.mailmap_grammar.specs.Lines.{contact_in}
 use Rattle.mailmap_findings.specs.Needs.{Needs, any_needs, contact_needs, is_contact, is_empty, needs, unneeded}
-use Rattle.mailmap_findings.specs.Positions.{lines, located}
+use Rattle.mailmap_findings.specs.Positions.{located_lines, located}
 use Rattle.mailmap_redundancy.specs.Redundancy.{AreEffective, LocatedMapping, entries}
 use Rattle.mailmap_grammar.specs.Trimming.{trim}
-use Rattle.mailmap_findings.proofs.Taking.{no_contact_takes, taken_more}
+use Rattle.mailmap_findings.proofs.ContactNeeds.{no_contact_needs, unneeded_more}
 use Rattle.mailmap_redundancy.specs.declared.located.Position.{Position}
-use Rattle.answer_cache.specs.Kept.{Kept}
+use Rattle.answer_cache.specs.CachedLines.{CachedLine}
 use Rattle.mailmap_likeness.specs.Likeness.{Answered, IsAdded, first_with_email, first_with_name, has_email, is_answer}
 use Rattle.mailmap_likeness.specs.declared.answers.Added.TheVariants.{New}
 use Rattle.mailmap_likeness.specs.declared.answers.Likeness.{Likeness}
@@ -63,18 +63,18 @@ pub record TakesLine (h : List Mapping) (contacts : List Text) (line : Text) (s 
   pub firsts : HaveSameFirsts t.answers (answers_from h 1 contacts ++ answer_on h (length contacts + 1) (contact_in line))
   pub cache : t.cache ≡ s.cache
 
-pub taken_line : (mailmaps contacts : List Text) (line : Text) (s t : ContactReport) → HasTaken mailmaps contacts s → TakesLine (entries (located (lines mailmaps))) contacts line s t → HasTaken mailmaps (contacts ++ line ∷ []) t
+pub taken_line : (mailmaps contacts : List Text) (line : Text) (s t : ContactReport) → HasTaken mailmaps contacts s → TakesLine (entries (located (located_lines mailmaps))) contacts line s t → HasTaken mailmaps (contacts ++ line ∷ []) t
 taken_line mailmaps contacts line s t taken next =
-    let h = entries (located (lines mailmaps)) in
+    let h = entries (located (located_lines mailmaps)) in
     let all : List Text = contacts ++ line ∷ [] in
     let said : said_after h [] all ≡ said_after h [] contacts ++ said_of_line h contacts line = said_after-push h [] contacts line in
     let number : 1 + length contacts ≡ length contacts + 1 = omega arith in
     let ps : List Position = map (λ (x : LocatedMapping). x.position) s.needs.kept in
     record {
       history = next.history ∙ taken.history;
-      effective = subst (AreEffective (located (lines mailmaps))) (sym next.kept) taken.effective;
+      effective = subst (AreEffective (located (located_lines mailmaps))) (sym next.kept) taken.effective;
       left =
-          next.left ∙ ap (filter (λ p. not (contact_needs s.needs.kept (contact_in line) p))) taken.left ∙ taken_more s.needs.kept contacts line ps
+          next.left ∙ ap (filter (λ p. not (contact_needs s.needs.kept (contact_in line) p))) taken.left ∙ unneeded_more s.needs.kept contacts line ps
           ∙ ap (λ k. unneeded k all) (sym next.kept);
       count = omega (arith, length-append contacts (line ∷ []), next.count);
       said = ap (λ ys. flat_map (noted ys) t.notices.items) (sym (append-nil t.answers)) ∙ next.said [] ∙ sym said;
@@ -97,8 +97,8 @@ no_contact_on h n Unclosed none = refl
 no_contact_on h n (Closed name email rest) none = cc
 
 needs_none : (kept : List LocatedMapping) (c : ParsedContact) (ps : List Position) → is_contact c ≡ false → ps ≡ filter (λ p. not (contact_needs kept c p)) ps
-needs_none kept Absent ps none = no_contact_takes kept ps
-needs_none kept Unclosed ps none = no_contact_takes kept ps
+needs_none kept Absent ps none = no_contact_needs kept ps
+needs_none kept Unclosed ps none = no_contact_needs kept ps
 needs_none kept (Closed name email rest) ps none = cc
 
 pub empty_by_length : (t : Text) → (length t == 0) ≡ is_empty t
@@ -128,7 +128,7 @@ pub taken_none : (mailmaps contacts : List Text) (line : Text) (s : ContactRepor
     → ((answers : List Answered) → flat_map (noted answers) notices.items ≡ flat_map (noted answers) s.notices.items ++ said_of_none is_blank number)
     → found ≡ (s.found || not is_blank) → HasTaken mailmaps (contacts ++ line ∷ []) (record s { notices = notices; found = found; count = number })
 taken_none mailmaps contacts line s number notices found is_blank taken number_is none blank notes found_is =
-    let h = entries (located (lines mailmaps)) in
+    let h = entries (located (located_lines mailmaps)) in
     let all = answers_from h 1 contacts in
     let said : said_of_line h contacts line ≡ said_of_none is_blank number =
     said_of_line-none h contacts line none ∙ (λ i. said_of_none (sym blank i) (sym number_is i)) in
@@ -176,10 +176,10 @@ pub record CrossesOff (name email : Text) (old new : Needs) : Type 0 where
 
 pub taken_contact : (mailmaps contacts : List Text) (line name email rest : Text) (s : ContactReport) (needs_now : Needs) (answers : List Answered) (notices : Vec Notice Global) (found : Bool) (number : ℕ)
     → HasTaken mailmaps contacts s → number ≡ length contacts + 1 → contact_in line ≡ Closed name email rest → CrossesOff name email s.needs needs_now
-    → TakesAnswer (entries (located (lines mailmaps))) contacts (numbered_answer (entries (located (lines mailmaps))) name email number) s answers notices found
+    → TakesAnswer (entries (located (located_lines mailmaps))) contacts (numbered_answer (entries (located (located_lines mailmaps))) name email number) s answers notices found
     → HasTaken mailmaps (contacts ++ line ∷ []) (record { needs = needs_now; answers = answers; notices = notices; found = found; count = number; cache = s.cache })
 taken_contact mailmaps contacts line name email rest s needs_now answers notices found number taken number_is is crosses its =
-    let h = entries (located (lines mailmaps)) in
+    let h = entries (located (located_lines mailmaps)) in
     let all = answers_from h 1 contacts in
     let said : said_of_line h contacts line ≡ said_of_answer all (numbered_answer h name email number) =
     said_of_line-contact h contacts line name email rest is ∙ ap (λ n. said_of_answer all (numbered_answer h name email n)) (sym number_is) in
@@ -203,9 +203,9 @@ said_known all a came =
     cond-true (list_any (is_answer a.name a.email) all) [] (said_beside (Some a) (answer_at all (first_with_email a.email all)) (answer_at all (first_with_name a.name a.email all))) came
 
 pub answer_known : (mailmaps contacts : List Text) (a : Answered) (s : ContactReport) (answers : List Answered) → HasTaken mailmaps contacts s → answers ≡ s.answers
-    → list_any (is_answer a.name a.email) s.answers ≡ true → TakesAnswer (entries (located (lines mailmaps))) contacts a s answers s.notices s.found
+    → list_any (is_answer a.name a.email) s.answers ≡ true → TakesAnswer (entries (located (located_lines mailmaps))) contacts a s answers s.notices s.found
 answer_known mailmaps contacts a s answers taken same came =
-    let h = entries (located (lines mailmaps)) in
+    let h = entries (located (located_lines mailmaps)) in
     let all = answers_from h 1 contacts in
     let among : list_any (is_answer a.name a.email) all ≡ true = sym (firsts_any s.answers all a.name a.email taken.firsts) ∙ came in
     let nothing : said_of_answer all a ≡ [] = said_known all a among in
@@ -233,9 +233,9 @@ counts_beside a (Some b) (Some c) = refl
 pub answer_new : (mailmaps contacts : List Text) (a : Answered) (s : ContactReport) (answers : List Answered) (notices : Vec Notice Global) (found : Bool) (index : ℕ) (likeness : Likeness) → HasTaken mailmaps contacts s
     → IsAdded a s.answers answers (New likeness) → index ≡ length s.answers
     → ((ys : List Answered) → flat_map (noted ys) notices.items ≡ flat_map (noted ys) s.notices.items ++ noted ys (Alike index likeness)) → found ≡ (s.found || is_some likeness.email)
-    → TakesAnswer (entries (located (lines mailmaps))) contacts a s answers notices found
+    → TakesAnswer (entries (located (located_lines mailmaps))) contacts a s answers notices found
 answer_new mailmaps contacts a s answers notices found index likeness taken added index_is notes found_is =
-    let h = entries (located (lines mailmaps)) in
+    let h = entries (located (located_lines mailmaps)) in
     let all = answers_from h 1 contacts in
     let ys = s.answers in
     let new : list_any (is_answer a.name a.email) all ≡ false =
@@ -271,7 +271,7 @@ contact_parts (Closed name email rest) is = (name, email, rest, refl)
 same_bytes : (t : Text) → bytes_eq t t ≡ true
 same_bytes t = (bytes_decides t t).1 refl
 
--- so its answer is known
+-- the answer to such a contact is known
 came_answer : (h : List Mapping) (n number : ℕ) (xs : List Text) (line name email rest : Text) → contact_in line ≡ Closed name email rest → (k : ℕ) → k < length xs → get_or xs k line ≡ line
     → list_any (is_answer (numbered_answer h name email number).name (numbered_answer h name email number).email) (answers_from h n xs) ≡ true
 came_answer h n number [] line name email rest is k within at = absurd (omega arith)
@@ -299,7 +299,7 @@ list_any-again test xs x came =
     list_any-append test xs (x ∷ [])
     ∙ any_again (test x) (list_any test xs) (λ pass. list_any_at test xs came.0 x came.1 (ap test came.2 ∙ pass))
 
--- so what it needs is crossed off already
+-- the lines that such a contact needs are crossed off already
 crossed_again : (kept : List LocatedMapping) (contacts : List Text) (line name email rest : Text) (left : List Position) → left ≡ unneeded kept contacts → contact_in line ≡ Closed name email rest → Contains contacts line
     → left ≡ filter (λ p. not (needs kept name email p)) left
 crossed_again kept contacts line name email rest left left_is is came =
@@ -307,14 +307,14 @@ crossed_again kept contacts line name email rest left left_is is came =
     left_is
     ∙ filter_agree (λ p. not (any_needs kept contacts p)) (λ p. not (any_needs kept (contacts ++ line ∷ []) p))
     (λ p. ap not (sym (list_any-again (λ l. contact_needs kept (contact_in l) p) contacts line came))) ps
-    ∙ sym (taken_more kept contacts line ps)
+    ∙ sym (unneeded_more kept contacts line ps)
     ∙ ap (λ c. filter (λ p. not (contact_needs kept c p)) (unneeded kept contacts)) is
     ∙ ap (filter (λ p. not (needs kept name email p))) (sym left_is)
 
 pub taken_again : (mailmaps contacts : List Text) (line answer : Text) (s : ContactReport) (number : ℕ) → HasTaken mailmaps contacts s → number ≡ length contacts + 1 → Contains s.cache (record { line = line; answer = answer })
     → HasTaken mailmaps (contacts ++ line ∷ []) (record s { count = number })
 taken_again mailmaps contacts line answer s number taken number_is among =
-    let h = entries (located (lines mailmaps)) in
+    let h = entries (located (located_lines mailmaps)) in
     let all = answers_from h 1 contacts in
     let came = taken.came (record { line = line; answer = answer }) among in
     let c = contact_parts (contact_in line) came.1 in
@@ -327,8 +327,8 @@ taken_again mailmaps contacts line answer s number taken number_is among =
 
 -- ---- caching a line
 
-pub taken_kept : (mailmaps contacts : List Text) (line : Text) (s : ContactReport) (cache : List Kept) (is_kept : Bool) → HasTaken mailmaps (contacts ++ line ∷ []) s → is_kept ≡ is_contact (contact_in line)
-    → ((k : Kept) → Contains cache k → Contains s.cache k ⊎ (IsTrue is_kept × (k.line ≡ line))) → HasTaken mailmaps (contacts ++ line ∷ []) (record s { cache = cache })
+pub taken_kept : (mailmaps contacts : List Text) (line : Text) (s : ContactReport) (cache : List CachedLine) (is_kept : Bool) → HasTaken mailmaps (contacts ++ line ∷ []) s → is_kept ≡ is_contact (contact_in line)
+    → ((k : CachedLine) → Contains cache k → Contains s.cache k ⊎ (IsTrue is_kept × (k.line ≡ line))) → HasTaken mailmaps (contacts ++ line ∷ []) (record s { cache = cache })
 taken_kept mailmaps contacts line s cache is_kept taken is keeps = record {
   history = taken.history;
   effective = taken.effective;
@@ -346,13 +346,13 @@ taken_kept mailmaps contacts line s cache is_kept taken is keeps = record {
 
 -- ---- before the first line
 
-pub taken_nothing : (mailmaps : List Text) (needs_now : Needs) (answers : List Answered) (notices : Vec Notice Global) (cache : List Kept) → needs_now.history ≡ located (lines mailmaps)
-    → AreEffective (located (lines mailmaps)) needs_now.kept → needs_now.left ≡ map (λ x. x.position) needs_now.kept → answers ≡ [] → notices.items ≡ [] → cache ≡ []
+pub taken_nothing : (mailmaps : List Text) (needs_now : Needs) (answers : List Answered) (notices : Vec Notice Global) (cache : List CachedLine) → needs_now.history ≡ located (located_lines mailmaps)
+    → AreEffective (located (located_lines mailmaps)) needs_now.kept → needs_now.left ≡ map (λ x. x.position) needs_now.kept → answers ≡ [] → notices.items ≡ [] → cache ≡ []
     → HasTaken mailmaps [] (record { needs = needs_now; answers = answers; notices = notices; found = false; count = 0; cache = cache })
 taken_nothing mailmaps needs_now answers notices cache history effective left no_answer no_notice no_line = record {
   history = history;
   effective = effective;
-  left = left ∙ no_contact_takes needs_now.kept (map (λ (x : LocatedMapping). x.position) needs_now.kept);
+  left = left ∙ no_contact_needs needs_now.kept (map (λ (x : LocatedMapping). x.position) needs_now.kept);
   count = refl;
   said = ap (flat_map (noted answers)) no_notice;
   found = refl;

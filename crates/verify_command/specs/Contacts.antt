@@ -8,7 +8,7 @@ use Rattle.mailmap_entries.specs.Semantics.{fields_for}
 use Rattle.mailmap_grammar.specs.Lines.{ParsedContact, Absent, Unclosed, Closed}
 use Rattle.mailmap_grammar.specs.Lines.{contact_in}
 use Rattle.mailmap_findings.specs.Needs.{is_no_contact}
-use Rattle.mailmap_findings.specs.Positions.{lines, located, whole_lines}
+use Rattle.mailmap_findings.specs.Positions.{located_lines, located, whole_lines}
 use Rattle.mailmap_redundancy.specs.Redundancy.{entries}
 use Rattle.mailmap_findings.specs.Remarks.{AreRemarks, Remark, found as remark_found, unneeded as remark_unneeded}
 use Rattle.command_line.specs.declared.outcome.Outcome.{Outcome}
@@ -112,7 +112,7 @@ IsReportOf paths file mailmaps contacts said outcome text = (remarks : List Rema
 abbrev pub IsReportBeside : List Text → Text → List Text → Text → Outcome → Text → Type 0
 IsReportBeside paths file mailmaps contacts outcome text =
     IsReportOf paths file mailmaps contacts
-    (said_after (entries (located (lines mailmaps))) [] (whole_lines contacts)) outcome text
+    (said_after (entries (located (located_lines mailmaps))) [] (whole_lines contacts)) outcome text
 
 -- ---- notices
 

@@ -2,18 +2,18 @@
 use Rattle.std.specs.Prelude.{◌≡◌, List, [], ◌∷◌, ◌++◌, Option, None, Some, IfSome, codes}
 use Rattle.std.specs.Io.KnownBytes.{Consumes}
 use Rattle.std.specs.List.{All, flat_map}
-use Rattle.mailmap_snapshot.specs.Contacts.{contact, replaced}
-use Rattle.mailmap_findings.specs.Explanations.{giving_positions}
+use Rattle.mailmap_snapshot.specs.Contacts.{contact_line, contact_with}
+use Rattle.mailmap_findings.specs.Explanations.{origin_positions}
 use Rattle.mailmap_entries.specs.Folding.{Text}
 use Rattle.mailmap_redundancy.specs.Origins.{Origins, origins}
 use Rattle.mailmap_entries.specs.Semantics.{Fields, answer_of}
 use Rattle.mailmap_grammar.specs.Lines.{ParsedContact, Absent, Unclosed, Closed, HoldsNo, contact_in}
 use Rattle.mailmap_snapshot.specs.Parts.{EndsLine}
-use Rattle.mailmap_findings.specs.Positions.{lines, located, whole_lines}
+use Rattle.mailmap_findings.specs.Positions.{located_lines, located, whole_lines}
 use Rattle.mailmap_redundancy.specs.Redundancy.{AreEffective, LocatedMapping, entries}
 use Rattle.mailmap_grammar.specs.Trimming.{trim}
 use Rattle.mailmap_redundancy.specs.declared.located.Position.{Position}
-use Rattle.answer_cache.specs.Kept.{Kept}
+use Rattle.answer_cache.specs.CachedLines.{CachedLine}
 use Rattle.verify_command.specs.Report.{position_text, shown}
 
 -- ---- one line
@@ -34,14 +34,14 @@ positions_text paths (p ∷ ps) =
 abbrev pub mapped_text : List Text → Origins → Option Fields → Text → Text → Text
 mapped_text paths g None name email = codes " is not mapped"
 mapped_text paths g (Some f) name email =
-    codes " is " ++ replaced f name email ++ codes " by " ++ positions_text paths (giving_positions g f)
+    codes " is " ++ contact_with f name email ++ codes " by " ++ positions_text paths (origin_positions g f)
 
 -- the explanation of a line that starts with this contact
 abbrev pub contact_explained : Grounds → Text → ParsedContact → Text
 contact_explained g line Absent = line ++ codes " is no contact"
 contact_explained g line Unclosed = line ++ codes " is no contact"
 contact_explained g line (Closed name email rest) =
-    contact name email
+    contact_line name email
     ++ mapped_text g.paths (origins g.kept name email) (answer_of (entries g.history) name email) name email
 
 -- a line of output with escapes; a blank line has none
@@ -55,7 +55,7 @@ explained_line g line =
     shown_unless_blank (trim line) (contact_explained g (trim line) (contact_in line))
 
 -- each row is a line with its explanation
-abbrev pub ExplainsEach : Grounds → List Kept → Type 0
+abbrev pub ExplainsEach : Grounds → List CachedLine → Type 0
 ExplainsEach g kept = All (λ k. k.answer ≡ explained_line g k.line) kept
 
 -- ---- lines that are answered one after another
@@ -88,8 +88,8 @@ AnswersWholeLines answer old new text =
 -- The text is made of explanations with mailmaps that were read from these paths.
 abbrev pub Explains : List Text → List Text → ((Text → Text) → Text → Type 0) → Text → Type 0
 Explains paths mailmaps IsText text =
-    (kept : List LocatedMapping) × AreEffective (located (lines mailmaps)) kept
-    × IsText (explained_line (record { paths = paths; history = located (lines mailmaps); kept = kept })) text
+    (kept : List LocatedMapping) × AreEffective (located (located_lines mailmaps)) kept
+    × IsText (explained_line (record { paths = paths; history = located (located_lines mailmaps); kept = kept })) text
 
 -- It explains all lines of the input; whole lines at the start of what was read; or all whole lines that were read.
 abbrev pub ExplainsAll : List Text → List Text → Option Text → Text → Type 0

@@ -6,7 +6,7 @@ use Rattle.mailmap_entries.specs.Folding.{Text}
 use Rattle.mailmap_grammar.specs.Lines.{FaultKind, no_email, missing_closing_bracket, empty_email, nothing_to_map, unclosed_second}
 use Rattle.mailmap_grammar.specs.CanonicalText.{bracketed_email, email_part, name_part}
 use Rattle.mailmap_entries.specs.Entries.{Mapping}
-use Rattle.mailmap_findings.specs.Findings.{Contact, Finding, Reported, fault, ignored_text, git_reads, no_effect, itself_mapped}
+use Rattle.mailmap_findings.specs.Findings.{Contact, Finding, FindingKind, fault, ignored_text, git_reads, no_effect, itself_mapped}
 use Rattle.mailmap_findings.specs.Git.{GitReading, Nothing, Entry, Lines}
 pub use Rattle.command_line.specs.Shown.{shown}
 use Rattle.verify_command.specs.Shortened.{short_contact, shortened}
@@ -44,7 +44,7 @@ git_text Nothing = codes "nothing here"
 git_text (Entry e) = codes "it as " ++ entry_text e
 git_text (Lines count) = codes "it as " ++ decimal count ++ codes " lines"
 
-abbrev pub reported_text : List Text → Reported → Text
+abbrev pub reported_text : List Text → FindingKind → Text
 reported_text paths (fault f) = codes "error: " ++ fault_text f.kind
 reported_text paths (ignored_text text) = codes "warning: ignored text: " ++ shortened text
 reported_text paths (git_reads reading) = codes "warning: git reads " ++ git_text reading
@@ -56,7 +56,7 @@ reported_text paths (itself_mapped c to) =
 -- a finding, before escapes
 abbrev pub finding_text : List Text → Finding → Text
 finding_text paths f =
-    position_text paths f.position.buffer f.position.line ++ codes ": " ++ reported_text paths f.reported
+    position_text paths f.position.buffer f.position.line ++ codes ": " ++ reported_text paths f.kind
 
 -- the line of a finding
 abbrev pub finding_line : List Text → Finding → Text

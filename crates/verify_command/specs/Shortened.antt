@@ -2,7 +2,7 @@
 use Rattle.std.specs.Prelude.{ℕ, ◌-◌, nat_lt, Bool, ◌&&◌, if◌then◌else◌, is_some, length, take, drop, ◌++◌, codes}
 use Rattle.bstr.specs.Utf8.{decoded}
 use Rattle.mailmap_entries.specs.Folding.{Text}
-use Rattle.mailmap_snapshot.specs.Contacts.{contact}
+use Rattle.mailmap_snapshot.specs.Contacts.{contact_line}
 
 -- a character begins so many bytes before the end of the first 256, and goes beyond them
 abbrev pub crosses : ℕ → Text → Bool
@@ -20,4 +20,4 @@ shortened text = if nat_lt 256 (length text) then take (front_len text) text ++ 
 
 -- a contact with its texts shortened
 abbrev pub short_contact : Text → Text → Text
-short_contact name email = contact (shortened name) (shortened email)
+short_contact name email = contact_line (shortened name) (shortened email)

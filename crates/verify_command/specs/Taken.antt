@@ -4,10 +4,10 @@ use Rattle.std.specs.List.{Contains, flat_map, list_any}
 use Rattle.mailmap_entries.specs.Folding.{Text}
 use Rattle.mailmap_grammar.specs.Lines.{contact_in}
 use Rattle.mailmap_findings.specs.Needs.{is_contact, unneeded}
-use Rattle.mailmap_findings.specs.Positions.{lines, located}
+use Rattle.mailmap_findings.specs.Positions.{located_lines, located}
 use Rattle.mailmap_redundancy.specs.Redundancy.{AreEffective, entries}
 use Rattle.mailmap_likeness.specs.Likeness.{Answered}
-use Rattle.answer_cache.specs.Kept.{Kept}
+use Rattle.answer_cache.specs.CachedLines.{CachedLine}
 use Rattle.verify_command.specs.Alike.{answer_at}
 use Rattle.verify_command.specs.Contacts.{answers_from, counts, noted, said_after}
 use Rattle.verify_command.specs.declared.contact_report.ContactReport.{ContactReport}
@@ -22,17 +22,18 @@ HaveSameFirsts answers others = (test : Text → Text → Bool) → first_of tes
 
 -- The state is the result of adding these lines of contacts, with these mailmaps.
 pub record HasTaken (mailmaps contacts : List Text) (s : ContactReport) : Type 0 where
-  pub history : s.needs.history ≡ located (lines mailmaps)
-  pub effective : AreEffective (located (lines mailmaps)) s.needs.kept
+  pub history : s.needs.history ≡ located (located_lines mailmaps)
+  pub effective : AreEffective (located (located_lines mailmaps)) s.needs.kept
   pub left : s.needs.left ≡ unneeded s.needs.kept contacts
   pub count : s.count ≡ length contacts
-  pub said : flat_map (noted s.answers) s.notices.items ≡ said_after (entries (located (lines mailmaps))) [] contacts
-  pub found : s.found ≡ list_any counts (said_after (entries (located (lines mailmaps))) [] contacts)
+  pub said : flat_map (noted s.answers) s.notices.items
+      ≡ said_after (entries (located (located_lines mailmaps))) [] contacts
+  pub found : s.found ≡ list_any counts (said_after (entries (located (located_lines mailmaps))) [] contacts)
   -- the findings stay the same, whatever answers are added later
   pub said_later : (later : List Answered)
       → flat_map (noted (s.answers ++ later)) s.notices.items
-      ≡ said_after (entries (located (lines mailmaps))) [] contacts
+      ≡ said_after (entries (located (located_lines mailmaps))) [] contacts
   -- the answers are those to the contacts, without repetitions
-  pub firsts : HaveSameFirsts s.answers (answers_from (entries (located (lines mailmaps))) 1 contacts)
+  pub firsts : HaveSameFirsts s.answers (answers_from (entries (located (located_lines mailmaps))) 1 contacts)
   -- the cached lines are contacts that were added
-  pub came : (k : Kept) → Contains s.cache k → Contains contacts k.line × (is_contact (contact_in k.line) ≡ true)
+  pub came : (k : CachedLine) → Contains s.cache k → Contains contacts k.line × (is_contact (contact_in k.line) ≡ true)

@@ -8,7 +8,7 @@ ghost use Rattle.mailmap_grammar.specs.Lines.{contact_in};
 ghost use Rattle.mailmap_findings.specs.Needs.{is_contact};
 ghost use Rattle.mailmap_redundancy.specs.Redundancy.{entries};
 ghost use Rattle.mailmap_likeness.specs.Likeness.{Answered, IsAdded};
-ghost use Rattle.answer_cache.specs.Kept.{Kept};
+ghost use Rattle.answer_cache.specs.CachedLines.{CachedLine};
 ghost use Rattle.verify_command.specs.Contacts.{numbered_answer, no_contact, noted};
 ghost use Rattle.verify_command.specs.Taken.{HasTaken};
 
@@ -172,7 +172,7 @@ fn note_alike(
 
 // Caches a contact, if it was seen before.
 fn keep_contact(is_contact: bool, cache: &mut AnswerCache, hash: u64, line: &[u8])
-    ensures { (k : Kept) → Contains cache.new k → Contains cache.old k ⊎ (IsTrue is_contact × (k.line ≡ line.now)) }
+    ensures { (k : CachedLine) → Contains cache.new k → Contains cache.old k ⊎ (IsTrue is_contact × (k.line ≡ line.now)) }
 {
     if is_contact && cache.note_miss(hash) {
         cache.insert(hash, line, b"");

@@ -1,11 +1,11 @@
 //! Explains a line of contacts.
 ghost use Rattle.std.specs.Prelude.{◌≡◌, ◌++◌, IfOk, OnErr, OnOk, codes, map};
-ghost use Rattle.mailmap_snapshot.specs.Contacts.{replaced};
+ghost use Rattle.mailmap_snapshot.specs.Contacts.{contact_with};
 ghost use Rattle.mailmap_findings.specs.Explanations.{explained, explained_by};
 ghost use Rattle.mailmap_redundancy.specs.Origins.{origins};
 ghost use Rattle.mailmap_entries.specs.Semantics.{answer_of};
 ghost use Rattle.mailmap_grammar.specs.Lines.{cut, trimmed_contact};
-ghost use Rattle.mailmap_findings.specs.Positions.{lines, located};
+ghost use Rattle.mailmap_findings.specs.Positions.{located_lines, located};
 ghost use Rattle.mailmap_redundancy.specs.Redundancy.{AreEffective, entries};
 ghost use Rattle.verify_command.specs.Explained.{contact_explained, explained_line, mapped_text, positions_text};
 
@@ -61,7 +61,7 @@ impl<'p, 'm, 'a> Explainer<'p, 'm, 'a> {
         mailmaps: &'m Mailmaps<'_, 'a>,
     ) -> Result<Explainer<'p, 'm, 'a>, AllocError>
         ensures paths { IfOk result (λ s. s.paths ≡ map (λ path. path.items) paths.now) }
-        ensures history { IfOk result (λ s. s.history ≡ located (lines mailmaps.now)) }
+        ensures history { IfOk result (λ s. s.history ≡ located (located_lines mailmaps.now)) }
         ensures effective { IfOk result (λ s. AreEffective s.history s.kept) }
     {
         Ok(Explainer {
@@ -157,7 +157,7 @@ fn push_replaced(
     name: &[u8],
     email: &[u8],
 ) -> Result<(), AllocError>
-    ensures { OnOk result (text.new.items ≡ text.old.items ++ replaced (explained found.now) name.now email.now) }
+    ensures { OnOk result (text.new.items ≡ text.old.items ++ contact_with (explained found.now) name.now email.now) }
 {
     push_contact(
         text,

@@ -1,7 +1,7 @@
 //! Reports findings as text.
 ghost use Rattle.std.specs.Prelude.{◌≡◌, ◌++◌, ◌⊎◌, ℕ, codes, map, take, IfErr, IfOk, OnErr, OnOk};
 ghost use Rattle.std.specs.Io.KnownBytes.{Appends};
-ghost use Rattle.mailmap_findings.specs.Findings.{contact_of, finding_of, reported_of};
+ghost use Rattle.mailmap_findings.specs.Findings.{contact_of, finding_of, kind_of};
 ghost use Rattle.mailmap_grammar.specs.Lines.{fault_of};
 ghost use Rattle.command_line.specs.Printing.{IsUnderway};
 ghost use Rattle.verify_command.specs.Report.{contact_text, finding_text, reported_text, fault_text, file_name, finding_line, outcome_of, position_text, report, shown};
@@ -150,7 +150,7 @@ fn push_kind(
     kind: &FindingKind<'_>,
 ) -> Result<(), AllocError>
     ensures { OnOk result (text.new.items
-        ≡ text.old.items ++ reported_text (map (λ path. path.items) paths.now) (reported_of kind.now)) }
+        ≡ text.old.items ++ reported_text (map (λ path. path.items) paths.now) (kind_of kind.now)) }
 {
     match kind {
         FindingKind::Fault(fault) => {

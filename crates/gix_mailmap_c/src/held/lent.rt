@@ -1,7 +1,7 @@
 //! Borrows the snapshot of an open handle in place.
 ghost use Rattle.std.specs.Prelude.{◌≡◌, true};
 ghost use Rattle.std.specs.Borrow.{sem};
-ghost use Rattle.gix_mailmap_c.specs.Lent.{LendsSnapshot};
+ghost use Rattle.gix_mailmap_c.specs.Borrowing.{LendsSnapshot};
 
 use crate::held::Mailmap;
 use mailmap_snapshot::Snapshot;

@@ -2,7 +2,7 @@
 ghost use Rattle.std.specs.Prelude.{◌≡◌, ◌≤◌, ◌<◌, ◌+◌, ◌^◌, length, MatchOption};
 ghost use Rattle.std.specs.Option.{option_copied};
 ghost use Rattle.mailmap_entries.specs.Entries.{mapping_of};
-ghost use Rattle.gix_mailmap_c.specs.Listed.{all_text, entry_text, given, AreListed, IsAllWritten, IsAfter};
+ghost use Rattle.gix_mailmap_c.specs.Listed.{all_texts, entry_texts, text_or_empty, AreListed, IsAllWritten, IsAfter};
 
 use crate::listing::Listed;
 use mailmap_entries::Entry;
@@ -10,7 +10,7 @@ use mailmap_snapshot::Snapshot;
 
 /// Adds the length of an entry's texts to `len`. `None` if the sum exceeds `usize::MAX`.
 pub(crate) fn len_with_texts(len: usize, entry: &Entry<'_>) -> Option<usize>
-    ensures { let all = len + length (entry_text (mapping_of entry.now))
+    ensures { let all = len + length (entry_texts (mapping_of entry.now))
         in MatchOption result (2 ^ 64 ≤ all) (λ n. n ≡ all) }
 {
     let len = len_with_text(len, entry.new_name())?;
@@ -21,7 +21,7 @@ pub(crate) fn len_with_texts(len: usize, entry: &Entry<'_>) -> Option<usize>
 
 // A missing text adds nothing.
 fn len_with_text(len: usize, text: Option<&[u8]>) -> Option<usize>
-    ensures { let all = len + length (given (option_copied text.entry))
+    ensures { let all = len + length (text_or_empty (option_copied text.entry))
         in MatchOption result (2 ^ 64 ≤ all) (λ n. n ≡ all) }
 {
     match text {
@@ -33,7 +33,7 @@ fn len_with_text(len: usize, text: Option<&[u8]>) -> Option<usize>
 /// Describes the entries of a snapshot in order.
 pub(crate) fn describe(snapshot: &Snapshot, listed: &mut [Listed])
     requires room { length snapshot.now ≤ length listed.old }
-    requires countable { length (all_text snapshot.now) < 2 ^ 64 }
+    requires countable { length (all_texts snapshot.now) < 2 ^ 64 }
     ensures { AreListed snapshot.now listed.old listed.new }
 {
     let mut index = 0;
@@ -48,8 +48,8 @@ pub(crate) fn describe(snapshot: &Snapshot, listed: &mut [Listed])
 
 // The length of an entry's four texts together.
 fn texts_len(entry: &Entry<'_>) -> usize
-    requires { length (entry_text (mapping_of entry.now)) < 2 ^ 64 }
-    ensures { result ≡ length (entry_text (mapping_of entry.now)) }
+    requires { length (entry_texts (mapping_of entry.now)) < 2 ^ 64 }
+    ensures { result ≡ length (entry_texts (mapping_of entry.now)) }
 {
     match len_with_texts(0, entry) {
         Some(len) => len,
@@ -59,7 +59,7 @@ fn texts_len(entry: &Entry<'_>) -> usize
 
 /// Copies the texts of all entries to the front of a buffer.
 pub(crate) fn copy_texts(snapshot: &Snapshot, out: &mut [u8])
-    requires { length (all_text snapshot.now) ≤ length out.old }
+    requires { length (all_texts snapshot.now) ≤ length out.old }
     ensures { IsAllWritten snapshot.now out.old out.new }
 {
     let mut end = 0;
@@ -70,8 +70,8 @@ pub(crate) fn copy_texts(snapshot: &Snapshot, out: &mut [u8])
 
 /// Copies an entry's texts to an offset in a buffer, and returns the offset after them.
 pub(crate) fn copy_entry(entry: &Entry<'_>, out: &mut [u8], start: usize) -> usize
-    requires { start + length (entry_text (mapping_of entry.now)) ≤ length out.old }
-    ensures { IsAfter (entry_text (mapping_of entry.now)) start out.old out.new result }
+    requires { start + length (entry_texts (mapping_of entry.now)) ≤ length out.old }
+    ensures { IsAfter (entry_texts (mapping_of entry.now)) start out.old out.new result }
 {
     let end = copy_text(entry.new_name(), out, start);
     let end = copy_text(entry.new_email(), out, end);
@@ -81,8 +81,8 @@ pub(crate) fn copy_entry(entry: &Entry<'_>, out: &mut [u8], start: usize) -> usi
 
 // A missing text copies nothing.
 fn copy_text(text: Option<&[u8]>, out: &mut [u8], start: usize) -> usize
-    requires { start + length (given (option_copied text)) ≤ length out.old }
-    ensures { IsAfter (given (option_copied text.entry)) start out.old out.new result }
+    requires { start + length (text_or_empty (option_copied text)) ≤ length out.old }
+    ensures { IsAfter (text_or_empty (option_copied text.entry)) start out.old out.new result }
 {
     let text = text.unwrap_or(&[]);
     let end = start + text.len();

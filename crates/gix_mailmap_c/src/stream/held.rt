@@ -2,7 +2,7 @@
 //! owns.
 ghost use Rattle.std.specs.Prelude.{◌≡◌, true, false};
 ghost use Rattle.gix_mailmap_c.specs.Streamed.{Pending};
-ghost use Rattle.gix_mailmap_c.specs.StreamHeld.{streaming};
+ghost use Rattle.gix_mailmap_c.specs.StreamOwnership.{owns_stream};
 
 pub(crate) mod lent;
 
@@ -23,7 +23,7 @@ pub struct Stream {
 }
 
 impl Model for Stream {
-    ghost also_owns = { λ s. streaming s.alloc s.is_open s.at s.pending };
+    ghost also_owns = { λ s. owns_stream s.alloc s.is_open s.at s.pending };
 }
 
 // Sound, because a handle alone owns its contacts, which are `Send`.

@@ -2,7 +2,8 @@
 ghost use Rattle.std.specs.Prelude.{◌≡◌, ◌≤◌, List, length, option_map, option_to_list};
 ghost use Rattle.mailmap_entries.specs.Entries.{Mapping, mapping_of};
 ghost use Rattle.mailmap_entries.specs.Listings.{same_entries};
-ghost use Rattle.mailmap_findings.specs.Git.{git_entries as spec_git_entries, git_reading as spec_git_reading, git_reading_of, own_entry as spec_own_entry, read_in_place};
+ghost use Rattle.mailmap_findings.specs.Git.{git_entries as spec_git_entries, git_reading as spec_git_reading};
+ghost use Rattle.mailmap_findings.specs.Git.{git_reading_of, library_entry as spec_library_entry, read_in_place};
 
 use crate::git::entries::{PART_LEN, git_entries, part_entry};
 use mailmap_entries::Entry;
@@ -24,9 +25,9 @@ pub enum GitReading<'a> {
 /// For `Joe < a@x >` this is an entry that maps ` a@x `, with both spaces, to the name `Joe`, since git doesn't trim
 /// emails. For `Joe <a@x>` it is `None`.
 pub fn read_otherwise(line: &[u8]) -> Option<GitReading<'_>>
-    ensures { option_map git_reading_of result ≡ read_in_place (spec_own_entry line.now) line.now }
+    ensures { option_map git_reading_of result ≡ read_in_place (spec_library_entry line.now) line.now }
 {
-    read_in_place_of(own_entry(line), line)
+    read_in_place_of(library_entry(line), line)
 }
 
 /// What git reads from `line` if that differs from the entry `own`, else `None`.
@@ -44,8 +45,8 @@ pub fn read_in_place_of<'a>(own: Option<Entry<'_>>, line: &'a [u8]) -> Option<Gi
     Some(reading)
 }
 
-fn own_entry(line: &[u8]) -> Option<Entry<'_>>
-    ensures { option_map mapping_of result ≡ spec_own_entry line.now }
+fn library_entry(line: &[u8]) -> Option<Entry<'_>>
+    ensures { option_map mapping_of result ≡ spec_library_entry line.now }
 {
     read_line(line, 1, Strictness::Lenient)?.ok()
 }

@@ -1,7 +1,7 @@
-//! What is proved of the equality of findings and explanations.
+//! Laws about the equality of findings and explanations.
 ghost use Rattle.std.specs.Prelude.{◌≡◌, ◌↔◌, true};
 ghost use Rattle.mailmap_findings.specs.Explanations.{explained, explained_by};
-ghost use Rattle.mailmap_findings.specs.Findings.{contact_of, finding_of, reported_of};
+ghost use Rattle.mailmap_findings.specs.Findings.{contact_of, finding_of, kind_of};
 ghost use Rattle.mailmap_findings.specs.declared.explain.Explanation as the_explanation;
 ghost use Rattle.mailmap_findings.specs.declared.explain.Needed as the_needed;
 ghost use Rattle.mailmap_findings.specs.declared.verify.Contact as the_contact;
@@ -19,11 +19,10 @@ pub fn law_equal_findings()
     law_equal_kinds();
 }
 
-/// Kinds are equal exactly if they report the same, down to the line that a line without effect is beside. Contacts are
-/// equal exactly if their fields are.
+/// Kinds are equal exactly if they report the same, with all details. Contacts are equal exactly if their fields are.
 pub fn law_equal_kinds()
     ensures kinds { (a b : the_kind.FindingKind)
-        → (⟦<FindingKind<'static> as PartialEq>⟧.eq a b ≡ true) ↔ (reported_of a ≡ reported_of b) }
+        → (⟦<FindingKind<'static> as PartialEq>⟧.eq a b ≡ true) ↔ (kind_of a ≡ kind_of b) }
     ensures contacts { (a b : the_contact.Contact)
         → (⟦<Contact<'static> as PartialEq>⟧.eq a b ≡ true) ↔ (contact_of a ≡ contact_of b) }
 {}

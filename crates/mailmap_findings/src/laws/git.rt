@@ -1,4 +1,4 @@
-//! What is proved of git's readings. These functions do nothing: the contract of each is a law.
+//! Laws about git's readings. These functions do nothing: each states its law in its contract.
 ghost use Rattle.std.specs.Prelude.{◌≡◌, ◌↔◌, true};
 ghost use Rattle.mailmap_findings.specs.Git.{git_reading_of};
 ghost use Rattle.mailmap_findings.specs.declared.git.reading.GitReading as the_reading;

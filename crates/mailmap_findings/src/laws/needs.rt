@@ -1,10 +1,10 @@
-//! What is proved of the lines that contacts need. These functions do nothing: the contract of each is a law.
+//! Laws about the lines that contacts need. These functions do nothing: each states its law in its contract.
 ghost use Rattle.std.specs.Prelude.{◌≡◌, ◌↔◌, Bool, Contains, List, filter, not, true};
 ghost use Rattle.std.specs.List.{flat_map};
 ghost use Rattle.mailmap_entries.specs.Entries.{Mapping};
 ghost use Rattle.mailmap_entries.specs.Folding.{Text};
-ghost use Rattle.mailmap_findings.specs.Findings.{AreFindings, Finding, is_redundant};
-ghost use Rattle.mailmap_findings.specs.Positions.{Line, lines, located, texts_left, whole_lines};
+ghost use Rattle.mailmap_findings.specs.Findings.{AreFindings, Finding, is_reported_redundant};
+ghost use Rattle.mailmap_findings.specs.Positions.{Line, located_lines, located, texts_left, whole_lines};
 ghost use Rattle.mailmap_grammar.specs.Lines.{Closed, mappings_of};
 ghost use Rattle.mailmap_entries.specs.Semantics.{IsNormal, answer_of};
 ghost use Rattle.mailmap_grammar.specs.Lines.{contact_in};
@@ -25,19 +25,21 @@ pub fn law_contacts_stay()
         (line name email rest : Text)
         → AreFindings buffers found → AreUnneeded buffers contacts missing
         → Contains (whole_lines contacts) line → contact_in line ≡ Closed name email rest
-        → answer_of (entries (located (filter (λ l. not (is_reported found missing l)) (lines buffers)))) name email
+        → answer_of
+        (entries (located (filter (λ l. not (is_reported found missing l)) (located_lines buffers)))) name email
         ≡ answer_of (flat_map mappings_of buffers) name email }
 {}
 
-/// Lines can be deleted from the texts themselves: what is left of the texts has the entries of the lines that are left.
-/// So without the lines reported as without effect, the texts have the same normal list; without the lines that no
-/// contact needs as well, they give each contact the same answer.
+/// Lines can be deleted from the texts themselves: the remaining texts have the entries of the remaining lines. So
+/// without the lines reported as without effect, the texts have the same normal list; without the lines that no contact
+/// needs as well, they give each contact the same answer.
 pub fn law_deleted_texts()
     ensures entries { (is_left : Line → Bool) (buffers : List Text)
-        → flat_map mappings_of (texts_left is_left buffers) ≡ entries (located (filter is_left (lines buffers))) }
+        → flat_map mappings_of (texts_left is_left buffers)
+        ≡ entries (located (filter is_left (located_lines buffers))) }
     ensures listing { (buffers : List Text) (found : List Finding) (n : List Mapping) → AreFindings buffers found
         → IsNormal (flat_map mappings_of buffers) n
-        ↔ IsNormal (flat_map mappings_of (texts_left (λ l. not (is_redundant found l)) buffers)) n }
+        ↔ IsNormal (flat_map mappings_of (texts_left (λ l. not (is_reported_redundant found l)) buffers)) n }
     ensures contacts { (buffers : List Text) (contacts : Text) (found : List Finding) (missing : List Position)
         (line name email rest : Text)
         → AreFindings buffers found → AreUnneeded buffers contacts missing

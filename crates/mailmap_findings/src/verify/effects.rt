@@ -4,7 +4,10 @@ ghost use Rattle.std.specs.Option.{option_and_then, option_map};
 ghost use Rattle.mailmap_entries.specs.Entries.{mapping_of};
 ghost use Rattle.mailmap_redundancy.specs.Numbers.{fields_of};
 ghost use Rattle.mailmap_redundancy.specs.Redundancy.{entries};
-ghost use Rattle.mailmap_findings.specs.Findings.{contact as spec_contact, contact_of, mapped as spec_mapped, replaced as spec_replaced, reported_of, reported_of_contact as spec_reported_of_contact, reported_of_entry as spec_reported};
+ghost use Rattle.mailmap_findings.specs.Findings.{contact_of, mapped_contact as spec_mapped, kind_of};
+ghost use Rattle.mailmap_findings.specs.Findings.{proper_contact as spec_contact, replaced_contact as spec_replaced};
+ghost use Rattle.mailmap_findings.specs.Findings.{reported_of_contact as spec_reported_of_contact};
+ghost use Rattle.mailmap_findings.specs.Findings.{reported_of_entry as spec_reported};
 
 use crate::verify::{Contact, FindingKind};
 use mailmap_entries::Entry;
@@ -16,7 +19,7 @@ pub(crate) fn reported_of_entry<'a>(
     entry: Option<Entry<'a>>,
     is_kept: bool,
 ) -> Option<FindingKind<'a>>
-    ensures { option_map reported_of result
+    ensures { option_map kind_of result
         ≡ option_and_then (spec_reported (entries effective.now.history) effective.now.kept is_kept)
         (option_map mapping_of entry.entry) }
 {
@@ -33,15 +36,15 @@ fn reported_of_contact<'a>(
     effective: &Effective<'_, 'a>,
     contact: Contact<'a>,
 ) -> Option<FindingKind<'a>>
-    ensures { option_map reported_of result ≡ spec_reported_of_contact (contact_of contact.entry)
+    ensures { option_map kind_of result ≡ spec_reported_of_contact (contact_of contact.entry)
         (spec_mapped (entries effective.now.history) (contact_of contact.entry)) }
 {
     let found = effective.answer_of(name_or_empty(&contact), contact.email)?;
-    reported_of_both(contact, replaced(contact, found))
+    reported_of_both(contact, replaced_contact(contact, found))
 }
 
 fn reported_of_both<'a>(contact: Contact<'a>, to: Contact<'a>) -> Option<FindingKind<'a>>
-    ensures { option_map reported_of result
+    ensures { option_map kind_of result
         ≡ spec_reported_of_contact (contact_of contact.entry) (contact_of to.entry) }
 {
     if contact == to {
@@ -70,7 +73,7 @@ fn name_or_empty<'a>(contact: &Contact<'a>) -> &'a [u8]
 }
 
 // The contact with its fields overridden by `fields`. A contact without a name gets none.
-fn replaced<'a>(contact: Contact<'a>, fields: Fields<'a>) -> Contact<'a>
+fn replaced_contact<'a>(contact: Contact<'a>, fields: Fields<'a>) -> Contact<'a>
     ensures { contact_of result ≡ spec_replaced (fields_of fields.entry) (contact_of contact.entry) }
 {
     let email = fields.email.unwrap_or(contact.email);

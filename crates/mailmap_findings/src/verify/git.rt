@@ -2,7 +2,7 @@
 ghost use Rattle.std.specs.Prelude.{◌≡◌, is_some, map};
 ghost use Rattle.std.specs.Option.{option_map};
 ghost use Rattle.mailmap_entries.specs.Entries.{mapping_of};
-ghost use Rattle.mailmap_findings.specs.Findings.{first_read_otherwise as spec_first, git_reads, read_otherwise as spec_read_otherwise, reported_of};
+ghost use Rattle.mailmap_findings.specs.Findings.{first_read_otherwise as spec_first, git_reads, read_otherwise as spec_read_otherwise, kind_of};
 ghost use Rattle.mailmap_findings.specs.Positions.{entry as spec_entry, line_of};
 
 use crate::git::read_in_place_of;
@@ -40,7 +40,7 @@ pub(crate) fn reported_of_git<'a>(
     entry: Option<Entry<'_>>,
 ) -> Option<FindingKind<'a>>
     requires { option_map mapping_of entry ≡ spec_entry (line_of line.now) }
-    ensures { option_map reported_of result ≡ option_map git_reads (spec_read_otherwise (line_of line.now)) }
+    ensures { option_map kind_of result ≡ option_map git_reads (spec_read_otherwise (line_of line.now)) }
 {
     read_in_place_of(entry, line.text).map(FindingKind::GitReads)
 }

@@ -5,11 +5,11 @@ ghost use Rattle.std.specs.Option.{option_map};
 ghost use Rattle.mailmap_entries.specs.Entries.{mapping_of};
 ghost use Rattle.mailmap_redundancy.specs.Redundancy.{IsSublist, located_of, located_of_reference};
 ghost use Rattle.mailmap_findings.specs.Marked.{marked, marked_line_of};
-ghost use Rattle.mailmap_findings.specs.Positions.{line_of, lines, located};
-ghost use Rattle.mailmap_findings.specs.Clean.{SaysOnly, are_clean};
+ghost use Rattle.mailmap_findings.specs.Positions.{line_of, located_lines, located};
+ghost use Rattle.mailmap_findings.specs.Clean.{HasOnlyEntry, are_clean};
 
 use crate::verify::lines::{BufferLines, KnownLine, Line};
-use crate::verify::reading::read_strictly;
+use crate::verify::reading::finding_and_entry;
 use crate::verify::walk::{MarkedLines, is_at};
 use mailmap_entries::Entry;
 use mailmap_redundancy::{LocatedEntry, Position};
@@ -29,15 +29,15 @@ pub(crate) fn read_entries<'a>(
     buffers: &[&'a [u8]],
 ) -> Result<ReadEntries<'a>, AllocError>
     ensures entries { IfOk result
-        (λ read. map located_of read.entries.items ≡ located (lines (map (λ b. b.now) buffers.now))) }
-    ensures clean { IfOk result (λ read. read.clean.items ≡ are_clean (lines (map (λ b. b.now) buffers.now))) }
+        (λ read. map located_of read.entries.items ≡ located (located_lines (map (λ b. b.now) buffers.now))) }
+    ensures clean { IfOk result (λ read. read.clean.items ≡ are_clean (located_lines (map (λ b. b.now) buffers.now))) }
 {
     let mut read = ReadEntries {
         entries: Vec::new(alloc),
         clean: Vec::new(alloc),
     };
     for line in BufferLines::of(buffers) {
-        let (reported, given) = read_strictly(&line);
+        let (reported, given) = finding_and_entry(&line);
         push_read(&mut read, line.position, given, reported.is_none())?;
     }
     Ok(read)
@@ -96,10 +96,13 @@ impl<'v, 'a> KnownLines<'v, 'a> {
         kept: &'v [&'v LocatedEntry<'a>],
         read: &'v ReadEntries<'a>,
     ) -> KnownLines<'v, 'a>
-        requires kept { IsSublist (map located_of_reference kept.now) (located (lines (map (λ b. b.now) buffers.now))) }
-        requires entries { map located_of read.now.entries.items ≡ located (lines (map (λ b. b.now) buffers.now)) }
-        requires clean { read.now.clean.items ≡ are_clean (lines (map (λ b. b.now) buffers.now)) }
-        ensures { result ≡ map (marked (map located_of_reference kept.now)) (lines (map (λ b. b.now) buffers.now)) }
+        requires kept { IsSublist (map located_of_reference kept.now)
+            (located (located_lines (map (λ b. b.now) buffers.now))) }
+        requires entries { map located_of read.now.entries.items
+            ≡ located (located_lines (map (λ b. b.now) buffers.now)) }
+        requires clean { read.now.clean.items ≡ are_clean (located_lines (map (λ b. b.now) buffers.now)) }
+        ensures { result
+            ≡ map (marked (map located_of_reference kept.now)) (located_lines (map (λ b. b.now) buffers.now)) }
     {
         KnownLines {
             lines: MarkedLines::new(buffers, kept),
@@ -143,7 +146,7 @@ fn is_clean_at(clean: &[bool], index: usize) -> bool
 // A line with its entry. The entry is only used if the line is clean.
 #[inline]
 fn known_line<'a>(line: Line<'a>, is_kept: bool, is_clean: bool, entry: Entry<'a>) -> KnownLine<'a>
-    requires { is_clean ≡ true → SaysOnly (line_of line) (mapping_of entry) }
+    requires { is_clean ≡ true → HasOnlyEntry (line_of line) (mapping_of entry) }
     ensures { marked_line_of result ≡ (line_of line.entry, is_kept) }
 {
     if is_clean {

@@ -3,8 +3,8 @@ ghost use Rattle.std.specs.Prelude.{◌≡◌, ◌≢◌, ◌<◌, ◌^◌, [], 
 ghost use Rattle.std.specs.Iterator.{YieldsFirstBy, item_count};
 ghost use Rattle.std.proofs.Props.{props};
 ghost use Rattle.mailmap_entries.specs.Entries.{mapping_of};
-ghost use Rattle.mailmap_findings.specs.Positions.{line_of, lines, whole_lines};
-ghost use Rattle.mailmap_findings.specs.Clean.{SaysOnly};
+ghost use Rattle.mailmap_findings.specs.Positions.{line_of, located_lines, whole_lines};
+ghost use Rattle.mailmap_findings.specs.Clean.{HasOnlyEntry};
 
 use bstr::{ByteSlice, LinesWithTerminator};
 use mailmap_entries::Entry;
@@ -24,7 +24,7 @@ pub(crate) struct KnownLine<'a> {
     pub(crate) line: Line<'a>,
     pub(crate) is_kept: bool,
     pub(crate) known: Option<Entry<'a>>,
-    ghost is_known: { IfSome known (λ e. SaysOnly (line_of line) (mapping_of e)) } by { Prim.hlevel props },
+    ghost is_known: { IfSome known (λ e. HasOnlyEntry (line_of line) (mapping_of e)) } by { Prim.hlevel props },
 }
 
 /// Iterates over the lines of all buffers in order.
@@ -37,7 +37,7 @@ pub(crate) struct BufferLines<'b, 'a> {
     reached: usize,
     // the index of the last buffer reached, the number of its last line returned, and its remaining lines
     buffer: usize,
-    line: usize,
+    line_number: usize,
     lines: LinesWithTerminator<'a>,
 }
 
@@ -47,22 +47,22 @@ impl<'b, 'a> Model for BufferLines<'b, 'a> {
 
     ghost Value = { List Line };
 
-    ghost view = { λ s. located_from s.buffer (s.line + 1) s.lines
+    ghost view = { λ s. located_from s.buffer (s.line_number + 1) s.lines
         ++ lines_from s.reached (map (λ b. b.now) (drop s.reached s.buffers.now)) };
 
-    ghost invariant = { λ s. s.line + length s.lines < 2 ^ 64 };
+    ghost invariant = { λ s. s.line_number + length s.lines < 2 ^ 64 };
 }
 
 impl<'b, 'a> BufferLines<'b, 'a> {
     pub(crate) fn of(buffers: &'b [&'a [u8]]) -> BufferLines<'b, 'a>
-        ensures { result ≡ lines (map (λ b. b.now) buffers.now) }
+        ensures { result ≡ located_lines (map (λ b. b.now) buffers.now) }
     {
         let none: &[u8] = b"";
         BufferLines {
             buffers,
             reached: 0,
             buffer: 0,
-            line: 0,
+            line_number: 0,
             lines: none.lines_with_terminator(),
         }
     }
@@ -78,17 +78,17 @@ impl<'b, 'a> Iterator for BufferLines<'b, 'a> {
     fn next(&mut self) -> Option<Line<'a>> {
         loop {
             if let Some(text) = self.lines.next() {
-                self.line += 1;
+                self.line_number += 1;
                 let position = Position {
                     buffer: self.buffer,
-                    line: self.line,
+                    line: self.line_number,
                 };
                 return Some(Line { position, text });
             }
             let text = self.buffers.get(self.reached)?;
             self.buffer = self.reached;
             self.reached += 1;
-            self.line = 0;
+            self.line_number = 0;
             self.lines = lines_in(*text);
         }
     }
@@ -103,8 +103,8 @@ fn lines_in<'a>(text: &'a [u8]) -> LinesWithTerminator<'a>
 
 /// Whether any buffer has a line, that is, isn't empty.
 pub(crate) fn has_lines(buffers: &[&[u8]]) -> bool
-    ensures some { result ≡ true → lines (map (λ b. b.now) buffers.now) ≢ [] }
-    ensures none { result ≡ false → lines (map (λ b. b.now) buffers.now) ≡ [] }
+    ensures some { result ≡ true → located_lines (map (λ b. b.now) buffers.now) ≢ [] }
+    ensures none { result ≡ false → located_lines (map (λ b. b.now) buffers.now) ≡ [] }
 {
     BufferLines::of(buffers).next().is_some()
 }

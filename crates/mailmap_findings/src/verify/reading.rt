@@ -5,8 +5,8 @@ ghost use Rattle.mailmap_grammar.specs.Lines.{strict_reading, non_empty};
 ghost use Rattle.mailmap_grammar.specs.Trimming.{trim as spec_trim};
 ghost use Rattle.mailmap_entries.specs.Entries.{mapping_of};
 ghost use Rattle.mailmap_findings.specs.Positions.{IsPieceOf, entry as spec_entry, line_of};
-ghost use Rattle.mailmap_findings.specs.Findings.{reported_of, reported_of_reading as spec_reported};
-ghost use Rattle.mailmap_findings.specs.Clean.{SaysOnly};
+ghost use Rattle.mailmap_findings.specs.Findings.{kind_of, reported_of_reading as spec_reported};
+ghost use Rattle.mailmap_findings.specs.Clean.{HasOnlyEntry};
 
 use crate::verify::FindingKind;
 use crate::verify::lines::Line;
@@ -25,28 +25,28 @@ pub(crate) fn entry_of<'a>(line: &Line<'a>) -> Option<Entry<'a>>
 
 /// The fault that strict parsing finds in a line, or else its ignored text; and the line's entry.
 #[inline]
-pub(crate) fn read_strictly<'a>(line: &Line<'a>) -> (Option<FindingKind<'a>>, Option<Entry<'a>>)
-    ensures reported { option_map reported_of result.0
+pub(crate) fn finding_and_entry<'a>(line: &Line<'a>) -> (Option<FindingKind<'a>>, Option<Entry<'a>>)
+    ensures reported { option_map kind_of result.0
         ≡ spec_reported line.now.text.now (strict_reading line.now.position.line line.now.text.now) }
     ensures entry { option_map mapping_of result.1 ≡ spec_entry (line_of line.now) }
 {
     read_piece(&without_feed(line))
 }
 
-/// Parses a line as [`read_strictly`] does, unless its entry is known already.
+/// Parses a line as [`finding_and_entry`] does, unless its entry is known already.
 #[inline]
 pub(crate) fn read_unless_known<'a>(
     line: &Line<'a>,
     known: Option<Entry<'a>>,
 ) -> (Option<FindingKind<'a>>, Option<Entry<'a>>)
-    requires { IfSome known (λ e. SaysOnly (line_of line.now) (mapping_of e)) }
-    ensures reported { option_map reported_of result.0
+    requires { IfSome known (λ e. HasOnlyEntry (line_of line.now) (mapping_of e)) }
+    ensures reported { option_map kind_of result.0
         ≡ spec_reported line.now.text.now (strict_reading line.now.position.line line.now.text.now) }
     ensures entry { option_map mapping_of result.1 ≡ spec_entry (line_of line.now) }
 {
     match known {
         Some(entry) => only_entry(line, entry),
-        None => read_strictly(line),
+        None => finding_and_entry(line),
     }
 }
 
@@ -56,8 +56,8 @@ fn only_entry<'a>(
     _line: &Line<'a>,
     entry: Entry<'a>,
 ) -> (Option<FindingKind<'a>>, Option<Entry<'a>>)
-    requires { SaysOnly (line_of _line.now) (mapping_of entry) }
-    ensures reported { option_map reported_of result.0
+    requires { HasOnlyEntry (line_of _line.now) (mapping_of entry) }
+    ensures reported { option_map kind_of result.0
         ≡ spec_reported _line.now.text.now (strict_reading _line.now.position.line _line.now.text.now) }
     ensures entry { option_map mapping_of result.1 ≡ spec_entry (line_of _line.now) }
 {
@@ -93,7 +93,7 @@ fn entry_of_piece<'a>(line: &Line<'a>) -> Option<Entry<'a>>
 // line is parsed once.
 #[inline]
 fn read_piece<'a>(line: &Line<'a>) -> (Option<FindingKind<'a>>, Option<Entry<'a>>)
-    ensures reported { option_map reported_of result.0
+    ensures reported { option_map kind_of result.0
         ≡ spec_reported line.now.text.now (strict_reading line.now.position.line line.now.text.now) }
     ensures entry { option_map mapping_of result.1 ≡ spec_entry (line_of line.now) }
 {

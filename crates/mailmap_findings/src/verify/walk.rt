@@ -1,14 +1,14 @@
-//! Iterates over lines with whether their entries are effective, and computes each line's findings.
+//! Iterates over lines, each with whether its entry is effective, and computes each line's findings.
 ghost use Rattle.std.specs.Prelude.{◌≡◌, ◌||◌, [], map, filter, is_none, IfOk, IfSome};
 ghost use Rattle.std.specs.Iterator.{YieldsFirstBy, item_count};
 ghost use Rattle.std.specs.List.{flat_map};
 ghost use Rattle.std.specs.Option.{option_map};
 ghost use Rattle.mailmap_entries.specs.Entries.{mapping_of};
 ghost use Rattle.mailmap_redundancy.specs.Redundancy.{IsSublist, entries, located_of_reference};
-ghost use Rattle.mailmap_findings.specs.Findings.{finding_of, line_findings as spec_line_findings, reported_of};
+ghost use Rattle.mailmap_findings.specs.Findings.{finding_of, line_findings as spec_line_findings, kind_of};
 ghost use Rattle.mailmap_findings.specs.Marked.{marked, marked_of};
-ghost use Rattle.mailmap_findings.specs.Positions.{entry, line_of, lines, located, same_position};
-ghost use Rattle.mailmap_findings.specs.Clean.{SaysOnly};
+ghost use Rattle.mailmap_findings.specs.Positions.{entry, line_of, located_lines, located, same_position};
+ghost use Rattle.mailmap_findings.specs.Clean.{HasOnlyEntry};
 
 use crate::verify::effects::reported_of_entry;
 use crate::verify::git::reported_of_git;
@@ -49,8 +49,10 @@ impl<'v, 'a> MarkedLines<'v, 'a> {
         buffers: &'v [&'a [u8]],
         kept: &'v [&'v LocatedEntry<'a>],
     ) -> MarkedLines<'v, 'a>
-        requires { IsSublist (map located_of_reference kept.now) (located (lines (map (λ b. b.now) buffers.now))) }
-        ensures { result ≡ map (marked (map located_of_reference kept.now)) (lines (map (λ b. b.now) buffers.now)) }
+        requires { IsSublist (map located_of_reference kept.now)
+            (located (located_lines (map (λ b. b.now) buffers.now))) }
+        ensures { result
+            ≡ map (marked (map located_of_reference kept.now)) (located_lines (map (λ b. b.now) buffers.now)) }
     {
         MarkedLines {
             lines: BufferLines::of(buffers),
@@ -144,7 +146,7 @@ pub(crate) fn line_findings<'a>(
     is_kept: bool,
     known: Option<Entry<'a>>,
 ) -> LineFindings<'a>
-    requires { IfSome known (λ e. SaysOnly (line_of line.now) (mapping_of e)) }
+    requires { IfSome known (λ e. HasOnlyEntry (line_of line.now) (mapping_of e)) }
     ensures { result ≡ spec_line_findings (entries effective.now.history) effective.now.kept is_kept (line_of line.now) }
 {
     let (of_text, entry) = read_unless_known(line, known);
@@ -159,7 +161,7 @@ pub(crate) fn line_findings<'a>(
 
 fn finding_at<'a>(position: Position, kind: Option<FindingKind<'a>>) -> Option<Finding<'a>>
     ensures { option_map finding_of result
-        ≡ option_map (λ t. record { position = position; reported = t }) (option_map reported_of kind.entry) }
+        ≡ option_map (λ t. record { position = position; kind = t }) (option_map kind_of kind.entry) }
 {
     let kind = kind?;
     Some(Finding { position, kind })

@@ -5,7 +5,7 @@ ghost use Rattle.mailmap_entries.specs.Entries.{Mapping};
 ghost use Rattle.mailmap_entries.specs.Folding.{Text};
 ghost use Rattle.mailmap_grammar.specs.Lines.{HoldsNo};
 ghost use Rattle.mailmap_snapshot.specs.Contacts.{answer, answers, answers_by};
-ghost use Rattle.mailmap_snapshot.specs.Streams.{AnswersAll, AnswersFront, IsOneLine};
+ghost use Rattle.mailmap_snapshot.specs.Streams.{AreCachedAnswers, AnswersFront, IsOneLine};
 ghost use Rattle.mailmap_snapshot.specs.declared.check.stream.Stop.TheVariants.{Enough};
 
 use crate::check::{push_one, snapshot_of};
@@ -52,14 +52,14 @@ pub struct ContactStream {
 
 impl Model for ContactStream {
     ghost use Rattle.mailmap_grammar.specs.Lines.{HoldsNo};
-    ghost use Rattle.mailmap_snapshot.specs.Streams.{AnswersAll, Stream};
+    ghost use Rattle.mailmap_snapshot.specs.Streams.{AreCachedAnswers, Stream};
 
     ghost Value = { Stream };
 
     ghost view = { λ s. record { mappings = s.snapshot; kept = s.kept.items } };
 
     // every row of the cache is a line and its answer, and no line has ended
-    ghost invariant = { λ s. AnswersAll s.snapshot s.cache × HoldsNo 10 s.kept.items };
+    ghost invariant = { λ s. AreCachedAnswers s.snapshot s.cache × HoldsNo 10 s.kept.items };
 }
 
 impl ContactStream {
@@ -170,13 +170,13 @@ fn end_line(
     cache: &mut AnswerCache,
     text: &mut Vec<u8>,
 ) -> Result<(), AllocError>
-    requires answers { AnswersAll snapshot.now cache.old }
+    requires answers { AreCachedAnswers snapshot.now cache.old }
     requires no_feed { HoldsNo 10 kept.old.items }
     requires one { IsOneLine rest.now }
     ensures ok { OnOk result (text.new.items ≡ text.old.items ++ answers snapshot.now (kept.old.items ++ rest.now)) }
     ensures ended { OnOk result (kept.new.items ≡ []) }
     ensures err { OnErr result ((kept.new.items ≡ kept.old.items) × (text.new.items ≡ text.old.items)) }
-    ensures cache { AnswersAll snapshot.now cache.new }
+    ensures cache { AreCachedAnswers snapshot.now cache.new }
 {
     if kept.is_empty() {
         return push_cached_answer(text, snapshot, cache, rest);
@@ -228,11 +228,11 @@ fn push_line_answer(
     cache: &mut AnswerCache,
     line: &[u8],
 ) -> Result<(), AllocError>
-    requires answers { AnswersAll snapshot.now cache.old }
+    requires answers { AreCachedAnswers snapshot.now cache.old }
     requires one { IsOneLine line.now }
     ensures ok { OnOk result (text.new.items ≡ text.old.items ++ answers snapshot.now line.now) }
     ensures err { OnErr result (text.new.items ≡ text.old.items) }
-    ensures cache { AnswersAll snapshot.now cache.new }
+    ensures cache { AreCachedAnswers snapshot.now cache.new }
 {
     if line.len() > ROW_LEN {
         return push_ended(text, snapshot, line);
@@ -248,11 +248,11 @@ fn push_cached_answer(
     cache: &mut AnswerCache,
     line: &[u8],
 ) -> Result<(), AllocError>
-    requires answers { AnswersAll snapshot.now cache.old }
+    requires answers { AreCachedAnswers snapshot.now cache.old }
     requires one { IsOneLine line.now }
     ensures ok { OnOk result (text.new.items ≡ text.old.items ++ answers snapshot.now line.now) }
     ensures err { OnErr result (text.new.items ≡ text.old.items) }
-    ensures cache { AnswersAll snapshot.now cache.new }
+    ensures cache { AreCachedAnswers snapshot.now cache.new }
 {
     let hash = hash_of(line);
     if let Some(answer) = cache.get(hash, line) {

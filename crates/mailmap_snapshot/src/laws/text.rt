@@ -7,13 +7,13 @@ ghost use Rattle.mailmap_entries.specs.Folding.{Text};
 ghost use Rattle.mailmap_entries.specs.Entries.{Mapping};
 ghost use Rattle.mailmap_grammar.specs.Lines.{mappings_of, strict_readings};
 ghost use Rattle.mailmap_entries.specs.Semantics.{IsNormal};
-ghost use Rattle.mailmap_grammar.specs.CanonicalText.{IsWritable, text};
+ghost use Rattle.mailmap_grammar.specs.CanonicalText.{IsWritable, canonical_text};
 
 /// Parsing the text of a normal list gives the list again, and whatever is built from buffers can be written.
 pub fn law_text()
     // the text of a normal list has exactly its entries, if lines can hold them all; entries that map to nothing are in
     // no normal list, and would be a fault as a line
-    ensures reads_back { (v : List Mapping) → IsNormal v v → All IsWritable v → mappings_of (text v) ≡ v }
+    ensures reads_back { (v : List Mapping) → IsNormal v v → All IsWritable v → mappings_of (canonical_text v) ≡ v }
     // lines can hold all entries of the normal list of what buffers say, one after another
     ensures builds { (buffers : List Text) (n : List Mapping) →
         IsNormal (flat_map mappings_of buffers) n → All IsWritable n }
@@ -22,5 +22,5 @@ pub fn law_text()
 /// The text of a normal list has no fault, not even in strict parsing.
 pub fn law_strict()
     // it has exactly the entries of the list, in order
-    ensures { (v : List Mapping) → IsNormal v v → All IsWritable v → strict_readings (text v) ≡ map Ok v }
+    ensures { (v : List Mapping) → IsNormal v v → All IsWritable v → strict_readings (canonical_text v) ≡ map Ok v }
 {}

@@ -12,7 +12,7 @@ use std::fmt;
 use std::hash::{Hash, Hasher};
 
 impl Snapshot {
-    /// Iterates over entries that say all that the snapshot maps, one for each key: for each old email, if it has
+    /// Iterates over entries that together map what the snapshot maps, one for each key: for each old email, if it has
     /// fields for all names, and for each old name with it.
     ///
     /// They are in ascending order of the old emails, and for each email of the old names, both without regard to the

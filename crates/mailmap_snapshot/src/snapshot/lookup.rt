@@ -4,10 +4,10 @@ ghost use Rattle.std.specs.Prelude.{IfSome};
 ghost use Rattle.std.specs.Option.{ForSome};
 ghost use Rattle.mailmap_entries.specs.Entries.{Mapping};
 ghost use Rattle.mailmap_tables.specs.Groups.{AreGroups, listing};
-ghost use Rattle.mailmap_entries.specs.Semantics.{IsNormal, answered, answer_of};
+ghost use Rattle.mailmap_entries.specs.Semantics.{IsNormal, fields_with_spelling, answer_of};
 ghost use Rattle.mailmap_tables.specs.Pool.{LiesIn, spelled};
 ghost use Rattle.mailmap_entries.specs.Search.{digits};
-ghost use Rattle.mailmap_snapshot.specs.Signatures.{shown, email_count, name_count};
+ghost use Rattle.mailmap_snapshot.specs.Signatures.{resolved_fields, email_count, name_count};
 
 use crate::snapshot::Snapshot;
 use crate::snapshot::resolved::ResolvedSignature;
@@ -27,7 +27,7 @@ fn look_up<'a>(
 ) -> Option<ResolvedSignature<'a>>
     requires groups { AreGroups tables.now.groups }
     requires countable { steps.old ≤ usize.MAX - 128 }
-    ensures fields { option_map shown result ≡ answer_of (listing tables.now.groups) name.now email.now }
+    ensures fields { option_map resolved_fields result ≡ answer_of (listing tables.now.groups) name.now email.now }
     ensures says { IfSome result (λ r. IsTrue (is_some r.name || is_some r.email)) }
     ensures at_most { steps.new ≤ steps.old + digits (length tables.now.groups)
         + digits (name_count (listing tables.now.groups) email.now) }
@@ -61,7 +61,7 @@ fn answer<'a>(
     requires old_email_lies { LiesIn (length tables.now.pool) old_email }
     requires new_name_lies { ForSome new_name (LiesIn (length tables.now.pool)) }
     requires new_email_lies { ForSome new_email (LiesIn (length tables.now.pool)) }
-    ensures fields { option_map shown result ≡ answered current_email.now (record {
+    ensures fields { option_map resolved_fields result ≡ fields_with_spelling current_email.now (record {
       name = option_map (spelled tables.now.pool) new_name;
       email = option_map (spelled tables.now.pool) new_email;
     }) (Some (spelled tables.now.pool old_email)) }
@@ -86,11 +86,12 @@ impl Snapshot {
     ///
     /// The answer borrows only from the snapshot, so it can outlive the signature.
     pub fn try_resolve_ref(&self, signature: SignatureRef<'_>) -> Option<ResolvedSignature<'_>>
-        ensures view { option_map shown result ≡ answer_of self.now signature.entry.name.now signature.entry.email.now }
+        ensures view { option_map resolved_fields result
+            ≡ answer_of self.now signature.entry.name.now signature.entry.email.now }
 
         // the answer of all mappings with this normal list, such as all merged entries
         ensures history { (h : List Mapping) → IsNormal h self.now →
-            option_map shown result ≡ answer_of h signature.entry.name.now signature.entry.email.now }
+            option_map resolved_fields result ≡ answer_of h signature.entry.name.now signature.entry.email.now }
         ensures says { IfSome result (λ r. IsTrue (is_some r.name || is_some r.email)) }
     {
         self.try_resolve_contact(signature.name, signature.email)
@@ -99,11 +100,11 @@ impl Snapshot {
     /// Does what [`try_resolve_ref`](Snapshot::try_resolve_ref()) does, for a name and an email without a signature.
     #[inline(always)]
     pub fn try_resolve_contact(&self, name: &[u8], email: &[u8]) -> Option<ResolvedSignature<'_>>
-        ensures view { option_map shown result ≡ answer_of self.now name.now email.now }
+        ensures view { option_map resolved_fields result ≡ answer_of self.now name.now email.now }
 
         // the answer of all mappings with this normal list, such as all merged entries
         ensures history { (h : List Mapping) → IsNormal h self.now →
-            option_map shown result ≡ answer_of h name.now email.now }
+            option_map resolved_fields result ≡ answer_of h name.now email.now }
         ensures says { IfSome result (λ r. IsTrue (is_some r.name || is_some r.email)) }
     {
         look_up(&self.tables.view(), name, email, &mut Steps::new())
@@ -122,11 +123,12 @@ impl Snapshot {
         steps: &mut Steps,
     ) -> Option<ResolvedSignature<'_>>
         requires { steps.old ≤ usize.MAX - 128 }
-        ensures view { option_map shown result ≡ answer_of self.now signature.entry.name.now signature.entry.email.now }
+        ensures view { option_map resolved_fields result
+            ≡ answer_of self.now signature.entry.name.now signature.entry.email.now }
 
         // the answer of all mappings with this normal list, such as all merged entries
         ensures history { (h : List Mapping) → IsNormal h self.now →
-            option_map shown result ≡ answer_of h signature.entry.name.now signature.entry.email.now }
+            option_map resolved_fields result ≡ answer_of h signature.entry.name.now signature.entry.email.now }
         ensures says { IfSome result (λ r. IsTrue (is_some r.name || is_some r.email)) }
         ensures at_most { steps.new ≤ steps.old + digits (email_count self.now)
             + digits (name_count self.now signature.entry.email.now) }

@@ -2,10 +2,10 @@
 ghost use Rattle.std.specs.Prelude.{◌≡◌, ◌↔◌, ◌||◌, List, IsSome, IsTrue, is_some, IfOk, IfSome, OnErr};
 ghost use Rattle.std.specs.Cow.{cow_slice_items, IsOwnedSlice};
 ghost use Rattle.mailmap_signatures.specs.SignatureFields.{owned_fields, cow_fields};
-ghost use Rattle.mailmap_snapshot.specs.Answers.{mapped, IsResolved, OwnsMapped, IsEnriched, OwnsJust};
+ghost use Rattle.mailmap_snapshot.specs.Answers.{signature_answer, IsResolved, OwnsMapped, IsEnriched, OwnsJust};
 ghost use Rattle.mailmap_entries.specs.Entries.{Mapping};
 ghost use Rattle.mailmap_entries.specs.Semantics.{IsNormal};
-ghost use Rattle.mailmap_snapshot.specs.Signatures.{shown};
+ghost use Rattle.mailmap_snapshot.specs.Signatures.{resolved_fields};
 
 use crate::snapshot::{ResolvedSignature, Signature, Snapshot};
 use mailmap_signatures::actor;
@@ -39,14 +39,14 @@ impl Snapshot {
         signature: SignatureRef<'_>,
     ) -> Result<Option<actor::Signature>, AllocError>
         // `None` exactly if nothing is mapped
-        ensures none { (result ≡ Ok None) ↔ (mapped self.now signature.entry ≡ None) }
+        ensures none { (result ≡ Ok None) ↔ (signature_answer self.now signature.entry ≡ None) }
         ensures some { IfOk result
             (λ answer. IfSome answer (λ s. IsResolved self.now signature.entry (owned_fields s))) }
         // memory runs out only if something is mapped
-        ensures out_of_memory { OnErr result (IsSome (mapped self.now signature.entry)) }
+        ensures out_of_memory { OnErr result (IsSome (signature_answer self.now signature.entry)) }
         // all this holds for any mappings with this normal list
         ensures history_none { (h : List Mapping) → IsNormal h self.now → (result ≡ Ok None)
-            ↔ (mapped h signature.entry ≡ None) }
+            ↔ (signature_answer h signature.entry ≡ None) }
         ensures history_some { (h : List Mapping) → IsNormal h self.now →
             IfOk result (λ answer. IfSome answer (λ s. IsResolved h signature.entry (owned_fields s))) }
     {
@@ -105,7 +105,7 @@ impl Snapshot {
         ensures view { IfOk result (λ s. IsResolved self.now signature.entry (cow_fields s)) }
         ensures owned { IfOk result (OwnsMapped self.now signature.entry) }
         // memory runs out only if something is mapped
-        ensures out_of_memory { OnErr result (IsSome (mapped self.now signature.entry)) }
+        ensures out_of_memory { OnErr result (IsSome (signature_answer self.now signature.entry)) }
         // this holds for any mappings with this normal list
         ensures history { (h : List Mapping) → IsNormal h self.now
             → IfOk result (λ s. IsResolved h signature.entry (cow_fields s)) }
@@ -125,8 +125,8 @@ fn enriched_signature<'a>(
     found: ResolvedSignature<'_>,
 ) -> Result<Signature<'a>, AllocError>
     requires { IsTrue (is_some found.name || is_some found.email) }
-    ensures fields { IfOk result (λ s. IsEnriched (shown found.entry) signature.entry (cow_fields s)) }
-    ensures owned { IfOk result (OwnsJust (shown found.entry)) }
+    ensures fields { IfOk result (λ s. IsEnriched (resolved_fields found.entry) signature.entry (cow_fields s)) }
+    ensures owned { IfOk result (OwnsJust (resolved_fields found.entry)) }
 {
     let Signature { name, email, time } = signature.into();
     match (found.email, found.name) {

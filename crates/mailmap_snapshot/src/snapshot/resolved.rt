@@ -3,8 +3,8 @@ ghost use Rattle.std.specs.Prelude.{◌≡◌, ◌||◌, is_some, IsTrue, IfSome
 ghost use Rattle.std.specs.Option.{option_copied};
 ghost use Rattle.std.specs.Ordering.{eq_by_cmp};
 ghost use Rattle.mailmap_entries.specs.Folding.{text_cmp};
-ghost use Rattle.mailmap_entries.specs.Semantics.{answered};
-ghost use Rattle.mailmap_snapshot.specs.Signatures.{shown};
+ghost use Rattle.mailmap_entries.specs.Semantics.{fields_with_spelling};
+ghost use Rattle.mailmap_snapshot.specs.Signatures.{resolved_fields};
 
 /// A name and an email that replace those of a signature. They borrow from the snapshot: they can outlive the
 /// signature, but not the next merge into the snapshot.
@@ -27,7 +27,7 @@ impl<'a> ResolvedSignature<'a> {
         current_email: &[u8],
         new_name: Option<&'a [u8]>,
     ) -> Option<Self>
-        ensures fields { option_map shown result ≡ answered current_email.now (record {
+        ensures fields { option_map resolved_fields result ≡ fields_with_spelling current_email.now (record {
           name = option_copied new_name.entry;
           email = option_copied new_email.entry;
         }) (Some matched_email.now) }

@@ -3,8 +3,8 @@ ghost use Rattle.std.specs.Prelude.{◌≡◌, ◌≢◌, ℕ, [], Some, true, f
 ghost use Rattle.std.specs.List.{All};
 ghost use Rattle.mailmap_entries.specs.Building.{IsMerged};
 ghost use Rattle.mailmap_entries.specs.Semantics.{accepted};
-ghost use Rattle.mailmap_snapshot.specs.Sources.{history, said_by};
-ghost use Rattle.mailmap_snapshot.specs.declared.snapshot.sources.Source.{Source as Said};
+ghost use Rattle.mailmap_snapshot.specs.Sources.{merged_mappings, source_mappings};
+ghost use Rattle.mailmap_snapshot.specs.declared.snapshot.sources.Source.{Source as AnySource};
 
 use crate::snapshot::Snapshot;
 use mailmap_entries::Entry;
@@ -27,12 +27,12 @@ impl Snapshot {
         requires { length sources.now ≡ length made.old }
         // the entries of the sources that are marked as made come after the listing, and after any mappings with this
         // normal list; if none of them is accepted, nothing changes
-        ensures merged { IsMerged self.old (history sources.now made.new) self.new }
+        ensures merged { IsMerged self.old (merged_mappings sources.now made.new) self.new }
         ensures none_made { All (λ is_made. is_made ≡ false) made.new → self.new ≡ self.old }
 
         // memory can run out only for a source with an accepted entry, so all others are marked as made
-        ensures never_out_of_memory { (i : ℕ) (s : Said) → slice_get sources.now i ≡ Some s → accepted (said_by s) ≡ []
-            → slice_get made.new i ≡ Some true }
+        ensures never_out_of_memory { (i : ℕ) (s : AnySource) → slice_get sources.now i ≡ Some s
+            → accepted (source_mappings s) ≡ [] → slice_get made.new i ≡ Some true }
         ensures marks { length made.new ≡ length made.old }
     {
         // This shows the prover the invariant of the tables: the listing is its own normal list.
@@ -43,9 +43,9 @@ impl Snapshot {
     }
 
     fn merge_source(&mut self, source: &Source<'_>) -> Result<(), AllocError>
-        ensures ok { OnOk result (IsMerged self.old (said_by source.now) self.new) }
+        ensures ok { OnOk result (IsMerged self.old (source_mappings source.now) self.new) }
         ensures err { OnErr result (self.new ≡ self.old) }
-        ensures out_of_memory { OnErr result (accepted (said_by source.now) ≢ []) }
+        ensures out_of_memory { OnErr result (accepted (source_mappings source.now) ≢ []) }
     {
         match source {
             Source::Buffer(buf) => self.merge(parse_ignore_errors(buf)),

@@ -1,7 +1,7 @@
 //! Writes a snapshot as a mailmap, with one line for each entry of its listing.
 ghost use Rattle.std.specs.Prelude.{◌≡◌, ◌≤◌, ◌^◌, length, IfOk, IfErr, OnOk, MatchOption};
 ghost use Rattle.std.specs.List.{All};
-ghost use Rattle.mailmap_grammar.specs.CanonicalText.{IsWritable, text};
+ghost use Rattle.mailmap_grammar.specs.CanonicalText.{IsWritable, canonical_text};
 ghost use Rattle.mailmap_entries.specs.Building.{IsListing};
 ghost use Rattle.mailmap_snapshot.specs.Writing.{IsFirstUnwritable, IsUnwrittenBy};
 
@@ -48,7 +48,7 @@ impl Snapshot {
     /// An entry that maps the empty email to `n@y` is written as ` <n@y> <>`. One that maps it only to the name `N`
     /// can't be written.
     pub fn write(&self, alloc: Global) -> Result<Vec<u8>, WriteError>
-        ensures ok { IfOk result (λ v. v.items ≡ text self.now) }
+        ensures ok { IfOk result (λ v. v.items ≡ canonical_text self.now) }
         ensures writable { OnOk result (All IsWritable self.now) }
 
         // the first entry that no line can hold, or out of memory if there is none
@@ -72,7 +72,7 @@ impl Snapshot {
     /// After a merge of `parse_ignore_errors(b"N <a@x>")` into an empty snapshot, this returns ` N <a@x>`.
     pub fn write_lines(&self, alloc: Global) -> Result<Vec<u8>, AllocError>
         requires { All IsWritable self.now }
-        ensures { IfOk result (λ v. v.items ≡ text self.now) }
+        ensures { IfOk result (λ v. v.items ≡ canonical_text self.now) }
     {
         let mut out = Vec::with_capacity(alloc, self.text_len().ok_or(AllocError)?)?;
         for entry in self.iter() {
@@ -101,7 +101,7 @@ impl Snapshot {
 
     // The length of the text, `None` if it overflows.
     fn text_len(&self) -> Option<usize>
-        ensures { let len = length (text self.now) in MatchOption result (2 ^ 64 ≤ len) (λ n. n ≡ len) }
+        ensures { let len = length (canonical_text self.now) in MatchOption result (2 ^ 64 ≤ len) (λ n. n ≡ len) }
     {
         let mut len = 0;
         for entry in self.iter() {

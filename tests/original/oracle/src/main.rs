@@ -166,7 +166,7 @@ fn put_contact<'a>(
     out.push(b'>');
 }
 
-/// A line for each entry, each of its parts after a blank.
+/// A line for each entry, each of its parts after a space.
 fn compact<T: AsRef<[u8]>>(files: &[T]) -> Vec<u8> {
     let mut out = Vec::new();
     for entry in merged(files).entries() {

@@ -2,8 +2,8 @@ use Rattle.std.proofs.Common.{rules, ◌+◌, ◌∙◌, ◌++◌, ◌∷◌, []
 use Rattle.std.proofs.lemmas.List.{length-map, map_push, places, with_items_is}
 use Rattle.std.specs.Vec.{with_items}
 use Rattle.gix_mailmap.specs.Building.{IsBuilt, nothing}
-use Rattle.caller_promises.specs.Batches.{AreMarked, history_of}
-use Rattle.caller_promises.proofs.Histories.{batch_added, batch_marked, no_batch, one_longer}
+use Rattle.caller_promises.specs.Batches.{AreMarked, batch_mappings}
+use Rattle.caller_promises.proofs.MergedEntries.{batch_added, batch_marked, no_batch, one_longer}
 use Rattle.caller_promises.proofs.batches.build.Goals as goal
 
 pub loop-batch-init : goal.loop-batch-init
@@ -25,7 +25,7 @@ loop-batch-preserved c =
     ∙ ap (λ m. before ++ m ∷ []) (with_items_is c.in_ok-marks.marks c.merge_batch.new.made (search (rules, places)))) in
     record {
       count = one_longer c.loop-batch.made.items (with_items c.in_ok-marks.marks c.merge_batch.new.made) pushed c.loop-batch.invariant.count;
-      built = subst (λ made. IsBuilt (history_of (take (k + 1) batches) made) c.merge_batch.new.snapshot) marks_are
+      built = subst (λ made. IsBuilt (batch_mappings (take (k + 1) batches) made) c.merge_batch.new.snapshot) marks_are
           (batch_added batches k c.batch-item.result c.batch-item.is c.loop-batch-test.true
           before c.merge_batch.new.made c.loop-batch.snapshot c.merge_batch.new.snapshot
           (length-map c.loop-batch.made.items (λ marks. marks.items) ∙ c.loop-batch.invariant.count) c.loop-batch.invariant.built c.merge_batch.ensures.built);

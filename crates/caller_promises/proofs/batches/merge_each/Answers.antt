@@ -1,7 +1,7 @@
 use Rattle.std.proofs.Common.{◌<◌, ◌∙◌, length, length-set, sym, arith}
 use Rattle.std.proofs.lemmas.Option.{slice_get_within}
 use Rattle.mailmap_snapshot.proofs.Sources.{marks_more}
-use Rattle.caller_promises.proofs.Histories.{all_added, none_added, one_more}
+use Rattle.caller_promises.proofs.MergedEntries.{all_added, none_added, one_more}
 use Rattle.caller_promises.proofs.batches.merge_each.Goals as goal
 
 pub loop-i-init : goal.loop-i-init

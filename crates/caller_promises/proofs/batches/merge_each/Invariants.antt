@@ -1,6 +1,6 @@
 use Rattle.std.proofs.Common.{◌≡◌, length}
 use Rattle.mailmap_snapshot.proofs.Sources.{MarksUnchanged}
-use Rattle.caller_promises.proofs.Histories.{AddsFirst}
+use Rattle.caller_promises.proofs.MergedEntries.{AddsFirst}
 use Rattle.caller_promises.proofs.batches.merge_each.Given as goal
 
 abbrev pub invariant-loop-i : goal.invariant-loop-i

@@ -2,22 +2,22 @@ use Rattle.std.proofs.lemmas.Iterator.{YieldsList-from_slice}
 use Rattle.std.proofs.lemmas.Iterator.Consumers.{YieldsList-from_first, YieldsList-from_copied}
 use Rattle.gix_mailmap.specs.Entries.{mapping_of}
 use Rattle.gix_mailmap.specs.Lines.{mappings_of}
-use Rattle.mailmap_snapshot.proofs.Sources.{gives_entries, gives_said, out_of_memory_some}
-use Rattle.caller_promises.proofs.Histories.{merge_adds}
+use Rattle.mailmap_snapshot.proofs.Sources.{yields_entries, yields_mappings, out_of_memory_some}
+use Rattle.caller_promises.proofs.MergedEntries.{merge_adds}
 use Rattle.caller_promises.proofs.batches.merge_one.Goals as goal
 
 pub returns-in-Buffer-clause-ok : goal.returns-in-Buffer-clause-ok
 returns-in-Buffer-clause-ok c =
-    rw c.in-Buffer.is (merge_adds (gives_said (YieldsList-from_first mapping_of (λ s. s) (mappings_of c.in-Buffer.buf.now) c.parse_ignore_errors.ensures.value)) c.merge.result c.args.snapshot.now c.merge.new.self c.merge.ensures.ok)
+    rw c.in-Buffer.is (merge_adds (yields_mappings (YieldsList-from_first mapping_of (λ s. s) (mappings_of c.in-Buffer.buf.now) c.parse_ignore_errors.ensures.value)) c.merge.result c.args.snapshot.now c.merge.new.self c.merge.ensures.ok)
 
 pub returns-in-Buffer-clause-out_of_memory : goal.returns-in-Buffer-clause-out_of_memory
 returns-in-Buffer-clause-out_of_memory c =
-    rw c.in-Buffer.is (out_of_memory_some (gives_said (YieldsList-from_first mapping_of (λ s. s) (mappings_of c.in-Buffer.buf.now) c.parse_ignore_errors.ensures.value)) c.merge.result c.merge.ensures.out_of_memory)
+    rw c.in-Buffer.is (out_of_memory_some (yields_mappings (YieldsList-from_first mapping_of (λ s. s) (mappings_of c.in-Buffer.buf.now) c.parse_ignore_errors.ensures.value)) c.merge.result c.merge.ensures.out_of_memory)
 
 pub returns-in-Entries-clause-ok : goal.returns-in-Entries-clause-ok
 returns-in-Entries-clause-ok c =
-    rw c.in-Entries.is (merge_adds (gives_entries (YieldsList-from_copied (YieldsList-from_slice c.in-Entries.entries.now (cc)))) c.merge-in-Entries.result c.args.snapshot.now c.merge-in-Entries.new.self c.merge-in-Entries.ensures.ok)
+    rw c.in-Entries.is (merge_adds (yields_entries (YieldsList-from_copied (YieldsList-from_slice c.in-Entries.entries.now (cc)))) c.merge-in-Entries.result c.args.snapshot.now c.merge-in-Entries.new.self c.merge-in-Entries.ensures.ok)
 
 pub returns-in-Entries-clause-out_of_memory : goal.returns-in-Entries-clause-out_of_memory
 returns-in-Entries-clause-out_of_memory c =
-    rw c.in-Entries.is (out_of_memory_some (gives_entries (YieldsList-from_copied (YieldsList-from_slice c.in-Entries.entries.now (cc)))) c.merge-in-Entries.result c.merge-in-Entries.ensures.out_of_memory)
+    rw c.in-Entries.is (out_of_memory_some (yields_entries (YieldsList-from_copied (YieldsList-from_slice c.in-Entries.entries.now (cc)))) c.merge-in-Entries.result c.merge-in-Entries.ensures.out_of_memory)

@@ -4,8 +4,8 @@ use Rattle.std.proofs.lemmas.Iterator.{YieldsList-from_slice}
 use Rattle.std.proofs.lemmas.Iterator.Consumers.{YieldsList-from_copied}
 use Rattle.gix_mailmap.specs.Entries.{mapping_of}
 use Rattle.gix_mailmap.specs.Semantics.{IsNormal}
-use Rattle.mailmap_snapshot.proofs.Sources.{gives_entries}
-use Rattle.caller_promises.proofs.Histories.{out_of_memory_made}
+use Rattle.mailmap_snapshot.proofs.Sources.{yields_entries}
+use Rattle.caller_promises.proofs.MergedEntries.{out_of_memory_made}
 use Rattle.caller_promises.proofs.batches.snapshot_of.Goals as goal
 
 weaker : {T E : Type 0} (r : Result T E) (P Q : T → Type 0) → ((x : T) → P x → Q x) → IfOk r P → IfOk r Q
@@ -15,8 +15,8 @@ weaker (Err e) P Q f p = tt
 pub returns-in-Entries-clause-ok : goal.returns-in-Entries-clause-ok
 returns-in-Entries-clause-ok c =
     rw c.in-Entries.is (weaker c.new.result _ (IsNormal (map mapping_of c.in-Entries.entries.now)) (λ made d.
-    subst (λ h. IsNormal h made) ((gives_entries (YieldsList-from_copied (YieldsList-from_slice c.in-Entries.entries.now (cc)))).whole d.0 d.1) d.2) c.new.ensures.ok)
+    subst (λ h. IsNormal h made) ((yields_entries (YieldsList-from_copied (YieldsList-from_slice c.in-Entries.entries.now (cc)))).whole d.0 d.1) d.2) c.new.ensures.ok)
 
 pub returns-in-Entries-clause-out_of_memory : goal.returns-in-Entries-clause-out_of_memory
 returns-in-Entries-clause-out_of_memory c =
-    rw c.in-Entries.is (out_of_memory_made (gives_entries (YieldsList-from_copied (YieldsList-from_slice c.in-Entries.entries.now (cc)))) c.new.result c.new.ensures.out_of_memory)
+    rw c.in-Entries.is (out_of_memory_made (yields_entries (YieldsList-from_copied (YieldsList-from_slice c.in-Entries.entries.now (cc)))) c.new.result c.new.ensures.out_of_memory)

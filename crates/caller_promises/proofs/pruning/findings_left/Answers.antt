@@ -1,7 +1,7 @@
 use Rattle.std.proofs.Common.{◌≡◌, ◌||◌, ◌&&◌, ◌∷◌, ◌∙◌, [], Bool, true, false, List, Ok, Err, Result, map, ap, refl, sym}
 use Rattle.std.specs.List.{list_any}
 use Rattle.std.specs.Result.{IfOk}
-use Rattle.gix_mailmap.specs.Findings.{Finding, finding_of, has_no_effect, is_redundant}
+use Rattle.gix_mailmap.specs.Findings.{Finding, finding_of, has_no_effect, is_reported_redundant}
 use Rattle.gix_mailmap.specs.Positions.{Line, same_position}
 use Rattle.caller_promises.proofs.pruning.findings_left.Goals as goal
 
@@ -22,15 +22,15 @@ and_first : (a b : Bool) → b ≡ true → (a && b) ≡ false → a ≡ false
 and_first true b t e = sym t ∙ e
 and_first false b t e = refl
 
--- if it is reported of no line that it has no effect, no finding says so
-none_says : ((l : Line) → same_position l.position l.position ≡ true) → (xs : List Finding) → ((l : Line) → is_redundant xs l ≡ false) → list_any (λ f. has_no_effect f.reported) xs ≡ false
+-- if no line is reported as without effect, no finding is such a report
+none_says : ((l : Line) → same_position l.position l.position ≡ true) → (xs : List Finding) → ((l : Line) → is_reported_redundant xs l ≡ false) → list_any (λ f. has_no_effect f.kind) xs ≡ false
 none_says same [] each = refl
 none_says same (x ∷ xs) each =
     let at : Line = record { position = x.position; text = [] } in
-    let here = and_first (has_no_effect x.reported) (same_position x.position x.position) (same at)
-    (or_first (has_no_effect x.reported && same_position x.position x.position) (is_redundant xs at) (each at)) in
-    ap (λ b. b || list_any (λ f. has_no_effect f.reported) xs) here
-    ∙ none_says same xs (λ l. or_rest (has_no_effect x.reported && same_position x.position l.position) (is_redundant xs l) (each l))
+    let here = and_first (has_no_effect x.kind) (same_position x.position x.position) (same at)
+    (or_first (has_no_effect x.kind && same_position x.position x.position) (is_reported_redundant xs at) (each at)) in
+    ap (λ b. b || list_any (λ f. has_no_effect f.kind) xs) here
+    ∙ none_says same xs (λ l. or_rest (has_no_effect x.kind && same_position x.position l.position) (is_reported_redundant xs l) (each l))
 
 pub returns : goal.returns
 returns c =

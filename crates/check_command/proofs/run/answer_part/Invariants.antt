@@ -1,4 +1,4 @@
--- Of the part so much is taken, and the answers to its whole lines are written.
+-- The stream has read the part up to here, and the answers to its whole lines are written.
 use Rattle.std.proofs.Common.{◌-◌, length}
 use Rattle.check_command.proofs.Answering.{HasWritten}
 use Rattle.check_command.proofs.run.answer_part.Given as goal

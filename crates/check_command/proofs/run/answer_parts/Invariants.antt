@@ -1,4 +1,4 @@
--- So much of the input was read, and the answers to its whole lines are written.
+-- Some of the input was read, and the answers to its whole lines are written.
 use Rattle.std.proofs.Common.{map}
 use Rattle.check_command.proofs.Answering.{HasAnswered}
 use Rattle.check_command.proofs.run.answer_parts.Given as goal

@@ -5,7 +5,7 @@ use Rattle.command_line.specs.Files.{Gives, IsOfNumber, texts}
 use Rattle.command_line.proofs.FirstUnread.{first_unread, may_read}
 use Rattle.command_line.proofs.files.read_files.Goals as goal
 
--- what holds of each element and its place, and of one more at the end
+-- a relation to their indices that holds for all elements, and for one more at the end
 one_more : (R : ℕ → List ℕ → Type 0) (xs : List (List ℕ)) (x : List ℕ) (n : ℕ) → length xs ≡ n
     → ((k : ℕ) → k < n → R k (get_or xs k [])) → R n x → (k : ℕ) → k < n + 1 → R k (get_or (xs ++ x ∷ []) k [])
 one_more R xs x n len before last =

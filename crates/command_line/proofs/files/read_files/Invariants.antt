@@ -1,4 +1,4 @@
--- Each path so far has its contents.
+-- The list has the contents of the files at the paths so far.
 use Rattle.std.proofs.Common.{◌≡◌, ◌<◌, ℕ, [], get_or, vec_len}
 use Rattle.command_line.specs.Files.{Gives, texts}
 use Rattle.command_line.proofs.files.read_files.Given as goal

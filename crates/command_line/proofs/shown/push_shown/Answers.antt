@@ -11,7 +11,7 @@ use Rattle.command_line.proofs.shown.push_shown.Goals as goal
 some_left : (rest : List ℕ) → false ≡ length rest == 0 → 0 < length rest
 some_left rest some = grind (arith, nat_tests)
 
--- the size of the first piece of what is left
+-- the size of the first piece of the rest
 first_size : (rest : List ℕ) (size : ℕ) → false ≡ length rest == 0 → size ≡ (decoded rest).size → (1 ≤ size) × (size ≤ length rest)
 first_size rest size some is = let bounds = piece-bounds rest (some_left rest some) in (omega arith, omega arith)
 
@@ -37,7 +37,7 @@ slice_bounds-rest-count c = (first_size c.loop-rest.rest.now c.decode-char.resul
 pub slice_bounds-rest-start : goal.slice_bounds-rest-start
 slice_bounds-rest-start c = (first_size c.loop-rest.rest.now c.decode-char.result.1 c.loop-rest-test.ensures c.decode-char.ensures.size).1
 
--- what is left is shorter
+-- the rest gets shorter
 shorter : (rest : List ℕ) (size : ℕ) → false ≡ length rest == 0 → size ≡ (decoded rest).size → length (take (length rest - size) (drop size rest)) < length rest
 shorter rest size some is =
     let bounds = first_size rest size some is in

@@ -1,4 +1,4 @@
--- With the rest shown, the line is what it has to be.
+-- The line so far, followed by the rest as it is shown, is the result.
 use Rattle.std.proofs.Common.{◌≡◌, ◌++◌, length}
 use Rattle.command_line.specs.Shown.{shown}
 use Rattle.command_line.proofs.shown.push_shown.Given as goal

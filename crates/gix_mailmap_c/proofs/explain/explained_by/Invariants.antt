@@ -1,4 +1,4 @@
--- What was said, and what is to be said of the lines that are left.
+-- The text so far and the text for the remaining lines are the whole text.
 use Rattle.std.proofs.Common.{◌≡◌, ◌++◌}
 use Rattle.std.specs.List.{flat_map}
 use Rattle.verify_command.specs.Explained.{each_line, explained_line}

@@ -2,7 +2,7 @@ use Rattle.std.proofs.Common.{◌≡◌, ◌<◌, ◌+◌, [], ◌∷◌, List, 
 use Rattle.std.proofs.lemmas.List.{drop_more, drop_all, length-map}
 use Rattle.mailmap_findings.specs.Findings.{finding_of}
 use Rattle.mailmap_findings.specs.declared.verify.Finding as library
-use Rattle.gix_mailmap_c.specs.Findings.{all_reported, one_reported}
+use Rattle.gix_mailmap_c.specs.Findings.{c_findings, c_finding}
 use Rattle.gix_mailmap_c.specs.declared.findings.Finding.{Finding}
 use Rattle.gix_mailmap_c.proofs.Copying.{Copied, copied_more, copied_all, after_set}
 use Rattle.gix_mailmap_c.proofs.findings.report.Goals as goal
@@ -15,13 +15,13 @@ loop-finding-preserved c =
     let out = c.loop-finding.out in
     let old = c.args.out.now in
     let one = c.of-one.result in
-    let all = all_reported (map finding_of xs) in
-    let left = all_reported (map finding_of (drop (i + 1) xs)) in
+    let all = c_findings (map finding_of xs) in
+    let left = c_findings (map finding_of (drop (i + 1) xs)) in
     let within : i < length xs = omega arith in
     let f = c.finding-item.result in
     let next : drop i xs ≡ f ∷ drop (i + 1) xs = drop_more xs i f within ∙ ap (λ (y : library.Finding). y ∷ drop (i + 1) xs) (sym c.finding-item.is) in
-    let cut : all_reported (map finding_of (drop i xs)) ≡ one ∷ left =
-    ap (λ (l : List library.Finding). all_reported (map finding_of l)) next
+    let cut : c_findings (map finding_of (drop i xs)) ≡ one ∷ left =
+    ap (λ (l : List library.Finding). c_findings (map finding_of l)) next
     ∙ ap (λ (y : Finding). y ∷ left) (sym c.of-one.ensures) in
     let before : Copied (one ∷ left) all index out old = subst (λ (l : List Finding). Copied l all index out old) cut c.loop-finding.invariant.reported in
     let lt : index < length out = omega (arith, c.loop-finding.invariant.index, c.requires) in
@@ -33,13 +33,13 @@ loop-finding-preserved c =
 pub returns : goal.returns
 returns c =
     let xs = c.args.found.now in
-    let all = all_reported (map finding_of xs) in
+    let all = c_findings (map finding_of xs) in
     let index = c.loop-finding.index in
     let out = c.loop-finding.out in
     let old = c.args.out.now in
     let done : Copied [] all index out old =
-    subst (λ (l : List library.Finding). Copied (all_reported (map finding_of l)) all index out old) (drop_all c.loop-finding.finding-index xs c.loop-finding-test.false) c.loop-finding.invariant.reported in
+    subst (λ (l : List library.Finding). Copied (c_findings (map finding_of l)) all index out old) (drop_all c.loop-finding.finding-index xs c.loop-finding-test.false) c.loop-finding.invariant.reported in
     record {
-      fits = omega (arith, c.requires, length-map (map finding_of xs) one_reported, length-map xs finding_of);
+      fits = omega (arith, c.requires, length-map (map finding_of xs) c_finding, length-map xs finding_of);
       written = copied_all all index out old done;
     }

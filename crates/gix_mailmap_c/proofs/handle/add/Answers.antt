@@ -1,13 +1,13 @@
 use Rattle.std.proofs.lemmas.Iterator.Consumers.{YieldsList-from_first}
 use Rattle.mailmap_entries.specs.Entries.{mapping_of}
 use Rattle.mailmap_grammar.specs.Lines.{mappings_of}
-use Rattle.mailmap_snapshot.proofs.Sources.{gives_said, merged_all, out_of_memory_some}
+use Rattle.mailmap_snapshot.proofs.Sources.{yields_mappings, merged_all, out_of_memory_some}
 use Rattle.gix_mailmap_c.proofs.handle.add.Goals as goal
 
 pub returns-clause-ok : goal.returns-clause-ok
 returns-clause-ok c =
-    merged_all (gives_said (YieldsList-from_first mapping_of (λ s. s) (mappings_of c.args.text.now) c.parse_ignore_errors.ensures.value)) c.merge.result c.args.snapshot.now c.merge.new.self c.merge.ensures.ok
+    merged_all (yields_mappings (YieldsList-from_first mapping_of (λ s. s) (mappings_of c.args.text.now) c.parse_ignore_errors.ensures.value)) c.merge.result c.args.snapshot.now c.merge.new.self c.merge.ensures.ok
 
 pub returns-clause-out_of_memory : goal.returns-clause-out_of_memory
 returns-clause-out_of_memory c =
-    out_of_memory_some (gives_said (YieldsList-from_first mapping_of (λ s. s) (mappings_of c.args.text.now) c.parse_ignore_errors.ensures.value)) c.merge.result c.merge.ensures.out_of_memory
+    out_of_memory_some (yields_mappings (YieldsList-from_first mapping_of (λ s. s) (mappings_of c.args.text.now) c.parse_ignore_errors.ensures.value)) c.merge.result c.merge.ensures.out_of_memory

@@ -1,11 +1,11 @@
--- `into_parts` moves two fields, and what they own goes with them.
+-- `into_parts` moves two fields, and with them the ownership of what they point to.
 use mathlib.Core.Path.{◌≡◌, refl, sym, subst, ap, ◌∙◌}
 use mathlib.Core.List.{List, [], ◌∷◌, ◌++◌}
 use mathlib.Core.Bool.{true}
 use seplogic.Ra.Ura.{Ura}
 use mir.Val.{Val, vptr, vbool, vstruct, vcons, vnil, of_list}
 use mir.Raw.{raw as bare}
-use Rattle.gix_mailmap_c.specs.Held.{held}
+use Rattle.gix_mailmap_c.specs.Ownership.{owns_snapshot}
 use Rattle.std_alloc.specs.Box.Ownership.{box_owns}
 use base.Logic.{SProp, ent, id⊢, fst∗, never}
 use base.Fml.{ftrue, fsep}
@@ -61,7 +61,7 @@ module _ {M : Type 1} {𝓤 : Ura M} (𝓛 : Logic 𝓤) (at_mem : Memory → SP
       qed 𝓛 ((‵ ftrue ⊛ ‵ (fsep (Mailmap.the_row.own_val m z.0.4.0) ftrue)) ∷ raw (fact 𝓤 (m.is_open ≡ true)) ∷ []) ∵ move ! (1 ∷ []) $ heard ! (m.is_open ≡ true) (λ opn. split ! $ drop ! $ fsplit ! $
       fsplit ! $ fpick ! (λ vss. fsplit ! $ feq_l ! (λ ev. fsplit ! $ feq_l ! (λ ep. fsplit ! $ feq_l ! (λ eb. fsplit ! $ handle_tells E.al ! m.alloc vss.1.1.0 (λ hv ea fa.
       -- [the allocator; nothing; what is held; nothing]
-      move ! (2 ∷ []) $ rewrite ! 0 (λ t. ‵ (held m.alloc t m.at m.entries)) opn refl $
+      move ! (2 ∷ []) $ rewrite ! 0 (λ t. ‵ (owns_snapshot m.alloc t m.at m.entries)) opn refl $
       in_a_block ! m.at (λ p. box_owns (ghosts.dealloc_token m.alloc) Snapshot.the_row p m.entries) (fst∗ 𝓤 (never 𝓤) (sem 𝓛 (ghosts.dealloc_token m.alloc (bare (τ E)) null_ptr))) (λ b o e.
       fsplit ! $ box_in E ! v b o v.value e refl $
       let w = word E hv b o in let w' = vstruct (vcons (vptr b o) (vcons (vbool true) (vcons hv vnil))) in

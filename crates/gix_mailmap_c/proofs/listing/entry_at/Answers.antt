@@ -1,7 +1,7 @@
 use Rattle.std.proofs.Common.{sym, ap, ◌∙◌, arith}
 use Rattle.std.specs.List.{slice_get}
 use Rattle.mailmap_entries.specs.Entries.{mapping_of}
-use Rattle.mailmap_snapshot.proofs.Left.{first_left, next_left}
+use Rattle.mailmap_snapshot.proofs.Remaining.{first_left, next_left}
 use Rattle.gix_mailmap_c.proofs.Copying.{nothing_at}
 use Rattle.gix_mailmap_c.proofs.listing.entry_at.Goals as goal
 

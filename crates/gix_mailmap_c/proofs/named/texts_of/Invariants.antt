@@ -1,6 +1,6 @@
--- The texts so far, and those that are left to cut off.
+-- The texts so far, and the part of the buffer that is still to be split.
 use Rattle.std.proofs.Common.{◌≡◌, ◌++◌, drop, map}
-use Rattle.gix_mailmap_c.specs.Reported.{cut_by}
+use Rattle.gix_mailmap_c.specs.Report.{cut_by}
 use Rattle.gix_mailmap_c.proofs.named.texts_of.Given as goal
 
 abbrev pub invariant-loop-part : goal.invariant-loop-part

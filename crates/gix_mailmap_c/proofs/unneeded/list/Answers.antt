@@ -1,16 +1,16 @@
 use Rattle.std.proofs.Common.{◌≡◌, ◌<◌, ◌+◌, ℕ, [], ◌∷◌, List, drop, get_or, length, sym, ap, ◌∙◌, subst, arith}
 use Rattle.std.proofs.lemmas.List.{drop_more, drop_all, length-map}
 use Rattle.mailmap_redundancy.specs.declared.located.Position as library
-use Rattle.gix_mailmap_c.specs.Unneeded.{all_positions, one_position}
+use Rattle.gix_mailmap_c.specs.Unneeded.{c_positions, c_position}
 use Rattle.gix_mailmap_c.specs.declared.unneeded.Position.{Position}
 use Rattle.gix_mailmap_c.proofs.Copying.{Copied, copied_more, copied_all, after_set}
 use Rattle.gix_mailmap_c.proofs.unneeded.list.Goals as goal
 
--- the next one of those that are left, and the others
-next_listed : (xs : List library.Position) (i : ℕ) (d : library.Position) (one : Position) → i < length xs → one ≡ one_position (get_or xs i d)
-    → all_positions (drop i xs) ≡ one ∷ all_positions (drop (i + 1) xs)
+-- the remaining positions are the next one and the others
+next_listed : (xs : List library.Position) (i : ℕ) (d : library.Position) (one : Position) → i < length xs → one ≡ c_position (get_or xs i d)
+    → c_positions (drop i xs) ≡ one ∷ c_positions (drop (i + 1) xs)
 next_listed xs i d one within is =
-    ap all_positions (drop_more xs i d within) ∙ ap (λ (y : Position). y ∷ all_positions (drop (i + 1) xs)) (sym is)
+    ap c_positions (drop_more xs i d within) ∙ ap (λ (y : Position). y ∷ c_positions (drop (i + 1) xs)) (sym is)
 
 pub loop-position-preserved : goal.loop-position-preserved
 loop-position-preserved c =
@@ -20,8 +20,8 @@ loop-position-preserved c =
     let out = c.loop-position.out in
     let old = c.args.out.now in
     let one = c.of-one.result in
-    let all = all_positions xs in
-    let left = all_positions (drop (i + 1) xs) in
+    let all = c_positions xs in
+    let left = c_positions (drop (i + 1) xs) in
     let within : i < length xs = omega arith in
     let cut = next_listed xs i _ one within c.of-one.ensures in
     let before : Copied (one ∷ left) all index out old = subst (λ (l : List Position). Copied l all index out old) cut c.loop-position.invariant.listed in
@@ -34,13 +34,13 @@ loop-position-preserved c =
 pub returns : goal.returns
 returns c =
     let xs = c.args.found.now in
-    let all = all_positions xs in
+    let all = c_positions xs in
     let index = c.loop-position.index in
     let out = c.loop-position.out in
     let old = c.args.out.now in
     let done : Copied [] all index out old =
-    subst (λ (l : List library.Position). Copied (all_positions l) all index out old) (drop_all c.loop-position.position-index xs c.loop-position-test.false) c.loop-position.invariant.listed in
+    subst (λ (l : List library.Position). Copied (c_positions l) all index out old) (drop_all c.loop-position.position-index xs c.loop-position-test.false) c.loop-position.invariant.listed in
     record {
-      fits = omega (arith, c.requires, length-map xs one_position);
+      fits = omega (arith, c.requires, length-map xs c_position);
       written = copied_all all index out old done;
     }

@@ -1,7 +1,7 @@
 //! Borrows the contacts of an open stream in place.
 ghost use Rattle.std.specs.Prelude.{◌≡◌, true};
 ghost use Rattle.std.specs.Borrow.{sem};
-ghost use Rattle.gix_mailmap_c.specs.StreamLent.{LendsContacts};
+ghost use Rattle.gix_mailmap_c.specs.StreamBorrowing.{LendsContacts};
 
 use crate::stream::contacts::Contacts;
 use crate::stream::held::Stream;

@@ -3,7 +3,7 @@ use Rattle.std.specs.Option.{option_cmp}
 use Rattle.std.specs.Ordering.{nat_cmp, ordering_then}
 use Rattle.std.proofs.lemmas.Cmp.{ranked}
 use Rattle.mailmap_entries.specs.Folding.{text_cmp}
-use Rattle.mailmap_entries.proofs.Prefixes.{prefix_settles, then_settled}
+use Rattle.mailmap_entries.proofs.Prefixes.{prefix_decides, then_settled}
 use Rattle.mailmap_entries.specs.Semantics.{key, key_cmp}
 use Rattle.mailmap_batches.specs.Batches.{mapping_at, email_text}
 use Rattle.mailmap_batches.proofs.batch.compare_keys.Goals as goal
@@ -20,7 +20,7 @@ returns-in_default c =
     let r = c.cmp.result in
     let prefixes = c.cmp.ensures ∙ ap₂ nat_cmp c.a.invariant.is c.b.invariant.is in
     let emails : text_cmp (email_text a) (email_text b) ≡ r =
-    prefix_settles 16 (email_text a) (email_text b) c.a.invariant.bytes c.b.invariant.bytes
+    prefix_decides 16 (email_text a) (email_text b) c.a.invariant.bytes c.b.invariant.bytes
     r prefixes c.in_default.not-Equal in
     let names = option_cmp text_cmp (key a).1 (key b).1 in
     sym (ap (λ o. ordering_then o names) emails ∙ then_settled r names c.in_default.not-Equal)

@@ -20,7 +20,7 @@ use Rattle.mailmap_batches.proofs.batch.nearly_sorted.Goals as goal
 abbrev IsBelow : IndexedEntry → IndexedEntry → Type 0
 IsBelow p q = key_cmp (key (mapping_at p)) (key (mapping_at q)) ≡ Less
 
--- none that an entry is below has its key
+-- no entry has the key of one that is below all of them
 none_above : (p : IndexedEntry) (ps : List IndexedEntry) → AllByRecursion (IsBelow p) ps
     → of_key (map mapping_at ps) (key (mapping_at p)) ≡ []
 none_above p [] below = refl
@@ -33,7 +33,7 @@ none_above p (q ∷ ps) below =
       | false ↦ none_above p ps below.1
     ]
 
--- so it may change places with them
+-- so moving this one behind them changes the entries of no key
 beside : (p : IndexedEntry) (ps : List IndexedEntry) → AllByRecursion (IsBelow p) ps → (k : Key)
     → of_key (map mapping_at ps ++ mapping_at p ∷ []) k ≡ of_key (mapping_at p ∷ map mapping_at ps) k
 beside p ps below k =

@@ -4,7 +4,7 @@ use Rattle.std.specs.Ordering.{eq_by_cmp}
 use Rattle.std.specs.Set.{remove_key}
 use Rattle.mailmap_redundancy.specs.Redundancy.{position_cmp}
 use Rattle.mailmap_findings.specs.Positions.{same_position}
-use Rattle.mailmap_findings.proofs.Taking.{removed, removed_none}
+use Rattle.mailmap_findings.proofs.ContactNeeds.{removed, removed_none}
 use Rattle.mailmap_findings.proofs.needs.remove.Goals as goal
 
 pub returns-in-Some : goal.returns-in-Some

@@ -1,5 +1,5 @@
 use Rattle.std.proofs.Common.{arith}
-use Rattle.mailmap_grammar.proofs.Good.{length-mappings_in}
+use Rattle.mailmap_grammar.proofs.MappingsIn.{length-mappings_in}
 use Rattle.mailmap_grammar.proofs.lines.parse_ignore_errors.Goals as goal
 
 pub returns-clause-countable : goal.returns-clause-countable

@@ -1,16 +1,16 @@
--- Five bytes: the sign and two pairs of digits.
+-- An offset has five bytes: the sign and two pairs of digits.
 use Rattle.std.proofs.Common.{◌≡◌, ◌+◌, ◌*◌, ℤ, Bool, true, false, cond, [], ◌∷◌, length, get_or, refl, sym, arith}
 use Rattle.std.proofs.lemmas.Int.{ints}
 use Rattle.std.proofs.lemmas.Slice.Eq.{text_from_reads}
 use Rattle.mailmap_entries.specs.Folding.{Text}
-use Rattle.mailmap_signatures.specs.Times.{AreDigits, number, signed, SpellsOffset}
+use Rattle.mailmap_signatures.specs.Times.{AreDigits, decimal_value, signed, SpellsOffset}
 use Rattle.mailmap_signatures.proofs.date.read_offset.Goals as goal
 
 -- a sign and four digits spell an offset
 SpellsOffset-bytes : (bytes : Text) (negative : Bool) (offset : ℤ) → length bytes ≡ 5 → get_or bytes 0 0 ≡ cond negative 45 43 →
     let hours = get_or bytes 1 0 ∷ get_or bytes 2 0 ∷ [] in
     let minutes = get_or bytes 3 0 ∷ get_or bytes 4 0 ∷ [] in
-    AreDigits hours → AreDigits minutes → offset ≡ signed negative ((number hours * 60 + number minutes) * 60) → SpellsOffset bytes offset
+    AreDigits hours → AreDigits minutes → offset ≡ signed negative ((decimal_value hours * 60 + decimal_value minutes) * 60) → SpellsOffset bytes offset
 SpellsOffset-bytes bytes negative offset five sign hours minutes value = record {
   negative = negative;
   hours = get_or bytes 1 0 ∷ get_or bytes 2 0 ∷ [];

@@ -1,4 +1,4 @@
--- Both are lemmas on times.
+-- Both clauses are lemmas of the file Times.
 use Rattle.mailmap_signatures.proofs.Times.{Spells-unique, IsTimeOf-unique}
 use Rattle.mailmap_signatures.proofs.laws.law_time.Goals as goal
 

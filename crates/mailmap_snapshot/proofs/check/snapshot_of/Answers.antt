@@ -9,12 +9,12 @@ use Rattle.mailmap_entries.specs.Folding.{Text}
 use Rattle.mailmap_entries.specs.declared.entry.Entry.{Entry}
 use Rattle.mailmap_entries.specs.Semantics.{IsNormal}
 use Rattle.mailmap_grammar.specs.Lines.{mappings_of}
-use Rattle.mailmap_snapshot.proofs.Sources.{gives_said}
+use Rattle.mailmap_snapshot.proofs.Sources.{yields_mappings}
 use Rattle.mailmap_snapshot.proofs.check.snapshot_of.Goals as goal
 
--- a snapshot of what an iterator gives is the normal list of what it says
+-- a snapshot of an iterator's entries is the normal list of their mappings
 normal_of : {S E : Type 0} {steps : S → Option Entry → S → Type 0} {s : S} {said : List Mapping} (r : Result (List Mapping) E) → IfOk r (λ made. (xs : List Entry) × Drains steps s xs × IsNormal (map mapping_of xs) made) → YieldsList steps mapping_of s said → IfOk r (IsNormal said)
-normal_of (Ok made) m road = subst (λ l. IsNormal l made) ((gives_said road).whole m.0 m.1) m.2
+normal_of (Ok made) m road = subst (λ l. IsNormal l made) ((yields_mappings road).whole m.0 m.1) m.2
 normal_of (Err e) m road = tt
 
 pub returns : goal.returns

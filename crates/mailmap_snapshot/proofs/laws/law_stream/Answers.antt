@@ -1,4 +1,4 @@
--- All are lemmas on streams.
+-- All clauses are lemmas of the file Streams.
 use Rattle.mailmap_snapshot.proofs.Streams.{all-parts, front-all, front-more, front-none}
 use Rattle.mailmap_snapshot.proofs.laws.law_stream.Goals as goal
 

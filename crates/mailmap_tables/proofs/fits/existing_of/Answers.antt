@@ -9,7 +9,7 @@ use Rattle.mailmap_tables.specs.Reserved.{OwnWithin, own_bytes}
 use Rattle.mailmap_tables.proofs.InPlace.{raised}
 use Rattle.mailmap_tables.proofs.fits.existing_of.Goals as goal
 
--- a larger bound
+-- entries that fit with one bound fit with a larger one
 all_raised : (a b : ℕ) (gs : List EmailGroup) (ms : List Mapping) → a ≤ b → OwnWithin a gs ms → OwnWithin b gs ms
 all_raised a b gs ms le all = all_weaker ms (λ m. raised a b (email_text m) gs le) all
 

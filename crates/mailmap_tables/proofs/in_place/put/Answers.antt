@@ -13,7 +13,7 @@ use Rattle.mailmap_tables.proofs.InPlace.{first_reserved, group_given, group_nam
 use Rattle.mailmap_tables.proofs.InPlace.{ready_ascends, ready_there, ready_within, existing_reserved}
 use Rattle.mailmap_tables.proofs.in_place.put.Goals as goal
 
--- what an entry says about its old name
+-- a name with the fields of an entry is what the entry says about this name
 said : (m : Mapping) (old_name : Text) (n : NameGroup) → m.old_name ≡ Some old_name → n.old_name ≡ old_name
     → n.new_name ≡ m.new_name → m.new_email ≡ Some n.new_email → Says m n
 said m old_name n is old name email =

@@ -2,7 +2,7 @@ use Rattle.std.proofs.Common.{◌≡◌, ◌-◌, ◌++◌, take, drop}
 use Rattle.mailmap_tables.proofs.Passing.{names_of_all}
 use Rattle.mailmap_tables.proofs.join.copy_emails.Given as goal
 
--- the names of the emails that are left to pass have gone ahead
+-- the names of the remaining emails are copied already
 abbrev pub invariant-loop-index : goal.invariant-loop-index
 invariant-loop-index l = l.out ≡ record {
   pool = l.fn.out.pool;

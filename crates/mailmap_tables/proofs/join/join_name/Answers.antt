@@ -13,7 +13,7 @@ use Rattle.mailmap_tables.proofs.NameLookups.{extends_itself, lookup_found, look
 use Rattle.mailmap_tables.proofs.Pooled.{all_drop}
 use Rattle.mailmap_tables.proofs.join.join_name.Goals as goal
 
--- what is said of the names that are left
+-- the statement about the remaining names
 abbrev IsLeft : Contents → Contents → List RowTexts → NameGroup → List RowTexts → Type 0
 IsLeft old out rows n left =
     AllByRecursion (NameInPool (length out.pool)) left

@@ -15,7 +15,7 @@ none =
       names_end = 0;
     }
 
--- what is left of the rows is as it was
+-- a step forwards hasn't changed the row at its index yet
 still : (f : EmailRow → EmailRow) (xs : List EmailRow) (i : ℕ) (d : EmailRow) → i < length xs
     → get_or (map f (take i xs) ++ drop i xs) i d ≡ get_or xs i d
 still f [] i d lt = absurd (omega (arith, lt))

@@ -1,4 +1,4 @@
--- Each call leaves out a part.
+-- Each recursive call has one part less.
 use Rattle.std.proofs.Common.{◌+◌, length}
 use Rattle.shortlog_command.proofs.answer.+compare_parts.Given as goal
 

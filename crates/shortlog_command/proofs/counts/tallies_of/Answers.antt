@@ -1,12 +1,12 @@
 use Rattle.std.proofs.Common.{◌∙◌, ◌++◌, ap, append-nil, map, sym}
 use Rattle.std.proofs.lemmas.Map.Iter.{rest_all, rest_more}
-use Rattle.shortlog_command.specs.Counts.{entry_of}
+use Rattle.shortlog_command.specs.Counts.{map_entry}
 use Rattle.shortlog_command.proofs.Entries.{tallied}
 use Rattle.shortlog_command.proofs.counts.tallies_of.Goals as goal
 
 pub loop-text-init : goal.loop-text-init
 loop-text-init g c =
-    ap (λ l. map entry_of l ++ c.into_iter-text-iterator.result) c.new-tallies.ensures.items
+    ap (λ l. map map_entry l ++ c.into_iter-text-iterator.result) c.new-tallies.ensures.items
     ∙ c.into_iter-text-iterator.ensures.into_iter_gives.0
 
 pub loop-text-preserved : goal.loop-text-preserved
@@ -22,7 +22,7 @@ loop-text-preserved g c =
 
 pub returns-clause-all : goal.returns-clause-all
 returns-clause-all g c =
-    let tallies = map entry_of c.loop-text.tallies.items in
+    let tallies = map map_entry c.loop-text.tallies.items in
     let none =
     rest_all (λ p. p) c.loop-text.text-iterator c.next.new.self c.next.result c.in-None.is c.next.ensures.steps in
     sym (append-nil tallies) ∙ sym (ap (λ l. tallies ++ l) none) ∙ c.loop-text.invariant

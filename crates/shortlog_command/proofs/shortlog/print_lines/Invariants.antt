@@ -1,4 +1,4 @@
--- The lines so far were written, or are held.
+-- The lines so far were written, or are in the buffer.
 use Rattle.command_line.specs.Printing.{IsUnderway}
 use Rattle.shortlog_command.specs.Answers.{answer_counted}
 use Rattle.shortlog_command.specs.Shortlog.{counted_text}

@@ -1,4 +1,4 @@
--- The pieces so far were written, or are held.
+-- The pieces so far were written, or are in the buffer.
 use Rattle.command_line.specs.Printing.{IsUnderway}
 use Rattle.shortlog_command.proofs.Printing.{so_far}
 use Rattle.shortlog_command.proofs.shortlog.print_pieces.Given as goal

@@ -1,4 +1,4 @@
--- What all arguments ask for is what those that are left ask for, with the options so far.
+-- The task for all arguments is the task for the remaining ones, with the options so far.
 use Rattle.std.proofs.Common.{◌≡◌, length, map}
 use Rattle.shortlog_command.specs.Task.{asked, no_options}
 use Rattle.shortlog_command.proofs.task.read_options.Given as goal

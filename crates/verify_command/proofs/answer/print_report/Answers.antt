@@ -4,7 +4,7 @@ use Rattle.mailmap_findings.specs.Findings.{AreFindings}
 use Rattle.verify_command.specs.Report.{outcome_of, report}
 use Rattle.verify_command.proofs.answer.print_report.Goals as goal
 
--- what an error leaves, of one that is known
+-- the clause for an error, given which error it is
 left_by : {T E P : Type 0} (r : Result T E) (e : E) → IsErrOf r e → OnErr r P → P
 left_by (Ok x) e is p = cc (is)
 left_by (Err x) e is p = p

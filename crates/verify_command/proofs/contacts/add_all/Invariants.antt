@@ -1,4 +1,4 @@
--- So much was read, its whole lines are taken, and the rest is held.
+-- Some of the contacts were read, their whole lines are added, and the rest is in the buffer.
 use Rattle.verify_command.proofs.TakingLines.{HasTakenParts}
 use Rattle.verify_command.proofs.contacts.add_all.Given as goal
 

@@ -1,4 +1,4 @@
--- The lines so far are taken.
+-- The lines so far are added.
 use Rattle.std.proofs.Common.{◌≡◌, ◌++◌, List}
 use Rattle.mailmap_entries.specs.Folding.{Text}
 use Rattle.mailmap_findings.specs.Positions.{whole_lines}

@@ -2,7 +2,7 @@ use Rattle.std.proofs.Common.{rules, ◌∙◌, List, [], ℕ, Vec, Global, map,
 use Rattle.std.specs.Io.KnownBytes.{Appends}
 use Rattle.mailmap_entries.proofs.Results.{on_err}
 use Rattle.mailmap_findings.specs.Findings.{AreFindings}
-use Rattle.mailmap_findings.specs.Positions.{lines, located, whole_lines}
+use Rattle.mailmap_findings.specs.Positions.{located_lines, located, whole_lines}
 use Rattle.mailmap_redundancy.specs.Redundancy.{entries}
 use Rattle.mailmap_findings.specs.Remarks.{AreRemarks}
 use Rattle.command_line.specs.declared.outcome.Outcome.TheVariants.{Found}
@@ -69,7 +69,7 @@ returns-then-contact_report-clause-ok g c = λ taken h.
     let between = g.W.Write.contents c.print_remarks.new.output in
     let after = g.W.Write.contents c.print_notices.new.output in
     prints_both (map items c.args.paths.now) file mailmaps taken s remarks Found (g.W.Write.contents c.args.output.now) between after h are
-    (found_beside remarks (said_after (entries (located (lines mailmaps))) [] (whole_lines taken)) s.found h.found c.if-contact_report.true) c.in_ok-outcome.ensures.ok.1
+    (found_beside remarks (said_after (entries (located (located_lines mailmaps))) [] (whole_lines taken)) s.found h.found c.if-contact_report.true) c.in_ok-outcome.ensures.ok.1
     (subst (λ t. Appends between after t) same c.in_ok-print_notices.ensures.ok)
 
 pub returns-clause-ok : goal.returns-clause-ok
@@ -86,5 +86,5 @@ returns-clause-ok g c = λ taken h.
     let between = g.W.Write.contents c.print_remarks.new.output in
     let after = g.W.Write.contents c.print_notices.new.output in
     prints_both (map items c.args.paths.now) file mailmaps taken s remarks c.in_ok-outcome.outcome (g.W.Write.contents c.args.output.now) between after h are
-    (c.in_ok-outcome.ensures.ok.0 ∙ none_beside remarks (said_after (entries (located (lines mailmaps))) [] (whole_lines taken)) s.found h.found c.if-contact_report.false) c.in_ok-outcome.ensures.ok.1
+    (c.in_ok-outcome.ensures.ok.0 ∙ none_beside remarks (said_after (entries (located (located_lines mailmaps))) [] (whole_lines taken)) s.found h.found c.if-contact_report.false) c.in_ok-outcome.ensures.ok.1
     (subst (λ t. Appends between after t) same c.in_ok-print_notices.ensures.ok)

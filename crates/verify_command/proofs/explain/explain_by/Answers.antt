@@ -1,6 +1,6 @@
 use Rattle.std.proofs.Common.{rules, ◌≡◌, List, ℕ, Vec, Global, inr, map}
 use Rattle.command_line.proofs.Leaving.{leaves_weaker}
-use Rattle.mailmap_findings.specs.Positions.{lines, located}
+use Rattle.mailmap_findings.specs.Positions.{located_lines, located}
 use Rattle.verify_command.specs.Explained.{AnswersAll, AnswersLines, AnswersWholeLines}
 use Rattle.verify_command.proofs.Grounded.{AreGrounds, explains, prints_by}
 use Rattle.verify_command.proofs.explain.explain_by.Goals as goal
@@ -11,7 +11,7 @@ returns-clause-leaves g c =
     let paths = map items c.args.paths.now in
     let mailmaps = map items c.args.mailmaps.now in
     let x = c.in_ok-explainer.explainer in
-    let history : x.history ≡ located (lines mailmaps) = search rules in
+    let history : x.history ≡ located (located_lines mailmaps) = search rules in
     let are : AreGrounds x paths mailmaps = record { paths_are = c.in_ok-explainer.ensures.paths; history_is = history; effective = c.in_ok-explainer.ensures.effective } in
     let old = g.R.Read.remaining c.args.input.now in
     let new = g.R.Read.remaining c.explain_input.new.input in

@@ -1,4 +1,4 @@
--- So much of the input was read, what is said of its whole lines is written, and the rest is held.
+-- Some of the input was read, the text for its whole lines is written, and the rest is in the buffer.
 use Rattle.std.proofs.Common.{◌≡◌, []}
 use Rattle.verify_command.specs.Explained.{explained_line}
 use Rattle.verify_command.proofs.Explaining.{HasAnswered}

@@ -1,4 +1,4 @@
--- What is said of the lines so far was written, or is held.
+-- The text for the lines so far was written, or is in the buffer.
 use Rattle.std.proofs.Common.{◌≡◌}
 use Rattle.mailmap_findings.specs.Positions.{whole_lines}
 use Rattle.verify_command.specs.Explained.{explained_line}

@@ -14,10 +14,10 @@ use Rattle.std_heap.specs.contracts.Global as Heap
 use Rattle.mailmap_entries.specs.Entries.{Mapping}
 use Rattle.mailmap_snapshot.specs.contracts.snapshot.Snapshot as Snapshot
 use Rattle.mailmap_snapshot.proofs.snapshot.Snapshot.TheSendSync.{the_send as snapshot}
-use Rattle.gix_mailmap_c.specs.Held.{held}
+use Rattle.gix_mailmap_c.specs.Ownership.{owns_snapshot}
 use Rattle.gix_mailmap_c.specs.contracts.held.Mailmap.{the_row, the_type}
 
-keyless : (alloc : Heap.the_row.Denot) (is_open : Bool) (at : Ptr) (entries : List Mapping) → Keyless (held alloc is_open at entries)
+keyless : (alloc : Heap.the_row.Denot) (is_open : Bool) (at : Ptr) (entries : List Mapping) → Keyless (owns_snapshot alloc is_open at entries)
 keyless alloc true at entries = (lies Snapshot.the_row snapshot at entries, heap.frees.frees alloc (raw (lone Snapshot.the_row.mir)) at)
 keyless alloc false at entries = tt
 

@@ -1,7 +1,7 @@
 use Rattle.std.proofs.Common.{rules, ◌≡◌, ◌+◌, ◌-◌, ◌≤◌, ◌++◌, ℕ, List, take, length, ap, ◌∙◌, arith}
 use Rattle.std.specs.Option.{option_copied}
 use Rattle.std.proofs.lemmas.Slice.{take-put_mid, drop-put_mid}
-use Rattle.gix_mailmap_c.specs.Listed.{given}
+use Rattle.gix_mailmap_c.specs.Listed.{text_or_empty}
 use Rattle.gix_mailmap_c.proofs.listing.copying.copy_text.Goals as goal
 
 pub returns : goal.returns
@@ -10,7 +10,7 @@ returns c =
     let out = c.args.out.now in
     let text = c.unwrap_or-text.result.now in
     let part = c.copy_from_slice.new.self in
-    let same : text ≡ given (option_copied c.args.text) = search rules in
+    let same : text ≡ text_or_empty (option_copied c.args.text) = search rules in
     let len = ap length c.copy_from_slice.ensures.after in
     let within : start ≤ length out = omega (arith, c.requires) in
     record {

@@ -1,6 +1,6 @@
 use Rattle.std.proofs.Common.{◌≡◌, ◌+◌, ◌<◌, [], ◌∷◌, ◌++◌, List, ℕ, drop, length, length-append, sym, ap, ◌∙◌, subst, arith}
 use Rattle.mailmap_entries.specs.Entries.{Mapping, mapping_of}
-use Rattle.gix_mailmap_c.specs.Listed.{all_text, entry_text, all_listed}
+use Rattle.gix_mailmap_c.specs.Listed.{all_texts, entry_texts, all_listed}
 use Rattle.gix_mailmap_c.specs.declared.listing.Listed.{Listed}
 use Rattle.gix_mailmap_c.proofs.Copying.{Copied, copied_more, copied_all, after_set, listed_room, length-all_listed}
 use Rattle.gix_mailmap_c.proofs.listing.copying.describe.Goals as goal
@@ -23,14 +23,14 @@ loop-entry-preserved c =
     let all = all_listed 0 c.args.snapshot.now in
     let cut : all_listed start c.loop-entry.entry-iterator ≡ one ∷ all_listed next rest =
     ap (all_listed start) c.in-Some.ensures.steps
-    ∙ ap (λ (x : Listed). x ∷ all_listed (start + length (entry_text m)) rest) (sym c.of-one.ensures)
+    ∙ ap (λ (x : Listed). x ∷ all_listed (start + length (entry_texts m)) rest) (sym c.of-one.ensures)
     ∙ ap (λ (k : ℕ). one ∷ all_listed (start + k) rest) (sym c.texts_len-start.ensures) in
     let before : Copied (one ∷ all_listed next rest) all index listed c.args.listed.now = subst (λ (l : List Listed). Copied l all index listed c.args.listed.now) cut c.loop-entry.invariant.listed in
     let here = listed_room start index (length c.args.listed.now) c.loop-entry.entry-iterator rest c.args.snapshot.now m c.in-Some.ensures.steps c.loop-entry.invariant.listed.until c.requires.room in
     let lt : index < length listed = omega (arith, here) in
     record {
       listed = copied_more (one ∷ []) (all_listed next rest) all index (index + 1) listed _ c.args.listed.now before (after_set listed index one lt);
-      start = omega (arith, c.loop-entry.invariant.start, ap (λ (ms : List Mapping). length (all_text ms)) c.in-Some.ensures.steps, length-append (entry_text m) (all_text rest), c.texts_len-start.ensures);
+      start = omega (arith, c.loop-entry.invariant.start, ap (λ (ms : List Mapping). length (all_texts ms)) c.in-Some.ensures.steps, length-append (entry_texts m) (all_texts rest), c.texts_len-start.ensures);
     }
 
 pub returns : goal.returns

@@ -1,4 +1,4 @@
--- `opened` moves two fields, and what they own goes with them.
+-- `opened` moves two fields, and with them the ownership of what they point to.
 use mathlib.Core.Path.{refl, sym, subst}
 use mathlib.Core.List.{List, [], ◌∷◌, ◌++◌}
 use mathlib.Core.Bool.{true}

@@ -5,7 +5,7 @@ use Rattle.mailmap_redundancy.specs.Origins.{given}
 use Rattle.mailmap_redundancy.specs.Numbers.{fields_of, origins_of}
 use Rattle.mailmap_redundancy.specs.Redundancy.{entries}
 use Rattle.mailmap_redundancy.proofs.Giving.{reduced_origins}
-use Rattle.mailmap_findings.specs.Explanations.{explained, giving_positions}
+use Rattle.mailmap_findings.specs.Explanations.{explained, origin_positions}
 use Rattle.mailmap_findings.proofs.Explained.{some_line}
 use Rattle.mailmap_findings.proofs.explain.Explanations.of.Goals as goal
 
@@ -26,7 +26,7 @@ returns-in_err-first-clause-fields c =
     let some : c.fields.result ≡ Some c.in_ok-fields.fields = search rules in
     let first : positions.first ≡ None = search rules in
     let second = c.giving-positions.ensures.second first in
-    let none : giving_positions (origins_of c.origins-origins.result) (fields_of c.in_ok-fields.fields) ≡ [] = sym c.giving-positions.ensures.positions ∙ (λ i. option_to_list (first i) ++ option_to_list (second i)) in
+    let none : origin_positions (origins_of c.origins-origins.result) (fields_of c.in_ok-fields.fields) ≡ [] = sym c.giving-positions.ensures.positions ∙ (λ i. option_to_list (first i) ++ option_to_list (second i)) in
     absurd (some_line (origins_of c.origins-origins.result) c.args.email.now (fields_of c.in_ok-fields.fields) (sym c.fields.ensures ∙ ap (option_map fields_of) some) none)
 
 pub returns-clause-fields : goal.returns-clause-fields

@@ -5,11 +5,11 @@ use Rattle.mailmap_findings.specs.Positions.{whole_lines}
 use Rattle.mailmap_findings.proofs.WholeLines.{lines-whole}
 use Rattle.mailmap_grammar.specs.Lines.{contact_in}
 use Rattle.mailmap_findings.specs.Needs.{any_needs, contact_needs}
-use Rattle.mailmap_findings.proofs.Taking.{taken_more, taken_none}
+use Rattle.mailmap_findings.proofs.ContactNeeds.{unneeded_more, unneeded_none}
 use Rattle.mailmap_findings.proofs.needs.Needs.add_all.Goals as goal
 
 pub loop-line-init : goal.loop-line-init
-loop-line-init c = (refl, refl, taken_none c.args.self.now.kept c.args.self.now.left)
+loop-line-init c = (refl, refl, unneeded_none c.args.self.now.kept c.args.self.now.left)
 
 pub loop-line-preserved : goal.loop-line-preserved
 loop-line-preserved c =
@@ -22,7 +22,7 @@ loop-line-preserved c =
       c.add_line.ensures.left
           ∙ ap (λ k. filter (λ p. not (contact_needs k (contact_in line) p)) before.left) c.loop-line.invariant.1
           ∙ ap (filter (λ p. not (contact_needs s.kept (contact_in line) p))) c.loop-line.invariant.2
-          ∙ taken_more s.kept ls line s.left
+          ∙ unneeded_more s.kept ls line s.left
           ∙ ap (λ l. filter (λ p. not (any_needs s.kept l p)) s.left) (sym (map-append (λ y. y.now) c.loop-line.yielded (c.in-Some.line ∷ []))),
     )
 

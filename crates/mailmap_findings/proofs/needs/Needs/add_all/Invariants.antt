@@ -1,4 +1,4 @@
--- The lines so far were taken.
+-- The lines so far were added.
 use Rattle.std.proofs.Common.{◌≡◌, filter, map, not}
 use Rattle.mailmap_findings.specs.Needs.{any_needs}
 use Rattle.mailmap_findings.proofs.needs.Needs.add_all.Given as goal

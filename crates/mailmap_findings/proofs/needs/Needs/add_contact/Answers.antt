@@ -2,7 +2,7 @@ use Rattle.std.proofs.Common.{◌∙◌, ap, filter, not, option_to_list}
 use Rattle.std.specs.List.{list_any}
 use Rattle.mailmap_findings.specs.Positions.{same_position}
 use Rattle.mailmap_findings.specs.Needs.{needs}
-use Rattle.mailmap_findings.proofs.Taking.{removed_both}
+use Rattle.mailmap_findings.proofs.ContactNeeds.{removed_both}
 use Rattle.mailmap_findings.proofs.needs.Needs.add_contact.Goals as goal
 
 pub returns-clause-left : goal.returns-clause-left

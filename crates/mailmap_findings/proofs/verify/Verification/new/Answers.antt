@@ -1,13 +1,13 @@
 use Rattle.std.proofs.Common.{◌∙◌, ap, map}
 use Rattle.mailmap_redundancy.specs.Redundancy.{located_of}
-use Rattle.mailmap_findings.specs.Positions.{lines}
+use Rattle.mailmap_findings.specs.Positions.{located_lines}
 use Rattle.mailmap_findings.proofs.Accepted.{items_accepted}
 use Rattle.mailmap_findings.proofs.Verified.{are_kept}
 use Rattle.mailmap_findings.proofs.verify.Verification.new.Goals as goal
 
 pub without_redundant-requires : goal.without_redundant-requires
 without_redundant-requires c =
-    items_accepted (lines (map (λ b. b.now) c.mailmaps.inside.buffers.now)) c.deref.result.now (ap (map located_of) c.deref.ensures.value ∙ c.mailmaps.invariant.0)
+    items_accepted (located_lines (map (λ b. b.now) c.mailmaps.inside.buffers.now)) c.deref.result.now (ap (map located_of) c.deref.ensures.value ∙ c.mailmaps.invariant.0)
 
 pub invariant_of-result : goal.invariant_of-result
 invariant_of-result c = (

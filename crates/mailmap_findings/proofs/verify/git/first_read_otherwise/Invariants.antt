@@ -1,4 +1,4 @@
--- The lines so far are read alike.
+-- git reads the lines so far as this library does.
 use Rattle.std.proofs.Common.{◌≡◌, filter, is_some, map}
 use Rattle.std.specs.Option.{option_map}
 use Rattle.mailmap_entries.specs.Semantics.{first}

@@ -1,5 +1,5 @@
 use Rattle.std.proofs.Common.{◌++◌, ◌∙◌, ap, append-nil, sym}
-use Rattle.mailmap_findings.proofs.Kept.{kept_text}
+use Rattle.mailmap_findings.proofs.PrunedText.{kept_text}
 use Rattle.mailmap_findings.proofs.verify.walk.pruned_text.Goals as goal
 
 pub returns : goal.returns

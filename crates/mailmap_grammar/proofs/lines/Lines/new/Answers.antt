@@ -1,7 +1,7 @@
 use Rattle.std.proofs.Common.{arith, ◌∙◌, ap}
 use Rattle.mailmap_grammar.specs.Lines.{readings_from, pieces, reading_by, line_reader}
 use Rattle.mailmap_grammar.proofs.Pieces.{reading_by-cr, readings_from-lines, length-pieces}
-use Rattle.mailmap_grammar.proofs.Rising.{walk-line, fault_lines-rise, length-readings_from}
+use Rattle.mailmap_grammar.proofs.FaultLines.{walk-line, fault_lines-rise, length-readings_from}
 use Rattle.mailmap_grammar.proofs.lines.Lines.new.Goals as goal
 
 pub returns-clause-value : goal.returns-clause-value

@@ -1,14 +1,14 @@
--- The text is cut at its first blank, which is the one before the offset.
+-- The text is split at its first space, which is the one before the offset.
 use Rattle.std.proofs.Common.{arith, rules, w32, w64, FitsSigned}
 use Rattle.std.proofs.lemmas.Int.{to_z-of_z}
 use Rattle.std.proofs.lemmas.Str.Pattern.{split_parts}
-use Rattle.mailmap_signatures.proofs.Times.{Spells-no_blank, Spells-cut}
+use Rattle.mailmap_signatures.proofs.Times.{Spells-no_space, Spells-cut}
 use Rattle.mailmap_signatures.proofs.date.Time.read.Goals as goal
 
 pub returns-in_err-seconds : goal.returns-in_err-seconds
 returns-in_err-seconds c =
     let parts = split_parts 32 c.args.text.now c.split_once.result c.split_once.ensures.cases (omega arith) in
-    rw c.from_residual.ensures (Spells-no_blank c.args.text.now (rw c.in_err-seconds.was at parts))
+    rw c.from_residual.ensures (Spells-no_space c.args.text.now (rw c.in_err-seconds.was at parts))
 
 pub returns-in_err-read_seconds : goal.returns-in_err-read_seconds
 returns-in_err-read_seconds c =

@@ -2,7 +2,7 @@ use Rattle.std.proofs.Common.{◌≡◌, true, ◌∙◌}
 use Rattle.std.proofs.lemmas.List.Elements.{All-from_recursion}
 use Rattle.mailmap_grammar.specs.CanonicalText.{IsWritable}
 use Rattle.mailmap_entries.specs.Entries.{mapping_of}
-use Rattle.mailmap_snapshot.proofs.Left.{first_left, next_left, one_more, none_left}
+use Rattle.mailmap_snapshot.proofs.Remaining.{first_left, next_left, one_more, none_left}
 use Rattle.mailmap_snapshot.proofs.snapshot.Snapshot.first_unwritable.Goals as goal
 
 pub returns-then-not-is_writable-clause-index : goal.returns-then-not-is_writable-clause-index

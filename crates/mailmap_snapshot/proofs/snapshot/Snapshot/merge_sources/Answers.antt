@@ -3,7 +3,7 @@ use Rattle.std.proofs.lemmas.List.Elements.{recursion_from_All}
 use Rattle.std.proofs.lemmas.Option.{slice_get_within}
 use Rattle.mailmap_entries.specs.Semantics.{IsNormal, accepted}
 use Rattle.mailmap_tables.proofs.Grouped.{groups_normal}
-use Rattle.mailmap_snapshot.proofs.Sources.{normal_start, normal_more, marks_more, none_said, sources_merged}
+use Rattle.mailmap_snapshot.proofs.Sources.{normal_start, normal_more, marks_more, none_merged, sources_merged}
 use Rattle.mailmap_snapshot.proofs.snapshot.Snapshot.merge_sources.Goals as goal
 
 pub loop-i-init : goal.loop-i-init
@@ -42,4 +42,4 @@ returns-clause-merged c =
 pub returns-clause-none_made : goal.returns-clause-none_made
 returns-clause-none_made c none =
     let merged = sources_merged c.args.sources.now c.loop-i.made c.loop-i.i c.args.self.now c.loop-i.self (omega arith) c.loop-i.invariant.marks c.loop-i.invariant.own c.loop-i.invariant.normal in
-    merged.unchanged (ap accepted (none_said c.args.sources.now c.loop-i.made (recursion_from_All _ c.loop-i.made none)))
+    merged.unchanged (ap accepted (none_merged c.args.sources.now c.loop-i.made (recursion_from_All _ c.loop-i.made none)))

@@ -1,4 +1,4 @@
--- What `try_resolve` answers for a history is answered.
+-- The answer of `try_resolve`, from a list of mappings whose normal list is the snapshot.
 use Rattle.mailmap_snapshot.proofs.snapshot.Snapshot.resolve.Goals as goal
 
 pub returns-in-Some-clause-history : goal.returns-in-Some-clause-history

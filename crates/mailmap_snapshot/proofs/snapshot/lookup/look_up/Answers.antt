@@ -1,6 +1,6 @@
 use Rattle.std.proofs.Common.{◌≡◌, ◌-◌, Some, length, option_map, sym, ap, ◌∙◌, arith}
 use Rattle.mailmap_entries.specs.Search.{digits}
-use Rattle.mailmap_entries.specs.Semantics.{answered}
+use Rattle.mailmap_entries.specs.Semantics.{fields_with_spelling}
 use Rattle.mailmap_tables.specs.Pool.{spelled}
 use Rattle.mailmap_snapshot.proofs.Resolved.{scan_at_none, no_names, names_ascend, names_counted, scan_at_name, scan_at_email}
 use Rattle.mailmap_snapshot.proofs.snapshot.lookup.look_up.Goals as goal
@@ -23,7 +23,7 @@ returns-in-Ok-find_name_counted-clause-fields c =
     let pool = c.args.tables.now.pool in
     let given = c.fields-new_name.ensures in
     c.answer.ensures.fields
-    ∙ (λ k. answered c.args.email.now (record { name = option_map (spelled pool) (given.new_name k); email = option_map (spelled pool) (given.new_email k) }) (Some (spelled pool (c.old.ensures k))))
+    ∙ (λ k. fields_with_spelling c.args.email.now (record { name = option_map (spelled pool) (given.new_name k); email = option_map (spelled pool) (given.new_email k) }) (Some (spelled pool (c.old.ensures k))))
     ∙ sym (scan_at_name c.args.tables.now.groups c.requires.groups c.args.email.now c.in-Ok.index c.in-Ok.ensures.found
     c.args.tables.now.pool c.email.result.0 c.email.result.1.now c.email.ensures.group c.args.name.now c.in-Ok-find_name_counted.i _ c.email.ensures.lie.names_lie c.in-Ok-find_name_counted.ensures.found)
 
@@ -46,7 +46,7 @@ returns-in-Err-clause-fields c =
     let pool = c.args.tables.now.pool in
     let given = c.fields-new_name-in-Err.ensures in
     c.answer-in-Err.ensures.fields
-    ∙ (λ k. answered c.args.email.now (record { name = option_map (spelled pool) (given.new_name k); email = option_map (spelled pool) (given.new_email k) }) (Some (spelled pool (c.old-in-Err.ensures k))))
+    ∙ (λ k. fields_with_spelling c.args.email.now (record { name = option_map (spelled pool) (given.new_name k); email = option_map (spelled pool) (given.new_email k) }) (Some (spelled pool (c.old-in-Err.ensures k))))
     ∙ sym (scan_at_email c.args.tables.now.groups c.requires.groups c.args.email.now c.in-Ok.index c.in-Ok.ensures.found
     c.args.tables.now.pool c.email.result.0 c.email.result.1.now c.email.ensures.group c.args.name.now c.in-Err.field-0 c.in-Err.ensures.missing)
 

@@ -1,6 +1,6 @@
 use Rattle.std.proofs.Common.{◌≡◌, ◌∙◌, ap, length, subst, sym}
 use Rattle.std.proofs.lemmas.List.{length-map}
-use Rattle.mailmap_findings.specs.Positions.{lines, located}
+use Rattle.mailmap_findings.specs.Positions.{located_lines, located}
 use Rattle.mailmap_redundancy.specs.Redundancy.{entries}
 use Rattle.mailmap_likeness.specs.Likeness.{IsAdded, answered, is_answer}
 use Rattle.mailmap_likeness.specs.declared.answers.Added.TheVariants.{Known, New}
@@ -15,7 +15,7 @@ returns-in-New-clause-taken c = λ mailmaps contacts line rest taken number_is i
     let name = c.args.name.now in
     let email = c.args.email.now in
     let answers = c.add_answer.new.answers in
-    let a = numbered_answer (entries (located (lines mailmaps))) name email c.args.number in
+    let a = numbered_answer (entries (located (located_lines mailmaps))) name email c.args.number in
     let added : IsAdded a s.answers answers (New c.in-New.likeness) =
     subst (λ h. IsAdded (numbered_answer (entries h) name email c.args.number) s.answers answers (New c.in-New.likeness)) (c.add_contact.ensures.history ∙ taken.history)
     (subst (IsAdded (numbered_answer (entries c.add_contact.new.self.history) name email c.args.number) s.answers answers) c.in-New.is c.in_ok-added.ensures.ok) in
@@ -33,7 +33,7 @@ returns-in-Known-clause-taken c = λ mailmaps contacts line rest taken number_is
     let name = c.args.name.now in
     let email = c.args.email.now in
     let answers = c.add_answer.new.answers in
-    let a = numbered_answer (entries (located (lines mailmaps))) name email c.args.number in
+    let a = numbered_answer (entries (located (located_lines mailmaps))) name email c.args.number in
     let added : IsAdded a s.answers answers Known =
     subst (λ h. IsAdded (numbered_answer (entries h) name email c.args.number) s.answers answers Known) (c.add_contact.ensures.history ∙ taken.history)
     (subst (IsAdded (numbered_answer (entries c.add_contact.new.self.history) name email c.args.number) s.answers answers) c.in-Known.is c.in_ok-added.ensures.ok) in

@@ -2,7 +2,7 @@ use Rattle.std.proofs.Common.{◌≡◌, ◌∙◌, false, ap, sym}
 use Rattle.mailmap_grammar.specs.Lines.{Unclosed, contact_in}
 use Rattle.mailmap_findings.specs.Needs.{is_contact, is_empty}
 use Rattle.mailmap_grammar.specs.Trimming.{trim}
-use Rattle.mailmap_findings.proofs.Taking.{unclosed_some}
+use Rattle.mailmap_findings.proofs.ContactNeeds.{unclosed_some}
 use Rattle.verify_command.proofs.Taking.{empty_by_length, on_ok_both, taken_none}
 use Rattle.verify_command.proofs.contact_report.ContactReport.add_new_line.Goals as goal
 

@@ -1,6 +1,6 @@
 use Rattle.std.proofs.Common.{◌++◌, ◌∙◌, List, ℕ, Vec, Global, ap, codes, map}
 use Rattle.std.proofs.lemmas.Result.{on_ok_weaker}
-use Rattle.mailmap_snapshot.specs.Contacts.{replaced}
+use Rattle.mailmap_snapshot.specs.Contacts.{contact_with}
 use Rattle.mailmap_findings.specs.Explanations.{explained}
 use Rattle.mailmap_redundancy.specs.Origins.{origins}
 use Rattle.mailmap_entries.specs.Semantics.{answer_of}
@@ -21,9 +21,9 @@ returns c =
     let g = origins s.explanations.kept name email in
     on_ok_weaker c.push_positions.result
     (λ e.
-    mapped_pieces old c.extend_from_slice-2.new.self.items c.push_replaced.new.text.items c.extend_from_slice-3.new.self.items c.push_positions.new.text.items (codes " is ") (replaced found name email) (codes " by ")
+    mapped_pieces old c.extend_from_slice-2.new.self.items c.push_replaced.new.text.items c.extend_from_slice-3.new.self.items c.push_positions.new.text.items (codes " is ") (contact_with found name email) (codes " by ")
     _ c.in_ok-extend_from_slice.ensures.items c.in_ok-push_replaced.ensures c.in_ok-extend_from_slice-2.ensures.items e
-    ∙ ap (λ ps. old ++ (codes " is " ++ replaced found name email ++ codes " by " ++ positions_text paths ps)) c.in-Some.ensures.positions
+    ∙ ap (λ ps. old ++ (codes " is " ++ contact_with found name email ++ codes " by " ++ positions_text paths ps)) c.in-Some.ensures.positions
     ∙ ap (λ o. old ++ mapped_text paths g o name email) c.in-Some.ensures.fields
     ∙ ap (λ (x : Grounds). old ++ mapped_text x.paths (origins x.kept name email) (answer_of (entries x.history) name email) name email) c.self.view_is)
     c.push_positions.ensures

@@ -1,4 +1,4 @@
--- `into_box`: what the parts own is what std's own call asks for, and the box that it makes is the result.
+-- `into_box` calls std's function, which requires what the parts own, and returns the box that this makes.
 use Rattle.std.proofs.Common.{◌≡◌, T, List, [], ◌∷◌, ◌++◌, refl, sym, ap, subst}
 use mir.Syntax.{Body, place, copy, assign, rv_opd, seq, return}
 use mir.MapTy.{inst_fn}

@@ -1,4 +1,4 @@
--- `of`: the box is opened by std's own call, and what that call hands back is what the parts own.
+-- `of` opens the box by std's function, and the parts own what this returns.
 use Rattle.std.proofs.Common.{◌≡◌, List, [], ◌∷◌, ◌++◌, refl, sym, ap, ◌∙◌, subst}
 use mir.Syntax.{Args, a_type, dcons, dnil}
 use mir.MapTy.{inst_fn}

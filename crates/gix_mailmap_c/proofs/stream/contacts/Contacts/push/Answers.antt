@@ -1,4 +1,4 @@
--- What the stream has taken, said of what is pending.
+-- The state after a push, from what the stream has read.
 use Rattle.std.proofs.Common.{◌≡◌, ◌<◌, ◌≤◌, ◌++◌, ℕ, Result, Ok, Err, IfOk, OnOk, length, take, drop, ap, subst, ◌∙◌}
 use Rattle.std.proofs.lemmas.List.{drop-append-le}
 use Rattle.mailmap_entries.specs.Folding.{Text}

@@ -1,4 +1,4 @@
--- `contacts` lends what the pointer leads to, and the handle follows it.
+-- `contacts` lends the stream behind the pointer. After the borrow the handle has the state that the borrower left.
 use mathlib.Core.Path.{◌≡◌, refl, sym, ap, ◌∙◌}
 use mathlib.Core.List.{List, [], ◌∷◌, ◌++◌}
 use mathlib.Core.Bool.{true}
@@ -43,8 +43,8 @@ use Rattle.std_heap.specs.contracts.Global as Heap
 use Rattle.std_heap.specs.contracts.GlobalAllocator.TheImpl.{ghosts}
 use Rattle.gix_mailmap_c.specs.Streamed.{Pending}
 use Rattle.gix_mailmap_c.specs.contracts.stream.contacts.Contacts as Contacts
-use Rattle.gix_mailmap_c.specs.StreamHeld.{streaming}
-use Rattle.gix_mailmap_c.specs.StreamLent.{with_pending}
+use Rattle.gix_mailmap_c.specs.StreamOwnership.{owns_stream}
+use Rattle.gix_mailmap_c.specs.StreamBorrowing.{with_pending}
 use Rattle.gix_mailmap_c.specs.declared.stream.held.Stream.{Stream}
 use Rattle.gix_mailmap_c.specs.contracts.stream.held.Stream as Handle
 use Rattle.gix_mailmap_c.specs.contracts.stream.held.lent.contacts as F
@@ -81,7 +81,7 @@ module _ {M : Type 1} {𝓤 : Ura M} (𝓛 : Logic 𝓤) (at_mem : Memory → SP
         -- [the token; the allocator; the word; the contacts]
         move ! (3 ∷ 0 ∷ []) $ fjoin ! $
         rewrite ! 0 (λ p. ‵ (box_owns (ghosts.dealloc_token h.alloc) Contacts.the_row p w)) (sym at_b) refl $
-        rewrite ! 0 (λ t. ‵ (streaming h.alloc t h.at w)) (sym opn) refl $
+        rewrite ! 0 (λ t. ‵ (owns_stream h.alloc t h.at w)) (sym opn) refl $
         nothing ! $ move ! (2 ∷ 0 ∷ []) $ fjoin ! $
         feq_i ! (List Val) (vbool true ∷ []) (vbool h.is_open ∷ []) (ap (λ t. vbool t ∷ []) (sym opn)) $ fjoin ! $
         feq_i ! (List Val) (vptr b o ∷ []) (ptr_val h.at ∷ []) (ap (λ (p : Ptr). ptr_val p ∷ []) (sym at_b)) $ fjoin ! $
@@ -107,7 +107,7 @@ module _ {M : Type 1} {𝓤 : Ura M} (𝓛 : Logic 𝓤) (at_mem : Memory → SP
         fsplit3 ! $ move ! (1 ∷ 2 ∷ 3 ∷ []) $ opens ! tt Handle.the_row {h = h} rb ro (λ us. move ! (1 ∷ []) $
         fsplit ! $ fpick ! (λ vss. fsplit ! $ feq_l ! (λ ev. fsplit ! $ feq_l ! (λ ep. fsplit ! $ feq_l ! (λ eb. fsplit ! $ handle_tells E.al ! h.alloc vss.1.1.0 (λ hv ea fa.
         -- [the allocator; nothing; what is held; the word; the borrow]
-        move ! (2 ∷ []) $ rewrite ! 0 (λ t. ‵ (streaming h.alloc t h.at h.pending)) opn refl $
+        move ! (2 ∷ []) $ rewrite ! 0 (λ t. ‵ (owns_stream h.alloc t h.at h.pending)) opn refl $
         in_a_block ! h.at (λ p. box_owns (ghosts.dealloc_token h.alloc) Contacts.the_row p h.pending) (fst∗ 𝓤 (never 𝓤) (sem 𝓛 (ghosts.dealloc_token h.alloc (bare (τ E)) null_ptr))) (λ b o e.
         fsplit ! $
         let is : us ≡ word hv b o ∷ [] = ev ∙ (λ j. vstruct (of_list ((ep ∙ ap (λ (p : Ptr). ptr_val p ∷ []) e) j ++ ((eb ∙ ap (λ t. vbool t ∷ []) opn) j ++ (ea j ++ [])))) ∷ []) in

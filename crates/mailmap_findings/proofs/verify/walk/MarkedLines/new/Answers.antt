@@ -2,7 +2,7 @@ use Rattle.std.proofs.Common.{map, subst, sym}
 use Rattle.mailmap_redundancy.specs.Redundancy.{IsSublist, located_of_reference}
 use Rattle.mailmap_findings.specs.Marked.{AreApart}
 use Rattle.mailmap_findings.specs.Positions.{located}
-use Rattle.mailmap_findings.proofs.Placing.{apart_lines}
+use Rattle.mailmap_findings.proofs.BufferLines.{apart_lines}
 use Rattle.mailmap_findings.proofs.verify.walk.MarkedLines.new.Goals as goal
 
 pub invariant_of-result : goal.invariant_of-result

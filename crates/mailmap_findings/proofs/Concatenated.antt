@@ -24,11 +24,11 @@ joined-whole_lines (b ∷ s) =
 
 -- ---- when texts are the lines of their concatenation
 
--- a line feed at the end, and nowhere else
+-- the text has a line feed at its end, and nowhere else
 abbrev IsEnded : Text → Type 0
 IsEnded t = (front : Text) × HoldsNo 10 front × (t ≡ front ++ 10 ∷ [])
 
--- not empty, and without a line feed
+-- the text is not empty, and has no line feed
 abbrev IsOpen : Text → Type 0
 IsOpen t = (t ≢ []) × HoldsNo 10 t
 
@@ -94,7 +94,7 @@ some_whole test (l ∷ ls) are =
       | false ↦ some_whole test ls are.1
     ]
 
--- all but one
+-- a list with a line in it has a text in it
 some_there : (a c : List Line) (l : Line) → texts (a ++ l ∷ c) ≢ []
 some_there [] c l = λ e. cc
 some_there (k ∷ a) c l = λ e. cc

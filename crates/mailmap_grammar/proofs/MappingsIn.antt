@@ -1,4 +1,4 @@
--- The mappings among some readings, by the first reading.
+-- The mappings among readings, from the first reading and those of the others.
 use Rattle.std.proofs.Common.{◌≡◌, ◌≤◌, Result, Ok, Err, List, [], ◌∷◌, ◌++◌, length, option_to_list, arith, refl, sym, ap, ◌∙◌}
 use Rattle.mailmap_entries.specs.declared.entry.Entry.{Entry}
 use Rattle.mailmap_grammar.specs.declared.lines.Error.{Error}

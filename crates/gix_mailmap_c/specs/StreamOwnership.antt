@@ -8,6 +8,6 @@ use Rattle.std.specs.contracts.impls.GlobalAllocator.TheImpl.{ghosts}
 use Rattle.gix_mailmap_c.specs.Streamed.{Pending}
 use Rattle.gix_mailmap_c.specs.contracts.stream.contacts.Contacts.{the_row}
 
-abbrev pub streaming : Global → Bool → Ptr → Pending → Fml
-streaming alloc true at pending = box_owns (ghosts.dealloc_token alloc) the_row at pending
-streaming alloc false at pending = ftrue
+abbrev pub owns_stream : Global → Bool → Ptr → Pending → Fml
+owns_stream alloc true at pending = box_owns (ghosts.dealloc_token alloc) the_row at pending
+owns_stream alloc false at pending = ftrue

@@ -3,7 +3,7 @@ use Rattle.mailmap_grammar.specs.Lines.{strict_reading}
 use Rattle.mailmap_findings.specs.Findings.{reported_of_reading}
 use Rattle.mailmap_findings.specs.Positions.{entry}
 use Rattle.mailmap_findings.proofs.Read.{same_entry, same_reported}
-use Rattle.mailmap_findings.proofs.verify.reading.read_strictly.Goals as goal
+use Rattle.mailmap_findings.proofs.verify.reading.finding_and_entry.Goals as goal
 
 pub returns-clause-reported : goal.returns-clause-reported
 returns-clause-reported c =

@@ -24,8 +24,8 @@ pub record IsOutOfMemory {X : Type 0} (before after : List X) (needed status : �
   pub kept : after ≡ before
 
 -- a text with the property P is written if it fits; or memory ran out
-abbrev pub IsHanded : {X : Type 0} → (List X → Type 0) → List X → List X → ℕ → ℕ → Type 0
-IsHanded {X} P before after needed status =
+abbrev pub IsOutput : {X : Type 0} → (List X → Type 0) → List X → List X → ℕ → ℕ → Type 0
+IsOutput {X} P before after needed status =
     ((text : List X) × P text × IsPut text before after needed status)
     ⊎ IsOutOfMemory before after needed status
 

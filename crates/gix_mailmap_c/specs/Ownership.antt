@@ -8,6 +8,6 @@ use Rattle.std.specs.Global.{Global}
 use Rattle.std.specs.contracts.impls.GlobalAllocator.TheImpl.{ghosts}
 use Rattle.mailmap_snapshot.specs.contracts.snapshot.Snapshot.{the_row}
 
-abbrev pub held : Global → Bool → Ptr → List Mapping → Fml
-held alloc true at entries = box_owns (ghosts.dealloc_token alloc) the_row at entries
-held alloc false at entries = ftrue
+abbrev pub owns_snapshot : Global → Bool → Ptr → List Mapping → Fml
+owns_snapshot alloc true at entries = box_owns (ghosts.dealloc_token alloc) the_row at entries
+owns_snapshot alloc false at entries = ftrue

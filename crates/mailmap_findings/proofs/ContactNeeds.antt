@@ -63,7 +63,7 @@ pub removed : (ps : List Position) (q : Position) → list_any (eq_by_cmp positi
 removed ps q none =
     removed_key (eq_by_cmp position_cmp q) ps none ∙ filter_agree _ _ (λ p. ap not (is_equal q p ∙ sym (or_false (same_position p q)))) ps
 
--- an answer that needs no line
+-- an answer that needs no line removes nothing
 pub removed_none : (ps : List Position) → ps ≡ filter (λ p. not (list_any (same_position p) (option_to_list None))) ps
 removed_none ps = sym (filter_none ps)
 
@@ -79,19 +79,19 @@ removed_both ps xs ys =
     ∙ filter_agree _ _ (λ p. ap not (sym (list_any-append (same_position p) xs ys))) ps
 
 -- a line that is no contact needs nothing
-pub no_contact_takes : (kept : List LocatedMapping) (ps : List Position) → ps ≡ filter (λ p. not false) ps
-no_contact_takes kept ps = sym (filter_none ps)
+pub no_contact_needs : (kept : List LocatedMapping) (ps : List Position) → ps ≡ filter (λ p. not false) ps
+no_contact_needs kept ps = sym (filter_none ps)
 
--- one more line of contacts
-pub taken_more : (kept : List LocatedMapping) (ls : List Text) (l : Text) (ps : List Position)
+-- the unneeded lines after one more line of contacts
+pub unneeded_more : (kept : List LocatedMapping) (ls : List Text) (l : Text) (ps : List Position)
     → filter (λ p. not (contact_needs kept (contact_in l) p)) (filter (λ p. not (any_needs kept ls p)) ps) ≡ filter (λ p. not (any_needs kept (ls ++ l ∷ []) p)) ps
-taken_more kept ls l ps =
+unneeded_more kept ls l ps =
     filter_both (λ p. any_needs kept ls p) (λ p. contact_needs kept (contact_in l) p) ps
     ∙ filter_agree _ _ (λ p. ap not (ap (λ b. any_needs kept ls p || b) (sym (or_false (contact_needs kept (contact_in l) p))) ∙ sym (list_any-append (λ line. contact_needs kept (contact_in line) p) ls (l ∷ [])))) ps
 
--- before the first line of contacts
-pub taken_none : (kept : List LocatedMapping) (ps : List Position) → ps ≡ filter (λ p. not (any_needs kept [] p)) ps
-taken_none kept ps = sym (filter_none ps)
+-- before the first line of contacts, all lines with an effect are unneeded
+pub unneeded_none : (kept : List LocatedMapping) (ps : List Position) → ps ≡ filter (λ p. not (any_needs kept [] p)) ps
+unneeded_none kept ps = sym (filter_none ps)
 
 -- ---- lines
 

@@ -1,7 +1,7 @@
 use Rattle.std.proofs.Common.{◌≡◌, Bool, true, false, IsTrue, refl, subst, sym}
 use Rattle.gix_mailmap.specs.Semantics.{IsNormal}
 use Rattle.gix_mailmap.specs.Lines.{mappings_of}
-use Rattle.caller_promises.proofs.pruning.say_the_same.Goals as goal
+use Rattle.caller_promises.proofs.pruning.are_equivalent.Goals as goal
 
 is_false : (b : Bool) → (IsTrue b → ⊥) → b ≡ false
 is_false true f = absurd (f refl)
@@ -12,8 +12,8 @@ returns-clause-without_one c = λ buffer pruned without.
     let whole = c.in_ok-whole.whole in
     let rest = c.in_ok-rest.rest in
     is_false c.eq.result (λ t.
-    c.law_none_left.ensures.text buffer c.args.pruned.now without.before without.after without.line without.said whole rest
-    pruned without.whole without.says c.in_ok-whole.ensures.ok
+    c.law_none_left.ensures.text buffer c.args.pruned.now without.before without.after without.line without.mapping whole rest
+    pruned without.whole without.is_entry c.in_ok-whole.ensures.ok
     (subst (λ s. IsNormal (mappings_of s) rest) without.rest c.in_ok-rest.ensures.ok)
     (c.eq.ensures.same.0 t))
 

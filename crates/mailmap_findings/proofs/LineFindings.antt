@@ -6,19 +6,19 @@ use Rattle.std.proofs.lemmas.List.{map-append}
 use Rattle.mailmap_entries.specs.Entries.{Mapping}
 use Rattle.mailmap_grammar.specs.Lines.{strict_reading}
 use Rattle.mailmap_redundancy.specs.Redundancy.{LocatedMapping}
-use Rattle.mailmap_findings.specs.Findings.{Finding, Reported, git_reads, line_findings, read_otherwise, reported_of_entry, reported_of_reading}
+use Rattle.mailmap_findings.specs.Findings.{Finding, FindingKind, git_reads, line_findings, read_otherwise, reported_of_entry, reported_of_reading}
 use Rattle.mailmap_findings.specs.Positions.{Line, entry, located, located_entry}
 use Rattle.mailmap_findings.specs.Clean.{is_clean, are_clean}
 
-abbrev pub reported_at : Line → Reported → Finding
-reported_at l t = record { position = l.position; reported = t }
+abbrev pub reported_at : Line → FindingKind → Finding
+reported_at l t = record { position = l.position; kind = t }
 
 mapped : {X Y : Type 0} (f : X → Y) (o : Option X) → map f (option_to_list o) ≡ option_to_list (option_map f o)
 mapped f None = refl
 mapped f (Some x) = refl
 
 -- the three kinds of findings together
-pub found_all : (h : List Mapping) (kept : List LocatedMapping) (is_kept : Bool) (l : Line) (of_text of_git of_entry : Option Reported)
+pub found_all : (h : List Mapping) (kept : List LocatedMapping) (is_kept : Bool) (l : Line) (of_text of_git of_entry : Option FindingKind)
     → of_text ≡ reported_of_reading l.text (strict_reading l.position.line l.text) → of_git ≡ option_map git_reads (read_otherwise l)
     → of_entry ≡ option_and_then (reported_of_entry h kept is_kept) (entry l)
     → option_to_list (option_map (reported_at l) of_text) ++ option_to_list (option_map (reported_at l) of_git) ++ option_to_list (option_map (reported_at l) of_entry) ≡ line_findings h kept is_kept l
