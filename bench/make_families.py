@@ -273,7 +273,7 @@ FAMILIES = [
     Family("comments", "an entry, and lines `#`", lambda n: Made([chain([entry(0)], repeated(b"#\n", 2 * n))], 1)),
     Family("short comments", "an entry, and comments of eight bytes", silent_lines(b"# notes\n")),
     Family("long comments", "an entry, and comments of forty bytes", silent_lines(b"# %s\n" % (b"c" * 37))),
-    Family("white lines", "an entry, and lines with a blank and a tab", silent_lines(b" \t\n")),
+    Family("white lines", "an entry, and lines with a space and a tab", silent_lines(b" \t\n")),
     Family("faulty lines", "lines `x`", lambda n: Made([repeated(b"x\n", 2 * n)], 0)),
     Family("files of 16 lines", "the random map in files of 16 lines", lambda n: Made(files(n, 16), n)),
     Family("files of 17 lines", "the random map in files of 17 lines", lambda n: Made(files(n, 17), n)),

@@ -28,7 +28,7 @@ FAMILIES = {
     "white lines": 4,
     "contact of contacts": 40,
     "contact of <>": 40,
-    "contact of blanks": 40,
+    "contact of spaces": 40,
     "contact of zero bytes": 40,
 }
 PORT, ORIGINAL, GIT = NAMES = ["mailmap_check", "original", "git"]

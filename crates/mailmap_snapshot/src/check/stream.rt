@@ -221,7 +221,9 @@ fn is_own_answer(line: &[u8]) -> bool
     }
 }
 
-// Does what `push_cached_answer` does, but doesn't hash a line that is too long for the cache.
+// Does what `push_cached_answer` does, but doesn't hash a line that is too long for the cache. It stands apart so that
+// `push_line` is short enough to be inlined.
+#[inline(never)]
 fn push_line_answer(
     text: &mut Vec<u8>,
     snapshot: &Snapshot,
