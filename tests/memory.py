@@ -18,6 +18,7 @@ from measuring import Failed, built, mebibytes, run, scratch, succeeded
 
 CHECK, COMPACT = "mailmap_check", "mailmap_check --compact"
 VERIFY, PRUNE = "mailmap_verify", "mailmap_verify --prune"
+BESIDE = "mailmap_verify --contacts -"
 NAMES, EMAILS = "mailmap_shortlog -n", "mailmap_shortlog -e"
 # fail at this limit, not at the memory of the machine
 ADDRESSES = 4 << 30
@@ -70,7 +71,8 @@ def long_text_traps() -> Iterator[Trap]:
     text = b"L" * 64_000
     contacts = b"".join(b"%d <a>\n" % number for number in range(10_000))
     for what, line in [("name", text + b" <a>\n"), ("email", b"<" + text + b"> <a>\n")]:
-        yield Trap(f"a long {what} of many contacts", [line], [comment(len(line))], [NAMES, EMAILS], 1.1, contacts)
+        programs = [NAMES, EMAILS, BESIDE]
+        yield Trap(f"a long {what} of many contacts", [line], [comment(len(line))], programs, 1.1, contacts)
 
 
 def traps() -> Iterator[Trap]:
@@ -118,6 +120,7 @@ class Programs:
             COMPACT: [check, "--compact"],
             VERIFY: [verify],
             PRUNE: [verify, "--prune"],
+            BESIDE: [verify, "--contacts", "-"],
             NAMES: [shortlog, "-n"],
             EMAILS: [shortlog, "-e"],
         }

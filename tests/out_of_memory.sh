@@ -72,8 +72,8 @@ printf '     1\tJoe R. Developer <joe@example.com>\n' > "$work/counted"
 printf 'mailmap:1: warning: no contact needs it\n' > "$work/beside"
 {
     printf '<stdin>:2: error: no contact\n'
-    printf '<stdin>:3: warning: BOB <B@example.com> has the email of bob <b@example.com>, <stdin>:1\n'
-    printf '<stdin>:4: note: bob <bob@example.com> has the name of bob <b@example.com>, <stdin>:1\n'
+    printf '<stdin>:3: warning: BOB <B@example.com> (1) has the email of bob <b@example.com> (1)\n'
+    printf '<stdin>:4: note: bob <bob@example.com> (1) has the name of bob <b@example.com> (1)\n'
 } >> "$work/beside"
 
 # arguments NUMBER PATH FIRST..: the arguments of a case with this many files, the first of them with this path.

@@ -1,8 +1,10 @@
 """The model of `mailmap_verify --explain` and `--contacts`.
 
 The definitions are in `specs` of `mailmap_redundancy` (`Origins`), `mailmap_findings` (`Explanations`, `Needs`,
-`Remarks`), `mailmap_likeness` (`Likeness`) and `verify_command` (`Explained`, `Contacts`, `Alike`).
+`Remarks`), `mailmap_contacts` (`Contacts`, `Proper`, `Comparisons`) and `verify_command` (`Explained`, `Contacts`).
 """
+from typing import NamedTuple
+
 from findings import Mailmaps, contact_text, findings, position_text, short_contact_text
 from mailmap import answer, contact_of, folded, lines, new_fields, trim
 from shown import shown
@@ -55,38 +57,52 @@ def needed(mailmaps, contacts):
     }
 
 
-def alike(earlier, name, email):
-    """The first earlier answers with the email of a new answer, and with its name and another email.
+class Answer(NamedTuple):
+    """A distinct answer to contacts, how often it comes, and its first line."""
+    name: bytes
+    email: bytes
+    count: int
+    line: int
 
-    Each comes with whether it counts for the status, and with its words.
-    """
-    if any(other[:2] == (name, email) for other in earlier):
-        return []
-    same_email = [other for other in earlier if folded(other[1]) == folded(email)]
-    same_name = [
-        other for other in earlier if name and folded(other[0]) == folded(name) and folded(other[1]) != folded(email)
-    ]
-    return [(True, b"warning", b"email", other) for other in same_email[:1]] + [
-        (False, b"note", b"name", other) for other in same_name[:1]  # they may be two people
-    ]
+    def text(self):
+        return b"%b (%d)" % (short_contact_text(self.name, self.email), self.count)
 
 
-def said_of_contacts(mailmaps, contacts, file):
+def answers_of(mailmaps, contacts):
+    """The distinct answers to contacts, given with their lines."""
+    seen = {}
+    for number, contact in contacts:
+        seen.setdefault(answer(mailmaps.merged, *contact), []).append(number)
+    return [Answer(*key, len(numbers), numbers[0]) for key, numbers in seen.items()]
+
+
+def proper(group):
+    """Of those with a name, or of all, the one that comes most often; of several of these the first one."""
+    return min(group, key=lambda one: (not one.name, -one.count, one.line))
+
+
+def compared(answers, field):
+    """Pairs of answers and proper ones that share a field, and the answers that are proper."""
+    groups = {}
+    for one in answers:
+        if folded(one[field]):
+            groups.setdefault(folded(one[field]), []).append(one)
+    best = [proper(group) for group in groups.values()]
+    pairs = [(one, proper(group)) for group in groups.values() for one in group if one != proper(group)]
+    return pairs, best
+
+
+def said_of_contacts(mailmaps, text, file):
     """The findings about contacts, line by line, each with whether it counts for the status."""
-    earlier = []
-    for number, line in enumerate(lines(contacts), 1):
-        contact = contact_of(line)
-        if contact is None:
-            if trim(line):
-                yield True, b"%b:%d: error: no contact" % (file, number)
-            continue
-        name, email = answer(mailmaps.merged, *contact)
-        for counts, level, likeness, other in alike(earlier, name, email):
-            yield counts, b"%b:%d: %b: %b has the %b of %b, %b:%d" % (
-                file, number, level, short_contact_text(name, email),
-                likeness, short_contact_text(*other[:2]), file, other[2],
-            )
-        earlier.append((name, email, number))
+    numbered = [(number, contact_of(line), line) for number, line in enumerate(lines(text), 1)]
+    said = [(number, True, b"error: no contact") for number, contact, line in numbered if not contact and trim(line)]
+    answers = answers_of(mailmaps, [(number, contact) for number, contact, _ in numbered if contact])
+    by_email, best = compared([one for one in answers if one.email], 1)
+    by_name, _ = compared(best, 0)
+    said += [(one.line, True, b"warning: %b has the email of %b" % (one.text(), of.text())) for one, of in by_email]
+    # they may be two people
+    said += [(one.line, False, b"note: %b has the name of %b" % (one.text(), of.text())) for one, of in by_name]
+    return [(counts, b"%b:%d: %b" % (file, number, words)) for number, counts, words in sorted(said)]
 
 
 def verify_contacts(buffers, names, contacts, file):

@@ -113,9 +113,9 @@ def beside(program):
     Path("\x1b").write_bytes(b"jd <JD@old>\njane\x1b <JANE@x>\r\n\n \t\nplain\nJane Doe <q@x>\njd <JD@old>\n")
     unneeded = b"team:2: warning: no contact needs it\n"
     said = (
-        b"\\x1b:2: warning: jane\\x1b <JANE@x> has the email of Jane Doe <jane@x>, \\x1b:1\n"
+        b"\\x1b:2: warning: jane\\x1b <JANE@x> (1) has the email of Jane Doe <jane@x> (2)\n"
         b"\\x1b:5: error: no contact\n"
-        b"\\x1b:6: note: Jane Doe <q@x> has the name of Jane Doe <jane@x>, \\x1b:1\n"
+        b"\\x1b:6: note: Jane Doe <q@x> (1) has the name of Jane Doe <jane@x> (2)\n"
     )
     contacts, team = Path("\x1b").read_bytes(), Path("team").read_bytes()
     wants("contacts", run(program, ["--contacts", "\x1b", "team"]), 1, unneeded + said)
@@ -126,7 +126,7 @@ def beside(program):
     shown = unneeded + said.replace(b"\\x1b:", b"<stdin>:")
     wants("contacts of standard input", run(program, ["--contacts", "-", "team"], contacts), 1, shown)
     wants("contacts without a mailmap", run(program, ["--contacts", "-"], b"J <j@x>\nJ <j@y>\n"), 0,
-          b"<stdin>:2: note: J <j@y> has the name of J <j@x>, <stdin>:1\n")
+          b"<stdin>:2: note: J <j@y> (1) has the name of J <j@x> (1)\n")
     wants("no contacts", run(program, ["--contacts", "-", "team"]), 1, unneeded.replace(b"2", b"1") + unneeded)
     said = b"mailmap_verify: -: No such file or directory\n"
     wants("- beside -", run(program, ["--contacts", "-", "-"], contacts), 2, b"", said)
@@ -144,7 +144,7 @@ def many_beside(program, size=1 << 20):
     Path("team").write_bytes(b"Joe <joe@x> <joe@y>\n")
     printed = (
         b"team:1: warning: no contact needs it\n"
-        b"<stdin>:100001: warning: " + short + b" <joe@x> has the email of Joe <joe@x>, <stdin>:1\n"
+        b"<stdin>:100001: warning: " + short + b" <joe@x> (2) has the email of Joe <joe@x> (100000)\n"
         b"<stdin>:100002: error: no contact\n"
     )
     wants("long contacts", run(program, ["--contacts", "-", "team"], contacts), 1, printed)
@@ -152,7 +152,7 @@ def many_beside(program, size=1 << 20):
     wants("many contacts", run(program, ["--contacts", "-"], contacts), 0, b"")
     contacts += contacts.lower()
     printed = b"".join(
-        b"<stdin>:%d: warning: j%d <j%d@x> has the email of J%d <J%d@x>, <stdin>:%d\n" % (20_001 + k, k, k, k, k, k + 1)
+        b"<stdin>:%d: warning: j%d <j%d@x> (4) has the email of J%d <J%d@x> (4)\n" % (20_001 + k, k, k, k, k)
         for k in range(5000)
     )
     wants("many contacts that are alike", run(program, ["--contacts", "-"], contacts), 1, printed)
@@ -162,7 +162,7 @@ def hostile_beside(program, size=10_000_000):
     """Lines of contacts can have any length and any bytes, and the last one needs no line feed."""
     long = b"x" * size
     no_contact = b"<stdin>:1: error: no contact\n"
-    zeros = b"<stdin>:2: warning: j\\x00 <J@X\\x00> has the email of J\\x00 <j@x\\x00>, <stdin>:1\n"
+    zeros = b"<stdin>:2: warning: j\\x00 <J@X\\x00> (1) has the email of J\\x00 <j@x\\x00> (1)\n"
     for what, contacts, status, printed in [
         ("a long name", long + b" <j@x>", 0, b""),
         ("a long email", b"J <" + long + b">", 0, b""),

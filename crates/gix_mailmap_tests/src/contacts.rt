@@ -91,8 +91,8 @@ fn contacts_are_reported_beside_mailmaps(rt: HostRuntime) {
             &["mailmap"],
             Ok(Outcome::Found),
             b"<stdin>:2: error: no contact\n\
-              <stdin>:3: warning: B <M@y> has the email of M <m@y>, <stdin>:1\n\
-              <stdin>:6: note: m <q@x> has the name of M <m@y>, <stdin>:1\n",
+              <stdin>:3: warning: B <M@y> (1) has the email of M <m@y> (2)\n\
+              <stdin>:6: note: m <q@x> (1) has the name of M <m@y> (2)\n",
         ),
         (
             "one",
@@ -108,7 +108,7 @@ fn contacts_are_reported_beside_mailmaps(rt: HostRuntime) {
             Ok(Outcome::Found),
             b"one:1: error: no email in brackets\n\
               <stdin>:2: error: no contact\n\
-              <stdin>:3: note: B <M@y> has the name of b <A@x>, <stdin>:1\n",
+              <stdin>:3: note: B <M@y> (1) has the name of b <A@x> (2)\n",
         ),
         (
             "three",
@@ -142,6 +142,49 @@ fn contacts_are_reported_beside_mailmaps(rt: HostRuntime) {
         let mut output = Vec::new(rt.alloc());
         let end = reported(rt.alloc(), contacts, names, &mut input, &mut output);
         assert_eq!(rt; end, *ended);
+        assert_bytes(&rt, &output, want);
+    }
+}
+
+/// The proper answer of an email or a name comes most often. One with a name is preferred, and then the first one. An
+/// answer without an email is compared with no other, and names only if they are proper for their emails.
+#[test]
+fn answers_are_compared_with_the_proper_ones(rt: HostRuntime) {
+    static ROWS: [(&[u8], Outcome, &[u8]); 6] = [
+        (
+            b"j <a@x>\nJ <A@x>\nJ <A@x>\n",
+            Outcome::Found,
+            b"<stdin>:1: warning: j <a@x> (1) has the email of J <A@x> (2)\n",
+        ),
+        (
+            b"j <a@x>\nk <a@x>\nj <a@x>\nk <a@x>\n",
+            Outcome::Found,
+            b"<stdin>:2: warning: k <a@x> (2) has the email of j <a@x> (2)\n",
+        ),
+        (
+            b"<a@x>\n<a@x>\nJ <a@x>\n",
+            Outcome::Found,
+            b"<stdin>:1: warning: <a@x> (2) has the email of J <a@x> (1)\n",
+        ),
+        (b"J <>\nK <>\nJ <a@x>\n", Outcome::Clean, b""),
+        (
+            b"J <a@x>\nJ <b@x>\nJ <b@x>\nJ <c@x>\nj <c@x>\nj <c@x>\n",
+            Outcome::Found,
+            b"<stdin>:1: note: J <a@x> (1) has the name of J <b@x> (2)\n\
+              <stdin>:4: warning: J <c@x> (1) has the email of j <c@x> (2)\n\
+              <stdin>:5: note: j <c@x> (2) has the name of J <b@x> (2)\n",
+        ),
+        (
+            b"J <a@x>\n<b@x>\n<c@x>\nj <d@x> end\n",
+            Outcome::Clean,
+            b"<stdin>:4: note: j <d@x> (1) has the name of J <a@x> (1)\n",
+        ),
+    ];
+    for (contacts, outcome, want) in &ROWS {
+        let mut input: &[u8] = contacts;
+        let mut output = Vec::new(rt.alloc());
+        let end = reported(rt.alloc(), "-", &["empty"], &mut input, &mut output);
+        assert_eq!(rt; end, Ok(*outcome));
         assert_bytes(&rt, &output, want);
     }
 }

@@ -1,8 +1,6 @@
 mod Fronts
 mod Explaining
 mod Grounded
-mod Firsts
-mod Taking
 mod TakingLines
 mod Leaving
 mod Reporting

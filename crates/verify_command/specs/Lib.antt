@@ -1,8 +1,6 @@
-pub mod Alike
 pub mod Contacts
 pub mod Explained
 pub mod Report
 pub mod Shortened
-pub mod Taken
 pub mod Taking
 pub mod Task

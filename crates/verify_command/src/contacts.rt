@@ -2,7 +2,7 @@
 ghost use Rattle.std.specs.Prelude.{◌≡◌, ◌≢◌, ◌⊎◌, ◌++◌, [], ℕ, IfErr, IfOk, IfSome, IsErr, IsErrOf, List, OnErr, OnOk};
 ghost use Rattle.std.specs.Prelude.{Option, false, map, take, true};
 ghost use Rattle.std.specs.Io.KnownBytes.{Appends, IsAtEnd};
-ghost use Rattle.std.specs.List.{flat_map};
+ghost use Rattle.std.specs.List.{flat_map, list_any};
 ghost use Rattle.mailmap_entries.specs.Folding.{Text};
 ghost use Rattle.mailmap_findings.specs.Positions.{whole_lines};
 ghost use Rattle.mailmap_findings.specs.Remarks.{remark_of};
@@ -10,19 +10,18 @@ ghost use Rattle.command_line.specs.Failures.{IsOfFile, IsOfInput};
 ghost use Rattle.command_line.specs.Files.{NamesFile, texts};
 ghost use Rattle.command_line.specs.Printing.{IsUnderway, Prints, PrintsFront};
 ghost use Rattle.command_line.specs.declared.outcome.Outcome.{Outcome as TheOutcome};
-ghost use Rattle.mailmap_likeness.specs.Likeness.{answered};
-ghost use Rattle.verify_command.specs.Contacts.{IsReportBeside, no_contact, noted, outcome_of_both, remark_line};
-ghost use Rattle.verify_command.specs.Contacts.{said_line, said_text};
-ghost use Rattle.verify_command.specs.Taken.{HasTaken};
+ghost use Rattle.mailmap_contacts.specs.Answers.{shown_finding};
+ghost use Rattle.mailmap_contacts.specs.Counts.{AreContactsOf};
+ghost use Rattle.verify_command.specs.Contacts.{AreFoundBeside, IsReportBeside, outcome_of_both, remark_line};
+ghost use Rattle.verify_command.specs.Contacts.{counts as spec_counts, said_line, said_text};
 ghost use Rattle.verify_command.specs.Taking.{Takes};
 ghost use Rattle.verify_command.specs.Task.{AreContacts, AreMailmapsBeside, FailsFor, FailsForContacts, IsOfMailmap};
 ghost use Rattle.verify_command.specs.Task.{Leaves, ReadsInput, contacts_name, is_dash};
 
 use crate::answer::read_mailmaps;
 use crate::asked::Mode;
-use crate::contact_report::{ContactReport, Notice};
+use crate::comparison::{counts, finding_line};
 use crate::failure::TaskFailure;
-use crate::likeness::{likeness_lines, push_place};
 use crate::report::{line_of, push_position, shown_text};
 use bstr::ByteSlice;
 use command_line::failure::Failure;
@@ -30,17 +29,19 @@ use command_line::files::{FileSystem, list_of, read_files};
 use command_line::lines::read_lines;
 use command_line::outcome::Outcome;
 use command_line::printer::Printer;
+use mailmap_contacts::comparisons::{ContactFinding, findings_of};
+use mailmap_contacts::counter::{ContactCounter, Contacts};
+use mailmap_findings::needs::Needs;
 use mailmap_findings::remarks::{Remark, Remarks};
 use mailmap_findings::verify::{Mailmaps, Position, Verification};
-use mailmap_likeness::answers::Answer;
 use std::alloc::{AllocError, Global};
 use std::io::{ErrorKind, Read, Write};
 
 /// Prints the findings in the mailmaps at these paths and in a file of contacts, and the lines that no contact needs.
 ///
 /// Reads the mailmaps first, then the contacts in parts; `-` is the input. Nothing is written before everything is
-/// read. Memory grows with the mailmaps, with the number of distinct answers, with the number of lines that are no
-/// contacts, and with the longest line, but not with the number of contacts.
+/// read. Memory grows with the mailmaps, with the distinct contacts, with the number of lines that are no contacts, and
+/// with the longest line, but not with the number of contacts.
 pub fn verify_contacts<F: FileSystem, R: Read, W: Write>(
     system: &F,
     alloc: Global,
@@ -62,9 +63,10 @@ pub fn verify_contacts<F: FileSystem, R: Read, W: Write>(
     let mailmaps = read_beside(system, alloc, contacts, paths, input)?;
     let buffers = list_of(alloc, mailmaps.as_slice())?;
     let mailmaps = Mailmaps::read(alloc, buffers.as_slice())?;
-    let mut contact_report = ContactReport::new(alloc, &mailmaps)?;
-    read_contacts(system, alloc, contacts, input, &mut contact_report)?;
-    let outcome = print_both(alloc, contacts, paths, &mailmaps, &contact_report, output)?;
+    let mut contact_counter = ContactCounter::new(alloc)?;
+    read_contacts(system, alloc, contacts, input, &mut contact_counter)?;
+    let counted = contact_counter.into_contacts()?;
+    let outcome = report(alloc, contacts, paths, &mailmaps, &counted, output)?;
     Ok(outcome)
 }
 
@@ -97,22 +99,22 @@ fn read_contacts<F: FileSystem, R: Read>(
     alloc: Global,
     contacts: &[u8],
     input: &mut R,
-    contact_report: &mut ContactReport<'_, '_>,
+    contact_counter: &mut ContactCounter,
 ) -> Result<(), TaskFailure>
     ensures takes { OnOk result ((text : Text) × AreContacts (F.at system.now)
-        contacts.now (R.remaining input.old) text × Takes (whole_lines text) contact_report.old contact_report.new) }
+        contacts.now (R.remaining input.old) text × Takes (whole_lines text) contact_counter.old contact_counter.new) }
     ensures reads_all { is_dash contacts.now ≡ true → OnOk result (IsAtEnd (R.remaining input.new)) }
     ensures unread { is_dash contacts.now ≡ false → input.new ≡ input.old }
     ensures fails { IfErr result (FailsForContacts (F.at system.now) contacts.now) }
 {
     if contacts == b"-".as_slice() {
-        return Ok(add_all(alloc, input, contact_report)?);
+        return Ok(add_all(alloc, input, contact_counter)?);
     }
     let mut file = match system.open(contacts) {
         Ok(file) => file,
         Err(e) => return Err(TaskFailure::Contacts { cause: e.kind() }),
     };
-    match add_all(alloc, &mut file, contact_report) {
+    match add_all(alloc, &mut file, contact_counter) {
         Ok(()) => Ok(()),
         Err(Failure::Input { cause }) => Err(TaskFailure::Contacts { cause }),
         Err(_) => Err(TaskFailure::Run(Failure::Memory)),
@@ -122,10 +124,10 @@ fn read_contacts<F: FileSystem, R: Read>(
 fn add_all<R: Read>(
     alloc: Global,
     reader: &mut R,
-    contact_report: &mut ContactReport<'_, '_>,
+    contact_counter: &mut ContactCounter,
 ) -> Result<(), Failure>
     ensures takes { OnOk result ((text : Text) × IfSome (R.remaining reader.old) (λ bytes. text ≡ bytes)
-        × Takes (whole_lines text) contact_report.old contact_report.new) }
+        × Takes (whole_lines text) contact_counter.old contact_counter.new) }
     ensures end { OnOk result (IsAtEnd (R.remaining reader.new)) }
     ensures only { IfErr result (λ e. IsOfInput e ⊎ (e ≡ Failure.Memory)) }
 {
@@ -133,7 +135,7 @@ fn add_all<R: Read>(
     let mut text = Vec::new(alloc);
     for _ in 0..u64::MAX {
         let more = read_lines(reader, &mut held, &mut text)?;
-        add_lines(contact_report, text.as_slice())?;
+        add_lines(contact_counter, text.as_slice())?;
         if !more {
             return Ok(());
         }
@@ -144,14 +146,51 @@ fn add_all<R: Read>(
     })
 }
 
-fn add_lines(contact_report: &mut ContactReport<'_, '_>, text: &[u8]) -> Result<(), Failure>
-    ensures takes { OnOk result (Takes (whole_lines text.now) contact_report.old contact_report.new) }
+fn add_lines(contact_counter: &mut ContactCounter, text: &[u8]) -> Result<(), Failure>
+    ensures takes { OnOk result (Takes (whole_lines text.now) contact_counter.old contact_counter.new) }
     ensures only { IfErr result (λ e. e ≡ Failure.Memory) }
 {
     for line in text.lines_with_terminator() {
-        contact_report.add_line(line)?;
+        contact_counter.add_line(line)?;
     }
     Ok(())
+}
+
+// Prints the report of the mailmaps and of the contacts that were counted.
+fn report<W: Write>(
+    alloc: Global,
+    contacts: &[u8],
+    paths: &[Vec<u8>],
+    mailmaps: &Mailmaps<'_, '_>,
+    counted: &Contacts,
+    output: &mut W,
+) -> Result<Outcome, Failure>
+    ensures ok { (taken : Text) → AreContactsOf (whole_lines taken) counted.now → IfOk result (λ outcome.
+        Prints (IsReportBeside (texts paths.now) (contacts_name contacts.now) mailmaps.now taken
+        outcome) (W.contents output.old) (W.contents output.new)) }
+    ensures breaks_off { (taken : Text) → AreContactsOf (whole_lines taken) counted.now
+        → IsErrOf result Failure.Output → (outcome : TheOutcome) × PrintsFront (IsReportBeside (texts paths.now)
+        (contacts_name contacts.now) mailmaps.now taken outcome) (W.contents output.old) (W.contents output.new) }
+    ensures memory { (taken : Text) → AreContactsOf (whole_lines taken) counted.now
+        → IsErrOf result Failure.Memory → (output.new ≡ output.old)
+        ⊎ ((outcome : TheOutcome) × PrintsFront (IsReportBeside (texts paths.now)
+        (contacts_name contacts.now) mailmaps.now taken outcome) (W.contents output.old) (W.contents output.new)) }
+    ensures only { IfErr result (λ e. (e ≡ Failure.Memory) ⊎ (e ≡ Failure.Output)) }
+{
+    let mut needs = Needs::new(alloc, mailmaps)?;
+    counted.add_to_needs(&mut needs);
+    let unneeded = needs.unneeded(alloc)?;
+    let answers = counted.answers(alloc, &needs)?;
+    let findings = findings_of(alloc, counted.no_contacts(), answers.as_slice())?;
+    print_both(
+        alloc,
+        contacts,
+        paths,
+        mailmaps,
+        unneeded.as_slice(),
+        findings.as_slice(),
+        output,
+    )
 }
 
 // Prints the findings in the mailmaps and the unneeded lines, and then the findings about the contacts.
@@ -160,32 +199,38 @@ fn print_both<W: Write>(
     contacts: &[u8],
     paths: &[Vec<u8>],
     mailmaps: &Mailmaps<'_, '_>,
-    contact_report: &ContactReport<'_, '_>,
+    unneeded: &[Position],
+    findings: &[ContactFinding<'_, '_>],
     output: &mut W,
 ) -> Result<Outcome, Failure>
-    ensures ok { (taken : Text) → HasTaken mailmaps.now (whole_lines taken) contact_report.now → IfOk result (λ outcome.
-        Prints (IsReportBeside (texts paths.now) (contacts_name contacts.now) mailmaps.now taken
-        outcome) (W.contents output.old) (W.contents output.new)) }
-    ensures err { (taken : Text) → HasTaken mailmaps.now (whole_lines taken) contact_report.now → OnErr result
-        ((outcome : TheOutcome) × PrintsFront (IsReportBeside (texts paths.now)
+    ensures ok { (taken : Text) → AreFoundBeside mailmaps.now taken unneeded.now (map shown_finding findings.now)
+        → IfOk result (λ outcome. Prints (IsReportBeside (texts paths.now) (contacts_name contacts.now) mailmaps.now
+        taken outcome) (W.contents output.old) (W.contents output.new)) }
+    ensures err { (taken : Text) → AreFoundBeside mailmaps.now taken unneeded.now (map shown_finding findings.now)
+        → OnErr result ((outcome : TheOutcome) × PrintsFront (IsReportBeside (texts paths.now)
         (contacts_name contacts.now) mailmaps.now taken outcome) (W.contents output.old) (W.contents output.new)) }
     ensures only { IfErr result (λ e. (e ≡ Failure.Memory) ⊎ (e ≡ Failure.Output)) }
 {
     let verification = Verification::new(alloc, mailmaps)?;
-    let unneeded = contact_report.needs.unneeded(alloc)?;
-    let remarks = Remarks::new(verification.findings(), unneeded.as_slice());
+    let remarks = Remarks::new(verification.findings(), unneeded);
     let outcome = print_remarks(alloc, paths, remarks, output)?;
-    print_notices(
-        alloc,
-        shown_name(contacts),
-        contact_report.answers.as_slice(),
-        contact_report.notices.as_slice(),
-        output,
-    )?;
-    if contact_report.found {
+    print_contact_findings(alloc, shown_name(contacts), findings, output)?;
+    if any_counts(findings) {
         return Ok(Outcome::Found);
     }
     Ok(outcome)
+}
+
+// Whether one of the findings counts for the exit status.
+fn any_counts(findings: &[ContactFinding<'_, '_>]) -> bool
+    ensures { result ≡ list_any spec_counts (map shown_finding findings.now) }
+{
+    for finding in findings {
+        if counts(finding) {
+            return true;
+        }
+    }
+    false
 }
 
 // The name of the file of contacts in messages.
@@ -267,65 +312,38 @@ fn unneeded_line(
     Ok(line)
 }
 
-fn print_notices<W: Write>(
+fn print_contact_findings<W: Write>(
     alloc: Global,
     file: &[u8],
-    answers: &[Answer],
-    notices: &[Notice],
+    findings: &[ContactFinding<'_, '_>],
     output: &mut W,
 ) -> Result<(), Failure>
     ensures ok { OnOk result (Appends (W.contents output.old) (W.contents output.new)
-        (said_text file.now (flat_map (noted (map answered answers.now)) notices.now))) }
+        (said_text file.now (map shown_finding findings.now))) }
     ensures err { OnErr result ((count : ℕ) × Appends (W.contents output.old) (W.contents output.new)
-        (take count (said_text file.now (flat_map (noted (map answered answers.now)) notices.now)))) }
+        (take count (said_text file.now (map shown_finding findings.now)))) }
     ensures only { IfErr result (λ e. (e ≡ Failure.Memory) ⊎ (e ≡ Failure.Output)) }
 {
     let mut printer = Printer::new(alloc)?;
-    for notice in notices {
-        print_notice(alloc, file, answers, *notice, &mut printer, output)?;
+    for finding in findings {
+        print_contact_finding(alloc, file, finding, &mut printer, output)?;
     }
     printer.flush(output)
 }
 
-fn print_notice<W: Write>(
+fn print_contact_finding<W: Write>(
     alloc: Global,
     file: &[u8],
-    answers: &[Answer],
-    notice: Notice,
+    finding: &ContactFinding<'_, '_>,
     printer: &mut Printer,
     output: &mut W,
 ) -> Result<(), Failure>
-    ensures ok { OnOk result (IsUnderway (printer.old ++ said_text file.now (noted (map answered answers.now) notice))
+    ensures ok { OnOk result (IsUnderway (printer.old ++ said_line file.now (shown_finding finding.now))
         (W.contents output.old) (W.contents output.new) printer.new) }
     ensures err { OnErr result ((count : ℕ) × Appends (W.contents output.old) (W.contents output.new)
-        (take count (printer.old ++ said_text file.now (noted (map answered answers.now) notice)))) }
+        (take count (printer.old ++ said_line file.now (shown_finding finding.now)))) }
     ensures only { IfErr result (λ e. (e ≡ Failure.Memory) ⊎ (e ≡ Failure.Output)) }
 {
-    let lines = lines_of_notice(alloc, file, answers, notice)?;
-    printer.print(output, lines.as_slice())
-}
-
-fn lines_of_notice(
-    alloc: Global,
-    file: &[u8],
-    answers: &[Answer],
-    notice: Notice,
-) -> Result<Vec<u8>, AllocError>
-    ensures { IfOk result (λ lines. lines.items ≡ said_text file.now (noted (map answered answers.now) notice)) }
-{
-    match notice {
-        Notice::NoContact(line) => no_contact_line(alloc, file, line),
-        Notice::Alike(index, likeness) => likeness_lines(alloc, file, answers, index, likeness),
-    }
-}
-
-fn no_contact_line(alloc: Global, file: &[u8], line: usize) -> Result<Vec<u8>, AllocError>
-    ensures { IfOk result (λ text. text.items ≡ said_line file.now (no_contact line)) }
-{
-    let mut text = Vec::new(alloc);
-    push_place(&mut text, file, line)?;
-    text.extend_from_slice(b": error: no contact")?;
-    let mut line = shown_text(alloc, text)?;
-    line.push(b'\n')?;
-    Ok(line)
+    let line = finding_line(alloc, file, finding)?;
+    printer.print(output, line.as_slice())
 }

@@ -4,13 +4,12 @@
 
 pub mod answer;
 mod asked;
-mod contact_report;
+pub mod comparison;
 pub mod contacts;
 pub mod explain;
 pub mod explanation;
 pub mod failure;
 mod git;
-pub mod likeness;
 pub mod report;
 mod shortened;
 pub mod task;

@@ -6,4 +6,4 @@ use Rattle.verify_command.specs.Taking.{Takes}
 use Rattle.verify_command.proofs.contacts.add_lines.Given as goal
 
 abbrev pub invariant-loop-line : goal.invariant-loop-line
-invariant-loop-line l = (done : List Text) × (whole_lines l.fn.text ≡ done ++ l.line-iterator) × Takes done l.fn.contact_report l.contact_report
+invariant-loop-line l = (done : List Text) × (whole_lines l.fn.text ≡ done ++ l.line-iterator) × Takes done l.fn.contact_counter l.contact_counter

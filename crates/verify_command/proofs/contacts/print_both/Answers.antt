@@ -1,90 +1,76 @@
-use Rattle.std.proofs.Common.{rules, ◌∙◌, List, [], ℕ, Vec, Global, map, subst, take}
+use Rattle.std.proofs.Common.{rules, ◌∙◌, List, ℕ, Vec, Global, map, subst, take}
 use Rattle.std.specs.Io.KnownBytes.{Appends}
 use Rattle.mailmap_entries.proofs.Results.{on_err}
-use Rattle.mailmap_findings.specs.Findings.{AreFindings}
-use Rattle.mailmap_findings.specs.Positions.{located_lines, located, whole_lines}
-use Rattle.mailmap_redundancy.specs.Redundancy.{entries}
-use Rattle.mailmap_findings.specs.Remarks.{AreRemarks}
 use Rattle.command_line.specs.declared.outcome.Outcome.TheVariants.{Found}
-use Rattle.mailmap_likeness.specs.Likeness.{answered}
-use Rattle.verify_command.specs.Contacts.{said_after}
+use Rattle.mailmap_contacts.specs.Answers.{shown_finding}
+use Rattle.mailmap_findings.specs.Findings.{AreFindings}
+use Rattle.mailmap_findings.specs.Remarks.{AreRemarks}
+use Rattle.verify_command.specs.Contacts.{said_text}
 use Rattle.verify_command.specs.Task.{contacts_name}
-use Rattle.verify_command.proofs.Reporting.{are_unneeded, begins_first, begins_none, begins_second, found_beside, none_beside, prints_both, said_same}
+use Rattle.verify_command.proofs.Reporting.{begins_first, begins_none, begins_second, found_beside, none_beside, prints_both}
 use Rattle.verify_command.proofs.contacts.print_both.Goals as goal
 
 pub returns-in_err-verification-clause-err : goal.returns-in_err-verification-clause-err
-returns-in_err-verification-clause-err g c = λ taken h.
+returns-in_err-verification-clause-err g c = λ taken are.
     let items : Vec ℕ Global → List ℕ = λ path. path.items in
     on_err c.from_residual.result _
-    (begins_none (map items c.args.paths.now) (contacts_name c.args.contacts.now) c.args.mailmaps.now taken c.args.contact_report.now (g.W.Write.contents c.args.output.now) h)
-
-pub returns-in_err-unneeded-clause-err : goal.returns-in_err-unneeded-clause-err
-returns-in_err-unneeded-clause-err g c = λ taken h.
-    let items : Vec ℕ Global → List ℕ = λ path. path.items in
-    on_err c.from_residual-in_err-unneeded.result _
-    (begins_none (map items c.args.paths.now) (contacts_name c.args.contacts.now) c.args.mailmaps.now taken c.args.contact_report.now (g.W.Write.contents c.args.output.now) h)
+    (begins_none (map items c.args.paths.now) (contacts_name c.args.contacts.now) c.args.mailmaps.now taken c.args.unneeded.now (map shown_finding c.args.findings.now)
+    (g.W.Write.contents c.args.output.now) are)
 
 pub returns-in_err-outcome-clause-err : goal.returns-in_err-outcome-clause-err
-returns-in_err-outcome-clause-err g c = λ taken h.
+returns-in_err-outcome-clause-err g c = λ taken are.
     let items : Vec ℕ Global → List ℕ = λ path. path.items in
     let mailmaps = c.args.mailmaps.now in
     let remarks = c.new-remarks.result in
     let found : AreFindings mailmaps c.findings.result = search rules in
-    let are : AreRemarks mailmaps taken remarks = c.new-remarks.ensures mailmaps taken found
-    (are_unneeded mailmaps taken c.args.contact_report.now c.as_slice.result.now h (c.as_slice.ensures.value ∙ c.in_ok-unneeded.ensures)) in
+    let made : AreRemarks mailmaps taken remarks = c.new-remarks.ensures mailmaps taken found are.unneeded in
     let broken = c.in_err-outcome.ensures.err in
     on_err c.from_residual-in_err-outcome.result _
-    (begins_first (map items c.args.paths.now) (contacts_name c.args.contacts.now) mailmaps taken c.args.contact_report.now remarks (g.W.Write.contents c.args.output.now)
-    (g.W.Write.contents c.print_remarks.new.output) broken.0 h are broken.1)
+    (begins_first (map items c.args.paths.now) (contacts_name c.args.contacts.now) mailmaps taken remarks (map shown_finding c.args.findings.now) (g.W.Write.contents c.args.output.now)
+    (g.W.Write.contents c.print_remarks.new.output) broken.0 made are.findings broken.1)
 
-pub returns-in_err-print_notices-clause-err : goal.returns-in_err-print_notices-clause-err
-returns-in_err-print_notices-clause-err g c = λ taken h.
+pub returns-in_err-print_contact_findings-clause-err : goal.returns-in_err-print_contact_findings-clause-err
+returns-in_err-print_contact_findings-clause-err g c = λ taken are.
     let items : Vec ℕ Global → List ℕ = λ path. path.items in
     let mailmaps = c.args.mailmaps.now in
-    let s = c.args.contact_report.now in
     let remarks = c.new-remarks.result in
+    let about = map shown_finding c.args.findings.now in
     let found : AreFindings mailmaps c.findings.result = search rules in
-    let are : AreRemarks mailmaps taken remarks =
-    c.new-remarks.ensures mailmaps taken found (are_unneeded mailmaps taken s c.as_slice.result.now h (c.as_slice.ensures.value ∙ c.in_ok-unneeded.ensures)) in
+    let made : AreRemarks mailmaps taken remarks = c.new-remarks.ensures mailmaps taken found are.unneeded in
     let file = contacts_name c.args.contacts.now in
-    let same = said_same c.shown_name.result.now file (map answered c.as_slice-2.result.now) s.answers c.as_slice-3.result.now s.notices.items c.shown_name.ensures c.as_slice-2.ensures c.as_slice-3.ensures.value in
     let between = g.W.Write.contents c.print_remarks.new.output in
-    let after = g.W.Write.contents c.print_notices.new.output in
-    let broken = c.in_err-print_notices.ensures.err in
-    on_err c.from_residual-in_err-print_notices.result _
-    (begins_second (map items c.args.paths.now) file mailmaps taken s remarks (g.W.Write.contents c.args.output.now) between after broken.0 h are c.in_ok-outcome.ensures.ok.1
-    (subst (λ t. Appends between after (take broken.0 t)) same broken.1))
+    let after = g.W.Write.contents c.print_contact_findings.new.output in
+    let broken = c.in_err-print_contact_findings.ensures.err in
+    on_err c.from_residual-in_err-print_contact_findings.result _
+    (begins_second (map items c.args.paths.now) file mailmaps taken remarks about (g.W.Write.contents c.args.output.now) between after broken.0 made are.findings c.in_ok-outcome.ensures.ok.1
+    (subst (λ f. Appends between after (take broken.0 (said_text f about))) c.shown_name.ensures broken.1))
 
-pub returns-then-contact_report-clause-ok : goal.returns-then-contact_report-clause-ok
-returns-then-contact_report-clause-ok g c = λ taken h.
+pub returns-then-any_counts-clause-ok : goal.returns-then-any_counts-clause-ok
+returns-then-any_counts-clause-ok g c = λ taken are.
     let items : Vec ℕ Global → List ℕ = λ path. path.items in
     let mailmaps = c.args.mailmaps.now in
-    let s = c.args.contact_report.now in
     let remarks = c.new-remarks.result in
+    let about = map shown_finding c.args.findings.now in
     let found : AreFindings mailmaps c.findings.result = search rules in
-    let are : AreRemarks mailmaps taken remarks =
-    c.new-remarks.ensures mailmaps taken found (are_unneeded mailmaps taken s c.as_slice.result.now h (c.as_slice.ensures.value ∙ c.in_ok-unneeded.ensures)) in
+    let made : AreRemarks mailmaps taken remarks = c.new-remarks.ensures mailmaps taken found are.unneeded in
     let file = contacts_name c.args.contacts.now in
-    let same = said_same c.shown_name.result.now file (map answered c.as_slice-2.result.now) s.answers c.as_slice-3.result.now s.notices.items c.shown_name.ensures c.as_slice-2.ensures c.as_slice-3.ensures.value in
     let between = g.W.Write.contents c.print_remarks.new.output in
-    let after = g.W.Write.contents c.print_notices.new.output in
-    prints_both (map items c.args.paths.now) file mailmaps taken s remarks Found (g.W.Write.contents c.args.output.now) between after h are
-    (found_beside remarks (said_after (entries (located (located_lines mailmaps))) [] (whole_lines taken)) s.found h.found c.if-contact_report.true) c.in_ok-outcome.ensures.ok.1
-    (subst (λ t. Appends between after t) same c.in_ok-print_notices.ensures.ok)
+    let after = g.W.Write.contents c.print_contact_findings.new.output in
+    prints_both (map items c.args.paths.now) file mailmaps taken remarks about Found (g.W.Write.contents c.args.output.now) between after made are.findings
+    (found_beside remarks about c.any_counts.result c.any_counts.ensures c.if-any_counts.true) c.in_ok-outcome.ensures.ok.1
+    (subst (λ f. Appends between after (said_text f about)) c.shown_name.ensures c.in_ok-print_contact_findings.ensures.ok)
 
 pub returns-clause-ok : goal.returns-clause-ok
-returns-clause-ok g c = λ taken h.
+returns-clause-ok g c = λ taken are.
     let items : Vec ℕ Global → List ℕ = λ path. path.items in
     let mailmaps = c.args.mailmaps.now in
-    let s = c.args.contact_report.now in
     let remarks = c.new-remarks.result in
+    let about = map shown_finding c.args.findings.now in
     let found : AreFindings mailmaps c.findings.result = search rules in
-    let are : AreRemarks mailmaps taken remarks =
-    c.new-remarks.ensures mailmaps taken found (are_unneeded mailmaps taken s c.as_slice.result.now h (c.as_slice.ensures.value ∙ c.in_ok-unneeded.ensures)) in
+    let made : AreRemarks mailmaps taken remarks = c.new-remarks.ensures mailmaps taken found are.unneeded in
     let file = contacts_name c.args.contacts.now in
-    let same = said_same c.shown_name.result.now file (map answered c.as_slice-2.result.now) s.answers c.as_slice-3.result.now s.notices.items c.shown_name.ensures c.as_slice-2.ensures c.as_slice-3.ensures.value in
     let between = g.W.Write.contents c.print_remarks.new.output in
-    let after = g.W.Write.contents c.print_notices.new.output in
-    prints_both (map items c.args.paths.now) file mailmaps taken s remarks c.in_ok-outcome.outcome (g.W.Write.contents c.args.output.now) between after h are
-    (c.in_ok-outcome.ensures.ok.0 ∙ none_beside remarks (said_after (entries (located (located_lines mailmaps))) [] (whole_lines taken)) s.found h.found c.if-contact_report.false) c.in_ok-outcome.ensures.ok.1
-    (subst (λ t. Appends between after t) same c.in_ok-print_notices.ensures.ok)
+    let after = g.W.Write.contents c.print_contact_findings.new.output in
+    prints_both (map items c.args.paths.now) file mailmaps taken remarks about c.in_ok-outcome.outcome (g.W.Write.contents c.args.output.now) between after made are.findings
+    (c.in_ok-outcome.ensures.ok.0 ∙ none_beside remarks about c.any_counts.result c.any_counts.ensures c.if-any_counts.false) c.in_ok-outcome.ensures.ok.1
+    (subst (λ f. Appends between after (said_text f about)) c.shown_name.ensures c.in_ok-print_contact_findings.ensures.ok)

@@ -1,6 +1,6 @@
-use Rattle.std.proofs.Common.{rules, ◌≡◌, [], List, ℕ, Vec, Global, Err, ap, inr, map, refl}
+use Rattle.std.proofs.Common.{rules, ◌≡◌, [], List, ℕ, Vec, Global, Err, ap, inl, inr, map, refl, ⊎_elim}
+use Rattle.mailmap_contacts.specs.Counts.{AreContactsOf}
 use Rattle.mailmap_findings.specs.Positions.{whole_lines}
-use Rattle.verify_command.specs.Taken.{HasTaken}
 use Rattle.verify_command.specs.Task.{is_dash}
 use Rattle.verify_command.specs.declared.failure.TaskFailure.TheVariants.{Run}
 use Rattle.verify_command.specs.declared.asked.Mode.TheVariants.{Contacts}
@@ -34,12 +34,12 @@ returns-clause-leaves g c =
     let mailmaps = c.in_ok-mailmaps-2.mailmaps in
     let same : map items c.in_ok-mailmaps.mailmaps.items ≡ mailmaps = search rules in
     let taken = c.in_ok-read_contacts.ensures.takes in
-    let h : HasTaken mailmaps (whole_lines taken.0) c.read_contacts.new.contact_report = taken.2 mailmaps [] c.in_ok-contact_report.ensures in
+    let h : AreContactsOf (whole_lines taken.0) c.in_ok-counted.counted = c.in_ok-counted.ensures (whole_lines taken.0) (taken.2 [] c.in_ok-contact_counter.ensures) in
     let are : AreReadBeside at input c.args.contacts.now paths mailmaps taken.0 =
     read_beside at c.args.contacts.now input (g.R.Read.remaining c.read_beside.new.input) paths (map items c.in_ok-mailmaps.mailmaps.items) mailmaps taken.0 c.in_ok-mailmaps.ensures.ok same
     (λ dash. ap (λ i. g.R.Read.remaining i) (c.read_beside.ensures.unread_for_contacts dash)) taken.1 in
     record {
-      prints = prints_answer at input c.args.contacts.now paths mailmaps taken.0 c.in_ok-outcome.outcome (g.W.Write.contents c.args.output.now) (g.W.Write.contents c.print_both.new.output) are
+      prints = prints_answer at input c.args.contacts.now paths mailmaps taken.0 c.in_ok-outcome.outcome (g.W.Write.contents c.args.output.now) (g.W.Write.contents c.report.new.output) are
           (c.in_ok-outcome.ensures.ok taken.0 h);
       breaks_off = λ is. cc;
       memory = λ _ is. cc;
@@ -58,16 +58,15 @@ returns-in_err-outcome-clause-leaves g c =
     let mailmaps = c.in_ok-mailmaps-2.mailmaps in
     let same : map items c.in_ok-mailmaps.mailmaps.items ≡ mailmaps = search rules in
     let taken = c.in_ok-read_contacts.ensures.takes in
-    let h : HasTaken mailmaps (whole_lines taken.0) c.read_contacts.new.contact_report = taken.2 mailmaps [] c.in_ok-contact_report.ensures in
+    let h : AreContactsOf (whole_lines taken.0) c.in_ok-counted.counted = c.in_ok-counted.ensures (whole_lines taken.0) (taken.2 [] c.in_ok-contact_counter.ensures) in
     let are : AreReadBeside at input c.args.contacts.now paths mailmaps taken.0 =
     read_beside at c.args.contacts.now input (g.R.Read.remaining c.read_beside.new.input) paths (map items c.in_ok-mailmaps.mailmaps.items) mailmaps taken.0 c.in_ok-mailmaps.ensures.ok same
     (λ dash. ap (λ i. g.R.Read.remaining i) (c.read_beside.ensures.unread_for_contacts dash)) taken.1 in
-    let begins = begins_answer at input c.args.contacts.now paths mailmaps taken.0 (g.W.Write.contents c.args.output.now) (g.W.Write.contents c.print_both.new.output) are
-    (c.in_err-outcome.ensures.err taken.0 h) in
+    let begins = begins_answer at input c.args.contacts.now paths mailmaps taken.0 (g.W.Write.contents c.args.output.now) (g.W.Write.contents c.report.new.output) are in
     let e = c.in_err-outcome.field-0.0 in
     let failed : c.from_residual-in_err-outcome.result ≡ Err (Run e) = search rules in
-    rw failed (left_front at input (g.R.Read.remaining c.read_contacts.new.input) Contacts c.args.contacts.now paths g.W.Write.contents c.args.output.now c.print_both.new.output e (inr refl) (λ is. cc)
-    c.in_err-outcome.ensures.only (λ _. begins) (λ _. inr begins))
+    rw failed (left_front at input (g.R.Read.remaining c.read_contacts.new.input) Contacts c.args.contacts.now paths g.W.Write.contents c.args.output.now c.report.new.output e (inr refl) (λ is. cc)
+    c.in_err-outcome.ensures.only (λ of. begins (c.in_err-outcome.ensures.breaks_off taken.0 h of)) (λ of. ⊎_elim inl (λ front. inr (begins front)) (c.in_err-outcome.ensures.memory taken.0 h of)))
 
 pub returns-clause-reads_all : goal.returns-clause-reads_all
 returns-clause-reads_all g c =

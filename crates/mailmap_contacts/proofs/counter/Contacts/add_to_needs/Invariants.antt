@@ -1,0 +1,12 @@
+-- What the contacts so far need is crossed off.
+use Rattle.std.proofs.Common.{◌≡◌, filter, map, not}
+use Rattle.std.specs.Prelude.{is_some}
+use Rattle.mailmap_contacts.specs.Contacts.{seen_where}
+use Rattle.mailmap_contacts.proofs.Needing.{needing}
+use Rattle.mailmap_contacts.proofs.Iterating.{item_tally}
+use Rattle.mailmap_contacts.proofs.counter.Contacts.add_to_needs.Given as goal
+
+abbrev pub invariant-loop-key : goal.invariant-loop-key
+invariant-loop-key l =
+    (l.needs.history ≡ l.fn.needs.history) × ((l.needs.kept ≡ l.fn.needs.kept)
+    × (l.needs.left ≡ filter (λ p. not (is_some (seen_where (needing l.fn.needs.kept p) (map item_tally l.yielded)))) l.fn.needs.left))

@@ -1,0 +1,12 @@
+-- The answers to the contacts so far.
+use Rattle.std.proofs.Common.{map}
+use Rattle.mailmap_redundancy.specs.Redundancy.{entries}
+use Rattle.mailmap_contacts.specs.Answers.{answer_key_tally}
+use Rattle.mailmap_contacts.specs.Contacts.{answered}
+use Rattle.mailmap_contacts.specs.Counts.{SameTallies}
+use Rattle.mailmap_contacts.proofs.Iterating.{item_tally}
+use Rattle.mailmap_contacts.proofs.counter.Contacts.answers.Given as goal
+
+abbrev pub invariant-loop-key : goal.invariant-loop-key
+invariant-loop-key l =
+    SameTallies (map answer_key_tally l.answers.entries) (map (answered (entries l.needs.history)) (map item_tally l.yielded))

@@ -1,0 +1,82 @@
+-- The findings about contacts: which answers share an email or a name with a proper one.
+use Rattle.std.specs.Prelude.{◌+◌, ℕ, Bool, if◌then◌else◌, is_none, List, [], ◌∷◌, ◌++◌, Option, None, Some, filter, map, option_to_list}
+use Rattle.std.specs.List.{flat_map}
+use Rattle.std.specs.List.Sorted.{IsPermutation, IsSortedByKey}
+use Rattle.std.specs.Option.{option_map}
+use Rattle.std.specs.Ordering.{nat_cmp}
+use Rattle.std.specs.Str.{bytes_eq}
+use Rattle.mailmap_entries.specs.Entries.{Mapping}
+use Rattle.mailmap_entries.specs.Folding.{Text, folded}
+use Rattle.mailmap_findings.specs.Needs.{is_no_contact}
+use Rattle.mailmap_contacts.specs.Contacts.{Tally, AreTallies, answers_to, same_contact}
+use Rattle.mailmap_contacts.specs.Proper.{has_text, proper}
+
+-- a line is no contact, or an answer isn't the proper one of those with its email, or with its name
+pub data ContactFinding : Type 0 where
+  no_contact : ℕ → ContactFinding
+  same_email : Tally → Tally → ContactFinding
+  same_name : Tally → Tally → ContactFinding
+
+-- the number of its line
+abbrev pub line_of : ContactFinding → ℕ
+line_of (no_contact line) = line
+line_of (same_email a p) = a.seen.first_line
+line_of (same_name a p) = a.seen.first_line
+
+-- what answers may share
+abbrev pub email_of : Tally → Text
+email_of a = a.contact.email
+
+abbrev pub name_of : Tally → Text
+name_of a = a.contact.name
+
+-- ASCII case aside
+abbrev pub shares : (Tally → Text) → Text → Tally → Bool
+shares field text a = bytes_eq (folded (field a)) (folded text)
+
+-- those that have a text there can share it
+abbrev pub with_text : (Tally → Text) → List Tally → List Tally
+with_text field answers = filter (λ a. has_text (field a)) answers
+
+abbrev pub unless_same : Tally → Tally → Option Tally
+unless_same a p = if same_contact a.contact p.contact then None else Some p
+
+abbrev pub and_other : Tally → Option Tally → Option Tally
+and_other a None = None
+and_other a (Some p) = unless_same a p
+
+-- the proper one of those that share a text with an answer, if it is another
+abbrev pub other_proper : (Tally → Text) → List Tally → Tally → Option Tally
+other_proper field answers a = and_other a (proper (filter (shares field (field a)) answers))
+
+-- a finding for each answer with another proper one
+abbrev pub compared : (Tally → Text) → (Tally → Tally → ContactFinding) → List Tally → List ContactFinding
+compared field finding answers =
+    flat_map (λ a. option_to_list (option_map (finding a) (other_proper field answers a))) answers
+
+-- those that are proper
+abbrev pub propers : (Tally → Text) → List Tally → List Tally
+propers field answers = filter (λ a. is_none (other_proper field answers a)) answers
+
+-- Answers with an email are compared by it, and of these the proper ones with a name by that. An answer with an empty
+-- email takes part in no comparison.
+abbrev pub comparisons : List Tally → List ContactFinding
+comparisons answers = compared email_of same_email (with_text email_of answers)
+    ++ compared name_of same_name (with_text name_of (propers email_of (with_text email_of answers)))
+
+-- the number of a line that is neither blank nor a contact
+abbrev pub unless_contact : ℕ → Text → List ℕ
+unless_contact number line = if is_no_contact line then number ∷ [] else []
+
+-- the numbers of all such lines, the first of which has this number
+abbrev pub no_contacts_from : ℕ → List Text → List ℕ
+no_contacts_from number [] = []
+no_contacts_from number (line ∷ rest) = unless_contact number line ++ no_contacts_from (number + 1) rest
+
+-- `found` has the findings about the contacts on lines, with a mailmap's mappings, in the order of their lines. There
+-- is one at most for each line, since distinct answers come first on distinct lines.
+pub record AreContactFindings (h : List Mapping) (lines : List Text) (found : List ContactFinding) : Type 0 where
+  pub answers : List Tally
+  pub tallies : AreTallies (answers_to h lines) answers
+  pub whole : IsPermutation (map no_contact (no_contacts_from 1 lines) ++ comparisons answers) found
+  pub in_order : IsSortedByKey line_of nat_cmp found

@@ -1,0 +1,9 @@
+//! The contacts of a history: how often each answer to them comes, and which answers may belong to one person.
+#![tactic(auto)]
+
+pub mod answers;
+pub mod comparisons;
+pub mod counter;
+mod folded;
+pub mod occurrences;
+pub mod proper;

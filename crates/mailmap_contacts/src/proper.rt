@@ -1,0 +1,135 @@
+//! Finds the proper one of answers that share an email or a name.
+ghost use Rattle.std.specs.Prelude.{◌≡◌, IfOk, IsFalse, IsTrue, List, OnOk, Some, if◌then◌else◌, map, option_map};
+ghost use Rattle.std.specs.BTreeMap.{get};
+ghost use Rattle.std.specs.Option.{option_copied};
+ghost use Rattle.mailmap_contacts.specs.Answers.{ArePropers, field_of, folded_cmp, shown_reference, shown_tally};
+ghost use Rattle.mailmap_contacts.specs.Comparisons.{other_proper, shares};
+ghost use Rattle.mailmap_contacts.specs.Contacts.{Tally, same_contact};
+ghost use Rattle.mailmap_contacts.specs.Proper as spec;
+ghost use Rattle.mailmap_contacts.specs.Proper.{better};
+ghost use Rattle.mailmap_contacts.specs.declared.folded.Folded.{Folded as TheKey};
+
+use crate::answers::Answer;
+use crate::folded::Folded;
+use crate::occurrences::Occurrences;
+use std::alloc::{AllocError, Global};
+use std::collections::BTreeMap;
+
+/// What answers share.
+#[derive(Clone, Copy, Debug, PartialEq, Eq)]
+pub enum Shared {
+    Email,
+    Name,
+}
+
+impl Shared {
+    pub(crate) fn text<'a>(self, answer: &Answer<'a>) -> &'a [u8]
+        ensures { result.now ≡ field_of self (shown_tally answer.now) }
+    {
+        match self {
+            Shared::Email => answer.email,
+            Shared::Name => answer.name,
+        }
+    }
+}
+
+/// The proper answers, by the texts that they share with others.
+pub(crate) type Propers<'r, 'a> = BTreeMap<Folded<'a>, &'r Answer<'a>>;
+
+pub(crate) fn propers_of<'r, 'a>(
+    alloc: Global,
+    shared: Shared,
+    answers: &[&'r Answer<'a>],
+) -> Result<Propers<'r, 'a>, AllocError>
+    ensures { IfOk result (ArePropers shared (map shown_reference answers.now)) }
+{
+    let mut propers = BTreeMap::new(alloc);
+    for answer in answers {
+        add_answer(&mut propers, shared, answer)?;
+    }
+    Ok(propers)
+}
+
+// Puts an answer in the place of the proper one so far, if it is preferred.
+fn add_answer<'r, 'a>(
+    propers: &mut Propers<'r, 'a>,
+    shared: Shared,
+    answer: &'r Answer<'a>,
+) -> Result<(), AllocError>
+    ensures { OnOk result ((key : TheKey) → option_map shown_reference (get folded_cmp propers.new key)
+        ≡ (if shares (field_of shared) key.text.now (shown_tally answer.now)
+        then Some (better (option_map shown_reference (get folded_cmp propers.old key)) (shown_tally answer.now))
+        else option_map shown_reference (get folded_cmp propers.old key))) }
+{
+    let key = Folded {
+        text: shared.text(answer),
+    };
+    if is_kept(propers.get(&key), answer) {
+        return Ok(());
+    }
+    propers.insert(key, answer)?;
+    Ok(())
+}
+
+// Whether the proper one so far, if there is one, stays so beside another one.
+fn is_kept(best: Option<&&Answer<'_>>, other: &Answer<'_>) -> bool
+    ensures kept { IsTrue result → Some (better (option_map shown_reference (option_copied best.entry))
+        (shown_tally other.now)) ≡ option_map shown_reference (option_copied best.entry) }
+    ensures not_kept { IsFalse result → better (option_map shown_reference (option_copied best.entry))
+        (shown_tally other.now) ≡ shown_tally other.now }
+{
+    match best {
+        Some(best) => !is_preferred(other, best),
+        None => false,
+    }
+}
+
+/// The proper one of those that share a text with an answer, if it is another.
+pub(crate) fn other_proper<'r, 'a>(
+    propers: &Propers<'r, 'a>,
+    shared: Shared,
+    answer: &Answer<'a>,
+) -> Option<&'r Answer<'a>>
+    ensures { (answers : List Tally) → ArePropers shared answers propers.now
+        → option_map shown_reference result ≡ other_proper (field_of shared) answers (shown_tally answer.now) }
+{
+    let key = Folded {
+        text: shared.text(answer),
+    };
+    let Some(proper) = propers.get(&key) else {
+        return None;
+    };
+    if is_same(answer, proper) {
+        return None;
+    }
+    Some(*proper)
+}
+
+fn is_same(a: &Answer<'_>, b: &Answer<'_>) -> bool
+    ensures { result ≡ same_contact (shown_tally a.now).contact (shown_tally b.now).contact }
+{
+    a.name == b.name && a.email == b.email
+}
+
+fn is_preferred(a: &Answer<'_>, b: &Answer<'_>) -> bool
+    ensures { result ≡ spec.is_preferred (shown_tally a.now) (shown_tally b.now) }
+{
+    match (has_text(a.name), has_text(b.name)) {
+        (true, false) => true,
+        (false, true) => false,
+        _ => comes_more(a.seen, b.seen),
+    }
+}
+
+pub(crate) fn has_text(text: &[u8]) -> bool
+    ensures { result ≡ spec.has_text text.now }
+{
+    !text.is_empty()
+}
+
+// Whether something comes more often, or as often and first on an earlier line.
+fn comes_more(a: Occurrences, b: Occurrences) -> bool
+    ensures { result ≡ spec.comes_more a b }
+{
+    a.count > b.count || a.count == b.count && a.first_line < b.first_line
+}

@@ -1,3 +1,0 @@
-pub mod Indexing
-pub mod Placing
-pub mod Positions
