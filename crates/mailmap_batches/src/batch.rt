@@ -2,9 +2,10 @@
 //!
 //! Comparisons use the prefixes of the emails: the first sixteen bytes as a number, as `key_prefix` makes it. Emails
 //! whose prefixes differ are in the order of their prefixes.
-ghost use Rattle.std.specs.Prelude.{◌≡◌, ◌≤◌, IfOk, IsTrue, drop, length, map};
-ghost use Rattle.std.specs.Option.{option_copied, option_map, option_cmp};
-ghost use Rattle.std.specs.List.{AllByRecursion};
+ghost use Rattle.std.specs.Prelude.{◌≡◌, ◌<◌, ◌≤◌, ◌-◌, IfOk, IsTrue, drop, false, length, map};
+ghost use Rattle.std.specs.Option.{ForSome, option_copied, option_map, option_cmp};
+ghost use Rattle.std.specs.List.{AllByRecursion, HoldsAt};
+ghost use Rattle.std.specs.Ordering.{is_lt};
 ghost use Rattle.mailmap_entries.specs.Entries.{mapping_of};
 ghost use Rattle.mailmap_entries.specs.Folding.{folded, text_cmp};
 ghost use Rattle.mailmap_entries.specs.Prefixes.{IsKeyPrefix, key_prefix as prefix_of};
@@ -27,9 +28,35 @@ pub fn sorted<'e, 'a, T: HasEntry<'a>>(
 ) -> Result<Vec<IndexedEntry<'e, 'a>>, AllocError>
     ensures { IfOk result (λ batch. IsSorted (map T.mapped entries.now) (map indexed_mapping batch.items)) }
 {
+    if let Some(batch) = sorted_by_insertion(alloc, entries)? {
+        return Ok(batch);
+    }
     let mut batch = nearly_sorted(alloc, entries)?;
-    batch.sort_by(compare_keys)?;
+    batch.sort_by(compare_prefixed_keys)?;
     without_prefixes(alloc, &batch)
+}
+
+// Inserts each entry before the last few with a greater key, and gives up at an entry that would have to go further. No
+// entry has to in most mailmaps that are sorted by email, which then take a third of the memory that a sort takes.
+fn sorted_by_insertion<'e, 'a, T: HasEntry<'a>>(
+    alloc: Global,
+    entries: &'e [T],
+) -> Result<Option<Vec<IndexedEntry<'e, 'a>>>, AllocError>
+    ensures { IfOk result (λ found. ForSome found
+        (λ batch. IsSorted (map T.mapped entries.now) (map indexed_mapping batch.items))) }
+{
+    let mut batch = Vec::with_capacity(alloc, entries.len())?;
+    for (index, item) in entries.iter().enumerate() {
+        let indexed = IndexedEntry {
+            index,
+            entry: item.entry(),
+        };
+        let Some(place) = place_among(&batch, &indexed) else {
+            return Ok(None);
+        };
+        batch.insert(place, indexed)?;
+    }
+    Ok(Some(batch))
 }
 
 // An entry with its index, and the prefix of its old email.
@@ -59,7 +86,7 @@ fn nearly_sorted<'e, 'a, T: HasEntry<'a>>(
     for (index, item) in entries.iter().enumerate() {
         let entry = item.entry();
         let prefixed = with_prefix(IndexedEntry { index, entry });
-        let place = place_among(&batch, &prefixed);
+        let place = place_of_prefix(&batch, &prefixed);
         batch.insert(place, prefixed)?;
     }
     Ok(batch)
@@ -75,9 +102,31 @@ fn with_prefix<'e, 'a>(indexed: IndexedEntry<'e, 'a>) -> PrefixedEntry<'e, 'a>
 // The maximum number of entries that an insertion moves past. This sorts emails with up to nine entries.
 const MAX_PASSED: usize = 8;
 
+// The index to insert an entry at so that the keys still ascend, `None` if that is not among the last few.
+#[inline(always)]
+fn place_among(batch: &[IndexedEntry], entry: &IndexedEntry) -> Option<usize>
+    ensures within { ForSome result (λ place. place ≤ length batch.now) }
+    ensures above { ForSome result (λ place. 0 < place → HoldsAt
+        (λ other. is_lt (key_cmp (key (mapping_at entry.now)) (key (mapping_at other))) ≡ false)
+        batch.now (place - 1)) }
+    ensures below { ForSome result (λ place. AllByRecursion
+        (λ other. key_cmp (key (mapping_at entry.now)) (key (mapping_at other)) ≡ Ordering.Less)
+        (drop place batch.now)) }
+{
+    let first = batch.len().saturating_sub(MAX_PASSED);
+    let mut place = batch.len();
+    while first < place {
+        if !compare_keys(entry, &batch[place - 1]).is_lt() {
+            return Some(place);
+        }
+        place -= 1;
+    }
+    if place == 0 { Some(0) } else { None }
+}
+
 // The index to insert an entry at, judging by the last few.
 #[inline(always)]
-fn place_among(batch: &[PrefixedEntry], entry: &PrefixedEntry) -> usize
+fn place_of_prefix(batch: &[PrefixedEntry], entry: &PrefixedEntry) -> usize
     ensures within { result ≤ length batch.now }
     ensures below { AllByRecursion
         (λ other. key_cmp (key (mapping_at entry.now)) (key (mapping_at other)) ≡ Ordering.Less)
@@ -99,7 +148,7 @@ fn place_among(batch: &[PrefixedEntry], entry: &PrefixedEntry) -> usize
 fn is_below_of_prefix(a: &PrefixedEntry, b: &PrefixedEntry) -> bool
     ensures { IsTrue result → key_cmp (key (mapping_at a.now)) (key (mapping_at b.now)) ≡ Ordering.Less }
 {
-    a.prefix == b.prefix && compare_keys(a, b).is_lt()
+    a.prefix == b.prefix && compare_prefixed_keys(a, b).is_lt()
 }
 
 fn without_prefixes<'e, 'a>(
@@ -117,7 +166,7 @@ fn without_prefixes<'e, 'a>(
 
 // Compares keys, and reads the texts only if the prefixes are equal.
 #[inline(always)]
-fn compare_keys(a: &PrefixedEntry, b: &PrefixedEntry) -> Ordering
+fn compare_prefixed_keys(a: &PrefixedEntry, b: &PrefixedEntry) -> Ordering
     ensures { result ≡ key_cmp (key (mapping_at a.now)) (key (mapping_at b.now)) }
 {
     match a.prefix.cmp(&b.prefix) {
@@ -133,6 +182,17 @@ fn compare_keys_by_texts(a: &Entry, b: &Entry) -> Ordering
 {
     match compare_after_prefix(a.old_email(), b.old_email()) {
         Ordering::Equal => compare_names(a.old_name(), b.old_name()),
+        unequal => unequal,
+    }
+}
+
+// Compares keys: the old emails, then the old names.
+#[inline(always)]
+fn compare_keys(a: &IndexedEntry, b: &IndexedEntry) -> Ordering
+    ensures { result ≡ key_cmp (key (mapping_at a.now)) (key (mapping_at b.now)) }
+{
+    match cmp_ignore_ascii_case(a.entry.old_email(), b.entry.old_email()) {
+        Ordering::Equal => compare_names(a.entry.old_name(), b.entry.old_name()),
         unequal => unequal,
     }
 }

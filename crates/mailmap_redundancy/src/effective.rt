@@ -1,18 +1,21 @@
 //! Entries without the redundant ones.
-ghost use Rattle.std.specs.Prelude.{◌≡◌, All, IfOk, map, true};
+ghost use Rattle.std.specs.Prelude.{◌≡◌, [], All, IfOk, map, true};
+ghost use Rattle.std.specs.List.Sorted.{IsStrictlySortedBy};
 ghost use Rattle.std.specs.Option.{option_map};
 ghost use Rattle.mailmap_entries.specs.Entries.{mapping_of};
 ghost use Rattle.mailmap_entries.specs.Semantics as answers;
-ghost use Rattle.mailmap_entries.specs.Semantics.{key, is_accepted};
-ghost use Rattle.mailmap_redundancy.specs.Redundancy.{AreEffective, entries, last_position, located_of, located_of_reference};
+ghost use Rattle.mailmap_entries.specs.Semantics.{key, key_cmp, is_accepted};
+ghost use Rattle.mailmap_redundancy.specs.Redundancy.{AreEffective, IsPass, entries, last_position, located_of};
+ghost use Rattle.mailmap_redundancy.specs.Redundancy.{located_of_reference};
 ghost use Rattle.mailmap_redundancy.specs.Origins.{origins as spec_origins};
-ghost use Rattle.mailmap_redundancy.specs.Numbers.{IsEffectiveState, EffectiveEntries, fields_of, origins_of, mappings};
+ghost use Rattle.mailmap_redundancy.specs.Numbers.{IsEffectiveState, IsNumbered, EffectiveEntries, fields_of};
+ghost use Rattle.mailmap_redundancy.specs.Numbers.{origins_of, mappings};
 
 use crate::keys::{Key, find};
 use crate::located::{LocatedEntry, Position};
 use crate::numbers::{NumberedEntry, number, unnumbered};
 use crate::origins::{Fields, Origins, find_origins};
-use crate::passes::drop_until_stable;
+use crate::passes::{drop_redundant_once, drop_until_stable};
 use crate::table::Table;
 use mailmap_entries::Entry;
 use std::alloc::{AllocError, Global};
@@ -87,29 +90,46 @@ pub fn without_redundant<'p, 'a>(
     ensures history { IfOk result (λ s. s.history ≡ map located_of entries.now) }
     ensures effective { IfOk result (λ s. AreEffective (map located_of entries.now) s.kept) }
 {
-    let mut rows = unnumbered(alloc, entries)?;
-    reduce_numbered(alloc, entries, &mut rows)
-}
-
-// Numbers the entries in these rows, and drops the redundant ones.
-fn reduce_numbered<'p, 'a>(
-    alloc: Global,
-    entries: &'p [LocatedEntry<'a>],
-    rows: &mut [NumberedEntry<'p, 'a>],
-) -> Result<Effective<'p, 'a>, AllocError>
-    requires accepted { All (λ x. is_accepted (mapping_of x.entry) ≡ true) entries.now }
-    requires located { mappings rows.old ≡ map located_of entries.now }
-    ensures history { IfOk result (λ s. s.history ≡ map located_of entries.now) }
-    ensures effective { IfOk result (λ s. AreEffective (map located_of entries.now) s.kept) }
-{
-    let keys = number(alloc, entries, rows)?;
-    let kept = drop_until_stable(alloc, &keys, rows)?;
+    let (keys, first) = first_pass(alloc, entries)?;
+    let kept = drop_until_stable(alloc, &keys, entries, first)?;
     Ok(Effective {
         history: entries,
         kept: without_numbers(alloc, &kept)?,
         table: Table::of(alloc, &keys, &kept)?,
         keys,
     })
+}
+
+// The keys of the entries, and the entries that a first pass leaves. The rows of all entries are freed here, before
+// another pass allocates.
+fn first_pass<'p, 'a>(
+    alloc: Global,
+    entries: &'p [LocatedEntry<'a>],
+) -> Result<(Vec<Key<'a>>, Vec<NumberedEntry<'p, 'a>>), AllocError>
+    requires { All (λ x. is_accepted (mapping_of x.entry) ≡ true) entries.now }
+    ensures ascending { IfOk result (λ made. IsStrictlySortedBy key_cmp made.0.items) }
+    ensures numbered { IfOk result (λ made. All (IsNumbered made.0.items) made.1.items) }
+    ensures passed { IfOk result (λ made. IsPass [] (map located_of entries.now) (mappings made.1.items)) }
+{
+    let mut rows = unnumbered(alloc, entries)?;
+    number_and_pass(alloc, entries, &mut rows)
+}
+
+// Numbers the entries in these rows, and makes the first pass over them.
+fn number_and_pass<'p, 'a>(
+    alloc: Global,
+    entries: &'p [LocatedEntry<'a>],
+    rows: &mut [NumberedEntry<'p, 'a>],
+) -> Result<(Vec<Key<'a>>, Vec<NumberedEntry<'p, 'a>>), AllocError>
+    requires accepted { All (λ x. is_accepted (mapping_of x.entry) ≡ true) entries.now }
+    requires located { mappings rows.old ≡ map located_of entries.now }
+    ensures ascending { IfOk result (λ made. IsStrictlySortedBy key_cmp made.0.items) }
+    ensures numbered { IfOk result (λ made. All (IsNumbered made.0.items) made.1.items) }
+    ensures passed { IfOk result (λ made. IsPass [] (map located_of entries.now) (mappings made.1.items)) }
+{
+    let keys = number(alloc, entries, rows)?;
+    let kept = drop_redundant_once(alloc, &keys, rows)?;
+    Ok((keys, kept))
 }
 
 fn without_numbers<'p, 'a>(

@@ -1,11 +1,11 @@
 //! Passes over the entries, each of which drops redundant ones.
-ghost use Rattle.std.specs.Prelude.{◌≡◌, All, [], IfOk};
+ghost use Rattle.std.specs.Prelude.{◌≡◌, All, [], IfOk, map};
 ghost use Rattle.std.specs.Option.{option_copied, option_map};
 ghost use Rattle.std.specs.List.Sorted.{IsStrictlySortedBy};
 ghost use Rattle.mailmap_entries.specs.Entries.{mapping_of};
 ghost use Rattle.mailmap_entries.specs.Semantics.{key_cmp, new_fields};
 ghost use Rattle.mailmap_entries.specs.Listings.{same_optional};
-ghost use Rattle.mailmap_redundancy.specs.Redundancy.{IsPass, AreEffective};
+ghost use Rattle.mailmap_redundancy.specs.Redundancy.{IsPass, AreEffective, located_of};
 ghost use Rattle.mailmap_redundancy.specs.Summaries as spec;
 ghost use Rattle.mailmap_redundancy.specs.Numbers.{IsNumbered, key_origins_of, later_of_each, mappings, referred, said_by, summary_of};
 
@@ -16,19 +16,22 @@ use crate::table::{KeySummary, Summary, Table};
 use mailmap_entries::Entry;
 use std::alloc::{AllocError, Global};
 
-/// Repeats passes over the entries until one drops nothing, and returns the entries that are left.
+/// Repeats passes until one drops nothing, and returns the entries that are left. `first` has those that the first pass
+/// over all entries left.
 pub(crate) fn drop_until_stable<'p, 'a>(
     alloc: Global,
     keys: &[Key<'_>],
-    entries: &[NumberedEntry<'p, 'a>],
+    entries: &[LocatedEntry<'_>],
+    first: Vec<NumberedEntry<'p, 'a>>,
 ) -> Result<Vec<NumberedEntry<'p, 'a>>, AllocError>
     requires ascending { IsStrictlySortedBy key_cmp keys.now }
-    requires numbered { All (IsNumbered keys.now) entries.now }
-    ensures effective { IfOk result (λ kept. AreEffective (mappings entries.now) (mappings kept.items)) }
+    requires numbered { All (IsNumbered keys.now) first.items }
+    requires passed { IsPass [] (map located_of entries.now) (mappings first.items) }
+    ensures effective { IfOk result (λ kept. AreEffective (map located_of entries.now) (mappings kept.items)) }
     ensures numbered { IfOk result (λ kept. All (IsNumbered keys.now) kept.items) }
 {
     let mut len = entries.len();
-    let mut kept = drop_redundant_once(alloc, keys, entries)?;
+    let mut kept = first;
     while kept.len() < len {
         len = kept.len();
         kept = drop_redundant_once(alloc, keys, &kept)?;
@@ -36,8 +39,8 @@ pub(crate) fn drop_until_stable<'p, 'a>(
     Ok(kept)
 }
 
-// Makes one pass, and returns the entries that are left.
-fn drop_redundant_once<'p, 'a>(
+/// Makes one pass, and returns the entries that are left.
+pub(crate) fn drop_redundant_once<'p, 'a>(
     alloc: Global,
     keys: &[Key<'_>],
     entries: &[NumberedEntry<'p, 'a>],

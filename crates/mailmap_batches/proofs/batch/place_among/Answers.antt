@@ -1,4 +1,4 @@
-use Rattle.std.proofs.Common.{◌≡◌, ◌+◌, ◌-◌, ◌∷◌, IsTrue, Less, drop, rules, sym, ap, subst, ◌∙◌, arith}
+use Rattle.std.proofs.Common.{◌≡◌, ◌+◌, ◌-◌, ◌∷◌, Less, drop, rules, sym, ap, subst, ◌∙◌, arith}
 use Rattle.std.specs.List.{AllByRecursion}
 use Rattle.std.proofs.lemmas.List.{drop_more}
 use Rattle.mailmap_entries.specs.Semantics.{key, key_cmp}
@@ -16,11 +16,11 @@ loop-place-preserved c =
     let left : drop (place - 1) xs ≡ x ∷ drop place xs = drop_more xs (place - 1) x
     (omega (arith, c.loop-place-test.true, within))
     ∙ ap (λ y. y ∷ drop (place - 1 + 1) xs) (sym c.index-batch-place.is) ∙ ap (λ i. x ∷ drop i xs) next in
-    let is_below : IsTrue c.is_below_of_prefix.result = search rules in
+    let below : key_cmp (key (mapping_at c.args.entry.now)) (key (mapping_at x)) ≡ Less = search rules in
     record {
       within = omega (arith, within);
       below =
           subst (AllByRecursion (λ (q : IndexedEntry). key_cmp (key (mapping_at c.args.entry.now)) (key (mapping_at q))
           ≡ Less))
-          (sym left) (c.is_below_of_prefix.ensures is_below, c.loop-place.invariant.below);
+          (sym left) (below, c.loop-place.invariant.below);
     }

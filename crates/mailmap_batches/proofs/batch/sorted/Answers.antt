@@ -44,11 +44,11 @@ by_stable_sort xs old new kept moved sorted stable =
 pub returns : goal.returns
 returns g c =
     let xs = map g.T.HasEntry.mapped c.args.entries.now in
-    let old = c.in_ok-batch.batch.items in
+    let old = c.in_ok-batch-2.batch.items in
     let new = c.sort_by.new.self.items in
     let compares = answers_always _ (λ a r. is_lt r ≡ by_key a.0.now a.1.0.now) _
     (λ f a r f' k. let e : r ≡ key_cmp (key_at a.0.now) (key_at a.1.0.now) = search rules in ap is_lt e) in
-    let sorted = by_stable_sort xs old new c.in_ok-batch.ensures c.sort_by.ensures.permutation
+    let sorted = by_stable_sort xs old new c.in_ok-batch-2.ensures c.sort_by.ensures.permutation
     (c.in_ok-sort_by.ensures.sorted by_key order compares) (c.sort_by.ensures.stable by_key order compares) in
     if_ok_map c.without_prefixes.result (λ done. done.items ≡ c.deref.result.now)
     (λ done. IsSorted xs (map indexed_mapping done.items))

@@ -6,7 +6,7 @@ use Rattle.mailmap_entries.specs.Folding.{text_cmp}
 use Rattle.mailmap_entries.proofs.Prefixes.{prefix_decides, then_settled}
 use Rattle.mailmap_entries.specs.Semantics.{key, key_cmp}
 use Rattle.mailmap_batches.specs.Batches.{mapping_at, email_text}
-use Rattle.mailmap_batches.proofs.batch.compare_keys.Goals as goal
+use Rattle.mailmap_batches.proofs.batch.compare_prefixed_keys.Goals as goal
 
 pub compare_keys_by_texts-requires : goal.compare_keys_by_texts-requires
 compare_keys_by_texts-requires c =
