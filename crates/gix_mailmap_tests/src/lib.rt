@@ -47,6 +47,8 @@ mod sources;
 #[cfg(test)]
 mod stream;
 #[cfg(test)]
+mod suggested;
+#[cfg(test)]
 mod task;
 #[cfg(test)]
 mod text;

@@ -1,0 +1,90 @@
+-- The entries by which contacts get one answer.
+use Rattle.std.specs.Prelude.{Bool, ◌&&◌, ◌||◌, ◌++◌, not, if◌then◌else◌, is_some, Option, Some, None, List, [], ◌∷◌}
+use Rattle.std.specs.Prelude.{map, filter, bytes_eq}
+use Rattle.std.specs.List.{flat_map, list_all}
+use Rattle.mailmap_entries.specs.Entries.{Mapping, mapping}
+use Rattle.mailmap_entries.specs.Folding.{Text, folded}
+use Rattle.mailmap_entries.specs.Semantics.{last_fields}
+use Rattle.mailmap_contacts.specs.Contacts.{Contact, answer, same_contact}
+use Rattle.mailmap_suggestions.specs.Contacts.{git_answer, own_key}
+
+-- the entries of mailmaps as this library reads them, and as git does
+pub record Histories : Type 0 where
+  pub ours : List Mapping
+  pub gits : List Mapping
+
+-- of mailmaps that both read alike
+abbrev pub alike : List Mapping → Histories
+alike h = record { ours = h; gits = h }
+
+-- with entries appended, which both read alike
+abbrev pub plus : Histories → List Mapping → Histories
+plus h added = record { ours = h.ours ++ added; gits = h.gits ++ added }
+
+-- whether this library and git both answer a contact by `to`
+abbrev pub is_answered : Histories → Contact → Contact → Bool
+is_answered h to c = same_contact (answer h.ours c) to && same_contact (git_answer h.gits c) to
+
+-- whether some entry has the contact's name as its old name, and its email, ASCII case aside
+abbrev pub has_own_entry : Histories → Contact → Bool
+has_own_entry h c = is_some (last_fields h.ours (own_key c))
+    || is_some (last_fields h.gits (own_key c))
+
+-- ---- the entries for one old email
+
+-- an empty name is not written
+abbrev pub name_of : Contact → Option Text
+name_of to = if bytes_eq to.name [] then None else Some to.name
+
+-- the forms `Name <email>`, `Name <email> <old email>` and `Name <email> Old Name <old email>`
+abbrev pub short_form : Contact → Mapping
+short_form to = mapping (name_of to) None None to.email
+
+abbrev pub long_form : Contact → Contact → Mapping
+long_form to c = mapping (name_of to) (Some to.email) None c.email
+
+abbrev pub named_form : Contact → Contact → Mapping
+named_form to c = mapping (name_of to) (Some to.email) (Some c.name) c.email
+
+abbrev pub are_answered : Histories → Contact → List Contact → Bool
+are_answered h to cs = list_all (is_answered h to) cs
+
+-- whether the short form is enough for these contacts with the first one's email
+abbrev pub is_short_enough : Histories → Contact → Contact → List Contact → Bool
+is_short_enough h to c cs = is_some (name_of to) && bytes_eq (folded to.email) (folded c.email)
+    && are_answered (plus h (short_form to ∷ [])) to (c ∷ cs)
+
+-- for contacts without entries of their own: none, or the entry that makes all their answers `to`
+abbrev pub plain_entries : Histories → Contact → List Contact → List Mapping
+plain_entries h to [] = []
+plain_entries h to (c ∷ cs) =
+    if are_answered h to (c ∷ cs) then []
+    else (if is_short_enough h to c cs then short_form to else long_form to c) ∷ []
+
+-- an entry with the old name for each contact that isn't answered by `to` yet
+abbrev pub named_entries : Histories → Contact → List Contact → List Mapping
+named_entries h to [] = []
+named_entries h to (c ∷ cs) =
+    if is_answered h to c then named_entries h to cs
+    else named_form to c ∷ named_entries (plus h (named_form to c ∷ [])) to cs
+
+-- the entries that make `to` the answers of these contacts with one old email
+abbrev pub entries_for_email : Histories → Contact → List Contact → List Mapping
+entries_for_email h to cs =
+    let plain = plain_entries h to (filter (λ c. not (has_own_entry h c)) cs) in
+    plain ++ named_entries (plus h plain) to cs
+
+-- ---- the entries for any contacts
+
+-- each text once, in the order of first occurrence
+abbrev pub distinct : List Text → List Text
+distinct [] = []
+distinct (x ∷ xs) = x ∷ filter (λ y. not (bytes_eq x y)) (distinct xs)
+
+abbrev pub of_old_email : Text → List Contact → List Contact
+of_old_email email cs = filter (λ c. bytes_eq email (folded c.email)) cs
+
+-- the entries that make `to` the answers of these contacts, old email by old email
+abbrev pub entries_to : Histories → Contact → List Contact → List Mapping
+entries_to h to cs =
+    flat_map (λ email. entries_for_email h to (of_old_email email cs)) (distinct (map (λ c. folded c.email) cs))

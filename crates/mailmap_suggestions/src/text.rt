@@ -1,0 +1,84 @@
+//! The text of suggestions.
+ghost use Rattle.std.specs.Prelude.{◌≡◌, ◌++◌, ◌∷◌, [], OnOk, if◌then◌else◌, unwrap_or};
+ghost use Rattle.std.specs.Option.{option_copied};
+ghost use Rattle.mailmap_entries.specs.Entries.{mapping_of};
+ghost use Rattle.mailmap_grammar.specs.Lines.{is_comment};
+ghost use Rattle.mailmap_suggestions.specs.SuggestedText.{by_git, count_line, entry_line, fields_text, mark};
+
+use itoa::Buffer;
+use mailmap_entries::Entry;
+use mailmap_grammar::writing::{push_email, push_name};
+use mailmap_snapshot::check::push_contact;
+use std::alloc::AllocError;
+
+/// Appends the line of a suggested entry, with its line feed.
+///
+/// ```text
+/// Jane Doe <jane@x> <JD@y>
+/// #?Jane Doe <jane@x> <jane@z>
+/// ```
+///
+/// The second one is to be judged first: whoever deletes the `#?` accepts it.
+pub fn push_entry(out: &mut Vec<u8>, entry: &Entry<'_>, is_to_judge: bool) -> Result<(), AllocError>
+    ensures { OnOk result (out.new.items
+        ≡ out.old.items ++ mark is_to_judge ++ entry_line (mapping_of entry.now) ++ 10 ∷ []) }
+{
+    if is_to_judge {
+        out.extend_from_slice(b"#?")?;
+    }
+    if begins_comment(entry.new_name()) {
+        out.push(b' ')?;
+    }
+    push_fields(out, entry)?;
+    out.push(b'\n')?;
+    Ok(())
+}
+
+fn begins_comment(name: Option<&[u8]>) -> bool
+    ensures { result ≡ is_comment (unwrap_or (option_copied name.entry) []) }
+{
+    match name {
+        Some(name) => !name.is_empty() && name[0] == b'#',
+        None => false,
+    }
+}
+
+fn push_fields(out: &mut Vec<u8>, entry: &Entry<'_>) -> Result<(), AllocError>
+    ensures { OnOk result (out.new.items ≡ out.old.items ++ fields_text (mapping_of entry.now)) }
+{
+    push_name(out, entry.new_name())?;
+    if let Some(new_email) = entry.new_email() {
+        push_email(out, new_email)?;
+        out.push(b' ')?;
+    }
+    push_name(out, entry.old_name())?;
+    push_email(out, entry.old_email())
+}
+
+/// Appends the comment that says how often an answer comes, with its line feed.
+///
+/// ```text
+/// # 2 Jane Doe <jane@x>
+/// # 1 Jane Doe <JANE@x> by git
+/// ```
+pub fn push_count(
+    out: &mut Vec<u8>,
+    count: usize,
+    name: &[u8],
+    email: &[u8],
+    is_gits: bool,
+) -> Result<(), AllocError>
+    ensures { OnOk result (out.new.items ≡ out.old.items
+        ++ count_line is_gits count (record { name = name.now; email = email.now }) ++ 10 ∷ []) }
+{
+    let mut digits = Buffer::new();
+    out.extend_from_slice(b"# ")?;
+    out.extend_from_slice(digits.format(count).as_bytes())?;
+    out.push(b' ')?;
+    push_contact(out, name, email)?;
+    if is_gits {
+        out.extend_from_slice(b" by git")?;
+    }
+    out.push(b'\n')?;
+    Ok(())
+}
