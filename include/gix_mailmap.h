@@ -284,10 +284,10 @@ gix_mailmap_status gix_mailmap_explain(const gix_mailmap_named *mailmaps, size_t
 /* Lists the lines of some mailmaps that have an effect and that no contact needs, in their order. `contacts` has a
  * contact on each line, such as all contacts of a history; a line that isn't a contact needs nothing. A contact needs
  * the line that gives its new name, and the line that gives its new email. If no line gives a new email, it needs the
- * first line for its old email, which says how that email is spelled. If all listed lines and all lines that have no
- * effect are removed together, the answers for these contacts stay the same. If git reads the mailmaps, too, fix the
- * lines of GIX_MAILMAP_GIT_READS first. Mailmaps are as for gix_mailmap_report; their names are not read. `out_len`
- * counts positions. `needed` is the number of all listed lines, and 0 on OUT_OF_MEMORY.
+ * first line for its old email that has an effect, which says how that email is spelled. If all listed lines and all
+ * lines that have no effect are removed together, the answers for these contacts stay the same. If git reads the
+ * mailmaps, too, fix the lines of GIX_MAILMAP_GIT_READS first. Mailmaps are as for gix_mailmap_report; their names are
+ * not read. `out_len` counts positions. `needed` is the number of all listed lines, and 0 on OUT_OF_MEMORY.
  * OK; TOO_SHORT; OUT_OF_MEMORY. */
 gix_mailmap_status gix_mailmap_unneeded(const gix_mailmap_named *mailmaps, size_t count, const char *contacts,
                                         size_t contacts_len, gix_mailmap_position *GIX_MAILMAP_RESTRICT out,

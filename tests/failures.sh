@@ -16,7 +16,8 @@ printf 'bob <BUGS@example.com>\n' > contacts
 printf 'plain\n' > faulty
 mkdir folder
 head -c 40000000 /dev/zero > large
-head -c 7000000 /dev/zero > half
+# a contact that fits into the limit below, but not together with its answer
+{ head -c 7000000 /dev/zero; echo '<b@x>'; } > half
 seq -f 'Joe <j%.0f@example.com>' 200000 > many
 cat contacts large > long
 

@@ -86,7 +86,7 @@ class Mailmap(_native.Mailmap[AnyStr], Sequence[Entry[AnyStr]]):
         return _native.Stream(self, lines)
 
     def _of_trimmed(self, line: Union[str, bytes]) -> Union[str, bytes]:
-        """The answer to a line, by a lookup. The line is trimmed if it is a contact."""
+        """The answer to a line, by a lookup. A contact has to be `NAME <EMAIL>` or `<EMAIL>`, without other spaces."""
         name, bracket, rest = (encoded(line) if isinstance(line, str) else line).partition(b"<")
         if not bracket or b">" not in rest:
             return line

@@ -4,7 +4,7 @@
 //! 1711398853 +0800`.
 //!
 //! The three calls that resolve a signature differ in what they copy, and each does here what it is best for:
-//! `resolve_cow` shows the authors, `resolve` keeps one for later, and `try_resolve` shows whom the mailmap changes.
+//! `resolve_cow` shows the authors, `resolve` keeps one for later, and `try_resolve` shows whom the mailmap maps.
 #![tactic(auto)]
 
 use anyhow::{Context, Result};
@@ -120,7 +120,8 @@ fn newest<'a>(authors: &[SignatureRef<'a>]) -> Option<SignatureRef<'a>> {
     Some(newest)
 }
 
-// Shows the authors that the mailmap changes. For the others, `try_resolve` is `None` and copies nothing.
+// Shows the authors that the mailmap maps, even if it gives them what they have. For the others, `try_resolve` is `None`
+// and copies nothing.
 fn show_changed<R: Print + AllocGlobal>(
     rt: &R,
     mailmap: &Snapshot,

@@ -1,7 +1,7 @@
 //! A stable sort of entries by key.
 //!
-//! Comparisons use the prefixes of the emails: the first sixteen bytes as a number, as `key_prefix` makes it. Emails
-//! whose prefixes differ are in the order of their prefixes.
+//! Entries that are nearly in order are inserted one by one. Others are sorted with the prefixes of their emails: the
+//! first sixteen bytes as a number, as `key_prefix` makes it. Emails whose prefixes differ are in their order.
 ghost use Rattle.std.specs.Prelude.{◌≡◌, ◌<◌, ◌≤◌, ◌-◌, IfOk, IsTrue, drop, false, length, map};
 ghost use Rattle.std.specs.Option.{ForSome, option_copied, option_map, option_cmp};
 ghost use Rattle.std.specs.List.{AllByRecursion, HoldsAt};
@@ -36,8 +36,8 @@ pub fn sorted<'e, 'a, T: HasEntry<'a>>(
     without_prefixes(alloc, &batch)
 }
 
-// Inserts each entry before the last few with a greater key, and gives up at an entry that would have to go further. No
-// entry has to in most mailmaps that are sorted by email, which then take a third of the memory that a sort takes.
+// Inserts each entry before the last few with a greater key, and gives up if its place isn't found among these. It is
+// found for each entry of most mailmaps that are sorted by email, which then take a third of the memory of a sort.
 fn sorted_by_insertion<'e, 'a, T: HasEntry<'a>>(
     alloc: Global,
     entries: &'e [T],
@@ -74,8 +74,8 @@ impl<'e, 'a> Model for PrefixedEntry<'e, 'a> {
     ghost invariant = { λ f. IsKeyPrefix f.prefix (email_text (mapping_at f.indexed)) };
 }
 
-// Inserts each entry before the last few entries with the same prefix and a greater key. If the emails of a mailmap
-// ascend, the keys then ascend, too, and the sort needs only one pass.
+// Inserts each entry before the last few entries with the same prefix and a greater key. If emails nearly ascend, most
+// entries are then in their places, and the sort that follows finds long runs.
 fn nearly_sorted<'e, 'a, T: HasEntry<'a>>(
     alloc: Global,
     entries: &'e [T],
@@ -99,10 +99,10 @@ fn with_prefix<'e, 'a>(indexed: IndexedEntry<'e, 'a>) -> PrefixedEntry<'e, 'a>
     PrefixedEntry { prefix, indexed }
 }
 
-// The maximum number of entries that an insertion moves past. This sorts emails with up to nine entries.
+// How many entries an insertion looks at. So the entries of an email are in order if there are no more than these.
 const MAX_PASSED: usize = 8;
 
-// The index to insert an entry at so that the keys still ascend, `None` if that is not among the last few.
+// The index to insert an entry at so that the keys still ascend, `None` if all of the last few have greater keys.
 #[inline(always)]
 fn place_among(batch: &[IndexedEntry], entry: &IndexedEntry) -> Option<usize>
     ensures within { ForSome result (λ place. place ≤ length batch.now) }

@@ -13,13 +13,13 @@ use std::alloc::{AllocError, Global};
 /// A finding about contacts.
 #[derive(Clone, Copy)]
 pub enum ContactFinding<'r, 'a> {
-    /// The line with this number is no contact.
+    /// The line with this number is neither blank nor a contact.
     NoContact(usize),
     /// The first answer shares an email or a name with the second one, which is the proper one of all that share it.
     Shares(Shared, &'r Answer<'a>, &'r Answer<'a>),
 }
 
-/// The findings about the lines that are no contacts, and about distinct answers, in the order of their lines.
+/// The findings about lines that are neither blank nor contacts, and about distinct answers, in the order of the lines.
 ///
 /// Answers with one email, whatever the case of ASCII letters, are compared with the proper one of them: of those with
 /// a name, or of all if none has one, the one that comes most often; of several of these the one that comes first. Then

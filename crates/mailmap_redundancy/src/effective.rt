@@ -100,8 +100,8 @@ pub fn without_redundant<'p, 'a>(
     })
 }
 
-// The keys of the entries, and the entries that a first pass leaves. The rows of all entries are freed here, before
-// another pass allocates.
+// The keys of the entries, and the entries that a first pass leaves. The numbers of all entries are freed here,
+// before another pass allocates.
 fn first_pass<'p, 'a>(
     alloc: Global,
     entries: &'p [LocatedEntry<'a>],

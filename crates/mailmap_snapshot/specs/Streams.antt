@@ -8,7 +8,7 @@ use Rattle.mailmap_grammar.specs.Lines.{HoldsNo}
 use Rattle.mailmap_snapshot.specs.Contacts.{answers}
 use Rattle.mailmap_snapshot.specs.Parts.{EndsLine}
 
--- a stream of contacts: the mappings of its mailmaps, and the start of a line that hasn't ended yet
+-- a stream of contacts: the listing of the snapshot that it answers with, and the start of a line that hasn't ended yet
 pub record Stream : Type 0 where
   pub mappings : List Mapping
   pub kept : Text

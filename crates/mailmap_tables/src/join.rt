@@ -1,4 +1,4 @@
-//! Joins a sorted batch with the old tables: email by email, and for each email name by name. Old rows between two
+//! Joins a sorted batch with existing tables: email by email, and for each email name by name. Their rows between two
 //! emails of the batch are copied without reading their texts.
 ghost use Rattle.std.specs.Prelude.{◌≡◌, ◌+◌, ◌-◌, ◌<◌, ◌≤◌, [], ◌++◌, ◌∷◌, true, OnOk, IfOk, take, drop, map, length};
 ghost use Rattle.std.specs.Option.{option_copied};
@@ -49,7 +49,7 @@ fn push_named(
     out.push_name(row)
 }
 
-// Appends a name to `out`, after the old names that come before it, and returns the remaining old names.
+// Appends a name to `out`, after the existing names that come before it, and returns the remaining ones.
 fn join_name<'k>(
     out: &mut Tables,
     old_names: &'k [NameRow],
@@ -78,7 +78,7 @@ fn join_name<'k>(
     }
 }
 
-// Appends the old names of an email to `out`, joined with the entries of the batch for these names.
+// Appends the existing names of an email to `out`, joined with the entries of the batch for these names.
 fn join_names(
     out: &mut Tables,
     old_names: &[NameRow],
@@ -102,8 +102,8 @@ fn join_names(
     out.push_names(old_names)
 }
 
-// Appends an email to `out`: its old texts and names, joined with the entries of the batch for it. Its own fields are
-// pushed before its names, so that the fields of a new email follow its text in the pool, and nothing is copied.
+// Appends an email to `out`: its existing texts and names, joined with the entries of the batch for it. Its own fields
+// are pushed before its names, so that the fields of a new email follow its text in the pool, and nothing is copied.
 fn join_email(
     out: &mut Tables,
     texts: RowTexts,
@@ -123,7 +123,7 @@ fn join_email(
     out.push_email(own)
 }
 
-// Copies old emails to `out`, from one index up to but not including another.
+// Copies existing emails to `out`, from one index up to but not including another.
 fn copy_emails(
     out: &mut Tables,
     old_tables: &View<'_>,
@@ -145,8 +145,8 @@ fn copy_emails(
     Ok(())
 }
 
-// Appends the email of a group of the batch to `out`, after the old emails before it, and returns the index of the next
-// old email.
+// Appends the email of a group of the batch to `out`, after the existing emails before it, and returns the index of the
+// next one of these.
 fn join_group(
     out: &mut Tables,
     old_tables: &View<'_>,

@@ -60,7 +60,7 @@ remark_line paths (remark_unneeded p) =
 abbrev pub both_texts : List Text → Text → List Remark → List ContactFinding → Text
 both_texts paths file remarks found = flat_map (remark_line paths) remarks ++ said_text file found
 
--- whether there are findings
+-- `Found` if there is a remark, or a finding about contacts that counts
 abbrev pub outcome_of_both : List Remark → List ContactFinding → Outcome
 outcome_of_both [] found = if list_any counts found then Found else Clean
 outcome_of_both (r ∷ remarks) found = Found

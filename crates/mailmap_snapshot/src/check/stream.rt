@@ -30,7 +30,7 @@ enum Stop {
 
 /// Answers contacts that arrive in parts, as [`check`](crate::check::check()) answers all of them at once.
 ///
-/// It holds the mappings of the buffers, the start of a line that hasn't ended yet, and a cache for up to 4,096 lines
+/// It holds a snapshot of the buffers, the start of a line that hasn't ended yet, and a cache for up to 4,096 lines
 /// that came more than once. The cache takes at most 1.1 MiB, however long the lines are.
 ///
 /// The answers don't depend on how the contacts are split into parts: [`law_stream`](crate::laws::law_stream()).
@@ -58,7 +58,7 @@ impl Model for ContactStream {
 
     ghost view = { λ s. record { mappings = s.snapshot; kept = s.kept.items } };
 
-    // every row of the cache is a line and its answer, and no line has ended
+    // every row of the cache is a line and its answer, and the kept bytes have no line feed
     ghost invariant = { λ s. AreCachedAnswers s.snapshot s.cache × HoldsNo 10 s.kept.items };
 }
 
@@ -221,8 +221,8 @@ fn is_own_answer(line: &[u8]) -> bool
     }
 }
 
-// Does what `push_cached_answer` does, but doesn't hash a line that is too long for the cache. It stands apart so that
-// `push_line` is short enough to be inlined.
+// Does what `push_cached_answer` does for a line that was joined, which may be much longer than a part. It isn't hashed
+// if it is too long for the cache. A function of its own, so that `push_line` is short enough to be inlined.
 #[inline(never)]
 fn push_line_answer(
     text: &mut Vec<u8>,
