@@ -24,8 +24,8 @@ pub trait FileSystem {
         ensures opened { IfOk result (λ file. Opens (at self.now path.now) (Self.Reader.remaining file)) }
         ensures failed { IfErr result (λ e. FailsWith (at self.now path.now) (error_kind e)) };
 
-    /// Reads a file to its end. The contract of a reader lets each read fail. This fails only if no file can be opened
-    /// there or nothing is known of it, or if there is too little memory.
+    /// Reads a file to its end. The contract of a reader lets each read fail. If the ghost member `at` says what is at
+    /// the path, this fails only if no file can be opened there, or if there is too little memory.
     fn read(&self, alloc: Global, path: &[u8]) -> Result<Vec<u8>, ErrorKind>
         ensures contents { IfOk result (λ contents. Gives (at self.now path.now) contents.items) }
         ensures failed { IfErr result (λ cause. FailsWith (at self.now path.now) cause
