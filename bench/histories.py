@@ -21,11 +21,14 @@ from measuring import (
 )
 from streams import histories
 
-CHECK, EXPLAIN, CONTACTS, SHORTLOG = "mailmap_check", "--explain", "--contacts -", "mailmap_shortlog -n -e"
+CHECK, EXPLAIN, CONTACTS, SUGGEST = "mailmap_check", "--explain", "--contacts -", "--suggest -"
+SHORTLOG = "mailmap_shortlog -n -e"
 GIT, SORTED = "git shortlog -sne", "mailmap_check, sort and uniq -c"
 SORTING = '"$0" "$1" | LC_ALL=C sort | uniq -c | sort -rn'
 # which program is compared with which, and the largest allowed ratio of their times
-ROWS = [(EXPLAIN, CHECK, 2), (CONTACTS, CHECK, 3), (SHORTLOG, GIT, 0.33), (SHORTLOG, SORTED, 0.33)]
+ROWS = [
+    (EXPLAIN, CHECK, 2), (CONTACTS, CHECK, 3), (SUGGEST, CONTACTS, 4), (SHORTLOG, GIT, 0.33), (SHORTLOG, SORTED, 0.33),
+]
 
 
 def as_logged(folder):
@@ -45,6 +48,7 @@ def commands(given, folder):
         CHECK: ([check, mailmap], million),
         EXPLAIN: ([verify, "--explain", mailmap], million),
         CONTACTS: ([verify, "--contacts", "-", mailmap], million),
+        SUGGEST: ([verify, "--suggest", "-", mailmap], million),
         SHORTLOG: ([shortlog, "-n", "-e", mailmap], million),
         GIT: (git, str(as_logged(folder))),
         SORTED: (["bash", "-o", "pipefail", "-c", SORTING, check, mailmap], million),

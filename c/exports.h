@@ -57,6 +57,8 @@ uint32_t gix_mailmap_text_explain(const lengths *all, size_t count, const void *
 uint32_t gix_mailmap_text_unneeded(const lengths *all, size_t count, const void *texts, size_t texts_len,
                                    const void *contacts, size_t contacts_len, void *out, size_t out_len,
                                    size_t *needed);
+uint32_t gix_mailmap_text_suggest(const lengths *all, size_t count, const void *texts, size_t texts_len,
+                                  const void *contacts, size_t contacts_len, void *out, size_t out_len, size_t *needed);
 uint32_t gix_mailmap_text_verify(const void *mailmap, size_t mailmap_len, void *out, size_t out_len, size_t *needed);
 
 #endif

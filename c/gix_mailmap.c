@@ -274,6 +274,20 @@ gix_mailmap_status gix_mailmap_unneeded(const gix_mailmap_named *mailmaps, size_
     return status;
 }
 
+gix_mailmap_status gix_mailmap_suggest(const gix_mailmap_named *mailmaps, size_t count, const char *contacts,
+                                       size_t contacts_len, char *GIX_MAILMAP_RESTRICT out, size_t out_len,
+                                       size_t *GIX_MAILMAP_RESTRICT needed)
+{
+    block b = block_of(mailmaps, count, false);
+    *needed = 0;
+    if (b.each == NULL)
+        return GIX_MAILMAP_OUT_OF_MEMORY;
+    gix_mailmap_status status = gix_mailmap_text_suggest(b.each, count, b.texts, b.total.text, text_at(contacts),
+                                                         contacts_len, room_at(out), out_len, needed);
+    free(b.each);
+    return status;
+}
+
 gix_mailmap_status gix_mailmap_verify(const char *mailmap, size_t mailmap_len,
                                       gix_mailmap_finding *GIX_MAILMAP_RESTRICT out, size_t out_len,
                                       size_t *GIX_MAILMAP_RESTRICT needed)

@@ -256,10 +256,10 @@ gix_mailmap_status gix_mailmap_verify(const char *mailmap, size_t mailmap_len,
     GIX_MAILMAP_NONNULL(5) GIX_MAILMAP_MUST_CHECK;
 
 /* Writes what is wrong with some mailmaps as text, as mailmap_verify prints it: a line for each finding, such as
- * `NAME:3: warning: no effect beside OTHER:7`. The mailmaps are read one after another, as if they were one: a line may
- * have no effect beside a line of another mailmap. Control bytes are shown as `\x1b`, C1 control characters and
- * bidirectional formatting characters as `\u202e`. Names, emails and ignored texts of more than 256 bytes are cut.
- * `count` is the number of mailmaps. `needed` is the length of the text, and 0 on OUT_OF_MEMORY.
+ * `NAME:3: warning: no effect: OTHER:7 says the same [no-effect]`. The mailmaps are read one after another, as if they
+ * were one: a line may have no effect beside a line of another mailmap. Control bytes are shown as `\x1b`, C1 control
+ * characters and bidirectional formatting characters as `\u202e`. Names, emails and ignored texts of more than 256 bytes
+ * are cut. `count` is the number of mailmaps. `needed` is the length of the text, and 0 on OUT_OF_MEMORY.
  * OK; TOO_SHORT; OUT_OF_MEMORY. */
 gix_mailmap_status gix_mailmap_report(const gix_mailmap_named *mailmaps, size_t count, char *GIX_MAILMAP_RESTRICT out,
                                       size_t out_len, size_t *GIX_MAILMAP_RESTRICT needed)
@@ -292,6 +292,24 @@ gix_mailmap_status gix_mailmap_explain(const gix_mailmap_named *mailmaps, size_t
 gix_mailmap_status gix_mailmap_unneeded(const gix_mailmap_named *mailmaps, size_t count, const char *contacts,
                                         size_t contacts_len, gix_mailmap_position *GIX_MAILMAP_RESTRICT out,
                                         size_t out_len, size_t *GIX_MAILMAP_RESTRICT needed)
+    GIX_MAILMAP_NONNULL(7) GIX_MAILMAP_MUST_CHECK;
+
+/* Writes the lines that some mailmaps lack for contacts, as mailmap_verify --suggest prints them: for each group of
+ * contacts whose answers share an email or a name and differ, how often each answer comes, and lines that give all of
+ * them one answer, such as
+ *
+ *     # 3 Jane Doe <jane@x>
+ *     # 2 jane <jane@x>
+ *     Jane Doe <jane@x>
+ *
+ * and an empty line. `#?` begins the lines for a group that shares only a name, since these may be two people: whoever
+ * deletes the `#?` accepts the line. The text is a mailmap, to be appended to the last one. `contacts` has a contact on
+ * each line. Mailmaps are as for gix_mailmap_report; their names are not read. `needed` is the length of the text, and
+ * 0 on OUT_OF_MEMORY.
+ * OK; TOO_SHORT; OUT_OF_MEMORY. */
+gix_mailmap_status gix_mailmap_suggest(const gix_mailmap_named *mailmaps, size_t count, const char *contacts,
+                                       size_t contacts_len, char *GIX_MAILMAP_RESTRICT out, size_t out_len,
+                                       size_t *GIX_MAILMAP_RESTRICT needed)
     GIX_MAILMAP_NONNULL(7) GIX_MAILMAP_MUST_CHECK;
 
 /* Opens a stream, which maps contacts as gix_mailmap_check does. The contacts come in parts of any length, and a part

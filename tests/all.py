@@ -36,6 +36,7 @@ PARTS = {
     "original": ("compares answers with those of the Rust original", f"tests/original/compare.py {CHECK} {DUMP}"),
     "edges": ("runs programs on odd arguments, paths and streams", f"tests/edges/run.py {CHECK} {VERIFY} {SHORTLOG}"),
     "verify": ("compares mailmap_verify with a model", f"tests/verify/run.py {VERIFY}"),
+    "suggest": ("compares suggested lines with two models and git", f"tests/suggest/run.py {VERIFY} {SHORTLOG}"),
     "shortlog": ("compares mailmap_shortlog with a model and git", f"tests/shortlog/run.py {SHORTLOG}"),
     "failures": ("runs programs when files, streams or memory fail", f"tests/failures.sh {CHECK} {VERIFY} {SHORTLOG}"),
     "memory": ("measures the memory for hostile mailmaps", f"tests/memory.py {CHECK} {VERIFY} {SHORTLOG}"),

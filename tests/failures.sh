@@ -14,6 +14,7 @@ cd "$work"
 printf 'Joe R. Developer <joe@example.com> <bugs@example.com>\n' > mailmap
 printf 'bob <BUGS@example.com>\n' > contacts
 printf 'plain\n' > faulty
+printf 'bob <b@x>\nBob <b@x>\n' > alike
 mkdir folder
 head -c 40000000 /dev/zero > large
 # a contact that fits into the limit below, but not together with its answer
@@ -82,6 +83,10 @@ answered='bob <BUGS@example.com> is Joe R. Developer <joe@example.com> by mailma
 fails 'out of memory' mailmap_verify '--contacts large mailmap'
 fails 'out of memory' mailmap_verify '--contacts - mailmap < large'
 fails 'out of memory' mailmap_verify '--contacts contacts many'
+fails 'out of memory' mailmap_verify '--suggest large mailmap'
+fails 'out of memory' mailmap_verify '--suggest - mailmap < large'
+fails 'out of memory' mailmap_verify '--suggest contacts many'
+fails 'out of memory' mailmap_verify '--suggest many mailmap'
 limit=''
 fails 'missing: No such file or directory' mailmap_verify '--explain mailmap missing'
 fails '-: No such file or directory' mailmap_verify '--explain -'
@@ -89,20 +94,36 @@ fails 'standard input: Is a directory' mailmap_verify '--explain mailmap < folde
 fails 'missing: No such file or directory' mailmap_verify '--prune missing'
 fails 'folder: Is a directory' mailmap_verify '--prune folder'
 fails 'standard input: Is a directory' mailmap_verify '--prune < folder'
-usage='usage: mailmap_verify [--] [FILE..] | --prune [--] [FILE] | --explain [--] [FILE..]
-     | --contacts CONTACTS [--] [FILE..] | --help | --version'
+usage='usage: mailmap_verify [--prune | --explain | --contacts CONTACTS | --suggest CONTACTS] [-S LEVEL] [-e KIND,..]
+     [-f FORMAT] [--stdin-name NAME] [--] [FILE..] | --help | --version'
 fails "unknown option: --foo"$'\n'"$usage" mailmap_verify '--foo mailmap'
 fails "unknown option: -x"$'\n'"$usage" mailmap_verify '--prune -x'
 fails "a second mode: --prune"$'\n'"$usage" mailmap_verify '--prune --prune'
 fails "a second mode: --explain"$'\n'"$usage" mailmap_verify '--prune --explain'
 fails "a second mode: --contacts"$'\n'"$usage" mailmap_verify '--contacts contacts --contacts contacts'
+fails "a second mode: --suggest"$'\n'"$usage" mailmap_verify '--contacts contacts --suggest contacts'
 fails "no file after --contacts"$'\n'"$usage" mailmap_verify '--contacts'
+fails "no file after --suggest"$'\n'"$usage" mailmap_verify 'mailmap --suggest'
+fails "no level after -S"$'\n'"$usage" mailmap_verify 'mailmap -S'
+fails "unknown kind: foo"$'\n'"$usage" mailmap_verify '--exclude=no-effect,foo mailmap'
+fails "unknown level: fatal"$'\n'"$usage" mailmap_verify '-S fatal mailmap'
+fails "unknown format: xml"$'\n'"$usage" mailmap_verify '--format=xml mailmap'
+fails "no name after --stdin-name"$'\n'"$usage" mailmap_verify '--stdin-name'
+fails "--prune takes no --severity"$'\n'"$usage" mailmap_verify 'mailmap --prune -S error'
+fails "--explain takes no --exclude"$'\n'"$usage" mailmap_verify '-e no-effect mailmap --explain'
+fails "--suggest takes no --format"$'\n'"$usage" mailmap_verify '--suggest contacts -f json mailmap'
 fails 'missing: No such file or directory' mailmap_verify '--contacts missing mailmap'
 fails 'missing: No such file or directory' mailmap_verify '--contacts contacts mailmap missing'
 fails 'folder: Is a directory' mailmap_verify '--contacts folder mailmap'
 fails 'standard input: Is a directory' mailmap_verify '--contacts - mailmap < folder'
 fails 'standard input: Is a directory' mailmap_verify '--contacts contacts < folder'
 fails '-: No such file or directory' mailmap_verify '--contacts - -'
+fails 'missing: No such file or directory' mailmap_verify '--suggest missing mailmap'
+fails 'missing: No such file or directory' mailmap_verify '--suggest contacts mailmap missing'
+fails 'folder: Is a directory' mailmap_verify '--suggest folder'
+fails 'mailmap/x: Not a directory' mailmap_verify '--suggest missing mailmap/x'
+fails 'standard input: Is a directory' mailmap_verify '--suggest - mailmap < folder'
+fails '-: No such file or directory' mailmap_verify '--suggest contacts -'
 fails '--prune takes one FILE at most' mailmap_verify '--prune mailmap mailmap'
 fails '--prune takes one FILE at most' mailmap_verify '--prune missing missing mailmap'
 fails 'cannot write output' mailmap_verify 'faulty > /dev/full'
@@ -110,6 +131,9 @@ fails 'cannot write output' mailmap_verify 'faulty >&-'
 fails 'cannot write output' mailmap_verify '--prune mailmap > /dev/full'
 fails 'cannot write output' mailmap_verify '--explain mailmap > /dev/full'
 fails 'cannot write output' mailmap_verify '--contacts faulty mailmap > /dev/full'
+fails 'cannot write output' mailmap_verify '--format json faulty > /dev/full'
+fails 'cannot write output' mailmap_verify '--suggest alike mailmap > /dev/full'
+fails 'cannot write output' mailmap_verify '--suggest alike >&-'
 fails 'cannot write output' mailmap_verify '--help > /dev/full'
 fails 'cannot write output' mailmap_verify '--version > /dev/full'
 fails 'cannot write output' mailmap_check '--help > /dev/full'
@@ -168,7 +192,7 @@ for program in mailmap_check mailmap_verify mailmap_shortlog; do
 done
 printf 'Jane <jane@x> \x1b[31m\x7f\xff\n' > control
 cp -- control -x
-found=$'1: warning: ignored text: \\x1b[31m\\x7f\xff'
+found=$'1: warning: ignored text: \\x1b[31m\\x7f\xff (an old name needs an email after it) [ignored-text]'
 prints "control:$found" 1 mailmap_verify 'control'
 prints "-x:$found" 1 mailmap_verify '-- -x'
 prints "<stdin>:$found" 1 mailmap_verify '- < control'
@@ -187,6 +211,9 @@ prints '' 0 mailmap_verify 'many'
 prints "$(cat many)" 0 mailmap_verify '--prune many'
 prints "$(sed 's/^.*$/& is & by many:/' many | cat -n | sed 's/^ *\([0-9]*\)\t\(.*\)/\2\1/; s/^Joe/x/')" 0 \
     mailmap_verify '--explain many < <(sed s/Joe/x/ many)'
+prints '' 0 mailmap_verify '--suggest contacts mailmap'
+prints "$(sed 's/^/# 1 /' many; sed '1d; s/^Joe/#?Joe <j1@example.com>/' many; echo; echo -)" 0 \
+    mailmap_verify '--suggest many many; echo -'
 prints "$(sed 's/^Joe/     1\tJoe/' many | LC_ALL=C sort)" 0 mailmap_shortlog '-e many < many'
 # Many entries for few keys are merged in batches of 262,144. Here a batch is the last one, or others follow.
 round=$'First <A@x>\n<n1@y> JANE <a@X>\n<n2@y> Jane <a@x>\nLast <a@x>'

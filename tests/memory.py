@@ -67,12 +67,15 @@ def long_texts() -> bytes:
 
 
 def long_text_traps() -> Iterator[Trap]:
-    """Contacts that one line maps to a long name or email. With the long email, the output has it for each contact."""
+    """Contacts that one line maps to a long name or email. With the long email, the output has it for each contact. git
+    reads the line in another way, as it does the short one beside it, so each contact has a finding in both.
+    """
     text = b"L" * 64_000
     contacts = b"".join(b"%d <a>\n" % number for number in range(10_000))
-    for what, line in [("name", text + b" <a>\n"), ("email", b"<" + text + b"> <a>\n")]:
-        programs = [NAMES, EMAILS, BESIDE]
-        yield Trap(f"a long {what} of many contacts", [line], [comment(len(line))], programs, 1.1, contacts)
+    for what, form in [("name", b"%b <a>\n"), ("email", b"<%b> <a>\n")]:
+        line, short = form % text, form % b"b\0"
+        plain = short + comment(len(line) - len(short))
+        yield Trap(f"a long {what} of many contacts", [line], [plain], [NAMES, EMAILS, BESIDE], 1.1, contacts)
 
 
 def traps() -> Iterator[Trap]:

@@ -51,9 +51,9 @@ look_at() {
 # to refuse, then the last one is, and so on, back to those that read the last files. Between these numbers, no list of
 # files or arguments grows. With the numbers in `more`, an allocation for an argument or for one of the first files is
 # refused, so each additional file shifts it by one only.
-refused=258
-most=122
-more=({223..249})
+refused=514
+most=250
+more=({479..505})
 long="$(printf './%.0s' {1..128})empty"
 : > "$work/empty"
 printf 'Joe R. Developer <joe@example.com> <bugs@example.com>\n' > "$work/mailmap"
@@ -65,16 +65,20 @@ printf 'bob <b@example.com>\nnot a contact\nBOB <B@example.com>\nbob <bob@exampl
 printf 'Joe R. Developer <joe@example.com>\n' > "$work/answered"
 printf 'not a contact\n' >> "$work/answered"
 printf ' Joe R. Developer <joe@example.com> <bugs@example.com>\n' > "$work/compacted"
-printf 'mailmap:1: warning: no effect beside mailmap:1\n' > "$work/reported"
+printf 'mailmap:1: warning: no effect: mailmap:1 says the same [no-effect]\n' > "$work/reported"
 printf 'bob <BUGS@example.com> is Joe R. Developer <joe@example.com> by mailmap:1\n' > "$work/explained"
 printf 'not a contact is no contact\n' >> "$work/explained"
 printf '     1\tJoe R. Developer <joe@example.com>\n' > "$work/counted"
-printf 'mailmap:1: warning: no contact needs it\n' > "$work/beside"
+printf 'mailmap:1: warning: no contact needs it [unneeded]\n' > "$work/beside"
 {
-    printf '<stdin>:2: error: no contact\n'
-    printf '<stdin>:3: warning: BOB <B@example.com> (1) has the email of bob <b@example.com> (1)\n'
-    printf '<stdin>:4: note: bob <bob@example.com> (1) has the name of bob <b@example.com> (1)\n'
+    printf '<stdin>:2: error: no contact [no-contact]\n'
+    printf '<stdin>:3: warning: BOB <B@example.com> (1) has the email of bob <b@example.com> (1) [same-email]\n'
+    printf '<stdin>:4: note: bob <bob@example.com> (1) has the name of bob <b@example.com> (1) [same-name]\n'
 } >> "$work/beside"
+{
+    printf '# 1 bob <b@example.com>\n# 1 BOB <B@example.com>\nbob <b@example.com> <b@example.com>\n\n'
+    printf '# 2 bob <b@example.com>\n# 1 bob <bob@example.com>\n#?bob <b@example.com> <bob@example.com>\n\n'
+} > "$work/suggested"
 
 # arguments NUMBER PATH FIRST..: the arguments of a case with this many files, the first of them with this path.
 arguments() {
@@ -108,24 +112,25 @@ start_program() {
 }
 
 # In mailmap_verify's first mode the mailmap is given twice, so its first copy has no effect.
-add_cases mailmap_verify reported 100 contacts mailmap
-add_cases mailmap_verify explained 100 contacts --explain
-add_cases mailmap_verify beside 66 alike --contacts -
+add_cases mailmap_verify reported 226 contacts mailmap
+add_cases mailmap_verify explained 226 contacts --explain
+add_cases mailmap_verify beside 186 alike --contacts -
+add_cases mailmap_verify suggested 182 alike --suggest -
 start_program mailmap_verify
 
 # The library: standard input has the number of allocations before all calls.
-runs=300
+runs=500
 mkdir -p "$work/out_of_memory/cases"
 for ((before = 0; before < runs; before++)); do
     echo "$before" > "$work/out_of_memory/cases/$(printf '%03d' "$before")"
 done
 start out_of_memory "$runs"
 
-add_cases mailmap_shortlog counted 100 contacts -ne
+add_cases mailmap_shortlog counted 226 contacts -ne
 start_program mailmap_shortlog
 
-add_cases mailmap_check answered 100 contacts
-add_cases mailmap_check compacted 100 contacts --compact
+add_cases mailmap_check answered 226 contacts
+add_cases mailmap_check compacted 226 contacts --compact
 start_program mailmap_check
 wait || true
 
@@ -164,6 +169,11 @@ verify::Verification::new
 explain::Explanations::new
 verify::prune
 needs::unneeded
+counter::ContactCounter
+suggestions::suggest
+git_answers::other_git_answers
+text::push_entry
+text::push_count
 END
 
 # The calls that don't allocate made no allocation: the runs that refuse the allocation before them and the one after
@@ -194,7 +204,8 @@ first_lines() {
 
 # expected PROGRAM: the output that its cases must have. With status 0 or 1 it is that of the mode in the case's name,
 # and with status 2 nothing. But contacts are explained as they come, and with contacts the findings in mailmaps are
-# written before the lines about contacts are made, so then a prefix is allowed.
+# written before the lines about contacts are made, as are suggested lines before the next ones, so then a prefix is
+# allowed.
 expected() {
     local run name
     while read -r run; do
@@ -204,7 +215,7 @@ expected() {
         case "$run" in
         *' run=ended status='[01]' '*) cat "$work/${name%%[0-9]*}" ;;
         *' run=ended status=2 '*)
-            case "$name" in explained* | beside*) first_lines "$name" "${name%%[0-9]*}" ;; esac
+            case "$name" in explained* | beside* | suggested*) first_lines "$name" "${name%%[0-9]*}" ;; esac
             ;;
         *) fail "$1: another status" ;;
         esac

@@ -1,5 +1,5 @@
 #!/usr/bin/env python3
-"""Runs mailmap_check, mailmap_verify --explain and mailmap_verify --contacts with streamed contacts.
+"""Runs mailmap_check and mailmap_verify --explain, --contacts and --suggest with streamed contacts.
 
     streams.py MAILMAP_CHECK MAILMAP_VERIFY
 
@@ -149,11 +149,12 @@ def main() -> None:
                 raise Failed(f"a million contacts take {mebibytes(many)}, and {SHORT} take {mebibytes(few)}")
             peaks.append(mebibytes(many))
         # The distinct answers are stored. No mailmap has an unneeded line.
-        beside = [verify, "--contacts", "-"]
-        few, many = peak(beside, SHORT), peak(beside, HISTORY)
-        if many > BOUND * few:
-            raise Failed(f"a million contacts take {mebibytes(many)}, and {SHORT} take {mebibytes(few)}")
-        peaks.append(mebibytes(many))
+        for mode in "--contacts", "--suggest":
+            counted = [verify, mode, "-"]
+            few, many = peak(counted, SHORT), peak(counted, HISTORY)
+            if many > BOUND * few:
+                raise Failed(f"{mode}: a million contacts take {mebibytes(many)}, and {SHORT} take {mebibytes(few)}")
+            peaks.append(mebibytes(many))
         answered_again(check)
         git = as_git(check)
         os.chdir("/")

@@ -15,7 +15,7 @@ TypeError for an argument of a wrong type, the ValueError that `index` and a sli
 OSError of `from_path` and `of_repository`, and the ImportError of a failed import.
 """
 
-from ._mailmap import Mailmap, check, compact, explain, prune, report, unneeded, verify
+from ._mailmap import Mailmap, check, compact, explain, prune, report, suggest, unneeded, verify
 from ._native import version as __version__
 from ._results import Answer, Closed, Entry, Error, Finding, Kind, NoEntry, NotALine, NotAnEntry, NotAText, OutOfMemory
 from ._results import Position, Unwritable
@@ -23,5 +23,5 @@ from ._results import Position, Unwritable
 __all__ = [
     "Answer", "Closed", "Entry", "Error", "Finding", "Kind", "Mailmap", "NoEntry", "NotALine", "NotAText", "NotAnEntry",
     "OutOfMemory", "Position", "Unwritable", "__version__", "check", "compact", "explain", "prune", "report",
-    "unneeded", "verify",
+    "suggest", "unneeded", "verify",
 ]

@@ -13,7 +13,9 @@ from . import _native
 from ._results import Closed, Entry, Finding, Position, encoded
 
 if TYPE_CHECKING:
-    from ._native import AnyText, Buffer, BytesText, StrText, Text
+    from ._native import AnyText, Buffer, BytesText, StrText, Text, of_contacts, of_mailmap, of_mailmaps, of_named
+else:
+    of_contacts = of_mailmap = of_mailmaps = of_named = lambda function: function
 
 
 class Mailmap(_native.Mailmap[AnyStr], Sequence[Entry[AnyStr]]):
@@ -54,9 +56,9 @@ class Mailmap(_native.Mailmap[AnyStr], Sequence[Entry[AnyStr]]):
 
     @classmethod
     def of_repository(cls: type[Mailmap[str]], path: Union[str, os.PathLike[str]] = ".") -> Mailmap[str]:
-        """Opens the file `.mailmap` at the top of the git work tree that a path is in. If there is no such file, the
-        mailmap is empty. It is also empty if the file is a symbolic link, which git doesn't follow either. Raises
-        FileNotFoundError if the path is in no work tree, OSError and OutOfMemory."""
+        """Opens the file `.mailmap` at the top of the git work tree that a path is in. Without this file, or if it is a
+        symbolic link, which git doesn't follow either, the mailmap is empty. Raises OSError, FileNotFoundError if the
+        path is in no work tree, and OutOfMemory."""
         for found in (parent / ".mailmap" for parent in (Path(path).resolve() / ".git").parents):
             if found.with_name(".git").exists():
                 return cls.from_path(found) if found.exists() and not found.is_symlink() else cls("")
@@ -78,8 +80,7 @@ class Mailmap(_native.Mailmap[AnyStr], Sequence[Entry[AnyStr]]):
 
         A line is read when its answer is requested, and mapped with the mailmap as it is then. Call this once with all
         lines: each call reads the whole mailmap again, and so does the first line after a change. If the mailmap has an
-        entry that can't be written as a line, this is no faster than lookups. Raises NotALine if a line has a line feed
-        before its end, Closed, NotAText, and OutOfMemory.
+        entry that can't be written as a line, this is no faster than lookups. Raises NotALine for a line feed inside.
         """
         if isinstance(lines, (str, bytes, bytearray, memoryview)):
             raise TypeError(f"expected an iterable of lines, not {type(lines).__name__}")
@@ -117,10 +118,7 @@ class Mailmap(_native.Mailmap[AnyStr], Sequence[Entry[AnyStr]]):
         self.close()
 
 
-@overload
-def check(mailmap: StrText, contacts: StrText) -> str: ...
-@overload
-def check(mailmap: BytesText, contacts: BytesText) -> bytes: ...
+@of_contacts
 def check(mailmap: Any, contacts: Any) -> Union[str, bytes]:
     """Maps each line of `contacts`, such as `Jane <jane@x>`, with the mailmap: an answer for each line. A line that
     isn't a contact is its own answer. Raises OutOfMemory, as all these functions do.
@@ -131,10 +129,7 @@ def check(mailmap: Any, contacts: Any) -> Union[str, bytes]:
     return _native.check(mailmap, contacts)
 
 
-@overload
-def compact(mailmap: StrText) -> str: ...
-@overload
-def compact(mailmap: BytesText) -> bytes: ...
+@of_mailmap
 def compact(mailmap: Any) -> Union[str, bytes]:
     """A mailmap with the same entries, sorted by old email, without comments, what can't be read and what later lines
     override. Each line begins with a space, so that a name such as `#1` doesn't make it a comment. git may answer
@@ -146,13 +141,9 @@ def compact(mailmap: Any) -> Union[str, bytes]:
     return _native.compact(mailmap)
 
 
-@overload
-def prune(mailmap: StrText) -> str: ...
-@overload
-def prune(mailmap: BytesText) -> bytes: ...
+@of_mailmap
 def prune(mailmap: Any) -> Union[str, bytes]:
-    """The mailmap without the lines that have no effect. All other lines stay byte for byte. git may answer differently
-    with the result if `verify` finds Kind.GIT_READS.
+    """The mailmap without the lines that have no effect. All others stay byte for byte. As to git, see `compact`.
 
     >>> prune("N <a@x>\\n# why\\nM <a@x>\\n")
     '# why\\nM <a@x>\\n'
@@ -165,34 +156,27 @@ def verify(mailmap: Text) -> list[Finding]:
 
     >>> for finding in verify("Jane <jd@y>\\nJane Doe <jd@y> # boss\\n"):
     ...     print(finding.line, finding)
-    1 warning: no effect beside line 2
-    2 warning: ignored text: # boss
+    1 warning: no effect: line 2 says something else [no-effect]
+    2 warning: ignored text: # boss [ignored-text]
     """
     found, messages = _native.verify(mailmap)
-    # The words of a finding follow its line's number, as in `:2: warning: ignored text: # boss`.
+    # The words of a finding follow its line's number, as in `:2: warning: ignored text: # boss [ignored-text]`.
     return [Finding.of(*one, words=line.partition(": ")[2]) for one, line in zip(found, messages.split("\n"))]
 
 
-@overload
-def report(mailmaps: Iterable[tuple[str, StrText]]) -> str: ...
-@overload
-def report(mailmaps: Iterable[tuple[Buffer, BytesText]]) -> bytes: ...
+@of_named
 def report(mailmaps: Iterable[tuple[Any, Any]]) -> Union[str, bytes]:
-    """What is wrong with mailmaps, as `mailmap_verify` prints it: a line for each finding. Each mailmap comes with its
-    name. The mailmaps are read one after another, as if they were one. Without any mailmap empty bytes are returned,
-    even if the type of `mailmaps` promises a `str`.
+    """What is wrong with mailmaps, each with its name, as `mailmap_verify` prints it: a line for each finding. They are
+    read one after another, as if they were one. Without any mailmap the result is empty bytes, even for a type `str`.
 
     >>> print(report([("team", "Jane <jd@y>\\n"), ("own", "plain\\nJane Doe <jd@y>\\n")]), end="")
-    team:1: warning: no effect beside own:2
-    own:1: error: no email in brackets
+    team:1: warning: no effect: own:2 says something else [no-effect]
+    own:1: error: no email in brackets [no-email]
     """
     return _native.report(*_named(mailmaps))
 
 
-@overload
-def explain(mailmaps: Iterable[tuple[str, StrText]], contacts: StrText) -> str: ...
-@overload
-def explain(mailmaps: Iterable[tuple[Buffer, BytesText]], contacts: BytesText) -> bytes: ...
+@of_mailmaps
 def explain(mailmaps: Iterable[tuple[Any, Any]], contacts: Any) -> Union[str, bytes]:
     """Which lines of mailmaps give contacts their new names and emails, as `mailmap_verify --explain` prints it: a line
     for each line of `contacts`, and none for a blank one. Each mailmap comes with its name. At most two lines are named
@@ -208,15 +192,28 @@ def explain(mailmaps: Iterable[tuple[Any, Any]], contacts: Any) -> Union[str, by
 
 
 def unneeded(mailmaps: Iterable[tuple[AnyText, AnyText]], contacts: AnyText) -> list[Position]:
-    """The lines of mailmaps that have an effect and that none of the contacts needs, in their order. Each mailmap comes
-    with its name, as for `explain`, and `contacts` has a contact on each line. If all these lines and all lines that
-    have no effect are removed together, the answers for these contacts stay the same.
+    """The lines of mailmaps that have an effect and that none of the contacts needs, in their order, both given as for
+    `explain`. If these and all lines of no effect are removed together, the answers for these contacts stay the same.
 
     >>> team, own = "Joe <joe@x>\\n<jane@x> <jd@y>\\n", "Jane Doe <jd@y>\\nBob <b@x>\\n"
     >>> unneeded([("team", team), ("own", own)], "jd <jd@y>\\nal <al@x>")
     [Position(mailmap=0, line=1), Position(mailmap=1, line=2)]
     """
     return [Position(*found) for found in _native.unneeded(contacts, *_named(mailmaps))]
+
+
+@of_mailmaps
+def suggest(mailmaps: Iterable[tuple[Any, Any]], contacts: Any) -> Union[str, bytes]:
+    """The lines that mailmaps lack for contacts, as `mailmap_verify --suggest` prints them: where answers that differ
+    share an email or a name, how often each comes, and lines that make them one. `#?` begins those for a shared name.
+
+    >>> print(suggest([("own", "<jane@x> <jd@y>\\n")], "Jane <jane@x>\\njd <jd@y>\\nJane <jane@x>"), end="")
+    # 2 Jane <jane@x>
+    # 1 jd <jane@x>
+    Jane <jane@x> <jd@y>
+    <BLANKLINE>
+    """
+    return _native.suggest(contacts, *_named(mailmaps))
 
 
 def _named(mailmaps: Iterable[tuple[Any, Any]]) -> list[Any]:

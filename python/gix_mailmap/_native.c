@@ -140,7 +140,7 @@ static PyObject *new_named_tuple(PyObject *class, PyObject *const items[4])
 }
 
 /* The functions of the library that write into a buffer. */
-typedef enum Which { CHECK, COMPACT, PRUNE, VERIFY, REPORT, EXPLAIN, UNNEEDED, WRITE } Which;
+typedef enum Which { CHECK, COMPACT, PRUNE, VERIFY, REPORT, EXPLAIN, SUGGEST, UNNEEDED, WRITE } Which;
 
 /* The arguments of such a function: texts, mailmaps with their names, or an open mailmap. */
 typedef struct Given {
@@ -160,6 +160,7 @@ static gix_mailmap_status write_into(Which which, const Given *given, void *out,
     case VERIFY: return gix_mailmap_verify(a->at, a->len, out, out_len, needed);
     case REPORT: return gix_mailmap_report(given->named, given->count, out, out_len, needed);
     case EXPLAIN: return gix_mailmap_explain(given->named, given->count, a->at, a->len, out, out_len, needed);
+    case SUGGEST: return gix_mailmap_suggest(given->named, given->count, a->at, a->len, out, out_len, needed);
     case UNNEEDED: return gix_mailmap_unneeded(given->named, given->count, a->at, a->len, out, out_len, needed);
     default: return gix_mailmap_write(given->map, out, out_len, needed);
     }
@@ -245,10 +246,12 @@ static PyObject *call(Which which, PyObject *args)
     return made;
 }
 
-#define FUNCTION(name, which) \
+#define FUNCTIONS(each) each(check, CHECK) each(compact, COMPACT) each(prune, PRUNE) each(verify, VERIFY) \
+    each(report, REPORT) each(explain, EXPLAIN) each(suggest, SUGGEST) each(unneeded, UNNEEDED)
+#define DEFINED(name, which) \
     static PyObject *name(PyObject *Py_UNUSED(module), PyObject *args) { return call(which, args); }
-FUNCTION(check, CHECK) FUNCTION(compact, COMPACT) FUNCTION(prune, PRUNE) FUNCTION(verify, VERIFY)
-FUNCTION(report, REPORT) FUNCTION(explain, EXPLAIN) FUNCTION(unneeded, UNNEEDED)
+#define LISTED(name, which) {#name, name, METH_VARARGS, NULL},
+FUNCTIONS(DEFINED)
 
 /* An object of the type of mailmaps. */
 typedef struct Mailmap {
@@ -402,9 +405,8 @@ static size_t written_len(const Mailmap *mailmap)
 
 static PyObject *mailmap_write(PyObject *self, PyObject *Py_UNUSED(none))
 {
-    const Mailmap *mailmap = (Mailmap *)self;
-    const Given given = {.map = mailmap->map};
-    return is_open(mailmap) ? make_text(WRITE, &given, mailmap->is_str, written_len(mailmap)) : NULL;
+    const Mailmap *map = (Mailmap *)self;
+    return is_open(map) ? make_text(WRITE, &(Given){.map = map->map}, map->is_str, written_len(map)) : NULL;
 }
 
 static Py_ssize_t mailmap_len(PyObject *self)
@@ -428,10 +430,11 @@ static PyObject *new_entry(bool is_str, const gix_mailmap_listed *listed, const 
 }
 
 /* A list of all entries, or of the one at an index. */
-static PyObject *list_entries(const Mailmap *mailmap, size_t count, const size_t *index)
+static PyObject *list_entries(const Mailmap *mailmap, const size_t *index)
 {
-    size_t all, len;
-    gix_mailmap_len(mailmap->map, &all, &len);
+    size_t count, len;
+    gix_mailmap_len(mailmap->map, &count, &len);
+    count = index != NULL ? 1 : count;
     gix_mailmap_listed *listed = PyMem_Calloc(count, sizeof *listed);
     char *texts = PyMem_Malloc(len);
     PyObject *list = listed != NULL && texts != NULL ? PyList_New((Py_ssize_t)count) : NULL;
@@ -450,8 +453,7 @@ static PyObject *list_entries(const Mailmap *mailmap, size_t count, const size_t
 
 static PyObject *mailmap_entries(PyObject *self, PyObject *Py_UNUSED(none))
 {
-    Py_ssize_t count = mailmap_len(self);
-    return count >= 0 ? list_entries((Mailmap *)self, (size_t)count, NULL) : NULL;
+    return is_open((Mailmap *)self) ? list_entries((Mailmap *)self, NULL) : NULL;
 }
 
 static PyObject *mailmap_subscript(PyObject *self, PyObject *key)
@@ -462,7 +464,7 @@ static PyObject *mailmap_subscript(PyObject *self, PyObject *key)
     if (PyErr_Occurred() || !is_open((Mailmap *)self))
         return NULL;
     size_t index = (size_t)(at < 0 ? at + mailmap_len(self) : at);
-    PyObject *list = is_slice ? mailmap_entries(self, NULL) : list_entries((Mailmap *)self, 1, &index);
+    PyObject *list = is_slice ? mailmap_entries(self, NULL) : list_entries((Mailmap *)self, &index);
     PyObject *found = list == NULL ? NULL : is_slice ? PyObject_GetItem(list, key) : Py_NewRef(PyList_GetItem(list, 0));
     Py_XDECREF(list);
     return found != NULL ? found : raise_no_memory();
@@ -674,12 +676,7 @@ static void module_free(void *module)
     Py_CLEAR(*(PyObject **)PyModule_GetState(module));
 }
 
-static PyMethodDef functions[] = {
-    {"check", check, METH_VARARGS, NULL}, {"compact", compact, METH_VARARGS, NULL},
-    {"prune", prune, METH_VARARGS, NULL}, {"verify", verify, METH_VARARGS, NULL},
-    {"report", report, METH_VARARGS, NULL}, {"explain", explain, METH_VARARGS, NULL},
-    {"unneeded", unneeded, METH_VARARGS, NULL}, {0},
-};
+static PyMethodDef functions[] = {FUNCTIONS(LISTED) {0}};
 static PyModuleDef definition = {
     .m_base = PyModuleDef_HEAD_INIT, .m_name = "gix_mailmap._native", .m_size = sizeof(PyObject *),
     .m_methods = functions, .m_traverse = module_traverse, .m_free = module_free,

@@ -54,11 +54,6 @@ class Kind(IntEnum):
         return kind
 
 
-# The words of a finding before its `text`.
-_BEFORE = {Kind.IGNORED_TEXT: "ignored text: ", Kind.ITSELF_MAPPED: " is itself mapped, to ",
-           Kind.GIT_READS: "git reads "}
-
-
 class Finding(NamedTuple):
     """What is wrong with a line: the number of the line, counted from 1, the kind, and the words of `mailmap_verify`,
     which `str` gives. For Kind.NO_EFFECT `beside` is the number of the last line for the same old email, and the same
@@ -75,11 +70,21 @@ class Finding(NamedTuple):
     @classmethod
     def of(cls, line: int, number: int, other: int, words: str) -> Finding:
         """A finding of the library, with its words in the report on a mailmap without a name."""
-        kind = Kind(number)
+        kind, text = Kind(number), None
         if kind == Kind.NO_EFFECT:
-            return cls(line, kind, other, None, words.replace("beside :", "beside line "))
-        before = _BEFORE.get(kind)
-        return cls(line, kind, None, words.partition(before)[2] if before else None, words)
+            words = words.replace("no effect: :", "no effect: line ")
+        elif kind == Kind.IGNORED_TEXT:
+            text = words.rpartition(" [")[0].partition("ignored text: ")[2]
+            # Only a text that may be a name has a hint after it.
+            name = text.removesuffix(" (an old name needs an email after it)")
+            text = text if name.startswith("#") or set(name) & set("<>@") else name
+        elif kind == Kind.GIT_READS:
+            text = words.rpartition(" [")[0].partition("git reads ")[2]
+        elif kind == Kind.ITSELF_MAPPED:
+            said, by, lines = words.rpartition(" by ")
+            text = said.partition(" is itself mapped, to ")[2]
+            words = said + by + lines.replace(":", "line ")
+        return cls(line, kind, other or None, text, words)
 
     def __str__(self) -> str:
         return self.words

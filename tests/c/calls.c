@@ -166,18 +166,18 @@ static void verify(void)
 static const char OWN[] = "N <e@x>\nplain\x1b\nI <i@x> \x1b";
 static const gix_mailmap_named BOTH[2] = {{TEXT("team"), TEXT(FAULTY)}, {TEXT("own"), TEXT(OWN)}};
 static const char REPORT[] =
-    "team:1: error: no email in brackets\n"
-    "team:2: error: the first '<' has no '>'\n"
-    "team:3: error: the first email is empty\n"
-    "team:3: warning: git reads it as Jane < > <b@x>\n"
-    "team:4: error: an email alone maps nothing\n"
-    "team:5: error: the second '<' has no '>'\n"
-    "team:6: warning: ignored text: joe\n"
-    "team:7: warning: no effect beside own:1\n"
-    "team:8: warning: no effect beside own:1\n"
-    "team:9: warning: Eve <eve@w> is itself mapped, to Eve <eve@e>\n"
-    "own:2: error: no email in brackets\n"
-    "own:3: warning: ignored text: \\x1b\n";
+    "team:1: error: no email in brackets [no-email]\n"
+    "team:2: error: the first '<' has no '>' [unclosed-email]\n"
+    "team:3: error: the first email is empty [empty-email]\n"
+    "team:3: warning: git reads it as Jane < > <b@x> [git-reads]\n"
+    "team:4: error: an email alone maps nothing [nothing-to-map]\n"
+    "team:5: error: the second '<' has no '>' [unclosed-second-email]\n"
+    "team:6: warning: ignored text: joe (an old name needs an email after it) [ignored-text]\n"
+    "team:7: warning: no effect: own:1 says the same [no-effect]\n"
+    "team:8: warning: no effect: own:1 says something else [no-effect]\n"
+    "team:9: warning: Eve <eve@w> is itself mapped, to Eve <eve@e> by team:10 [itself-mapped]\n"
+    "own:2: error: no email in brackets [no-email]\n"
+    "own:3: warning: ignored text: \\x1b (an old name needs an email after it) [ignored-text]\n";
 
 static gix_mailmap_status report_both(char *out, size_t room, size_t *needed)
 {
@@ -208,9 +208,9 @@ static void report(void)
     buffer text = filled();
     WANT(gix_mailmap_report(NULL, 0, NULL, 0, &needed) == GIX_MAILMAP_OK && needed == 0);
     WANT(gix_mailmap_report(&none, 1, NULL, 0, &needed) == GIX_MAILMAP_OK && needed == 0);
-    WANT(gix_mailmap_report(&nameless, 1, NULL, 0, &needed) == GIX_MAILMAP_TOO_SHORT && needed == 32);
-    WANT(gix_mailmap_report(&nameless, 1, text.bytes, 64, &needed) == GIX_MAILMAP_OK && needed == 32);
-    WANT(holds(&text, ":1: error: no email in brackets\n"));
+    WANT(gix_mailmap_report(&nameless, 1, NULL, 0, &needed) == GIX_MAILMAP_TOO_SHORT && needed == 43);
+    WANT(gix_mailmap_report(&nameless, 1, text.bytes, 64, &needed) == GIX_MAILMAP_OK && needed == 43);
+    WANT(holds(&text, ":1: error: no email in brackets [no-email]\n"));
     /* lengths with too large a sum */
     gix_mailmap_named huge[2] = {{NULL, 0, "", SIZE_MAX}, {"", SIZE_MAX, "", 2}};
     WANT(gix_mailmap_report(huge, 1, NULL, 0, &needed) == GIX_MAILMAP_OUT_OF_MEMORY && needed == 0);
@@ -288,6 +288,46 @@ static void unneeded(void)
     WANT(gix_mailmap_unneeded(&unread, 1, TEXT("a <b>"), listed, 1, &needed) == GIX_MAILMAP_OK && needed == 1);
     WANT(is_position(listed[0], 0, 1));
     WANT(gix_mailmap_unneeded(&huge, 1, TEXT("a <b>"), NULL, 0, &needed) == GIX_MAILMAP_OUT_OF_MEMORY && needed == 0);
+}
+
+/* pairs of mailmaps, contacts, and the lines that are suggested for these */
+static const struct lacking {
+    gix_mailmap_named mailmaps[2];
+    const char *contacts, *suggested;
+} LACKING[] = {
+    /* answers that share an email, and then a name */
+    {{{TEXT("team"), TEXT("ann <D@X> <q@x>\n")},
+      {TEXT("own"), TEXT("Ann L <q@x> Ann <D@X>\nJane Doe <c@x>\n")}},
+     "ann <A@x> 12 +0000\n\xff <b@x>\n\xff <b@x>\na>b <b@x> 12 +0000\na>b <b@x> 12 +0000\na>b <b@x> 12 +0000\nplain\n"
+     "ann <A@x> 12 +0000\nplain\n#x <e<f@x>\nAnn <q@x>\nann <A@x> 12 +0000\n",
+     "# 3 a>b <b@x>\n# 2 \xff <b@x>\na>b <b@x>\n\n# 3 ann <A@x>\n# 1 ann <D@X>\n#?ann <A@x> <q@x>\n\n"},
+    /* an answer of git */
+    {{{TEXT(""), TEXT("<A@x> <\xc3\xa9@x>\n<a@x>\n")}, {NULL, 0, TEXT("ann < d@x>\n")}},
+     "Ann <d@x> 12 +0000\n",
+     "# 1 ann <d@x>\n# 1 Ann <d@x> by git\nann <d@x>\n\n"},
+    /* a name that begins as a comment does, and no mailmap */
+    {{{NULL, 0, NULL, 0}, {NULL, 0, NULL, 0}},
+     "#x <c@x>\n#x <e<f@x>\n#x <c@x>\n#x <c@x>\n",
+     "# 3 #x <c@x>\n# 1 #x <e<f@x>\n#? #x <c@x> <e<f@x>\n\n"},
+    /* nothing to suggest */
+    {{{TEXT("team"), TEXT("Jane Doe <jd@y>\n")}, {NULL, 0, NULL, 0}}, "jd <jd@y>\nJane <jd@y>\nplain", ""}};
+static const struct lacking *lacking;
+
+static gix_mailmap_status suggest_lacking(char *out, size_t room, size_t *needed)
+{
+    return gix_mailmap_suggest(lacking->mailmaps, 2, lacking->contacts, strlen(lacking->contacts), out, room, needed);
+}
+
+static void suggest(void)
+{
+    for (lacking = LACKING; lacking < LACKING + sizeof LACKING / sizeof LACKING[0]; lacking++)
+        want_whole(suggest_lacking, lacking->suggested, strlen(lacking->suggested));
+    size_t needed = 99;
+    gix_mailmap_named unread = {(const char *)1, SIZE_MAX, TEXT("J <a@x>")}, huge = {NULL, 0, "", SIZE_MAX};
+    WANT(gix_mailmap_suggest(NULL, 0, NULL, 0, NULL, 0, &needed) == GIX_MAILMAP_OK && needed == 0);
+    WANT(gix_mailmap_suggest(NULL, 0, TEXT("j <a@x>\nJ <a@x>"), NULL, 0, &needed) == GIX_MAILMAP_TOO_SHORT);
+    WANT(gix_mailmap_suggest(&unread, 1, TEXT("j <a@x>\nJ <a@x>"), NULL, 0, &needed) == GIX_MAILMAP_OK && needed == 0);
+    WANT(gix_mailmap_suggest(&huge, 1, TEXT("a <b>"), NULL, 0, &needed) == GIX_MAILMAP_OUT_OF_MEMORY && needed == 0);
 }
 
 static void looked_up(const gix_mailmap *map)
@@ -647,6 +687,11 @@ static int texts_once(void)
     gix_mailmap_position listed[3] = {{97, 98}};
     WANT(is_done(gix_mailmap_unneeded(NEEDED, 2, TEXT(NEEDING), listed, 3, &needed), &needed, &out_of_memory));
     WANT(needed ? needed == 3 && is_position(listed[2], 1, 6) : is_position(listed[0], 97, 98));
+    const char *suggested = LACKING[1].suggested;
+    all[0] = '*';
+    lacking = &LACKING[1];
+    WANT(is_done(suggest_lacking(all, sizeof all, &needed), &needed, &out_of_memory));
+    WANT(needed ? needed == strlen(suggested) && memcmp(all, suggested, needed) == 0 : all[0] == '*');
     return out_of_memory;
 }
 
@@ -726,8 +771,8 @@ static bool fails(long number)
 
 int main(void)
 {
-    void (*const parts[])(void) = {words,   check_and_compact, prune,   verify,       report,       explain, unneeded,
-                                   changes, entries,           streams, long_streams, long_answers, nulls};
+    void (*const parts[])(void) = {words,   check_and_compact, prune,   verify,  report,       explain,      unneeded,
+                                   suggest, changes,           entries, streams, long_streams, long_answers, nulls};
     for (size_t i = 0; i < sizeof parts / sizeof parts[0]; i++) {
         parts[i]();
         WANT(blocks == 0);

@@ -41,6 +41,7 @@ LINE_OF = {number: line for line, number in enumerate(MAPPED, 1)}
 MIXED = [number * 7_919 % DIFFERENT for number in range(DIFFERENT)]
 COMING = [*MIXED, *reversed(MIXED), *range(DIFFERENT)]
 LAST = b"x"
+NOTE = b"contacts:%d: note: %b (3) has the name of %b (3) [same-name]"
 
 
 def joined(lines):
@@ -61,7 +62,18 @@ def alike():
         if number % 4 == 3:
             other = first.setdefault(number // 8, number)
             if other != number:
-                yield b"contacts:%d: note: %b (3) has the name of %b (3)" % (line, ANSWERS[number], ANSWERS[other])
+                yield NOTE % (line, ANSWERS[number], ANSWERS[other])
+
+
+def suggested():
+    """Two contacts with one name may be one person's. They come equally often, so the first one gives the line."""
+    twins = {}
+    for number in MIXED:
+        if number % 4 == 3:
+            twins.setdefault(number // 8, []).append(number)
+    for first, other in twins.values():
+        yield b"# 3 %b\n# 3 %b" % (ANSWERS[first], ANSWERS[other])
+        yield b"#?%b <j%06d@x>\n" % (ANSWERS[first], other)
 
 
 def counted(words, texts):
@@ -74,8 +86,9 @@ def many_contacts():
     mailmap = joined(MAPPINGS[number] for number in MAPPED)
     text = joined(CONTACTS[number] for number in COMING) + LAST
     answers = joined(ANSWERS[number] for number in COMING) + LAST + b"\n"
-    found = [b"map:%d: warning: no contact needs it" % LINE_OF[number] for number in MAPPED if number >= DIFFERENT]
-    found += [*alike(), b"contacts:%d: error: no contact" % (len(COMING) + 1)]
+    unneeded = b"map:%d: warning: no contact needs it [unneeded]"
+    found = [unneeded % LINE_OF[number] for number in MAPPED if number >= DIFFERENT]
+    found += [*alike(), b"contacts:%d: error: no contact [no-contact]" % (len(COMING) + 1)]
     Path("map").write_bytes(mailmap)
     Path("contacts").write_bytes(text)
     for program, words, given, status, printed in [
@@ -84,6 +97,7 @@ def many_contacts():
         (VERIFY, ["map"], b"", 0, b""),
         (VERIFY, ["--explain", "map"], text, 0, joined(map(explained, COMING)) + LAST + b" is no contact\n"),
         (VERIFY, ["--contacts", "contacts", "map"], b"", 1, joined(found)),
+        (VERIFY, ["--suggest", "-", "map"], text, 0, joined(suggested())),
     ]:
         wants(f"many contacts, {program} {words}", run(program, words, input=given), status, printed)
     names = [answer.split(b" <")[0] for answer in ANSWERS]
@@ -120,12 +134,16 @@ def many_lines():
     rounds = [[b"N%d %06d <n@y> <m%06d@x>" % (turn, number, number) for number in numbers] for turn in range(ROUNDS)]
     mailmap, kept = b"".join(map(joined, rounds)) + LAST, joined(rounds[-1])
     compact = joined(b" " + line for line in rounds[-1])
-    found = joined(b"map:%d: warning: no effect beside map:%d" % (line + 1, before + line % DIFFERENT + 1)
-                   for line in range(before)) + b"map:%d: error: no email in brackets\n" % (ROUNDS * DIFFERENT + 1)
+    no_effect = b"map:%d: warning: no effect: map:%d says something else [no-effect]"
+    found = joined(no_effect % (line + 1, before + line % DIFFERENT + 1) for line in range(before))
+    found += b"map:%d: error: no email in brackets [no-email]\n" % (ROUNDS * DIFFERENT + 1)
     contacts = joined(b"<M%06d@x>" % number for number in numbers)
     answers = [b"N%d %06d <n@y>" % (ROUNDS - 1, number) for number in numbers]
     explained = joined(b"<M%06d@x> is %b by map:%d" % (number, answers[number], before + number + 1)
                        for number in numbers)
+    # The answers share an email, and come equally often, so all become the first.
+    united = joined(b"# 1 " + answer for answer in answers)
+    united += joined(b"%b <M%06d@x>" % (answers[0], number) for number in numbers[1:]) + b"\n"
     Path("map").write_bytes(mailmap)
     for program, words, given, status, printed in [
         (CHECK, ["--compact", "map"], b"", 0, compact),
@@ -134,6 +152,7 @@ def many_lines():
         (VERIFY, ["map"], b"", 1, found),
         (VERIFY, ["--prune", "map"], b"", 0, kept + LAST),
         (VERIFY, ["--explain", "map"], contacts, 0, explained),
+        (VERIFY, ["--suggest", "-", "map"], contacts, 0, united),
         (SHORTLOG, ["-e", "map"], contacts, 0, joined(b"     1\t" + answer for answer in answers)),
     ]:
         wants(f"many lines, {program} {words}", run(program, words, input=given), status, printed)
@@ -149,6 +168,7 @@ def nothing_of_many():
         (VERIFY, [], b"# Jane <jane@x>\n" * lines),
         (VERIFY, ["--explain", "map"], b" \r\n" * lines),
         (VERIFY, ["--contacts", "-"], b"Jane <jane@x>\n" * lines),
+        (VERIFY, ["--suggest", "-"], b"Jane <jane@x>\n" * lines),
         (SHORTLOG, ["-ne", "map"], b"Jane jane@x\n" * lines),
     ]:
         wants(f"{lines} lines and no output, {program} {words}", run(program, words, input=text), 0, b"")

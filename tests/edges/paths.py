@@ -26,6 +26,9 @@ WAYS = [
     (VERIFY, ["--contacts"], ["mailmap"], None),
     (VERIFY, ["--contacts", "contacts"], [], None),
     (VERIFY, ["--contacts", "-", "mailmap"], [], None),
+    (VERIFY, ["--suggest"], ["mailmap"], None),
+    (VERIFY, ["--suggest", "contacts", "mailmap"], [], None),
+    (VERIFY, ["-S", "error", "-e", "no-effect", "--format=json", "--stdin-name", "x", "--"], [], None),
     (SHORTLOG, ["--"], [], None),
     (SHORTLOG, ["-ne", "mailmap"], [], None),
 ]
@@ -87,7 +90,8 @@ def found():
         wants(f"{name[:40]}, compacted", run(CHECK, ["--compact", name]), 0, compact([MAILMAP]))
         wants(f"{name[:40]}, verified", run(VERIFY, [name]), 0, b"")
         wants(f"{name[:40]} as contacts", run(VERIFY, ["--contacts", name, "mailmap"]), 1,
-              b"mailmap:2: warning: no contact needs it\n")
+              b"mailmap:2: warning: no contact needs it [unneeded]\n")
+        wants(f"{name[:40]}, suggested for", run(VERIFY, ["--suggest", name, "mailmap"]), 0, b"")
         wants(f"{name[:40]}, counted by", run(SHORTLOG, ["--", name]), 0, b"     1\tJane Doe\n     1\tJoe\n")
     os.mkfifo("pipe")
     fed = ["-c", 'cat mailmap > pipe & exec "$@"', "sh"]
@@ -105,7 +109,8 @@ def options():
     ]:
         wants(f"mailmap_check {words}", run(CHECK, words), 0, text)
     for program, words in (VERIFY, ["--help", "--foo"]), (VERIFY, ["--contacts", "x", "--help", "x"]), \
-            (SHORTLOG, ["--help", "x"]), (SHORTLOG, ["-ne", "-h", "--foo"]):
+            (VERIFY, ["--suggest", "x", "-h", "-S", "note"]), (SHORTLOG, ["--help", "x"]), \
+            (SHORTLOG, ["-ne", "-h", "--foo"]):
         text = (HELP / f"{program.removeprefix('./')}.txt").read_bytes()
         wants(f"{program} {words}", run(program, words), 0, text)
     compacted = [["--compact", word] for word in ("--help", "--version", "--compact", "--")]
@@ -131,7 +136,7 @@ def arguments():
     Path("m").write_bytes(b"Jane Doe <jane@x>\n")
     Path("n").write_bytes(b"Jane D. <jane@x>\n")
     Path("c").write_bytes(b"jane <JANE@x>\n")
-    found = b"m:1: warning: no effect beside n:1\n" * (count - 1)
+    found = b"m:1: warning: no effect: n:1 says something else [no-effect]\n" * (count - 1)
     jane = b"Jane D. <jane@x>\n"
     names = ["m"] * (count - 1)
     for program, words, status, printed in [
@@ -139,7 +144,9 @@ def arguments():
         (CHECK, ["--compact"], 0, b" " + jane),
         (VERIFY, [], 1, found),
         (VERIFY, ["--explain"], 0, b"jane <JANE@x> is Jane D. <jane@x> by n:1\n"),
-        (VERIFY, ["--contacts", "c"], 1, found),
+        (VERIFY, ["--contacts", "c"], 1, found + b"c:1: warning: git answers Jane D. <JANE@x> [git-answers]\n"),
+        (VERIFY, ["--suggest", "c"], 0,
+         b"# 1 Jane D. <jane@x>\n# 1 Jane D. <JANE@x> by git\nJane D. <jane@x> <JANE@x>\n\n"),
         (SHORTLOG, ["-e"], 0, b"     1\t" + jane),
     ]:
         done = run(program, [*words, *names, "n"], input=Path("c").read_bytes(), env={})
@@ -148,6 +155,7 @@ def arguments():
         (CHECK, [], b"cannot read file %d" % count),
         (VERIFY, ["--prune"], b"--prune takes one FILE at most"),
         (VERIFY, [], b"x: No such file or directory"),
+        (VERIFY, ["--suggest", "c"], b"x: No such file or directory"),
         (SHORTLOG, [], b"x: No such file or directory"),
     ]:
         done = run(program, [*words, *names, "x"], env={})

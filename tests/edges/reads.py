@@ -5,6 +5,7 @@ import threading
 from pathlib import Path
 
 from runs import wants
+from suggest import suggest
 from ways import CHECK, CONTACTS, MAILMAP, SHORTLOG, VERIFY, VERSION, WAYS, compact, run, said, unread
 
 # The programs read parts of this many bytes.
@@ -81,7 +82,9 @@ def without_input():
             (CHECK, ["--compact", "mailmap"], 0, compact([MAILMAP])),
             (VERIFY, ["mailmap"], 0, b""),
             (VERIFY, ["--prune", "mailmap"], 0, MAILMAP),
-            (VERIFY, ["--contacts", "contacts", "mailmap"], 0, b""),
+            (VERIFY, ["--contacts", "contacts", "mailmap"], 1,
+             b"contacts:1: warning: git answers Jane Doe <JANE@x> [git-answers]\n"),
+            (VERIFY, ["--suggest", "contacts", "mailmap"], 0, suggest([MAILMAP], CONTACTS)),
             (SHORTLOG, ["--version"], 0, b"mailmap_shortlog " + VERSION),
         ]:
             wants(f"{program} {words} {how}", run("sh", ["-c", f'exec "$@" {how}', "sh", program, *words]),
@@ -111,8 +114,10 @@ def broken_output():
     """Each output is longer than a pipe holds. One pipe has no reader, and the other one can't be waited for."""
     plain = b"".join(b"no contact %d\n" % number for number in range(6_000))
     different = b"".join(b"%050d <%d@x>\n" % (number, number) for number in range(2_000))
+    alike = b"".join(b"%050d <%d@x>\n" % (number, number // 2) for number in range(2_000))
     for way in WAYS:
         text = different if way.program == SHORTLOG or "--compact" in way.words else plain
+        text = alike if "--suggest" in way.words else text
         Path("text").write_bytes(text)
         whole, message = way.wanted(text)[1], said(way.program, b"cannot write output")
         for blocks in False, True:
@@ -144,6 +149,9 @@ def nothing_to_write():
         (VERIFY, ["--prune"], b""),
         (VERIFY, ["--explain", "mailmap"], b"\n \t\r\n"),
         (VERIFY, ["--contacts", "-", "empty"], b"\n" + CONTACTS),
+        (VERIFY, ["--contacts", "-", "-S", "error", "empty"], b"jane <a@x>\nJane <a@x>\n"),
+        (VERIFY, ["--suggest", "-", "empty"], b"plain\n" + CONTACTS),
+        (VERIFY, ["-e", "no-email"], b"plain\n"),
         (SHORTLOG, ["mailmap"], b"plain\n\n"),
     ]:
         for full in "> /dev/full", ">&-":

@@ -7,6 +7,7 @@ from typing import NamedTuple
 import contacts
 import findings
 import shortlog
+import suggest
 from findings import contact_text
 from git import line_text
 from mailmap import answer, contact_of, entries_of, lines, normal_list
@@ -94,5 +95,6 @@ WAYS = [
         lambda text: contacts.verify_contacts([MAILMAP], [b"mailmap"], text, INPUT)),
     Way(VERIFY, ["--contacts", "contacts"],
         lambda text: contacts.verify_contacts([text], [INPUT], CONTACTS, b"contacts")),
+    Way(VERIFY, ["--suggest", "-", "mailmap"], lambda text: (0, suggest.suggest([MAILMAP], text))),
     Way(SHORTLOG, ["-ne", "mailmap"], lambda text: (0, shortlog.shortlog([MAILMAP], text, True, True))),
 ]

@@ -1,26 +1,18 @@
 """The model of `mailmap_verify --explain` and `--contacts`.
 
 The definitions are in `specs` of `mailmap_redundancy` (`Origins`), `mailmap_findings` (`Explanations`, `Needs`,
-`Remarks`), `mailmap_contacts` (`Contacts`, `Proper`, `Comparisons`) and `verify_command` (`Explained`, `Contacts`).
+`Remarks`), `mailmap_contacts` (`Contacts`, `Proper`, `Comparisons`), `mailmap_suggestions` (`Counted`) and
+`verify_command` (`Explained`, `Contacts`).
 """
 from typing import NamedTuple
 
-from findings import Mailmaps, contact_text, findings, position_text, short_contact_text
+from findings import (
+    Mailmaps, behind, contact_text, error, findings, note, origins, position_text, positions_text, short_contact_text,
+    warning
+)
+from git import git_answer, git_entries_of
 from mailmap import answer, contact_of, folded, lines, new_fields, trim
 from shown import shown
-
-
-def origins(effective, name, email):
-    """The lines behind the new name, the new email, and if there is none, the spelling of the email.
-
-    Each is a list of at most one position. Only effective entries count.
-    """
-    of_email = [one for one in effective if folded(one.entry.old_email) == folded(email)]
-    of_name = [one for one in of_email if one.entry.key[1:] == (folded(name),)]
-    counting = of_name[-1:] or [one for one in of_email if one.entry.old_name is None]
-    names = [one.position for one in counting if one.entry.new_name is not None]
-    emails = [one.position for one in counting if one.entry.new_email is not None]
-    return names[-1:], emails[-1:], [] if emails else [one.position for one in of_email[:1]]
 
 
 # ---- --explain
@@ -30,14 +22,10 @@ def explanation(mailmaps, names, line):
     contact = contact_of(line)
     if contact is None:
         return trim(line) + b" is no contact"
-    fields = new_fields(mailmaps.merged, *contact)
-    if fields == (None, None):
+    if new_fields(mailmaps.merged, *contact) == (None, None):
         return contact_text(*contact) + b" is not mapped"
-    of_name, of_email, of_spelling = origins(mailmaps.effective, *contact)
-    # the line that only spells the email isn't behind the answer if the email stays as it is
-    by = of_name + of_email + (of_spelling if fields[1] is not None else [])
-    by_text = b", ".join(position_text(names, position) for position in sorted(set(by)))
-    return b"%b is %b by %b" % (contact_text(*contact), contact_text(*answer(mailmaps.merged, *contact)), by_text)
+    by = positions_text(names, behind(mailmaps, *contact))
+    return b"%b is %b by %b" % (contact_text(*contact), contact_text(*answer(mailmaps.merged, *contact)), by)
 
 
 def explain(buffers, names, contacts):
@@ -92,17 +80,39 @@ def compared(answers, field):
     return pairs, best
 
 
-def said_of_contacts(mailmaps, text, file):
+def other_git_answers(mailmaps, gits, contacts):
+    """The number of the first line of each contact to which git answers something else, and git's answer."""
+    first = {}
+    for number, contact in contacts:
+        first.setdefault(contact, number)
+    for contact, number in first.items():
+        if git_answer(gits, *contact) != answer(mailmaps.merged, *contact):
+            yield number, git_answer(gits, *contact)
+
+
+def said_of_contacts(mailmaps, gits, text, file):
     """The findings about contacts, line by line, each with whether it counts for the status."""
     numbered = [(number, contact_of(line), line) for number, line in enumerate(lines(text), 1)]
-    said = [(number, True, b"error: no contact") for number, contact, line in numbered if not contact and trim(line)]
-    answers = answers_of(mailmaps, [(number, contact) for number, contact, _ in numbered if contact])
-    by_email, best = compared([one for one in answers if one.email], 1)
+    no_contact = error(b"no contact", b"no-contact")
+    said = [(number, True, no_contact) for number, contact, line in numbered if not contact and trim(line)]
+    contacts = [(number, contact) for number, contact, _ in numbered if contact]
+    by_email, best = compared([one for one in answers_of(mailmaps, contacts) if one.email], 1)
     by_name, _ = compared(best, 0)
-    said += [(one.line, True, b"warning: %b has the email of %b" % (one.text(), of.text())) for one, of in by_email]
+    said += [
+        (one.line, True, warning(b"%b has the email of %b" % (one.text(), of.text()), b"same-email"))
+        for one, of in by_email
+    ]
     # they may be two people
-    said += [(one.line, False, b"note: %b has the name of %b" % (one.text(), of.text())) for one, of in by_name]
-    return [(counts, b"%b:%d: %b" % (file, number, words)) for number, counts, words in sorted(said)]
+    said += [
+        (one.line, False, note(b"%b has the name of %b" % (one.text(), of.text()), b"same-name")) for one, of in by_name
+    ]
+    said += [
+        (number, True, warning(b"git answers " + short_contact_text(*other), b"git-answers"))
+        for number, other in other_git_answers(mailmaps, gits, contacts)
+    ]
+    # what git answers comes last on a line
+    said.sort(key=lambda one: one[0])
+    return [(counts, b"%b:%d: %b" % (file, number, words)) for number, counts, words in said]
 
 
 def verify_contacts(buffers, names, contacts, file):
@@ -113,7 +123,7 @@ def verify_contacts(buffers, names, contacts, file):
     for line in mailmaps.lines:
         remarks = findings(mailmaps, names, line)
         if mailmaps.has_effect(line.position) and line.position not in some_need:
-            remarks.append(b"warning: no contact needs it")
+            remarks.append(warning(b"no contact needs it", b"unneeded"))
         said += [(True, position_text(names, line.position) + b": " + remark) for remark in remarks]
-    said += said_of_contacts(mailmaps, contacts, file)
+    said += said_of_contacts(mailmaps, git_entries_of(buffers), contacts, file)
     return (1 if any(counts for counts, _ in said) else 0), b"".join(shown(text) for _, text in said)

@@ -1,11 +1,14 @@
 """The model of `mailmap_verify` and `--prune`.
 
-The definitions are in `specs` of `mailmap_findings` (`Findings`) and of `verify_command` (`Report`).
+The definitions are in `specs` of `mailmap_redundancy` (`Origins`), `mailmap_findings` (`Findings`, `Explanations`) and
+of `verify_command` (`Kinds`, `Report`).
 """
 from typing import NamedTuple
 
 import git
-from mailmap import LocatedEntry, Position, cut, entries, entry_of, lines, new_fields, read, trim, with_effect
+from mailmap import (
+    LocatedEntry, Position, cut, entries, entry_of, folded, lines, new_fields, read, trim, with_effect
+)
 from shown import shortened, shown
 
 
@@ -45,6 +48,57 @@ def position_text(names, position):
     return b"%b:%d" % (names[position.file], position.line)
 
 
+def positions_text(names, positions):
+    return b", ".join(position_text(names, position) for position in positions)
+
+
+# ---- kinds
+
+# of each fault
+FAULTS = {
+    b"no email in brackets": b"no-email",
+    b"the first '<' has no '>'": b"unclosed-email",
+    b"the first email is empty": b"empty-email",
+    b"an email alone maps nothing": b"nothing-to-map",
+    b"the second '<' has no '>'": b"unclosed-second-email",
+}
+
+
+def error(text, kind):
+    return b"error: %b [%b]" % (text, kind)
+
+
+def warning(text, kind):
+    return b"warning: %b [%b]" % (text, kind)
+
+
+def note(text, kind):
+    return b"note: %b [%b]" % (text, kind)
+
+
+# ---- the lines behind an answer
+
+def origins(effective, name, email):
+    """The lines behind the new name, the new email, and if there is none, the spelling of the email.
+
+    Each is a list of at most one position. Only effective entries count.
+    """
+    of_email = [one for one in effective if folded(one.entry.old_email) == folded(email)]
+    of_name = [one for one in of_email if one.entry.key[1:] == (folded(name),)]
+    counting = of_name[-1:] or [one for one in of_email if one.entry.old_name is None]
+    names = [one.position for one in counting if one.entry.new_name is not None]
+    emails = [one.position for one in counting if one.entry.new_email is not None]
+    return names[-1:], emails[-1:], [] if emails else [one.position for one in of_email[:1]]
+
+
+def behind(mailmaps, name, email):
+    """The lines behind the new fields of a contact, in their order."""
+    _, new_email = new_fields(mailmaps.merged, name, email)
+    of_name, of_email, of_spelling = origins(mailmaps.effective, name, email)
+    # the line that only spells the email isn't behind the answer if the email stays as it is
+    return sorted(set(of_name + of_email + (of_spelling if new_email is not None else [])))
+
+
 # ---- findings
 
 def ignored(line):
@@ -54,15 +108,24 @@ def ignored(line):
     return trim(second[2] if second else rest)
 
 
+def looks_like_name(text):
+    return not text.startswith(b"#") and not set(text) & set(b"<>@")
+
+
+def ignored_text(text):
+    cure = b" (an old name needs an email after it)" if looks_like_name(text) else b""
+    return b"ignored text: " + shortened(text) + cure
+
+
 def said_by_itself(line):
     """Findings about the text of a line: a fault or ignored text, and what git reads."""
     strictly = read(line, strict=True)
     if isinstance(strictly, bytes):
-        yield b"error: " + strictly
+        yield error(strictly, FAULTS[strictly])
     elif strictly and ignored(line):
-        yield b"warning: ignored text: " + shortened(ignored(line))
+        yield warning(ignored_text(ignored(line)), b"ignored-text")
     if git.reads_otherwise(line):
-        yield b"warning: git reads " + git.reading_text(line)
+        yield warning(b"git reads " + git.reading_text(line), b"git-reads")
 
 
 def mapped_on(merged, entry):
@@ -76,16 +139,24 @@ def mapped_on(merged, entry):
     return (name, email), (on_name, email if new_email is None else new_email)
 
 
+def says_same(one, other):
+    """Whether two entries give the same: no new field differs."""
+    return (one.new_name, one.new_email) == (other.new_name, other.new_email)
+
+
 def said_by_effect(mailmaps, names, line):
     """Findings about the entry of a line: no effect, or a contact that is itself mapped."""
     entry = entry_of(line.text)
     if entry and not mailmaps.has_effect(line.position):
-        same = [one.position for one in mailmaps.effective if one.entry.key == entry.key]
-        yield b"warning: no effect beside " + position_text(names, same[-1])
+        beside = [one for one in mailmaps.effective if one.entry.key == entry.key][-1]
+        what = b"the same" if says_same(entry, beside.entry) else b"something else"
+        yield warning(b"no effect: %b says %b" % (position_text(names, beside.position), what), b"no-effect")
     elif entry:
         contact, on = mapped_on(mailmaps.merged, entry)
         if contact != on:
-            yield b"warning: %b is itself mapped, to %b" % (short_contact_text(*contact), short_contact_text(*on))
+            by = positions_text(names, behind(mailmaps, contact[0] or b"", contact[1]))
+            shown_ones = short_contact_text(*contact), short_contact_text(*on)
+            yield warning(b"%b is itself mapped, to %b by %b" % (*shown_ones, by), b"itself-mapped")
 
 
 def findings(mailmaps, names, line):

@@ -1,5 +1,8 @@
-"""The model of git's grammar for a line of a mailmap. The definitions are in `specs` of `mailmap_findings`."""
-from mailmap import Entry, cut, entry_of
+"""The model of git's grammar for a line of a mailmap, and of its answers.
+
+The definitions are in `specs` of `mailmap_findings` (`Git`, `GitAnswers`) and of `mailmap_redundancy` (`Origins`).
+"""
+from mailmap import Entry, accepted, cut, entry_of, folded, last_given, lines
 from shown import shortened
 
 # git trims only these, and only from names
@@ -32,6 +35,21 @@ def git_entries(line):
 def reads_otherwise(line):
     own = entry_of(line)
     return git_entries(line) != ([own] if own else [])
+
+
+def git_entries_of(buffers):
+    """The entries that git reads from buffers, one buffer after another."""
+    return [entry for buffer in buffers for line in lines(buffer) for entry in git_entries(line)]
+
+
+def git_answer(merged, name, email):
+    """What git answers to a contact. An email that isn't replaced stays as it is spelled."""
+    of_email = [entry for entry in accepted(merged) if folded(entry.old_email) == folded(email)]
+    of_name = [entry for entry in of_email if entry.old_name is not None and folded(entry.old_name) == folded(name)]
+    counting = of_name[-1:] or [entry for entry in of_email if entry.old_name is None]
+    new_name = last_given(entry.new_name for entry in counting)
+    new_email = last_given(entry.new_email for entry in counting)
+    return (name if new_name is None else new_name, email if new_email is None else new_email)
 
 
 def line_text(entry):

@@ -14,6 +14,8 @@ MAP = b"Jane Doe <jane@x> <jd@y>\nJoe <joe@x>\n"
 JANE = Entry(b"Jane Doe", b"jane@x", None, b"jd@y")
 JOE = Entry(b"Joe", None, None, b"joe@x")
 COUNT = 200_000
+# what follows an ignored text that looks like a name
+CURE = " (an old name needs an email after it)"
 MANY = b"".join(b" N%d <%d@x>\n" % (number, number) for number in range(COUNT, 2 * COUNT))
 
 
@@ -35,22 +37,43 @@ class Texts(unittest.TestCase):
     def test_verify(self):
         """One mailmap for each kind: what is found in it, and the words of mailmap_verify."""
         cases = [
-            (b"plain", [(1, Kind.NO_EMAIL, None, None, "error: no email in brackets")]),
-            (b"Jane <a@x", [(1, Kind.MISSING_CLOSING_BRACKET, None, None, "error: the first '<' has no '>'")]),
+            (b"plain", [(1, Kind.NO_EMAIL, None, None, "error: no email in brackets [no-email]")]),
+            (b"Jane <a@x", [
+                (1, Kind.MISSING_CLOSING_BRACKET, None, None, "error: the first '<' has no '>' [unclosed-email]"),
+            ]),
             (b"Jane < > <b@x>", [
-                (1, Kind.EMPTY_EMAIL, None, None, "error: the first email is empty"),
-                (1, Kind.GIT_READS, None, "it as Jane < > <b@x>", "warning: git reads it as Jane < > <b@x>"),
+                (1, Kind.EMPTY_EMAIL, None, None, "error: the first email is empty [empty-email]"),
+                (1, Kind.GIT_READS, None, "it as Jane < > <b@x>",
+                 "warning: git reads it as Jane < > <b@x> [git-reads]"),
             ]),
-            (b"<a@x>", [(1, Kind.NOTHING_TO_MAP, None, None, "error: an email alone maps nothing")]),
-            (b"Jo <c@x> <d", [(1, Kind.UNCLOSED_SECOND, None, None, "error: the second '<' has no '>'")]),
+            (b"<a@x>", [(1, Kind.NOTHING_TO_MAP, None, None, "error: an email alone maps nothing [nothing-to-map]")]),
+            (b"Jo <c@x> <d", [
+                (1, Kind.UNCLOSED_SECOND, None, None, "error: the second '<' has no '>' [unclosed-second-email]"),
+            ]),
             (b"Joe <joe@x> joe\x1b\xff", [
-                (1, Kind.IGNORED_TEXT, None, "joe\\x1b\udcff", "warning: ignored text: joe\\x1b\udcff"),
+                (1, Kind.IGNORED_TEXT, None, "joe\\x1b\udcff",
+                 f"warning: ignored text: joe\\x1b\udcff{CURE} [ignored-text]"),
             ]),
-            (b"N <e@x>\n\nM <e@x>", [(1, Kind.NO_EFFECT, 3, None, "warning: no effect beside line 3")]),
+            (b"Joe <joe@x> #" + CURE.encode(), [
+                (1, Kind.IGNORED_TEXT, None, "#" + CURE, f"warning: ignored text: #{CURE} [ignored-text]"),
+            ]),
+            (b"N <e@x>\n\nM <e@x>", [
+                (1, Kind.NO_EFFECT, 3, None, "warning: no effect: line 3 says something else [no-effect]"),
+            ]),
+            (b"N <e@x>\nN <e@x>", [
+                (1, Kind.NO_EFFECT, 2, None, "warning: no effect: line 2 says the same [no-effect]"),
+            ]),
             (b"Eve <eve@w> <eve@o>\n<eve@e> <eve@w>", [
-                (1, Kind.ITSELF_MAPPED, None, "Eve <eve@e>", "warning: Eve <eve@w> is itself mapped, to Eve <eve@e>"),
+                (1, Kind.ITSELF_MAPPED, None, "Eve <eve@e>",
+                 "warning: Eve <eve@w> is itself mapped, to Eve <eve@e> by line 2 [itself-mapped]"),
             ]),
-            (b"J\0e <joe@x>", [(1, Kind.GIT_READS, None, "nothing here", "warning: git reads nothing here")]),
+            (b"by :1 <a@w> <a@o>\nZ <z@x> z <A@w>\nE by :9 <A@w>", [
+                (1, Kind.ITSELF_MAPPED, None, "E by :9 <A@w>",
+                 "warning: by :1 <a@w> is itself mapped, to E by :9 <A@w> by line 2, line 3 [itself-mapped]"),
+            ]),
+            (b"J\0e <joe@x>", [
+                (1, Kind.GIT_READS, None, "nothing here", "warning: git reads nothing here [git-reads]"),
+            ]),
             (MAP, []),
             (b"", []),
         ]
@@ -64,18 +87,18 @@ class Texts(unittest.TestCase):
     def test_report(self):
         both = [(b"team", b"N <e@x>\nplain\n"), (b"own", b"M <e@x>\nI <i@x> \x1b")]
         lines = [
-            b"team:1: warning: no effect beside own:1",
-            b"team:2: error: no email in brackets",
-            b"own:2: warning: ignored text: \\x1b",
+            b"team:1: warning: no effect: own:1 says something else [no-effect]",
+            b"team:2: error: no email in brackets [no-email]",
+            b"own:2: warning: ignored text: \\x1b" + CURE.encode() + b" [ignored-text]",
         ]
         self.assertEqual(gix_mailmap.report(both), b"".join(line + b"\n" for line in lines))
-        error = b":1: error: no email in brackets\n"
+        error = b":1: error: no email in brackets [no-email]\n"
         self.assertEqual(gix_mailmap.report(iter([(b"", b"plain"), (b"a\0b", b"")])), error)
         self.assertEqual(gix_mailmap.report([(b"a\0b", b"\0\nN <e@x>")]), b"a\\x00b" + error)
         self.assertEqual(gix_mailmap.report([]), b"")
         many = gix_mailmap.report([(b"many", b"plain\n" * COUNT)])
-        self.assertEqual(many.count(b": error: no email in brackets\n"), COUNT)
-        self.assertTrue(many.endswith(b"\nmany:200000: error: no email in brackets\n"))
+        self.assertEqual(many.count(b": error: no email in brackets [no-email]\n"), COUNT)
+        self.assertTrue(many.endswith(b"\nmany:200000: error: no email in brackets [no-email]\n"))
 
     def test_explain(self):
         both = [(b"team", b"Jane Doe <jane@x>\n<jane@x> <jd@y>\n"), (b"own", b"Jane Doe <jd@y>\nI\x1b <i@x>")]
@@ -120,8 +143,34 @@ class Texts(unittest.TestCase):
         every = [Position(0, line) for line in range(1, COUNT + 1)]
         self.assertEqual(gix_mailmap.unneeded([(b"many", MANY)], b"plain"), every)
 
+    def test_suggest(self):
+        """Cases of tests/c/calls.c, and a text that is longer than the first buffer."""
+        cases = [
+            ([b"ann <D@X> <q@x>\n", b"Ann L <q@x> Ann <D@X>\nJane Doe <c@x>\n"],
+             b"ann <A@x>\n\xff <b@x>\n\xff <b@x>\na>b <b@x>\na>b <b@x>\na>b <b@x>\nann <A@x>\nAnn <q@x>\nann <A@x>\n",
+             b"# 3 a>b <b@x>\n# 2 \xff <b@x>\na>b <b@x>\n\n# 3 ann <A@x>\n# 1 ann <D@X>\n#?ann <A@x> <q@x>\n\n"),
+            (["<A@x> <é@x>\n<a@x>\n".encode(), b"ann < d@x>\n"], b"Ann <d@x>",
+             b"# 1 ann <d@x>\n# 1 Ann <d@x> by git\nann <d@x>\n\n"),
+            ([], b"#x <c@x>\n#x <e@x>\n#x <c@x>\r\n", b"# 2 #x <c@x>\n# 1 #x <e@x>\n#? #x <c@x> <e@x>\n\n"),
+            ([MAP], b"j <joe@x>\nplain\n\n", b""),
+        ]
+        for texts, contacts, suggested in cases:
+            with self.subTest(contacts=contacts):
+                named = [(b"", text) for text in texts]
+                self.assertEqual(gix_mailmap.suggest(iter(named), contacts), suggested)
+                of_str = [("", text.decode(errors="surrogateescape")) for text in texts]
+                said = gix_mailmap.suggest(of_str, contacts.decode(errors="surrogateescape"))
+                self.assertEqual(said.encode(errors="surrogateescape"), suggested)
+        contacts = b"".join(b"a <%d@x>\nb%d <%d@x>\nb%d <%d@x>\n" % ((number,) * 5) for number in range(1000))
+        many = gix_mailmap.suggest([], contacts)
+        self.assertEqual(many.count(b"\n\n"), 1000)
+        self.assertTrue(many.endswith(b"\n\n# 2 b999 <999@x>\n# 1 a <999@x>\nb999 <999@x>\n\n"))
+        with self.assertRaises(TypeError):
+            gix_mailmap.suggest([("", "")], b"a <b>")
+
     def test_more_findings_than_the_first_array_holds(self):
-        found = [Finding(line, Kind.NO_EMAIL, None, None, "error: no email in brackets") for line in range(1, 1001)]
+        words = "error: no email in brackets [no-email]"
+        found = [Finding(line, Kind.NO_EMAIL, None, None, words) for line in range(1, 1001)]
         self.assertEqual(gix_mailmap.verify(b"plain\n" * 1000), found)
 
     def test_many_lines(self):
@@ -134,8 +183,10 @@ class Texts(unittest.TestCase):
         self.assertEqual(len(gix_mailmap.verify(b"plain\n" * COUNT)), COUNT)
 
     def test_what_is_no_list_of_mailmaps(self):
-        calls = [gix_mailmap.report, lambda mailmaps: gix_mailmap.explain(mailmaps, ""),
-                 lambda mailmaps: gix_mailmap.unneeded(mailmaps, "")]
+        calls = [
+            gix_mailmap.report, lambda mailmaps: gix_mailmap.explain(mailmaps, ""),
+            lambda mailmaps: gix_mailmap.suggest(mailmaps, ""), lambda mailmaps: gix_mailmap.unneeded(mailmaps, ""),
+        ]
         for call in calls:
             for wrong, words in (
                 ("..", "expected a pair of a mailmap's name and its text, not '.'"),
@@ -169,7 +220,8 @@ class Files(unittest.TestCase):
         for call in (gix_mailmap.compact, gix_mailmap.prune, gix_mailmap.verify):
             with self.path.open("rb") as file:
                 self.assertEqual(call(file), call(text))
-        self.assertEqual(gix_mailmap.report([("a", io.StringIO("x"))]), "a:1: error: no email in brackets\n")
+        error = "a:1: error: no email in brackets [no-email]\n"
+        self.assertEqual(gix_mailmap.report([("a", io.StringIO("x"))]), error)
         with self.path.open("rb") as file, Mailmap(file, b"Joseph <joe@x>") as mailmap:
             mailmap.add(io.BytesIO(b"Jane <jd@y>"))
             self.assertEqual(mailmap.write(), b" Jane <jane@x> <jd@y>\n Joseph <joe@x>\n")

@@ -57,12 +57,13 @@ class Kinds(unittest.TestCase):
         self.assertEqual(gix_mailmap.check(TEXT, "jd <jd@y>"), "Jörg Doe <j@x>\n")
         self.assertEqual(gix_mailmap.check(memoryview(TEXT.encode()), bytearray(b"-")), b"-\n")
         for kind in (bytes, bytearray, memoryview):
-            found = [Finding(1, Kind.NO_EMAIL, None, None, "error: no email in brackets")]
+            found = [Finding(1, Kind.NO_EMAIL, None, None, "error: no email in brackets [no-email]")]
             self.assertEqual(gix_mailmap.verify(kind(b"plain")), found)
         self.assertEqual(gix_mailmap.verify("plain"), gix_mailmap.verify(b"plain"))
-        self.assertEqual(gix_mailmap.report([("ä", "x")]), "ä:1: error: no email in brackets\n")
+        self.assertEqual(gix_mailmap.report([("ä", "x")]), "ä:1: error: no email in brackets [no-email]\n")
         for kind in (bytes, bytearray, memoryview):
-            self.assertEqual(gix_mailmap.report([(kind(b"a"), kind(b"x"))]), b"a:1: error: no email in brackets\n")
+            error = b"a:1: error: no email in brackets [no-email]\n"
+            self.assertEqual(gix_mailmap.report([(kind(b"a"), kind(b"x"))]), error)
         self.assertEqual(gix_mailmap.unneeded([("ä", TEXT)], "jö <ä>"), [Position(0, 1)])
         for kind in (bytes, bytearray, memoryview):
             self.assertEqual(gix_mailmap.unneeded([(kind(b"a"), kind(TEXT.encode()))], kind(b"j <jd@y>")), [])
@@ -133,11 +134,12 @@ class Errors(unittest.TestCase):
             self.assertTrue(issubclass(error, Error) and issubclass(error, usual))
 
     def test_kinds_of_a_later_library(self):
-        said = ":1: warning: no effect beside :2\n:3: warning: odd\n"
+        said = ":1: warning: no effect: :2 says the same [no-effect]\n:3: warning: odd [odd]\n"
         with mock.patch.object(_native, "verify", lambda _text: ([(1, 7, 2), (3, 10, 0)], said)):
             known, later = gix_mailmap.verify("")
-        self.assertEqual(known, Finding(1, Kind.NO_EFFECT, 2, None, "warning: no effect beside line 2"))
-        self.assertEqual(later, Finding(3, Kind(10), None, None, "warning: odd"))
+        words = "warning: no effect: line 2 says the same [no-effect]"
+        self.assertEqual(known, Finding(1, Kind.NO_EFFECT, 2, None, words))
+        self.assertEqual(later, Finding(3, Kind(10), None, None, "warning: odd [odd]"))
         self.assertEqual((later.kind, later.kind.name, str(later.kind)), (10, "NUMBER_10", "10"))
         for wrong in (0, -1, "10"):
             with self.assertRaises(ValueError):

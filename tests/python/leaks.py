@@ -104,8 +104,11 @@ def calls():
     }
 
 
-# Each opens a stream of the library, which takes a megabyte.
-FEWER = {"map_contacts": lambda: list(Mailmap(MAP).map_contacts(["a", "jd <jd@y>\n"]))}
+# Each takes a megabyte of the library.
+FEWER = {
+    "map_contacts": lambda: list(Mailmap(MAP).map_contacts(["a", "jd <jd@y>\n"])),
+    "suggest": lambda: gix_mailmap.suggest([("own", MAP)], "jane <jane@x>\nJane <jane@x>"),
+}
 KEPT = [
     None, True, False, gix_mailmap.Answer, gix_mailmap.Entry, gix_mailmap.Mailmap, _native.Mailmap, _native.Stream,
     gix_mailmap.Closed, gix_mailmap.NotAText, MAP, BYTES, LONG, "",

@@ -53,6 +53,7 @@ class Refused(unittest.TestCase):
         for name, arguments in (
             ("check", (MAP, "jd <jd@y>")), ("compact", (MAP,)), ("prune", (bytearray(BYTES),)), ("verify", ("x\ny",)),
             ("report", pairs), ("explain", ("jd <jd@y>", *pairs)), ("unneeded", ("", *pairs)),
+            ("suggest", ("a <x@x>\nb <x@x>", *pairs)),
             ("verify", ("x\n" * 200,)), ("report", ("a", "x\n" * 400)), ("compact", (surrogate(),)),
         ):
             with self.subTest(name=name):

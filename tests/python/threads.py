@@ -83,6 +83,7 @@ class Lock(Ending):
             lambda map: gix_mailmap.check(map, contacts), gix_mailmap.compact, gix_mailmap.prune, gix_mailmap.verify,
             lambda map: gix_mailmap.report([(b"", map)]), lambda map: gix_mailmap.explain([(b"", map)], contacts),
             lambda map: gix_mailmap.unneeded([(b"", map)], contacts), lambda map: Mailmap(map).entries(),
+            lambda map: gix_mailmap.suggest([(b"", map)], contacts),
         ]
         for call in calls:
             wanted, beside = call(text), False

@@ -47,6 +47,7 @@ with Mailmap("") as of_str, Mailmap(b"", buffer, memoryview(buffer)) as of_bytes
     gix_mailmap.compact(1)  # type: ignore[call-overload]
     gix_mailmap.report([("", b"")])  # type: ignore[list-item]
     gix_mailmap.explain([("", "")], b"")  # type: ignore[list-item]
+    gix_mailmap.suggest([("", "")], b"")  # type: ignore[list-item]
     gix_mailmap.unneeded([("", "")], b"")  # type: ignore[type-var]
 
 assert_type(gix_mailmap.check("", ""), str)
@@ -56,6 +57,8 @@ assert_type(gix_mailmap.report([("", "")]), str)
 assert_type(gix_mailmap.report({b"": b""}.items()), bytes)
 assert_type(gix_mailmap.explain([("", "")], ""), str)
 assert_type(gix_mailmap.explain({b"": buffer}.items(), b""), bytes)
+assert_type(gix_mailmap.suggest([("", "")], ""), str)
+assert_type(gix_mailmap.suggest({b"": buffer}.items(), b""), bytes)
 assert_type(gix_mailmap.unneeded([("", "")], ""), list[Position])
 assert_type(gix_mailmap.unneeded({b"": buffer}.items(), b"")[0].mailmap, int)
 assert_type(gix_mailmap.verify(""), list[Finding])

@@ -13,16 +13,24 @@ LIMIT = 256
 REFUSED = None
 
 
-def error(line, what):
-    return b"m1:%d: error: %s\n" % (line, what)
+# what follows an ignored text that looks like a name
+CURE = b" (an old name needs an email after it)"
+
+
+def error(line, what, kind):
+    return b"m1:%d: error: %s [%s]\n" % (line, what, kind)
+
+
+def ignored_text(line, what):
+    return b"m1:%d: warning: ignored text: %s [ignored-text]\n" % (line, what)
 
 
 def git_reads(line, what):
-    return b"m1:%d: warning: git reads %s\n" % (line, what)
+    return b"m1:%d: warning: git reads %s [git-reads]\n" % (line, what)
 
 
-def no_effect(line, beside):
-    return b"m1:%d: warning: no effect beside m1:%d\n" % (line, beside)
+def no_effect(line, beside, what=b"something else"):
+    return b"m1:%d: warning: no effect: m1:%d says %s [no-effect]\n" % (line, beside, what)
 
 
 def shortened(text):
@@ -30,15 +38,17 @@ def shortened(text):
     return text if len(text) <= LIMIT else text[:LIMIT] + b".."
 
 
-def itself_mapped(line, contact, to):
-    return b"m1:%d: warning: %s is itself mapped, to %s\n" % (line, contact, to)
+def itself_mapped(line, contact, to, *by):
+    by = b", ".join(b"m1:%d" % one for one in by)
+    return b"m1:%d: warning: %s is itself mapped, to %s by %s [itself-mapped]\n" % (line, contact, to, by)
 
 
 def long_lines(size):
     """One line, without a line feed unless one is written."""
     long = b"x" * size
-    yield "a long line without an email", long, error(1, b"no email in brackets"), long
-    yield "a long line that opens brackets", b"<" * size, error(1, b"the first '<' has no '>'"), b"<" * size
+    yield "a long line without an email", long, error(1, b"no email in brackets", b"no-email"), long
+    opened = b"<" * size
+    yield "a long line that opens brackets", opened, error(1, b"the first '<' has no '>'", b"unclosed-email"), opened
     yield "a long line of spaces", b" " * size, b"", b" " * size
     yield "a long comment", b"#" + long, b"", b"#" + long
     # git reads parts of 1,023 bytes. The last one starts with the rest of the name, and those before it have no email.
@@ -51,13 +61,14 @@ def long_lines(size):
     # Each part has an entry. Here the line has two emails, and the rest is ignored.
     part = b"N <a@x>" + b"y" * (1023 - 7)
     parts = part * (size // 1023)
-    found = b"m1:1: warning: ignored text: " + shortened(parts[1023 + 7:]) + b"\n"
+    found = ignored_text(1, shortened(parts[1023 + 7:]))
     found += git_reads(1, b"it as %d lines" % (size // 1023))
     yield "an entry in each part of a long line", parts, found, REFUSED
     after = b"N <a@x> " + long + b"  "
-    yield "much after an email", after, b"m1:1: warning: ignored text: " + shortened(long) + b"\n", after
+    yield "much after an email", after, ignored_text(1, shortened(long) + CURE), after
     open_second = b"N <a@x> <" + long
-    yield "a long second email without an end", open_second, error(1, b"the second '<' has no '>'"), open_second
+    found = error(1, b"the second '<' has no '>'", b"unclosed-second-email")
+    yield "a long second email without an end", open_second, found, open_second
 
 
 def many_lines(count):
@@ -66,7 +77,7 @@ def many_lines(count):
 
     # Any one of equal lines is enough, so all but the last are dropped.
     equal = b"Jane Doe <jane@x> <jd@x>\n"
-    yield "equal lines", equal * count, b"".join(no_effect(k, count) for k in range(1, count)), equal
+    yield "equal lines", equal * count, b"".join(no_effect(k, count, b"the same") for k in range(1, count)), equal
 
     # Each line overrides the name of the one before it.
     names = lines(b"N%d <a@x>\n")
@@ -76,9 +87,9 @@ def many_lines(count):
     # spells the email in another way.
     names[0] = b"N1 <A@X>\n"
     last = b"N%d" % count
-    found = itself_mapped(1, b"N1 <A@X>", last + b" <A@X>")
+    found = itself_mapped(1, b"N1 <A@X>", last + b" <A@X>", count)
     found += b"".join(no_effect(k, count) for k in range(2, count))
-    found += itself_mapped(count, last + b" <a@x>", last + b" <A@X>")
+    found += itself_mapped(count, last + b" <a@x>", last + b" <A@X>", 1, count)
     yield "one email, different names and spellings", b"".join(names), found, names[0] + names[-1]
 
     # Each line has another old name.
@@ -87,34 +98,38 @@ def many_lines(count):
 
     # A comment, a blank line or a fault between dropped lines is kept.
     between = b"# c\n" + equal + b"\r\nplain\n"
-    found = b"".join(no_effect(4 * k + 2, 4 * count - 2) + error(4 * k + 4, b"no email in brackets") for k in range(count - 1))
-    found += error(4 * count, b"no email in brackets")
+    def no_email(line):
+        return error(line, b"no email in brackets", b"no-email")
+
+    found = b"".join(no_effect(4 * k + 2, 4 * count - 2, b"the same") + no_email(4 * k + 4) for k in range(count - 1))
+    found += no_email(4 * count)
     pruned = b"# c\n\r\nplain\n" * (count - 1) + between
     yield "equal lines between others", between * count, found, pruned
 
     # The last line maps the email that all others map to. Its new email is cut in each finding.
     long = b"x" * 1000
     to_one = b"".join(lines(b"N <one@x> <e%d@x>\n")) + b"<%b> <one@x>\n" % long
-    found = b"".join(itself_mapped(k, b"N <one@x>", b"N <%b>" % shortened(long)) for k in range(1, count + 1))
+    shown = b"N <%b>" % shortened(long)
+    found = b"".join(itself_mapped(k, b"N <one@x>", shown, count + 1) for k in range(1, count + 1))
     yield "a long email in each finding", to_one, found, to_one
 
     # Each contact is mapped to another one by the next line, except the last.
     chain = lines(b"N <e%d@x> <e")
     chain = b"".join(text + b"%d@x>\n" % (k - 1) for k, text in enumerate(chain, 1))
-    found = b"".join(itself_mapped(k, b"N <e%d@x>" % k, b"N <e%d@x>" % (k + 1)) for k in range(1, count))
+    found = b"".join(itself_mapped(k, b"N <e%d@x>" % k, b"N <e%d@x>" % (k + 1), k + 1) for k in range(1, count))
     yield "a chain of emails", chain, found, chain
 
 
 def small_ones():
     # Bytes that aren't UTF-8 are shown as they are.
     mailmap = b"\xff <a@x> \xfe\xfd\nJ\xe4ne <\xe9@x> <b@x>\nK <\xe9@x>\n"
-    found = b"m1:1: warning: ignored text: \xfe\xfd\n" + itself_mapped(2, b"J\xe4ne <\xe9@x>", b"K <\xe9@x>")
+    found = ignored_text(1, b"\xfe\xfd" + CURE) + itself_mapped(2, b"J\xe4ne <\xe9@x>", b"K <\xe9@x>", 3)
     yield "texts that are not UTF-8", mailmap, found, mailmap
     yield "nothing", b"", b"", b""
     yield "only a line feed", b"\n", b"", b"\n"
-    yield "a zero byte", b"\0", error(1, b"no email in brackets"), b"\0"
+    yield "a zero byte", b"\0", error(1, b"no email in brackets", b"no-email"), b"\0"
     # The last line has no line feed. The first one is dropped.
-    yield "no line feed at the end", b"N <a@x>\nN <a@x>", no_effect(1, 2), b"N <a@x>"
+    yield "no line feed at the end", b"N <a@x>\nN <a@x>", no_effect(1, 2, b"the same"), b"N <a@x>"
 
 
 def hostile():

@@ -15,6 +15,7 @@ emails, so that lines match; git reads many of the lines in another way. The ans
 the definitions alone, which looks at the whole list of entries each time: a line has no effect if the list without it
 has the same normal list, tried line by line.
 """
+import base64
 import json
 import os
 import re
@@ -26,7 +27,7 @@ sys.dont_write_bytecode = True
 sys.path.append(str(Path(__file__).resolve().parent.parent))
 import runs
 from runs import run, wants
-from hostile import LIMIT, REFUSED, hostile  # the file beside this one
+from hostile import CURE, LIMIT, REFUSED, hostile  # the file beside this one
 
 VERSION = (Path(__file__).resolve().parents[2] / "VERSION").read_bytes().strip()
 
@@ -34,7 +35,9 @@ VERSION = (Path(__file__).resolve().parents[2] / "VERSION").read_bytes().strip()
 def as_standard_input(printed):
     """The output for the file m1 if it is standard input."""
     begun = re.sub(rb"^m1:", b"<stdin>:", printed, flags=re.MULTILINE)
-    return re.sub(rb"(: warning: no effect beside )m1:(?=[0-9]+$)", rb"\1<stdin>:", begun, flags=re.MULTILINE)
+    begun = re.sub(rb"(: warning: no effect: )m1:(?=[0-9]+ says )", rb"\1<stdin>:", begun, flags=re.MULTILINE)
+    by = rb" by m1:[0-9]+(, m1:[0-9]+)? \[itself-mapped\]$"
+    return re.sub(by, lambda found: found[0].replace(b"m1:", b"<stdin>:"), begun, flags=re.MULTILINE)
 
 
 def wants_case(program, what, files, status, printed, pruning):
@@ -111,11 +114,11 @@ def beside(program):
     """The mailmap can be standard input, or missing. Control bytes are escaped. Lines can be long and many."""
     Path("team").write_bytes(b"Jane Doe <jane@x> <jd@old>\nJoe <joe@x>\n")
     Path("\x1b").write_bytes(b"jd <JD@old>\njane\x1b <JANE@x>\r\n\n \t\nplain\nJane Doe <q@x>\njd <JD@old>\n")
-    unneeded = b"team:2: warning: no contact needs it\n"
+    unneeded = b"team:2: warning: no contact needs it [unneeded]\n"
     said = (
-        b"\\x1b:2: warning: jane\\x1b <JANE@x> (1) has the email of Jane Doe <jane@x> (2)\n"
-        b"\\x1b:5: error: no contact\n"
-        b"\\x1b:6: note: Jane Doe <q@x> (1) has the name of Jane Doe <jane@x> (2)\n"
+        b"\\x1b:2: warning: jane\\x1b <JANE@x> (1) has the email of Jane Doe <jane@x> (2) [same-email]\n"
+        b"\\x1b:5: error: no contact [no-contact]\n"
+        b"\\x1b:6: note: Jane Doe <q@x> (1) has the name of Jane Doe <jane@x> (2) [same-name]\n"
     )
     contacts, team = Path("\x1b").read_bytes(), Path("team").read_bytes()
     wants("contacts", run(program, ["--contacts", "\x1b", "team"]), 1, unneeded + said)
@@ -126,7 +129,7 @@ def beside(program):
     shown = unneeded + said.replace(b"\\x1b:", b"<stdin>:")
     wants("contacts of standard input", run(program, ["--contacts", "-", "team"], contacts), 1, shown)
     wants("contacts without a mailmap", run(program, ["--contacts", "-"], b"J <j@x>\nJ <j@y>\n"), 0,
-          b"<stdin>:2: note: J <j@y> (1) has the name of J <j@x> (1)\n")
+          b"<stdin>:2: note: J <j@y> (1) has the name of J <j@x> (1) [same-name]\n")
     wants("no contacts", run(program, ["--contacts", "-", "team"]), 1, unneeded.replace(b"2", b"1") + unneeded)
     said = b"mailmap_verify: -: No such file or directory\n"
     wants("- beside -", run(program, ["--contacts", "-", "-"], contacts), 2, b"", said)
@@ -143,26 +146,24 @@ def many_beside(program, size=1 << 20):
     contacts = b"Joe <joe@x>\n" * 100_000 + long + b" <joe@x>\n" + long + b"\n" + long + b" <joe@x>"
     Path("team").write_bytes(b"Joe <joe@x> <joe@y>\n")
     printed = (
-        b"team:1: warning: no contact needs it\n"
-        b"<stdin>:100001: warning: " + short + b" <joe@x> (2) has the email of Joe <joe@x> (100000)\n"
-        b"<stdin>:100002: error: no contact\n"
+        b"team:1: warning: no contact needs it [unneeded]\n"
+        b"<stdin>:100001: warning: " + short + b" <joe@x> (2) has the email of Joe <joe@x> (100000) [same-email]\n"
+        b"<stdin>:100002: error: no contact [no-contact]\n"
     )
     wants("long contacts", run(program, ["--contacts", "-", "team"], contacts), 1, printed)
     contacts = b"".join(b"J%d <J%d@x>\n" % (k % 5000, k % 5000) for k in range(20_000))
     wants("many contacts", run(program, ["--contacts", "-"], contacts), 0, b"")
     contacts += contacts.lower()
-    printed = b"".join(
-        b"<stdin>:%d: warning: j%d <j%d@x> (4) has the email of J%d <J%d@x> (4)\n" % (20_001 + k, k, k, k, k)
-        for k in range(5000)
-    )
+    alike = b"<stdin>:%d: warning: j%d <j%d@x> (4) has the email of J%d <J%d@x> (4) [same-email]\n"
+    printed = b"".join(alike % (20_001 + k, k, k, k, k) for k in range(5000))
     wants("many contacts that are alike", run(program, ["--contacts", "-"], contacts), 1, printed)
 
 
 def hostile_beside(program, size=10_000_000):
     """Lines of contacts can have any length and any bytes, and the last one needs no line feed."""
     long = b"x" * size
-    no_contact = b"<stdin>:1: error: no contact\n"
-    zeros = b"<stdin>:2: warning: j\\x00 <J@X\\x00> (1) has the email of J\\x00 <j@x\\x00> (1)\n"
+    no_contact = b"<stdin>:1: error: no contact [no-contact]\n"
+    zeros = b"<stdin>:2: warning: j\\x00 <J@X\\x00> (1) has the email of J\\x00 <j@x\\x00> (1) [same-email]\n"
     for what, contacts, status, printed in [
         ("a long name", long + b" <j@x>", 0, b""),
         ("a long email", b"J <" + long + b">", 0, b""),
@@ -183,44 +184,72 @@ def file_names(program):
     names = ["a b:c", "./ä", "--help", "a b:c"]
     for name in names:
         Path(name).write_bytes(b"plain\n")
-    printed = b"".join(name.encode() + b":1: error: no email in brackets\n" for name in names)
-    wants("names of files", run(program, names), 1, printed)
+    printed = b"".join(name.encode() + b":1: error: no email in brackets [no-email]\n" for name in names)
+    wants("names of files", run(program, ["--", *names]), 1, printed)
     said = b"mailmap_verify: ./--prune: No such file or directory\n"
     wants("a file named as an option", run(program, ["./--prune"]), 2, b"", said)
 
 
 USAGE_LINE = (
-    b"usage: mailmap_verify [--] [FILE..] | --prune [--] [FILE] | --explain [--] [FILE..]\n"
-    b"     | --contacts CONTACTS [--] [FILE..] | --help | --version\n"
+    b"usage: mailmap_verify [--prune | --explain | --contacts CONTACTS | --suggest CONTACTS] [-S LEVEL] [-e KIND,..]\n"
+    b"     [-f FORMAT] [--stdin-name NAME] [--] [FILE..] | --help | --version\n"
 )
 
 
 def options(program):
-    """Options are parsed from left to right, up to the first file or `--`."""
+    """Options are parsed from left to right, also after files, up to `--`. The first error counts."""
     status, printed, said = run(program, ["--help"])
     wants("help", (status, printed[:22], said), 0, b"usage: mailmap_verify ")
-    for words in ["-h"], ["--help", "missing"], ["--prune", "--help"], ["-h", "--version"], ["--explain", "-h", "missing"]:
+    for words in [
+        ["-h"], ["--help", "missing"], ["--prune", "--help"], ["-h", "--version"], ["--explain", "-h", "missing"],
+        ["missing", "-h"], ["-S", "error", "--help"], ["--help", "-S"],
+    ]:
         wants(f"help: {words}", run(program, words), 0, printed)
     version = b"mailmap_verify " + VERSION + b"\n"
-    for words in ["--version"], ["--prune", "--version", "missing"], ["--version", "--help"]:
+    for words in ["--version"], ["--prune", "--version", "missing"], ["--version", "--help"], ["missing", "--version"]:
         wants(f"the version: {words}", run(program, words), 0, version)
     for words, wrong in [
         (["--foo", "m1"], b"unknown option: --foo"),
+        (["m1", "--foo"], b"unknown option: --foo"),
         (["--prune", "-x", "m1"], b"unknown option: -x"),
         (["--foo", "--help"], b"unknown option: --foo"),
         (["--prune=m1"], b"unknown option: --prune=m1"),
         (["-\xff\x1b"], b"unknown option: -\xc3\xbf\\x1b"),
+        (["-Serror"], b"unknown option: -Serror"),
+        (["-e=no-effect"], b"unknown option: -e=no-effect"),
         (["--prune", "--prune", "m1"], b"a second mode: --prune"),
-        (["--prune", "--explain", "m1"], b"a second mode: --explain"),
+        (["--prune", "m1", "--explain"], b"a second mode: --explain"),
         (["--prune", "--contacts"], b"a second mode: --contacts"),
         (["--contacts", "c", "--contacts", "c"], b"a second mode: --contacts"),
+        (["--suggest", "c", "--contacts=c"], b"a second mode: --contacts=c"),
         (["--contacts"], b"no file after --contacts"),
+        (["--suggest"], b"no file after --suggest"),
+        (["m1", "-S"], b"no level after -S"),
+        (["--severity"], b"no level after --severity"),
+        (["-e"], b"no kind after -e"),
+        (["--format"], b"no format after --format"),
+        (["--stdin-name"], b"no name after --stdin-name"),
+        (["-S", "fatal"], b"unknown level: fatal"),
+        (["--severity="], b"unknown level: "),
+        (["-S", "Error"], b"unknown level: Error"),
+        (["-e", "no-effect,foo,bar"], b"unknown kind: foo"),
+        (["--exclude=no-effect,\x1b"], b"unknown kind: \\x1b"),
+        (["-e", ""], b"unknown kind: "),
+        (["-f", "xml"], b"unknown format: xml"),
+        (["--prune", "-S", "error"], b"--prune takes no --severity"),
+        (["-e", "no-effect", "--prune"], b"--prune takes no --exclude"),
+        (["--prune", "--format=gcc"], b"--prune takes no --format"),
+        (["--explain", "--stdin-name", "m"], b"--explain takes no --stdin-name"),
+        (["--suggest", "c", "-S", "note"], b"--suggest takes no --severity"),
+        (["--prune", "-S", "error", "--foo"], b"--prune takes no --severity"),
+        (["--foo", "--prune", "-S", "error"], b"unknown option: --foo"),
     ]:
         said = b"mailmap_verify: " + wrong + b"\n" + USAGE_LINE
         wants(f"a misuse: {words}", run(program, words), 2, b"", said)
     Path("-x").write_bytes(b"plain\n")
-    found = b":1: error: no email in brackets\n"
-    wants("after --", run(program, ["--", "-x"]), 1, b"-x" + found)
+    found = b":1: error: no email in brackets [no-email]\n"
+    for words in ["--", "-x"], ["--severity", "note", "--", "-x"]:
+        wants("after --", run(program, words), 1, b"-x" + found)
     wants("pruned after --", run(program, ["--prune", "--", "-x"]), 0, b"plain\n")
     for words in [], ["-"], ["--"], ["--", "-"]:
         wants(f"standard input: {words}", run(program, words, b"plain\n"), 1, b"<stdin>" + found)
@@ -228,6 +257,93 @@ def options(program):
     said = b"mailmap_verify: -: No such file or directory\n"
     wants("- among files", run(program, ["-x", "-"]), 2, b"", b"mailmap_verify: unknown option: -x\n" + USAGE_LINE)
     wants("- among files", run(program, ["--", "-x", "-"]), 2, b"", said)
+
+
+def filters(program):
+    """Findings below a level and of some kinds are left out. A level makes notes count."""
+    Path("team").write_bytes(b"Jane Doe <jane@x> <jd@old>\nplain\nJ <j@y> ignored\n")
+    Path("c").write_bytes(b"jd <JD@old>\nJ <j@y>\nplain\nJane <JANE@x>\nJane Doe <q@x>\n")
+    error = b"team:2: error: no email in brackets [no-email]\n"
+    warning = b"team:3: warning: ignored text: ignored" + CURE + b" [ignored-text]\n"
+    for words, status, printed in [
+        ([], 1, error + warning),
+        (["-S", "note"], 1, error + warning),
+        (["--severity=warning"], 1, error + warning),
+        (["--severity", "error"], 1, error),
+        (["-S", "error", "-S", "note"], 1, error + warning),
+        (["-e", "no-email"], 1, warning),
+        (["-e", "no-email,no-effect"], 1, warning),
+        (["-e", "no-email", "--exclude=ignored-text"], 0, b""),
+        (["-S", "error", "-e", "no-email"], 0, b""),
+        (["--exclude", "ignored-text,no-email,git-reads"], 0, b""),
+        (["--format", "gcc", "--stdin-name", "x"], 1, error + warning),
+    ]:
+        wants(f"filters before a file: {words}", run(program, [*words, "team"]), status, printed)
+        wants(f"filters after a file: {words}", run(program, ["team", *words]), status, printed)
+        shown = printed.replace(b"team:", b"a\\x1b:")
+        wants(f"filters and a name: {words}", run(program, [*words, "--stdin-name=a\x1b"], Path("team").read_bytes()),
+              status, shown)
+    note = b"c:5: note: Jane Doe <q@x> (1) has the name of Jane Doe <jane@x> (1) [same-name]\n"
+    alike = b"c:4: warning: Jane <JANE@x> (1) has the email of Jane Doe <jane@x> (1) [same-email]\n"
+    none = b"c:3: error: no contact [no-contact]\n"
+    for words, status, printed in [
+        (["-e", "no-email,ignored-text,no-contact,same-email"], 0, note),
+        (["-e", "no-email,ignored-text,no-contact,same-email", "-S", "note"], 1, note),
+        (["-e", "no-email,ignored-text,no-contact", "-S", "warning"], 1, alike),
+        (["-S", "error"], 1, error + none),
+        (["-S", "error", "-e", "no-contact"], 1, error),
+        (["-e", "no-email,ignored-text"], 1, none + alike + note),
+    ]:
+        wants(f"filters and contacts: {words}", run(program, ["--contacts", "c", "team", *words]), status, printed)
+        shown = printed.replace(b"c:", b"name:")
+        wants(f"filters, contacts and a name: {words}",
+              run(program, ["team", *words, "--stdin-name", "name", "--contacts=-"], Path("c").read_bytes()), status, shown)
+    Path("otherwise").write_bytes(b"N < a@x >\n")
+    wants("a name while pruning", run(program, ["--prune", "--stdin-name", "team"], b"N < a@x >\n"), 2, b"",
+          b"mailmap_verify: git reads team:1 otherwise\n")
+
+
+def objects(program):
+    """As JSON, each finding is an object. What isn't UTF-8 is in Base64, and nothing is escaped twice."""
+    def text(plain):
+        return {"text": plain}
+
+    Path("team").write_bytes(b"N <a@x>\nN <a@x>\nplain\nJ <j@y> \x1b\"\\\xe2\x80\xae\nK <k@y> \xff\n")
+    Path("c").write_bytes(b"a <a@x>\nb <b@x>\nB <B@x>\nplain\nN <q@x>\nj <j@y>\nk <k@y>\n")
+    effect = {"file": text("team"), "line": 1, "level": "warning", "kind": "no-effect",
+              "message": text("no effect: team:2 says the same"), "at": {"file": text("team"), "line": 2}}
+    email = {"file": text("team"), "line": 3, "level": "error", "kind": "no-email", "message": text("no email in brackets")}
+    ignored = {"file": text("team"), "line": 4, "level": "warning", "kind": "ignored-text",
+               "message": text("ignored text: \x1b\"\\\u202e" + CURE.decode())}
+    otherwise = {"file": text("team"), "line": 5, "level": "warning", "kind": "ignored-text",
+                 "message": {"bytes": base64.b64encode(b"ignored text: \xff" + CURE).decode()}}
+    for words, want in [
+        ([], [effect, email, ignored, otherwise]),
+        (["-S", "error"], [email]),
+        (["-e", "ignored-text"], [effect, email]),
+    ]:
+        status, printed, said = run(program, ["team", "--format=json", *words])
+        wants(f"objects: {words}", (status, [json.loads(line) for line in printed.splitlines()], said), 1, want, b"")
+    status, printed, said = run(program, ["-f", "json", "--stdin-name", "\x1b"], b"plain\n")
+    email = {**email, "file": text("\x1b"), "line": 1}
+    wants("an object with a name", (status, [json.loads(printed)], said), 1, [email], b"")
+    status, printed, said = run(program, [b"-f", b"json", b"--stdin-name", b"\xff"], b"plain\n")
+    email = {**email, "file": {"bytes": "/w=="}}
+    wants("an object with a name in Base64", (status, [json.loads(printed)], said), 1, [email], b"")
+    status, printed, said = run(program, ["-f", "json", "-e", "no-effect,no-email,ignored-text", "--contacts", "c", "team"])
+    want = [
+        {"file": text("c"), "line": 3, "level": "warning", "kind": "same-email",
+         "message": text("B <B@x> (1) has the email of b <b@x> (1)"), "at": {"file": text("c"), "line": 2}},
+        {"file": text("c"), "line": 4, "level": "error", "kind": "no-contact", "message": text("no contact")},
+        {"file": text("c"), "line": 5, "level": "note", "kind": "same-name",
+         "message": text("N <q@x> (1) has the name of N <a@x> (1)"), "at": {"file": text("c"), "line": 1}},
+    ]
+    wants("objects of contacts", (status, [json.loads(line) for line in printed.splitlines()], said), 1, want, b"")
+    Path("c").write_bytes(b"")
+    Path("team").write_bytes(b"N <a@x>\n")
+    status, printed, said = run(program, ["-f", "json", "--contacts", "c", "team"])
+    want = {"file": text("team"), "line": 1, "level": "warning", "kind": "unneeded", "message": text("no contact needs it")}
+    wants("an object of an unneeded line", (status, [json.loads(printed)], said), 1, [want], b"")
 
 
 def main():
@@ -248,6 +364,8 @@ def main():
         hostile_beside(program)
         file_names(program)
         options(program)
+        filters(program)
+        objects(program)
         os.chdir("/")
     print(f"{count} stored mailmaps and {hostile_count} hostile ones, contacts of {explained_count} histories")
     print(f"verify: {runs.passed} passed, {runs.failed} failed")

@@ -27,3 +27,7 @@ pub use mailmap_signatures::laws::{
 pub use mailmap_snapshot::laws::{
     law_equal_write_errors, law_lines, law_parts, law_stream, law_strict, law_text,
 };
+pub use mailmap_suggestions::laws::{
+    law_exact, law_linked, law_others_stay, law_read_alike, law_suggested_lines,
+    law_suggested_text, law_suggestions,
+};

@@ -17,16 +17,16 @@ fault_number unclosed_second = 5
 abbrev pub kind_number : FindingKind → ℕ
 kind_number (fault f) = fault_number f.kind
 kind_number (ignored_text text) = 6
-kind_number (no_effect beside) = 7
-kind_number (itself_mapped contact to) = 8
+kind_number (no_effect beside is_same) = 7
+kind_number (itself_mapped contact to line second) = 8
 kind_number (git_reads reading) = 9
 
 -- for a line without effect, the last line with an effect for the same key; 0 for all other kinds
 abbrev pub beside_line : FindingKind → ℕ
 beside_line (fault f) = 0
 beside_line (ignored_text text) = 0
-beside_line (no_effect beside) = beside.line
-beside_line (itself_mapped contact to) = 0
+beside_line (no_effect beside is_same) = beside.line
+beside_line (itself_mapped contact to line second) = 0
 beside_line (git_reads reading) = 0
 
 abbrev pub c_finding : library.Finding → Finding

@@ -13,3 +13,4 @@ pub mod StreamBorrowing
 pub mod StreamCalls
 pub mod Report
 pub mod Unneeded
+pub mod Suggested

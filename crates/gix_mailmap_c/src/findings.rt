@@ -109,7 +109,7 @@ fn beside_of(kind: &FindingKind<'_>) -> usize
     ensures { result ≡ beside_line (kind_of kind.now) }
 {
     match kind {
-        FindingKind::NoEffect { beside } => beside.line,
+        FindingKind::NoEffect { beside, .. } => beside.line,
         FindingKind::Fault(_)
         | FindingKind::IgnoredText(_)
         | FindingKind::GitReads(_)

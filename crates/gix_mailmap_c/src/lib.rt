@@ -18,6 +18,7 @@ pub mod named;
 pub mod report;
 pub mod status;
 pub mod stream;
+pub mod suggest;
 pub mod texts;
 pub mod unneeded;
 pub mod writing;

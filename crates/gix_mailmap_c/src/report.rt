@@ -8,6 +8,7 @@ use crate::named::{Lengths, names_of, texts_of};
 use mailmap_findings::verify::{Mailmaps, Verification};
 use std::alloc::{AllocError, Global};
 use verify_command::report::print_findings;
+use verify_command::task::Settings;
 
 /// Writes a line for each finding in several mailmaps, as [`print_findings`] does.
 ///
@@ -51,8 +52,9 @@ fn report_on(alloc: Global, names: &[Vec<u8>], buffers: &[&[u8]]) -> Result<Vec<
 {
     let mailmaps = Mailmaps::read(alloc, buffers)?;
     let verification = Verification::new(alloc, &mailmaps)?;
+    let settings = Settings::new(alloc);
     let mut text = Vec::new(alloc);
-    match print_findings(alloc, names, verification.findings(), &mut text) {
+    match print_findings(alloc, &settings, names, verification.findings(), &mut text) {
         Ok(_) => Ok(text),
         Err(_) => Err(AllocError),
     }

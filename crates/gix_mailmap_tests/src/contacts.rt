@@ -1,19 +1,19 @@
 use crate::check::assert_bytes;
 use crate::files::{SHELF, assert_paths, paths_of};
 use crate::run::{ALL, BREAKS, ONE, Sink, Source, Turn};
-use crate::verifying::{BROKEN, UNWRITTEN};
+use crate::verifying::{BROKEN, UNWRITTEN, Wrong, assert_misuse};
 use command_line::failure::Failure;
 use command_line::outcome::Outcome;
 use std::alloc::{AllocError, Global};
 use std::io::{ErrorKind, Read, Write};
 use verify_command::failure::TaskFailure;
-use verify_command::task::{Misuse, Mode, Task, perform, task_of};
+use verify_command::task::{Mode, Setting, Settings, Task, perform, request_of};
 
 /// The argument after `--contacts` is its file, whatever it looks like. After that, a single `-` is standard input,
 /// unless standard input has the contacts.
 #[test]
 fn the_file_of_contacts_comes_after_the_option(rt: HostRuntime) -> Result<(), AllocError> {
-    static ROWS: [(&[&str], &str, &[&str]); 8] = [
+    static ROWS: [(&[&str], &str, &[&str]); 11] = [
         (&["", "--contacts", "c"], "c", &[]),
         (&["", "--contacts", "c", "one"], "c", &["one"]),
         (&["", "--contacts", "c", "--", "-x"], "c", &["-x"]),
@@ -22,15 +22,18 @@ fn the_file_of_contacts_comes_after_the_option(rt: HostRuntime) -> Result<(), Al
         (&["", "--contacts", "c", "-"], "c", &[]),
         (&["", "--contacts", "-", "-"], "-", &["-"]),
         (&["", "--contacts", "-"], "-", &[]),
+        (&["", "one", "--contacts", "c", "two"], "c", &["one", "two"]),
+        (&["", "--contacts=c", "-"], "c", &[]),
+        (&["", "-", "--contacts=-"], "-", &["-"]),
     ];
     for (arguments, contacts, paths) in &ROWS {
         let arguments = paths_of(rt.alloc(), arguments)?;
         let paths = paths_of(rt.alloc(), paths)?;
-        match task_of(arguments.as_slice()) {
-            Ok(task) => {
-                assert_eq!(rt; task.mode, Mode::Contacts);
-                assert!(rt; task.contacts == contacts.as_bytes());
-                assert_paths(&rt, task.paths, paths.as_slice(), 0);
+        match request_of(rt.alloc(), arguments) {
+            Ok(request) => {
+                assert_eq!(rt; request.mode, Mode::Contacts);
+                assert_bytes(&rt, &request.contacts, contacts.as_bytes());
+                assert_paths(&rt, request.paths.as_slice(), paths.as_slice(), 0);
             }
             Err(_) => assert!(rt; false),
         }
@@ -41,29 +44,57 @@ fn the_file_of_contacts_comes_after_the_option(rt: HostRuntime) -> Result<(), Al
 /// `--contacts` needs a file, and can't follow another mode.
 #[test]
 fn contacts_without_a_file_are_a_misuse(rt: HostRuntime) -> Result<(), AllocError> {
-    static ROWS: [(&[&str], Misuse<'static>); 4] = [
-        (&["", "--contacts"], Misuse::NoFile(b"--contacts")),
+    static ROWS: [(&[&str], Wrong, &str); 5] = [
+        (
+            &["", "--contacts"],
+            Wrong::NoValue(Setting::Contacts),
+            "--contacts",
+        ),
         (
             &["", "--prune", "--contacts"],
-            Misuse::SecondMode(b"--contacts"),
+            Wrong::SecondMode,
+            "--contacts",
         ),
         (
             &["", "--contacts", "c", "--contacts", "c"],
-            Misuse::SecondMode(b"--contacts"),
+            Wrong::SecondMode,
+            "--contacts",
+        ),
+        (
+            &["", "--contacts", "c", "--suggest=c"],
+            Wrong::SecondMode,
+            "--suggest=c",
         ),
         (
             &["", "--contacts", "c", "--explain"],
-            Misuse::SecondMode(b"--explain"),
+            Wrong::SecondMode,
+            "--explain",
         ),
     ];
-    for (arguments, want) in &ROWS {
-        let arguments = paths_of(rt.alloc(), arguments)?;
-        match task_of(arguments.as_slice()) {
-            Ok(_) => assert!(rt; false),
-            Err(misuse) => assert_eq!(rt; misuse, *want),
-        }
+    for (arguments, wrong, about) in &ROWS {
+        assert_misuse(&rt, rt.alloc(), arguments, *wrong, about)?;
     }
     Ok(())
+}
+
+/// Runs a task with the files of these names, and with contacts from another one or from standard input.
+pub(crate) fn performed_on<R: Read, W: Write>(
+    alloc: Global,
+    mode: Mode,
+    contacts: &str,
+    names: &[&str],
+    input: &mut R,
+    output: &mut W,
+) -> Result<Outcome, TaskFailure> {
+    let paths = paths_of(alloc, names)?;
+    let settings = Settings::new(alloc);
+    let task = Task {
+        mode,
+        contacts: contacts.as_bytes(),
+        settings: &settings,
+        paths: paths.as_slice(),
+    };
+    perform(&SHELF, alloc, task, input, output)
 }
 
 fn reported<R: Read, W: Write>(
@@ -73,13 +104,7 @@ fn reported<R: Read, W: Write>(
     input: &mut R,
     output: &mut W,
 ) -> Result<Outcome, TaskFailure> {
-    let paths = paths_of(alloc, names)?;
-    let task = Task {
-        mode: Mode::Contacts,
-        contacts: contacts.as_bytes(),
-        paths: paths.as_slice(),
-    };
-    perform(&SHELF, alloc, task, input, output)
+    performed_on(alloc, Mode::Contacts, contacts, names, input, output)
 }
 
 /// Contacts come from a file or from standard input. The first failure ends the run, and then nothing is written.
@@ -90,15 +115,15 @@ fn contacts_are_reported_beside_mailmaps(rt: HostRuntime) {
             "-",
             &["mailmap"],
             Ok(Outcome::Found),
-            b"<stdin>:2: error: no contact\n\
-              <stdin>:3: warning: B <M@y> (1) has the email of M <m@y> (2)\n\
-              <stdin>:6: note: m <q@x> (1) has the name of M <m@y> (2)\n",
+            b"<stdin>:2: error: no contact [no-contact]\n\
+              <stdin>:3: warning: B <M@y> (1) has the email of M <m@y> (2) [same-email]\n\
+              <stdin>:6: note: m <q@x> (1) has the name of M <m@y> (2) [same-name]\n",
         ),
         (
             "one",
             &["mailmap"],
             Ok(Outcome::Found),
-            b"mailmap:1: warning: no contact needs it\none:1: error: no contact\n",
+            b"mailmap:1: warning: no contact needs it [unneeded]\none:1: error: no contact [no-contact]\n",
         ),
         ("empty", &["empty"], Ok(Outcome::Clean), b""),
         ("mailmap", &["empty"], Ok(Outcome::Clean), b""),
@@ -106,9 +131,9 @@ fn contacts_are_reported_beside_mailmaps(rt: HostRuntime) {
             "-",
             &["one"],
             Ok(Outcome::Found),
-            b"one:1: error: no email in brackets\n\
-              <stdin>:2: error: no contact\n\
-              <stdin>:3: note: B <M@y> (1) has the name of b <A@x> (2)\n",
+            b"one:1: error: no email in brackets [no-email]\n\
+              <stdin>:2: error: no contact [no-contact]\n\
+              <stdin>:3: note: B <M@y> (1) has the name of b <A@x> (2) [same-name]\n",
         ),
         (
             "three",
@@ -154,36 +179,64 @@ fn answers_are_compared_with_the_proper_ones(rt: HostRuntime) {
         (
             b"j <a@x>\nJ <A@x>\nJ <A@x>\n",
             Outcome::Found,
-            b"<stdin>:1: warning: j <a@x> (1) has the email of J <A@x> (2)\n",
+            b"<stdin>:1: warning: j <a@x> (1) has the email of J <A@x> (2) [same-email]\n",
         ),
         (
             b"j <a@x>\nk <a@x>\nj <a@x>\nk <a@x>\n",
             Outcome::Found,
-            b"<stdin>:2: warning: k <a@x> (2) has the email of j <a@x> (2)\n",
+            b"<stdin>:2: warning: k <a@x> (2) has the email of j <a@x> (2) [same-email]\n",
         ),
         (
             b"<a@x>\n<a@x>\nJ <a@x>\n",
             Outcome::Found,
-            b"<stdin>:1: warning: <a@x> (2) has the email of J <a@x> (1)\n",
+            b"<stdin>:1: warning: <a@x> (2) has the email of J <a@x> (1) [same-email]\n",
         ),
         (b"J <>\nK <>\nJ <a@x>\n", Outcome::Clean, b""),
         (
             b"J <a@x>\nJ <b@x>\nJ <b@x>\nJ <c@x>\nj <c@x>\nj <c@x>\n",
             Outcome::Found,
-            b"<stdin>:1: note: J <a@x> (1) has the name of J <b@x> (2)\n\
-              <stdin>:4: warning: J <c@x> (1) has the email of j <c@x> (2)\n\
-              <stdin>:5: note: j <c@x> (2) has the name of J <b@x> (2)\n",
+            b"<stdin>:1: note: J <a@x> (1) has the name of J <b@x> (2) [same-name]\n\
+              <stdin>:4: warning: J <c@x> (1) has the email of j <c@x> (2) [same-email]\n\
+              <stdin>:5: note: j <c@x> (2) has the name of J <b@x> (2) [same-name]\n",
         ),
         (
             b"J <a@x>\n<b@x>\n<c@x>\nj <d@x> end\n",
             Outcome::Clean,
-            b"<stdin>:4: note: j <d@x> (1) has the name of J <a@x> (1)\n",
+            b"<stdin>:4: note: j <d@x> (1) has the name of J <a@x> (1) [same-name]\n",
         ),
     ];
     for (contacts, outcome, want) in &ROWS {
         let mut input: &[u8] = contacts;
         let mut output = Vec::new(rt.alloc());
         let end = reported(rt.alloc(), "-", &["empty"], &mut input, &mut output);
+        assert_eq!(rt; end, Ok(*outcome));
+        assert_bytes(&rt, &output, want);
+    }
+}
+
+/// A contact that git answers otherwise is reported once, where it comes first.
+#[test]
+fn other_answers_of_git_are_reported(rt: HostRuntime) {
+    static ROWS: [(&str, &[u8], Outcome, &[u8]); 3] = [
+        (
+            "cased",
+            b"n <n@x>\nn <n@x>\n",
+            Outcome::Found,
+            b"<stdin>:1: warning: git answers N <n@x> [git-answers]\n",
+        ),
+        (
+            "cased",
+            b"N <N@x>\nn <n@X>\nN <n@x>\n",
+            Outcome::Found,
+            b"<stdin>:2: warning: git answers N <n@X> [git-answers]\n\
+              <stdin>:3: warning: git answers N <n@x> [git-answers]\n",
+        ),
+        ("mailmap", b"n <A@x>\n", Outcome::Clean, b""),
+    ];
+    for (name, contacts, outcome, want) in &ROWS {
+        let mut input: &[u8] = contacts;
+        let mut output = Vec::new(rt.alloc());
+        let end = reported(rt.alloc(), "-", &[name], &mut input, &mut output);
         assert_eq!(rt; end, Ok(*outcome));
         assert_bytes(&rt, &output, want);
     }
@@ -198,7 +251,7 @@ fn contacts_come_in_parts(rt: HostRuntime) {
             &[ONE, ONE, ONE, Turn::Fails(ErrorKind::Interrupted), ALL],
             &[],
             Ok(Outcome::Found),
-            b"mailmap:1: warning: no contact needs it\n<stdin>:2: error: no contact\n",
+            b"mailmap:1: warning: no contact needs it [unneeded]\n<stdin>:2: error: no contact [no-contact]\n",
         ),
         (&[BREAKS], &[], Err(BROKEN), b""),
         (&[Turn::Moves(5), BREAKS], &[], Err(BROKEN), b""),

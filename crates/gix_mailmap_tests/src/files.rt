@@ -39,6 +39,10 @@ pub(crate) const SHELF: Shelf<'static> = Shelf {
             held: Ok(b"M <m@y> <a@x>\n"),
         },
         ShelfFile {
+            path: "cased",
+            held: Ok(b"N <N@x>\n"),
+        },
+        ShelfFile {
             path: "closed",
             held: Err(ErrorKind::PermissionDenied),
         },

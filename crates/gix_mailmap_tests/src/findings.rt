@@ -56,10 +56,15 @@ fn each_line_has_up_to_two_findings_in_order(rt: HostRuntime) -> Result<(), Allo
         b"",
         b"# r\nR <a@x> <b@x> <c\nR <a@x> <c@x> c \n",
     ];
-    let (r, q) = (contact(b"R"), contact(b"Q"));
     let want = [
         found(at(0, 1), FindingKind::IgnoredText(b"p")),
-        found(at(0, 1), FindingKind::NoEffect { beside: at(0, 3) }),
+        found(
+            at(0, 1),
+            FindingKind::NoEffect {
+                beside: at(0, 3),
+                is_same: false,
+            },
+        ),
         found(
             at(0, 4),
             FindingKind::Fault(Error::NoEmail {
@@ -68,9 +73,59 @@ fn each_line_has_up_to_two_findings_in_order(rt: HostRuntime) -> Result<(), Allo
             }),
         ),
         found(at(2, 2), FindingKind::IgnoredText(b"<c")),
-        found(at(2, 2), FindingKind::ItselfMapped { contact: r, to: q }),
+        found(at(2, 2), r_is_mapped()),
         found(at(2, 3), FindingKind::IgnoredText(b"c")),
-        found(at(2, 3), FindingKind::ItselfMapped { contact: r, to: q }),
+        found(at(2, 3), r_is_mapped()),
+    ];
+    assert_findings(&rt, rt.alloc(), &buffers, &want)
+}
+
+// The contact `R <a@x>` is mapped by the line for `Q`.
+fn r_is_mapped() -> FindingKind<'static> {
+    FindingKind::ItselfMapped {
+        contact: contact(b"R"),
+        to: contact(b"Q"),
+        first: at(0, 3),
+        second: None,
+    }
+}
+
+/// A line without effect may say the same as the other line. A contact may be mapped by two lines, one for its name and
+/// one for its email.
+#[test]
+fn findings_tell_of_other_lines(rt: HostRuntime) -> Result<(), AllocError> {
+    let buffers: [&[u8]; 2] = [b"P <a@x> <b@x>\n<c@x> <a@x>\n", b"P <a@x> <B@x>\nQ <a@x>\n"];
+    let p = contact(b"P");
+    let to = Contact {
+        name: Some(b"Q"),
+        email: b"c@x",
+    };
+    let want = [
+        found(
+            at(0, 1),
+            FindingKind::ItselfMapped {
+                contact: p,
+                to,
+                first: at(0, 2),
+                second: Some(at(1, 2)),
+            },
+        ),
+        found(
+            at(1, 1),
+            FindingKind::NoEffect {
+                beside: at(0, 1),
+                is_same: true,
+            },
+        ),
+        found(
+            at(1, 2),
+            FindingKind::ItselfMapped {
+                contact: contact(b"Q"),
+                to,
+                first: at(0, 2),
+                second: Some(at(1, 2)),
+            },
+        ),
     ];
     assert_findings(&rt, rt.alloc(), &buffers, &want)
 }
@@ -94,7 +149,13 @@ fn what_git_reads_is_the_second_of_three_findings(rt: HostRuntime) -> Result<(),
             at(0, 1),
             GitReading::Entry(Entry::change_name_by_email(b"P", b" a@x ")),
         ),
-        found(at(0, 1), FindingKind::NoEffect { beside: at(0, 2) }),
+        found(
+            at(0, 1),
+            FindingKind::NoEffect {
+                beside: at(0, 2),
+                is_same: false,
+            },
+        ),
         found(
             at(0, 3),
             FindingKind::Fault(Error::EmptyEmail {

@@ -41,6 +41,8 @@ mod report;
 mod resolve;
 #[cfg(test)]
 mod run;
+#[cfg(test)]
+mod settings;
 pub mod shelf;
 #[cfg(test)]
 mod sources;
@@ -48,6 +50,8 @@ mod sources;
 mod stream;
 #[cfg(test)]
 mod suggested;
+#[cfg(test)]
+mod suggesting;
 #[cfg(test)]
 mod task;
 #[cfg(test)]

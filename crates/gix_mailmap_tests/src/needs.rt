@@ -74,7 +74,13 @@ fn remarks_are_in_the_order_of_the_lines(rt: HostRuntime) -> Result<(), AllocErr
         unneeded.as_slice(),
     ).collect(alloc)?;
     let want = [
-        found(1, FindingKind::NoEffect { beside: at(0, 2) }),
+        found(
+            1,
+            FindingKind::NoEffect {
+                beside: at(0, 2),
+                is_same: false,
+            },
+        ),
         Remark::Unneeded(at(0, 2)),
         found(3, FindingKind::IgnoredText(b"r")),
         found(4, FindingKind::IgnoredText(b"s")),

@@ -6,6 +6,7 @@ use gix_mailmap::verify::{Mailmaps, Verification};
 use std::alloc::{AllocError, Global};
 use std::process::Abort;
 use verify_command::report::print_findings;
+use verify_command::task::Settings;
 
 /// Prints the findings in mailmaps with these names.
 fn print(
@@ -17,7 +18,14 @@ fn print(
     let paths = paths_of(alloc, names)?;
     let mailmaps = Mailmaps::read(alloc, buffers)?;
     let verification = Verification::new(alloc, &mailmaps)?;
-    print_findings(alloc, paths.as_slice(), verification.findings(), text)
+    let settings = Settings::new(alloc);
+    print_findings(
+        alloc,
+        &settings,
+        paths.as_slice(),
+        verification.findings(),
+        text,
+    )
 }
 
 /// Asserts the report on mailmaps with these names. The last mailmap has `line` as its line 30.
@@ -47,16 +55,22 @@ fn assert_reported(
 #[test]
 fn each_fault_has_its_line(rt: HostRuntime) -> Result<(), AllocError> {
     let rows: [(&[u8], &[u8]); 5] = [
-        (b"plain", b"b:30: error: no email in brackets\n"),
-        (b"Jane <jane@x", b"b:30: error: the first '<' has no '>'\n"),
+        (b"plain", b"b:30: error: no email in brackets [no-email]\n"),
+        (
+            b"Jane <jane@x",
+            b"b:30: error: the first '<' has no '>' [unclosed-email]\n",
+        ),
         (
             b"Jane <> <jd@x>",
-            b"b:30: error: the first email is empty\n",
+            b"b:30: error: the first email is empty [empty-email]\n",
         ),
-        (b"<jane@x>", b"b:30: error: an email alone maps nothing\n"),
+        (
+            b"<jane@x>",
+            b"b:30: error: an email alone maps nothing [nothing-to-map]\n",
+        ),
         (
             b"Jane <jane@x> <jd@x",
-            b"b:30: error: the second '<' has no '>'\n",
+            b"b:30: error: the second '<' has no '>' [unclosed-second-email]\n",
         ),
     ];
     for (line, want) in rows {
@@ -70,7 +84,8 @@ fn each_fault_has_its_line(rt: HostRuntime) -> Result<(), AllocError> {
 fn control_bytes_are_shown(rt: HostRuntime) -> Result<(), AllocError> {
     let line = b"Jane <jane@x> \x00\x09\x1b[31m\x1f \\x1b\x7e\x7f\x80\x9f\xa0\xff";
     let want =
-        b"a\\x0ab:30: warning: ignored text: \\x00\\x09\\x1b[31m\\x1f \\x1b\x7e\\x7f\\x80\\x9f\xa0\xff\n";
+        b"a\\x0ab:30: warning: ignored text: \\x00\\x09\\x1b[31m\\x1f \\x1b\x7e\\x7f\\x80\\x9f\xa0\xff \
+          (an old name needs an email after it) [ignored-text]\n";
     assert_reported(&rt, rt.alloc(), &["", "a\nb"], b"", line, want)
 }
 
@@ -121,7 +136,7 @@ fn characters_are_shown(rt: HostRuntime) -> Result<(), AllocError> {
         line.extend_from_slice(text)?;
         let mut want = Vec::from_slice(rt.alloc(), b"b:30: warning: ignored text: ")?;
         want.extend_from_slice(shown)?;
-        want.push(b'\n')?;
+        want.extend_from_slice(b" (an old name needs an email after it) [ignored-text]\n")?;
         assert_reported(&rt, rt.alloc(), &["a", "b"], b"", &line, &want)?;
     }
     Ok(())
@@ -156,7 +171,7 @@ fn long_texts_are_cut(rt: HostRuntime) -> Result<(), AllocError> {
         }
         line.extend_from_slice(end)?;
         want.extend_from_slice(shown_end)?;
-        want.push(b'\n')?;
+        want.extend_from_slice(b" (an old name needs an email after it) [ignored-text]\n")?;
         assert_reported(&rt, rt.alloc(), &["a", "b"], b"", &line, &want)?;
     }
     Ok(())
@@ -165,41 +180,51 @@ fn long_texts_are_cut(rt: HostRuntime) -> Result<(), AllocError> {
 /// Texts without control bytes are shown byte for byte. A missing name is left out, with the space after it.
 #[test]
 fn each_warning_has_its_line(rt: HostRuntime) -> Result<(), AllocError> {
-    let rows: [(&[u8], &[u8], &[u8]); 7] = [
+    let rows: [(&[u8], &[u8], &[u8]); 9] = [
         (
             b"",
             b"Jane <jane@x> # \xfe",
-            b"b c:30: warning: ignored text: # \xfe\n",
+            b"b c:30: warning: ignored text: # \xfe [ignored-text]\n",
         ),
         (
             b"",
             b"Jane < jane@x >\t",
-            b"b c:30: warning: git reads it as Jane < jane@x >\n",
+            b"b c:30: warning: git reads it as Jane < jane@x > [git-reads]\n",
         ),
         (
             b"",
             b"Jane <jane@x> \xc2\xa0J  <\x0bjd@x>",
-            b"b c:30: warning: git reads it as Jane <jane@x> \xc2\xa0J <\\x0bjd@x>\n",
+            b"b c:30: warning: git reads it as Jane <jane@x> \xc2\xa0J <\\x0bjd@x> [git-reads]\n",
         ),
         (
             b"",
             b"Jane\0 <jane@x>",
-            b"b c:30: warning: git reads nothing here\n",
+            b"b c:30: warning: git reads nothing here [git-reads]\n",
         ),
         (
             b"\n\n\n\n\n\nJane <JANE@x>",
             b"Jane <jane@x>",
-            b"b c:30: warning: no effect beside a:7\n",
+            b"b c:30: warning: no effect: a:7 says the same [no-effect]\n",
+        ),
+        (
+            b"Joe <joe@x> <j@x>",
+            b"<joe@x> <j@x>",
+            b"b c:30: warning: no effect: a:1 says something else [no-effect]\n",
         ),
         (
             b"<\xff@x> <e@x>",
             b"Eve <e@x> <eve@x>",
-            b"b c:30: warning: Eve <e@x> is itself mapped, to Eve <\xff@x>\n",
+            b"b c:30: warning: Eve <e@x> is itself mapped, to Eve <\xff@x> by a:1 [itself-mapped]\n",
         ),
         (
             b"<f@x> <e@x>",
             b"<e@x> <eve@x>",
-            b"b c:30: warning: <e@x> is itself mapped, to <f@x>\n",
+            b"b c:30: warning: <e@x> is itself mapped, to <f@x> by a:1 [itself-mapped]\n",
+        ),
+        (
+            b"Z <z@x> z <E@x>\nEve <E@x>",
+            b"Ann <e@x> <a@x>",
+            b"b c:30: warning: Ann <e@x> is itself mapped, to Eve <E@x> by a:1, a:2 [itself-mapped]\n",
         ),
     ];
     for (first, line, want) in rows {
@@ -211,7 +236,8 @@ fn each_warning_has_its_line(rt: HostRuntime) -> Result<(), AllocError> {
 /// Without a path, the one mailmap is standard input.
 #[test]
 fn without_a_path_standard_input_is_shown(rt: HostRuntime) -> Result<(), AllocError> {
-    let want = b"<stdin>:30: warning: ignored text: x\n";
+    let want =
+        b"<stdin>:30: warning: ignored text: x (an old name needs an email after it) [ignored-text]\n";
     assert_reported(&rt, rt.alloc(), &[], b"", b"Jane <jane@x> x", want)
 }
 

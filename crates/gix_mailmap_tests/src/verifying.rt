@@ -1,5 +1,6 @@
 use crate::check::assert_bytes;
-use crate::files::{SHELF, assert_paths, paths_of};
+use crate::contacts::performed_on;
+use crate::files::{assert_paths, paths_of};
 use crate::run::{
     self, ALL, Asker, BLOCKS, BREAKS, FlushCounter, INTERRUPTED, ONE, Repeating, Sink, Source,
     Turn, assert_count, assert_flushed, repeated,
@@ -12,87 +13,269 @@ use std::cell::Cell;
 use std::io::{ErrorKind, Read, Write};
 use std::process::Abort;
 use verify_command::failure::TaskFailure;
-use verify_command::task::{Misuse, Mode, Task, USAGE, perform, task_of};
+use verify_command::kinds::{Kind, Level};
+use verify_command::task::{Format, Misuse, Mode, ParseError, Setting, USAGE, request_of};
 
-/// The first argument is the program's own name, whatever it is. Options are parsed from left to right, up to `--` or
-/// the first path.
+/// The first argument is the program's own name, whatever it is. Options may come after paths, up to `--`.
 #[test]
-fn arguments_ask_for_a_task_or_are_a_misuse(rt: HostRuntime) -> Result<(), AllocError> {
-    static ROWS: [(&[&str], Result<(Mode, &[&str]), Misuse<'static>>); 34] = [
-        (&[], Ok((Mode::Verify, &[]))),
-        (&["mailmap_verify"], Ok((Mode::Verify, &[]))),
-        (&["--prune", "one"], Ok((Mode::Verify, &["one"]))),
-        (&["", "one", "two"], Ok((Mode::Verify, &["one", "two"]))),
+fn arguments_ask_for_a_task(rt: HostRuntime) -> Result<(), AllocError> {
+    static ROWS: [(&[&str], Mode, &[&str]); 28] = [
+        (&[], Mode::Verify, &[]),
+        (&["mailmap_verify"], Mode::Verify, &[]),
+        (&["--prune", "one"], Mode::Verify, &["one"]),
+        (&["", "one", "two"], Mode::Verify, &["one", "two"]),
+        (&["", "one", "--prune"], Mode::Prune, &["one"]),
+        (&["", "one", "--help"], Mode::Help, &[]),
+        (&["", "one", "--"], Mode::Verify, &["one"]),
+        (&["", "--", "one"], Mode::Verify, &["one"]),
+        (&["", "--", "--prune"], Mode::Verify, &["--prune"]),
+        (&["", "--", "--", "-x"], Mode::Verify, &["--", "-x"]),
         (
-            &["", "one", "--prune"],
-            Ok((Mode::Verify, &["one", "--prune"])),
+            &["", "one", "--explain", "--", "-S"],
+            Mode::Explain,
+            &["one", "-S"],
         ),
-        (
-            &["", "one", "--help"],
-            Ok((Mode::Verify, &["one", "--help"])),
-        ),
-        (&["", "one", "--"], Ok((Mode::Verify, &["one", "--"]))),
-        (&["", "--", "one"], Ok((Mode::Verify, &["one"]))),
-        (&["", "--", "--prune"], Ok((Mode::Verify, &["--prune"]))),
-        (&["", "--", "--", "-x"], Ok((Mode::Verify, &["--", "-x"]))),
-        (&["", "-"], Ok((Mode::Verify, &[]))),
-        (&["", "--", "-"], Ok((Mode::Verify, &[]))),
-        (&["", "-", "one"], Ok((Mode::Verify, &["-", "one"]))),
-        (&["", "one", "-"], Ok((Mode::Verify, &["one", "-"]))),
-        (&["", ""], Ok((Mode::Verify, &[""]))),
-        (&["", "--prune"], Ok((Mode::Prune, &[]))),
-        (&["", "--prune", "-"], Ok((Mode::Prune, &[]))),
-        (&["", "--prune", "--", "-x"], Ok((Mode::Prune, &["-x"]))),
-        (
-            &["", "--prune", "one", "-h"],
-            Ok((Mode::Prune, &["one", "-h"])),
-        ),
-        (&["", "--prune", "--help", "one"], Ok((Mode::Help, &[]))),
-        (&["", "-h", "--version"], Ok((Mode::Help, &[]))),
-        (&["", "--version", "-h", "one"], Ok((Mode::Version, &[]))),
-        (&["", "--prune", "--version"], Ok((Mode::Version, &[]))),
-        (
-            &["", "--foo", "--help"],
-            Err(Misuse::UnknownOption(b"--foo")),
-        ),
-        (&["", "--prune", "-x"], Err(Misuse::UnknownOption(b"-x"))),
-        (&["", "---"], Err(Misuse::UnknownOption(b"---"))),
-        (
-            &["", "--prune", "--prune"],
-            Err(Misuse::SecondMode(b"--prune")),
-        ),
+        (&["", "-"], Mode::Verify, &[]),
+        (&["", "--", "-"], Mode::Verify, &[]),
+        (&["", "-", "one"], Mode::Verify, &["-", "one"]),
+        (&["", "one", "-"], Mode::Verify, &["one", "-"]),
+        (&["", ""], Mode::Verify, &[""]),
+        (&["", "--prune"], Mode::Prune, &[]),
+        (&["", "-", "--prune"], Mode::Prune, &[]),
+        (&["", "--prune", "--", "-x"], Mode::Prune, &["-x"]),
+        (&["", "--prune", "one", "-h"], Mode::Help, &[]),
+        (&["", "-h", "--version"], Mode::Help, &[]),
+        (&["", "--version", "-h", "one"], Mode::Version, &[]),
+        (&["", "--prune", "--version"], Mode::Version, &[]),
+        (&["", "-h", "-x"], Mode::Help, &[]),
         (
             &["", "--explain", "one", "two"],
-            Ok((Mode::Explain, &["one", "two"])),
+            Mode::Explain,
+            &["one", "two"],
         ),
-        (&["", "--explain"], Ok((Mode::Explain, &[]))),
-        (&["", "--explain", "-"], Ok((Mode::Explain, &["-"]))),
+        (&["", "--explain", "-"], Mode::Explain, &["-"]),
         (
-            &["", "--explain", "--", "--prune"],
-            Ok((Mode::Explain, &["--prune"])),
+            &["", "--stdin-name", "--prune", "one"],
+            Mode::Verify,
+            &["one"],
         ),
-        (&["", "--explain", "-h"], Ok((Mode::Help, &[]))),
-        (
-            &["", "one", "--explain"],
-            Ok((Mode::Verify, &["one", "--explain"])),
-        ),
-        (
-            &["", "--prune", "--explain"],
-            Err(Misuse::SecondMode(b"--explain")),
-        ),
+        (&["", "-e", "no-effect", "-"], Mode::Verify, &[]),
     ];
-    for (arguments, want) in &ROWS {
+    for (arguments, mode, paths) in &ROWS {
         let arguments = paths_of(rt.alloc(), arguments)?;
-        match (task_of(arguments.as_slice()), *want) {
-            (Ok(task), Ok((mode, paths))) => {
-                assert_eq!(rt; task.mode, mode);
-                assert!(rt; task.contacts.is_empty());
-                let paths = paths_of(rt.alloc(), paths)?;
-                assert_paths(&rt, task.paths, paths.as_slice(), 0);
+        let paths = paths_of(rt.alloc(), paths)?;
+        match request_of(rt.alloc(), arguments) {
+            Ok(request) => {
+                assert_eq!(rt; request.mode, *mode);
+                assert!(rt; request.contacts.is_empty());
+                assert_paths(&rt, request.paths.as_slice(), paths.as_slice(), 0);
             }
-            (Err(misuse), Err(wanted)) => assert_eq!(rt; misuse, wanted),
-            _ => assert!(rt; false),
+            Err(_) => assert!(rt; false),
         }
+    }
+    Ok(())
+}
+
+/// The values of options, which are the next argument, whatever it looks like, or come after a `=`.
+#[test]
+fn options_choose_what_is_reported(rt: HostRuntime) -> Result<(), AllocError> {
+    static ROWS: [(
+        &[&str],
+        Option<Level>,
+        &[Kind],
+        Option<Format>,
+        Option<&str>,
+    ); 12] = [
+        (&[""], None, &[], None, None),
+        (&["", "-S", "error"], Some(Level::Error), &[], None, None),
+        (
+            &["", "one", "--severity", "note"],
+            Some(Level::Note),
+            &[],
+            None,
+            None,
+        ),
+        (
+            &["", "--severity=warning", "-S", "error", "--", "-S", "note"],
+            Some(Level::Error),
+            &[],
+            None,
+            None,
+        ),
+        (
+            &["", "-e", "no-effect,git-reads"],
+            None,
+            &[Kind::NoEffect, Kind::GitReads],
+            None,
+            None,
+        ),
+        (
+            &["", "--exclude", "same-name", "--exclude=no-contact"],
+            None,
+            &[Kind::SameName, Kind::NoContact],
+            None,
+            None,
+        ),
+        (&["", "-f", "json"], None, &[], Some(Format::Json), None),
+        (&["", "--format=gcc"], None, &[], Some(Format::Gcc), None),
+        (
+            &["", "--format", "json", "-f", "gcc"],
+            None,
+            &[],
+            Some(Format::Gcc),
+            None,
+        ),
+        (&["", "--stdin-name", "-S"], None, &[], None, Some("-S")),
+        (&["", "--stdin-name=a=b"], None, &[], None, Some("a=b")),
+        (&["", "--stdin-name="], None, &[], None, Some("")),
+    ];
+    for (arguments, severity, excluded, format, name) in &ROWS {
+        let arguments = paths_of(rt.alloc(), arguments)?;
+        match request_of(rt.alloc(), arguments) {
+            Ok(request) => {
+                let settings = &request.settings;
+                assert_eq!(rt; settings.severity, *severity);
+                assert!(rt; settings.excluded.as_slice() == *excluded);
+                assert_eq!(rt; settings.format, *format);
+                match (&settings.stdin_name, name) {
+                    (Some(given), Some(want)) => assert_bytes(&rt, given, want.as_bytes()),
+                    (None, None) => {}
+                    _ => assert!(rt; false),
+                }
+            }
+            Err(_) => assert!(rt; false),
+        }
+    }
+    Ok(())
+}
+
+/// What is wrong with arguments, and the argument or value that it is about.
+#[derive(Clone, Copy)]
+pub(crate) enum Wrong {
+    Unknown,
+    SecondMode,
+    NoValue(Setting),
+    UnknownValue(Setting),
+    Unused(Mode, Setting),
+}
+
+/// Asserts that arguments are a misuse.
+pub(crate) fn assert_misuse(
+    rt: &impl Abort,
+    alloc: Global,
+    arguments: &[&str],
+    wrong: Wrong,
+    about: &str,
+) -> Result<(), AllocError> {
+    let arguments = paths_of(alloc, arguments)?;
+    let Err(ParseError::Misuse(misuse)) = request_of(alloc, arguments) else {
+        assert!(rt; false);
+        return Ok(());
+    };
+    let about = about.as_bytes();
+    let same = match (misuse, wrong) {
+        (Misuse::UnknownOption(option), Wrong::Unknown) => option.as_slice() == about,
+        (Misuse::SecondMode(option), Wrong::SecondMode) => option.as_slice() == about,
+        (Misuse::NoValue(setting, option), Wrong::NoValue(want)) => {
+            setting == want && option.as_slice() == about
+        }
+        (Misuse::UnknownValue(setting, value), Wrong::UnknownValue(want)) => {
+            setting == want && value.as_slice() == about
+        }
+        (Misuse::Unused(mode, setting), Wrong::Unused(wanted, want)) => {
+            mode == wanted && setting == want
+        }
+        _ => false,
+    };
+    assert!(rt; same);
+    Ok(())
+}
+
+/// The first error counts.
+#[test]
+fn wrong_arguments_are_a_misuse(rt: HostRuntime) -> Result<(), AllocError> {
+    static ROWS: [(&[&str], Wrong, &str); 26] = [
+        (&["", "--foo", "--help"], Wrong::Unknown, "--foo"),
+        (&["", "--prune", "-x"], Wrong::Unknown, "-x"),
+        (&["", "one", "-x"], Wrong::Unknown, "-x"),
+        (&["", "---"], Wrong::Unknown, "---"),
+        (&["", "-Serror"], Wrong::Unknown, "-Serror"),
+        (&["", "-S=error"], Wrong::Unknown, "-S=error"),
+        (&["", "--prune=one"], Wrong::Unknown, "--prune=one"),
+        (&["", "--foo=one"], Wrong::Unknown, "--foo=one"),
+        (&["", "--prune", "--prune"], Wrong::SecondMode, "--prune"),
+        (
+            &["", "--prune", "one", "--explain"],
+            Wrong::SecondMode,
+            "--explain",
+        ),
+        (&["", "-S"], Wrong::NoValue(Setting::Severity), "-S"),
+        (
+            &["", "--exclude"],
+            Wrong::NoValue(Setting::Exclude),
+            "--exclude",
+        ),
+        (&["", "-f"], Wrong::NoValue(Setting::Format), "-f"),
+        (
+            &["", "one", "--stdin-name"],
+            Wrong::NoValue(Setting::StdinName),
+            "--stdin-name",
+        ),
+        (
+            &["", "-S", "fatal"],
+            Wrong::UnknownValue(Setting::Severity),
+            "fatal",
+        ),
+        (
+            &["", "--severity="],
+            Wrong::UnknownValue(Setting::Severity),
+            "",
+        ),
+        (
+            &["", "-e", "no-effect,foo,bar"],
+            Wrong::UnknownValue(Setting::Exclude),
+            "foo",
+        ),
+        (&["", "-e", ""], Wrong::UnknownValue(Setting::Exclude), ""),
+        (
+            &["", "-e", "no-effect,"],
+            Wrong::UnknownValue(Setting::Exclude),
+            "",
+        ),
+        (
+            &["", "--format=xml"],
+            Wrong::UnknownValue(Setting::Format),
+            "xml",
+        ),
+        (
+            &["", "--prune", "-S", "error", "-x"],
+            Wrong::Unused(Mode::Prune, Setting::Severity),
+            "",
+        ),
+        (
+            &["", "-e", "no-effect", "--prune"],
+            Wrong::Unused(Mode::Prune, Setting::Exclude),
+            "",
+        ),
+        (
+            &["", "--explain", "-f", "gcc"],
+            Wrong::Unused(Mode::Explain, Setting::Format),
+            "",
+        ),
+        (
+            &["", "--stdin-name", "x", "--explain"],
+            Wrong::Unused(Mode::Explain, Setting::StdinName),
+            "",
+        ),
+        (
+            &["", "--suggest", "c", "-S", "note"],
+            Wrong::Unused(Mode::Suggest, Setting::Severity),
+            "",
+        ),
+        (&["", "-x", "--prune", "-S", "error"], Wrong::Unknown, "-x"),
+    ];
+    for (arguments, wrong, about) in &ROWS {
+        assert_misuse(&rt, rt.alloc(), arguments, *wrong, about)?;
     }
     Ok(())
 }
@@ -105,13 +288,7 @@ pub(crate) fn performed<R: Read, W: Write>(
     input: &mut R,
     output: &mut W,
 ) -> Result<Outcome, TaskFailure> {
-    let paths = paths_of(alloc, names)?;
-    let task = Task {
-        mode,
-        contacts: b"-",
-        paths: paths.as_slice(),
-    };
-    perform(&SHELF, alloc, task, input, output)
+    performed_on(alloc, mode, "-", names, input, output)
 }
 
 /// A mailmap is not pruned if git reads one of its lines in another way. Nothing is written, and the first such line is
@@ -144,20 +321,20 @@ fn a_task_is_done_with_its_files_or_with_the_input(rt: HostRuntime) {
             Mode::Verify,
             &[],
             Ok(Outcome::Found),
-            b"<stdin>:1: warning: no effect beside <stdin>:2\n",
+            b"<stdin>:1: warning: no effect: <stdin>:2 says the same [no-effect]\n",
         ),
         (Mode::Verify, &["mailmap"], Ok(Outcome::Clean), b""),
         (
             Mode::Verify,
             &["mailmap", "one", "empty", "two"],
             Ok(Outcome::Found),
-            b"one:1: error: no email in brackets\ntwo:1: error: no email in brackets\n",
+            b"one:1: error: no email in brackets [no-email]\ntwo:1: error: no email in brackets [no-email]\n",
         ),
         (
             Mode::Verify,
             &["mailmap", "mailmap"],
             Ok(Outcome::Found),
-            b"mailmap:1: warning: no effect beside mailmap:1\n",
+            b"mailmap:1: warning: no effect: mailmap:1 says the same [no-effect]\n",
         ),
         (
             Mode::Verify,
@@ -292,7 +469,7 @@ fn a_writer_that_fails_is_output_and_holds_a_front(rt: HostRuntime) {
 /// An input may come byte by byte, with an interrupted read before each byte.
 #[test]
 fn single_bytes_between_interrupted_reads_are_an_input(rt: HostRuntime) -> Result<(), AllocError> {
-    static ROWS: [(Mode, &[&str], &[u8], &[u8]); 4] = [
+    static ROWS: [(Mode, &[&str], &[u8], &[u8]); 5] = [
         (Mode::Verify, &[], b"# comment\n\n", b""),
         (Mode::Prune, &[], b"# comment\n\n", b"# comment\n\n"),
         (
@@ -302,6 +479,7 @@ fn single_bytes_between_interrupted_reads_are_an_input(rt: HostRuntime) -> Resul
             b"b <A@x> is M <m@y> by mailmap:1\np is no contact\n",
         ),
         (Mode::Contacts, &["mailmap"], b"b <A@x>\n \n", b""),
+        (Mode::Suggest, &["mailmap"], b"b <A@x>\n \n", b""),
     ];
     for (mode, names, text, printed) in &ROWS {
         let text = repeated(rt.alloc(), b"", text, 10_000)?;
@@ -318,11 +496,12 @@ fn single_bytes_between_interrupted_reads_are_an_input(rt: HostRuntime) -> Resul
 /// A read that would block is not repeated. Only explanations of whole lines may have been written before it.
 #[test]
 fn a_read_that_would_block_is_a_failure(rt: HostRuntime) {
-    static ROWS: [(Mode, &[&str], &[u8]); 4] = [
+    static ROWS: [(Mode, &[&str], &[u8]); 5] = [
         (Mode::Verify, &[], b""),
         (Mode::Prune, &[], b""),
         (Mode::Explain, &["mailmap"], b"p is no contact\n"),
         (Mode::Contacts, &["mailmap"], b""),
+        (Mode::Suggest, &["mailmap"], b""),
     ];
     for (mode, names, want) in &ROWS {
         let mut input = Repeating::new(b"p\nq\n", &[Turn::Moves(3), INTERRUPTED, BLOCKS]);
@@ -370,7 +549,7 @@ fn all_is_flushed_at_the_end(rt: HostRuntime) {
             Mode::Verify,
             &[],
             Outcome::Found,
-            b"<stdin>:1: error: no email in brackets\n",
+            b"<stdin>:1: error: no email in brackets [no-email]\n",
         ),
         (Mode::Prune, &[], Outcome::Clean, b"plain\n"),
         (
@@ -383,7 +562,7 @@ fn all_is_flushed_at_the_end(rt: HostRuntime) {
             Mode::Contacts,
             &["mailmap"],
             Outcome::Found,
-            b"mailmap:1: warning: no contact needs it\n<stdin>:1: error: no contact\n",
+            b"mailmap:1: warning: no contact needs it [unneeded]\n<stdin>:1: error: no contact [no-contact]\n",
         ),
     ];
     for (mode, names, outcome, want) in &ROWS {

@@ -40,7 +40,7 @@ same_is a b same =
     let emails = same_text a.email b.email (sym parts.1) in
     λ i. record { name = names i; email = emails i }
 
-after : (a b : Contact) → contact_cmp a b ≡ Less → same_contact a b ≡ false
+pub after : (a b : Contact) → contact_cmp a b ≡ Less → same_contact a b ≡ false
 after a b less = sym (same_by_cmp a b) ∙ ap is_eq less
 
 before : (a b : Contact) → contact_cmp a b ≡ Less → same_contact b a ≡ false

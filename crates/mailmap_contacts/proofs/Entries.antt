@@ -11,10 +11,10 @@ use Rattle.std.proofs.lemmas.Map.{lookup-none}
 use Rattle.std.proofs.lemmas.Map.Entries.{none_below_head}
 use Rattle.std.specs.Borrow.{Bor}
 use Rattle.mailmap_entries.specs.Folding.{Text}
-use Rattle.mailmap_contacts.specs.Answers.{answer_key, answer_key_tally, shown_tally}
+use Rattle.mailmap_contacts.specs.Answers.{answer_key, answer_key_tally, tally_of}
 use Rattle.mailmap_contacts.specs.Contacts.{Contact, Tally, both_seen, contact_cmp, seen_where, sum_of}
 use Rattle.mailmap_contacts.specs.Counts.{HasMore, SameTallies, with_more}
-use Rattle.mailmap_contacts.specs.declared.answers.Answer.{Answer}
+use Rattle.mailmap_contacts.specs.declared.answers.Tally.{Tally as TheTally}
 use Rattle.mailmap_contacts.specs.declared.occurrences.Occurrences.{Occurrences}
 use Rattle.mailmap_contacts.proofs.Keys.{answer_cmp}
 use Rattle.mailmap_contacts.proofs.Sums.{both_assoc, both_comm, both_swap, passing, seen-push}
@@ -71,18 +71,18 @@ module _ {K : Type 0} (cmp : K → K → Ordering) (total : IsTotalOrder cmp) (s
 -- ---- answers in a map
 
 -- an answer as an entry of a map
-abbrev pub entry_of : Answer → (Bor Text × Bor Text) × Occurrences
+abbrev pub entry_of : TheTally → (Bor Text × Bor Text) × Occurrences
 entry_of a = ((a.name, a.email), a.seen)
 
-pub shown_entries : (answers : List Answer) (es : List ((Bor Text × Bor Text) × Occurrences)) → map entry_of answers ≡ es → map shown_tally answers ≡ map answer_key_tally es
+pub shown_entries : (answers : List TheTally) (es : List ((Bor Text × Bor Text) × Occurrences)) → map entry_of answers ≡ es → map tally_of answers ≡ map answer_key_tally es
 shown_entries answers es is = each answers ∙ ap (map answer_key_tally) is
   where
-    each : (xs : List Answer) → map shown_tally xs ≡ map answer_key_tally (map entry_of xs)
+    each : (xs : List TheTally) → map tally_of xs ≡ map answer_key_tally (map entry_of xs)
     each [] = refl
-    each (x ∷ xs) = ap (λ l. shown_tally x ∷ l) (each xs)
+    each (x ∷ xs) = ap (λ l. tally_of x ∷ l) (each xs)
 
 -- one step of moving a map's entries into answers
-pub moved_more : (old new : List Answer) (a : Answer) (left rest all : List ((Bor Text × Bor Text) × Occurrences)) → new ≡ old ++ a ∷ []
+pub moved_more : (old new : List TheTally) (a : TheTally) (left rest all : List ((Bor Text × Bor Text) × Occurrences)) → new ≡ old ++ a ∷ []
     → left ≡ entry_of a ∷ rest → map entry_of old ++ left ≡ all → map entry_of new ++ rest ≡ all
 moved_more old new a left rest all new_is left_is before =
     ap (λ l. map entry_of l ++ rest) new_is ∙ ap (λ l. l ++ rest) (map-append entry_of old (a ∷ []))

@@ -7,3 +7,4 @@ pub mod Needing
 pub mod Propers
 pub mod Steps
 pub mod Sums
+pub mod Tallied

@@ -9,12 +9,12 @@ use Rattle.std.proofs.lemmas.Bool.{cases_Bool}
 use Rattle.std.proofs.lemmas.Cmp.{nat_list_cmp_total, on_total}
 use Rattle.std.proofs.lemmas.Map.Text.{is_eq-slice_cmp}
 use Rattle.mailmap_entries.specs.Folding.{Text, folded}
-use Rattle.mailmap_contacts.specs.Answers.{ArePropers, field_of, finding_by, folded_cmp, shown_reference}
+use Rattle.mailmap_contacts.specs.Answers.{ArePropers, field_of, finding_by, folded_cmp, tally_at}
 use Rattle.mailmap_contacts.specs.Comparisons.{ContactFinding, and_other, other_proper, shares}
 use Rattle.mailmap_contacts.specs.Contacts.{Tally}
 use Rattle.mailmap_contacts.specs.Folded.{folded_text}
 use Rattle.mailmap_contacts.specs.Proper.{better, preferred, preferred_of, proper}
-use Rattle.mailmap_contacts.specs.declared.answers.Answer.{Answer}
+use Rattle.mailmap_contacts.specs.declared.answers.Tally.{Tally as TheTally}
 use Rattle.mailmap_contacts.specs.declared.folded.Folded.{Folded}
 use Rattle.mailmap_contacts.specs.declared.proper.Shared.{Shared}
 use Rattle.mailmap_contacts.proofs.Steps.{filtered_more, made_more}
@@ -33,9 +33,9 @@ proper_if : (b : Bool) (ts : List Tally) (t : Tally) → proper (ts ++ cond b (t
 proper_if true ts t = proper-push ts t
 proper_if false ts t = ap proper (append-nil ts)
 
-pub propers_more : (shared : Shared) (ts all : List Tally) (m n : BTreeMap Folded (Bor Answer)) (t : Tally) → ArePropers shared ts m
-    → ((key : Folded) → option_map shown_reference (get folded_cmp n key)
-    ≡ (if shares (field_of shared) key.text.now t then Some (better (option_map shown_reference (get folded_cmp m key)) t) else option_map shown_reference (get folded_cmp m key)))
+pub propers_more : (shared : Shared) (ts all : List Tally) (m n : BTreeMap Folded (Bor TheTally)) (t : Tally) → ArePropers shared ts m
+    → ((key : Folded) → option_map tally_at (get folded_cmp n key)
+    ≡ (if shares (field_of shared) key.text.now t then Some (better (option_map tally_at (get folded_cmp m key)) t) else option_map tally_at (get folded_cmp m key)))
     → all ≡ ts ++ t ∷ [] → ArePropers shared all n
 propers_more shared ts all m n t are added is = λ key.
     let p = shares (field_of shared) key.text.now in
@@ -47,9 +47,9 @@ propers_more shared ts all m n t are added is = λ key.
 folded_total : IsTotalOrder folded_cmp
 folded_total = on_total folded_text nat_list_cmp_total
 
-module _ (field : Tally → Text) (t : Tally) (k : Folded) (is : k.text.now ≡ field t) (m : BTreeMap Folded (Bor Answer)) where
+module _ (field : Tally → Text) (t : Tally) (k : Folded) (is : k.text.now ≡ field t) (m : BTreeMap Folded (Bor TheTally)) where
   abbrev at : Folded → Option Tally
-  at q = option_map shown_reference (get folded_cmp m q)
+  at q = option_map tally_at (get folded_cmp m q)
 
   at_is : (q : Folded) → is_at (folded_cmp k) q ≡ shares field q.text.now t
   at_is q = is_eq-slice_cmp (folded_text k) (folded_text q) ∙ ap (λ s. bytes_eq (folded s) (folded_text q)) is
@@ -57,7 +57,7 @@ module _ (field : Tally → Text) (t : Tally) (k : Folded) (is : k.text.now ≡ 
   same_place : (q : Folded) → is_at (folded_cmp k) q ≡ true → at k ≡ at q
   same_place q there =
       let equal : folded_cmp k q ≡ Equal = (Equal-is (folded_cmp k q)).0 there in
-      λ i. option_map shown_reference (lookup (λ (z : Folded). is_eq (folded_total.congr k q z equal i)) m.entries)
+      λ i. option_map tally_at (lookup (λ (z : Folded). is_eq (folded_total.congr k q z equal i)) m.entries)
 
   -- the proper one so far stays
   pub stays : Some (better (at k) t) ≡ at k → (q : Folded) → at q ≡ (if shares field q.text.now t then Some (better (at q) t) else at q)
@@ -69,15 +69,15 @@ module _ (field : Tally → Text) (t : Tally) (k : Folded) (is : k.text.now ≡ 
       (cases_Bool (is_at (folded_cmp k) q))
 
   -- another one takes its place
-  pub moves : (a : Bor Answer) (n : BTreeMap Folded (Bor Answer)) → shown_reference a ≡ t
+  pub moves : (a : Bor TheTally) (n : BTreeMap Folded (Bor TheTally)) → tally_at a ≡ t
       → ((q : Folded) → get folded_cmp n q ≡ cond (is_at (folded_cmp k) q) (Some a) (get folded_cmp m q)) → better (at k) t ≡ t
-      → (q : Folded) → option_map shown_reference (get folded_cmp n q) ≡ (if shares field q.text.now t then Some (better (at q) t) else at q)
-  moves a n shown put best q = ap (option_map shown_reference) (put q) ∙ ⊎_elim
+      → (q : Folded) → option_map tally_at (get folded_cmp n q) ≡ (if shares field q.text.now t then Some (better (at q) t) else at q)
+  moves a n shown put best q = ap (option_map tally_at) (put q) ∙ ⊎_elim
       (λ yes.
-      ap (λ b. option_map shown_reference (cond b (Some a) (get folded_cmp m q))) yes ∙ ap Some (shown ∙ sym best ∙ ap (λ o. better o t) (same_place q yes))
+      ap (λ b. option_map tally_at (cond b (Some a) (get folded_cmp m q))) yes ∙ ap Some (shown ∙ sym best ∙ ap (λ o. better o t) (same_place q yes))
       ∙ sym (ap (λ b. cond b (Some (better (at q) t)) (at q)) (sym (at_is q) ∙ yes)))
       (λ no.
-      ap (λ b. option_map shown_reference (cond b (Some a) (get folded_cmp m q))) no
+      ap (λ b. option_map tally_at (cond b (Some a) (get folded_cmp m q))) no
       ∙ sym (ap (λ b. cond b (Some (better (at q) t)) (at q)) (sym (at_is q) ∙ no)))
       (cases_Bool (is_at (folded_cmp k) q))
 
@@ -87,20 +87,20 @@ pub other_is : (field : Tally → Text) (answers : List Tally) (a : Tally) (text
     → and_other a o ≡ other_proper field answers a
 other_is field answers a text o is proper_is = ap (and_other a) (proper_is ∙ ap (λ t. proper (filter (shares field t) answers)) is)
 
-none_shown : (o : Option (Bor Answer)) → is_none o ≡ is_none (option_map shown_reference o)
+none_shown : (o : Option (Bor TheTally)) → is_none o ≡ is_none (option_map tally_at o)
 none_shown None = refl
 none_shown (Some a) = refl
 
-pub none_by_some : (o : Option (Bor Answer)) (b : Bool) → is_some o ≡ not b → b ≡ is_none o
+pub none_by_some : (o : Option (Bor TheTally)) (b : Bool) → is_some o ≡ not b → b ≡ is_none o
 none_by_some None true e = refl
 none_by_some None false e = cc
 none_by_some (Some a) true e = cc
 none_by_some (Some a) false e = refl
 
 -- one more comparison
-pub compared_more : (shared : Shared) (all ts more : List Tally) (a : Tally) (o : Option (Bor Answer)) (none : Bool) (begun old new : List ContactFinding) (proper proper' : List Tally)
-    → option_map shown_reference o ≡ other_proper (field_of shared) all a → none ≡ is_none o
-    → new ≡ old ++ option_to_list (option_map (finding_by shared a) (option_map shown_reference o))
+pub compared_more : (shared : Shared) (all ts more : List Tally) (a : Tally) (o : Option (Bor TheTally)) (none : Bool) (begun old new : List ContactFinding) (proper proper' : List Tally)
+    → option_map tally_at o ≡ other_proper (field_of shared) all a → none ≡ is_none o
+    → new ≡ old ++ option_to_list (option_map (finding_by shared a) (option_map tally_at o))
     → proper' ≡ proper ++ (if none then a ∷ [] else [])
     → more ≡ ts ++ a ∷ []
     → old ≡ begun ++ flat_map (λ t. option_to_list (option_map (finding_by shared t) (other_proper (field_of shared) all t))) ts

@@ -6,21 +6,21 @@ use Rattle.std.specs.Cmp.Lexicographic.{slice_cmp}
 use Rattle.std.specs.Ordering.{nat_cmp, on}
 use Rattle.std.specs.declared.cmp.Ordering.{Ordering}
 use Rattle.mailmap_entries.specs.Folding.{Text}
-use Rattle.mailmap_contacts.specs.Comparisons.{ContactFinding, email_of, name_of, no_contact, same_email, same_name, shares}
+use Rattle.mailmap_contacts.specs.Comparisons.{ContactFinding, email_of, git_answers, name_of, no_contact, same_email, same_name, shares}
 use Rattle.mailmap_contacts.specs.Contacts.{Contact, Tally}
 use Rattle.mailmap_contacts.specs.Folded.{folded_text}
 use Rattle.mailmap_contacts.specs.Proper.{proper}
-use Rattle.mailmap_contacts.specs.declared.answers.Answer.{Answer}
+use Rattle.mailmap_contacts.specs.declared.answers.Tally.{Tally as TheTally}
 use Rattle.mailmap_contacts.specs.declared.comparisons.ContactFinding.{ContactFinding as TheFinding}
-use Rattle.mailmap_contacts.specs.declared.comparisons.ContactFinding.TheVariants.{NoContact, Shares}
+use Rattle.mailmap_contacts.specs.declared.comparisons.ContactFinding.TheVariants.{GitAnswers, NoContact, Shares}
 use Rattle.mailmap_contacts.specs.declared.folded.Folded.{Folded}
 use Rattle.mailmap_contacts.specs.declared.occurrences.Occurrences.{Occurrences}
 use Rattle.mailmap_contacts.specs.declared.proper.Shared.{Shared}
 use Rattle.mailmap_contacts.specs.declared.proper.Shared.TheVariants.{Email, Name}
 
 -- the specification's view of an answer
-abbrev pub shown_tally : Answer → Tally
-shown_tally a = record { contact = record { name = a.name.now; email = a.email.now }; seen = a.seen }
+abbrev pub tally_of : TheTally → Tally
+tally_of a = record { contact = record { name = a.name.now; email = a.email.now }; seen = a.seen }
 
 -- the answer that a key shows
 abbrev pub answer_key : Bor Text × Bor Text → Contact
@@ -29,8 +29,8 @@ answer_key k = record { name = k.0.now; email = k.1.now }
 abbrev pub answer_key_tally : (Bor Text × Bor Text) × Occurrences → Tally
 answer_key_tally e = record { contact = answer_key e.0; seen = e.1 }
 
-abbrev pub shown_reference : Bor Answer → Tally
-shown_reference a = shown_tally a.now
+abbrev pub tally_at : Bor TheTally → Tally
+tally_at a = tally_of a.now
 
 -- ---- what answers share
 
@@ -43,15 +43,16 @@ finding_by Email = same_email
 finding_by Name = same_name
 
 -- the specification's view of a finding
-abbrev pub shown_finding : TheFinding → ContactFinding
-shown_finding (NoContact line) = no_contact line
-shown_finding (Shares shared a p) = finding_by shared (shown_reference a) (shown_reference p)
+abbrev pub finding_view : TheFinding → ContactFinding
+finding_view (NoContact line) = no_contact line
+finding_view (Shares shared a p) = finding_by shared (tally_at a) (tally_at p)
+finding_view (GitAnswers a) = git_answers (tally_at a)
 
 abbrev pub folded_cmp : Folded → Folded → Ordering
 folded_cmp = on folded_text (slice_cmp nat_cmp)
 
 -- the map has the proper one of the answers that share a text, for each text
-abbrev pub ArePropers : Shared → List Tally → BTreeMap Folded (Bor Answer) → Type 0
+abbrev pub ArePropers : Shared → List Tally → BTreeMap Folded (Bor TheTally) → Type 0
 ArePropers shared answers propers = (key : Folded)
-    → option_map shown_reference (get folded_cmp propers key)
+    → option_map tally_at (get folded_cmp propers key)
     ≡ proper (filter (shares (field_of shared) key.text.now) answers)

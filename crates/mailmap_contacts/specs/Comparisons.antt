@@ -1,27 +1,45 @@
--- The findings about contacts: which answers share an email or a name with a proper one.
-use Rattle.std.specs.Prelude.{◌+◌, ℕ, Bool, if◌then◌else◌, is_none, List, [], ◌∷◌, ◌++◌, Option, None, Some, filter, map, option_to_list}
+-- The findings about contacts: answers that share an email or a name with a proper one, and answers of git.
+use Rattle.std.specs.Prelude.{◌+◌, ℕ, Bool, if◌then◌else◌, is_none, List, [], ◌∷◌, ◌++◌, Option, None, Some, filter, map}
+use Rattle.std.specs.Prelude.{option_to_list}
 use Rattle.std.specs.List.{flat_map}
 use Rattle.std.specs.List.Sorted.{IsPermutation, IsSortedByKey}
 use Rattle.std.specs.Option.{option_map}
-use Rattle.std.specs.Ordering.{nat_cmp}
+use Rattle.std.specs.Ordering.{nat_cmp, ordering_then}
 use Rattle.std.specs.Str.{bytes_eq}
+use Rattle.std.specs.declared.cmp.Ordering.{Ordering}
 use Rattle.mailmap_entries.specs.Entries.{Mapping}
 use Rattle.mailmap_entries.specs.Folding.{Text, folded}
 use Rattle.mailmap_findings.specs.Needs.{is_no_contact}
 use Rattle.mailmap_contacts.specs.Contacts.{Tally, AreTallies, answers_to, same_contact}
 use Rattle.mailmap_contacts.specs.Proper.{has_text, proper}
 
--- a line is no contact, or an answer isn't the proper one of those with its email, or with its name
+-- A line is no contact, or an answer isn't the proper one of those with its email, or with its name; or git answers
+-- something else than this library.
 pub data ContactFinding : Type 0 where
   no_contact : ℕ → ContactFinding
   same_email : Tally → Tally → ContactFinding
   same_name : Tally → Tally → ContactFinding
+  git_answers : Tally → ContactFinding
 
 -- the number of its line
 abbrev pub line_of : ContactFinding → ℕ
 line_of (no_contact line) = line
 line_of (same_email a p) = a.seen.first_line
 line_of (same_name a p) = a.seen.first_line
+line_of (git_answers a) = a.seen.first_line
+
+-- those of one line come in this order
+abbrev pub rank_of : ContactFinding → ℕ
+rank_of (no_contact line) = 0
+rank_of (same_email a p) = 1
+rank_of (same_name a p) = 2
+rank_of (git_answers a) = 3
+
+abbrev pub place_of : ContactFinding → ℕ × ℕ
+place_of f = (line_of f, rank_of f)
+
+abbrev pub place_cmp : ℕ × ℕ → ℕ × ℕ → Ordering
+place_cmp a b = ordering_then (nat_cmp a.0 b.0) (nat_cmp a.1 b.1)
 
 -- what answers may share
 abbrev pub email_of : Tally → Text
@@ -73,10 +91,12 @@ abbrev pub no_contacts_from : ℕ → List Text → List ℕ
 no_contacts_from number [] = []
 no_contacts_from number (line ∷ rest) = unless_contact number line ++ no_contacts_from (number + 1) rest
 
--- `found` has the findings about the contacts on lines, with a mailmap's mappings, in the order of their lines. There
--- is one at most for each line, since distinct answers come first on distinct lines.
-pub record AreContactFindings (h : List Mapping) (lines : List Text) (found : List ContactFinding) : Type 0 where
+-- `found` has the findings about the contacts on lines, with a mailmap's mappings and git's other answers, in the order
+-- of their lines.
+pub record AreContactFindings (h : List Mapping) (gits : List Tally) (lines : List Text)
+    (found : List ContactFinding) : Type 0 where
   pub answers : List Tally
   pub tallies : AreTallies (answers_to h lines) answers
-  pub whole : IsPermutation (map no_contact (no_contacts_from 1 lines) ++ comparisons answers) found
-  pub in_order : IsSortedByKey line_of nat_cmp found
+  pub whole : IsPermutation
+      (map no_contact (no_contacts_from 1 lines) ++ comparisons answers ++ map git_answers gits) found
+  pub in_order : IsSortedByKey place_of place_cmp found

@@ -1,5 +1,6 @@
 -- The contacts of a history, the answers to them, and how often each of these comes.
 use Rattle.std.specs.Prelude.{◌≡◌, ◌+◌, ◌&&◌, ℕ, Bool, if◌then◌else◌, List, [], ◌∷◌, ◌++◌, Option, None, Some, map, min, unwrap_or}
+use Rattle.std.specs.Prelude.{filter, not}
 use Rattle.std.specs.List.{AllByRecursion, Contains}
 use Rattle.std.specs.List.Sorted.{IsStrictlySortedBy}
 use Rattle.std.specs.Ordering.{ordering_then}
@@ -92,3 +93,12 @@ pub record AreTallies (ts tallies : List Tally) : Type 0 where
   pub every : (t : Tally) → Contains ts t → Contains (map (λ a. a.contact) tallies) t.contact
   pub each : AllByRecursion (λ a. seen_where (same_contact a.contact) ts ≡ Some a.seen) tallies
   pub distinct : IsStrictlySortedBy contact_cmp (map (λ a. a.contact) tallies)
+
+-- each distinct contact once, with all its occurrences, in the order of first occurrence
+abbrev pub tallied : List Tally → List Tally
+tallied [] = []
+tallied (t ∷ ts) =
+    record {
+      contact = t.contact;
+      seen = unwrap_or (seen_where (same_contact t.contact) (t ∷ ts)) t.seen;
+    } ∷ filter (λ u. not (same_contact t.contact u.contact)) (tallied ts)

@@ -1,11 +1,12 @@
-//! Findings about contacts: which answers share an email or a name with a proper one.
+//! Findings about contacts: answers that share an email or a name with a proper one, and answers of git.
 ghost use Rattle.std.specs.Prelude.{◌≡◌, ◌++◌, ◌∷◌, [], IfOk, OnOk, None, if◌then◌else◌, is_none, map, option_map, option_to_list};
 ghost use Rattle.std.specs.List.Sorted.{IsPermutation, IsSortedByKey};
-ghost use Rattle.std.specs.Ordering.{nat_cmp};
-ghost use Rattle.mailmap_contacts.specs.Answers.{field_of, finding_by, shown_finding, shown_reference, shown_tally};
-ghost use Rattle.mailmap_contacts.specs.Comparisons.{compared, comparisons, email_of, line_of, name_of, no_contact, propers, same_email, same_name, with_text};
+ghost use Rattle.mailmap_contacts.specs.Answers.{field_of, finding_by, finding_view, tally_at, tally_of};
+ghost use Rattle.mailmap_contacts.specs.Comparisons.{compared, comparisons, email_of, git_answers as spec_git_answers};
+ghost use Rattle.mailmap_contacts.specs.Comparisons.{name_of, no_contact, place_cmp, place_of, propers};
+ghost use Rattle.mailmap_contacts.specs.Comparisons.{same_email, same_name, with_text};
 
-use crate::answers::Answer;
+use crate::answers::Tally;
 pub use crate::proper::Shared;
 use crate::proper::{has_text, other_proper, propers_of};
 use std::alloc::{AllocError, Global};
@@ -16,10 +17,13 @@ pub enum ContactFinding<'r, 'a> {
     /// The line with this number is neither blank nor a contact.
     NoContact(usize),
     /// The first answer shares an email or a name with the second one, which is the proper one of all that share it.
-    Shares(Shared, &'r Answer<'a>, &'r Answer<'a>),
+    Shares(Shared, &'r Tally<'a>, &'r Tally<'a>),
+    /// git answers this to the contact on its first line, and this library something else.
+    GitAnswers(&'r Tally<'a>),
 }
 
-/// The findings about lines that are neither blank nor contacts, and about distinct answers, in the order of the lines.
+/// The findings about lines that are neither blank nor contacts, about distinct answers, and about contacts that git
+/// answers otherwise, in the order of the lines. On one line what git answers comes last.
 ///
 /// Answers with one email, whatever the case of ASCII letters, are compared with the proper one of them: of those with
 /// a name, or of all if none has one, the one that comes most often; of several of these the one that comes first. Then
@@ -27,18 +31,21 @@ pub enum ContactFinding<'r, 'a> {
 pub fn findings_of<'r, 'a>(
     alloc: Global,
     no_contacts: &[usize],
-    answers: &'r [Answer<'a>],
+    answers: &'r [Tally<'a>],
+    git_answers: &'r [Tally<'a>],
 ) -> Result<Vec<ContactFinding<'r, 'a>>, AllocError>
     ensures whole { IfOk result (λ found. IsPermutation
-        (map no_contact no_contacts.now ++ comparisons (map shown_tally answers.now))
-        (map shown_finding found.items)) }
-    ensures in_order { IfOk result (λ found. IsSortedByKey line_of nat_cmp (map shown_finding found.items)) }
+        (map no_contact no_contacts.now ++ comparisons (map tally_of answers.now)
+        ++ map spec_git_answers (map tally_of git_answers.now))
+        (map finding_view found.items)) }
+    ensures in_order { IfOk result (λ found. IsSortedByKey place_of place_cmp (map finding_view found.items)) }
 {
     let mut findings = Vec::new(alloc);
     push_no_contacts(&mut findings, no_contacts)?;
     let proper = compare_emails(alloc, answers, &mut findings)?;
     compare_names(alloc, proper.as_slice(), &mut findings)?;
-    sort_by_lines(&mut findings);
+    push_git_answers(&mut findings, git_answers)?;
+    sort_by_places(&mut findings);
     Ok(findings)
 }
 
@@ -46,8 +53,8 @@ fn push_no_contacts(
     findings: &mut Vec<ContactFinding<'_, '_>>,
     no_contacts: &[usize],
 ) -> Result<(), AllocError>
-    ensures { OnOk result (map shown_finding findings.new.items
-        ≡ map shown_finding findings.old.items ++ map no_contact no_contacts.now) }
+    ensures { OnOk result (map finding_view findings.new.items
+        ≡ map finding_view findings.old.items ++ map no_contact no_contacts.now) }
 {
     for line in no_contacts {
         findings.push(ContactFinding::NoContact(*line))?;
@@ -58,13 +65,13 @@ fn push_no_contacts(
 // Compares answers by their emails, and returns the proper ones.
 fn compare_emails<'r, 'a>(
     alloc: Global,
-    answers: &'r [Answer<'a>],
+    answers: &'r [Tally<'a>],
     findings: &mut Vec<ContactFinding<'r, 'a>>,
-) -> Result<Vec<&'r Answer<'a>>, AllocError>
-    ensures findings { OnOk result (map shown_finding findings.new.items ≡ map shown_finding findings.old.items
-        ++ compared email_of same_email (with_text email_of (map shown_tally answers.now))) }
-    ensures proper { IfOk result (λ proper. map shown_reference proper.items
-        ≡ propers email_of (with_text email_of (map shown_tally answers.now))) }
+) -> Result<Vec<&'r Tally<'a>>, AllocError>
+    ensures findings { OnOk result (map finding_view findings.new.items ≡ map finding_view findings.old.items
+        ++ compared email_of same_email (with_text email_of (map tally_of answers.now))) }
+    ensures proper { IfOk result (λ proper. map tally_at proper.items
+        ≡ propers email_of (with_text email_of (map tally_of answers.now))) }
 {
     let with_email = with_email(alloc, answers)?;
     compare(alloc, Shared::Email, with_email.as_slice(), findings)
@@ -72,10 +79,10 @@ fn compare_emails<'r, 'a>(
 
 fn with_email<'r, 'a>(
     alloc: Global,
-    answers: &'r [Answer<'a>],
-) -> Result<Vec<&'r Answer<'a>>, AllocError>
-    ensures { IfOk result (λ some. map shown_reference some.items
-        ≡ with_text email_of (map shown_tally answers.now)) }
+    answers: &'r [Tally<'a>],
+) -> Result<Vec<&'r Tally<'a>>, AllocError>
+    ensures { IfOk result (λ some. map tally_at some.items
+        ≡ with_text email_of (map tally_of answers.now)) }
 {
     let mut some = Vec::new(alloc);
     for answer in answers {
@@ -86,11 +93,11 @@ fn with_email<'r, 'a>(
 
 fn compare_names<'r, 'a>(
     alloc: Global,
-    answers: &[&'r Answer<'a>],
+    answers: &[&'r Tally<'a>],
     findings: &mut Vec<ContactFinding<'r, 'a>>,
 ) -> Result<(), AllocError>
-    ensures { OnOk result (map shown_finding findings.new.items ≡ map shown_finding findings.old.items
-        ++ compared name_of same_name (with_text name_of (map shown_reference answers.now))) }
+    ensures { OnOk result (map finding_view findings.new.items ≡ map finding_view findings.old.items
+        ++ compared name_of same_name (with_text name_of (map tally_at answers.now))) }
 {
     let with_name = with_name(alloc, answers)?;
     compare(alloc, Shared::Name, with_name.as_slice(), findings)?;
@@ -99,10 +106,10 @@ fn compare_names<'r, 'a>(
 
 fn with_name<'r, 'a>(
     alloc: Global,
-    answers: &[&'r Answer<'a>],
-) -> Result<Vec<&'r Answer<'a>>, AllocError>
-    ensures { IfOk result (λ some. map shown_reference some.items
-        ≡ with_text name_of (map shown_reference answers.now)) }
+    answers: &[&'r Tally<'a>],
+) -> Result<Vec<&'r Tally<'a>>, AllocError>
+    ensures { IfOk result (λ some. map tally_at some.items
+        ≡ with_text name_of (map tally_at answers.now)) }
 {
     let mut some = Vec::new(alloc);
     for answer in answers {
@@ -112,12 +119,12 @@ fn with_name<'r, 'a>(
 }
 
 fn push_if<'r, 'a>(
-    answers: &mut Vec<&'r Answer<'a>>,
+    answers: &mut Vec<&'r Tally<'a>>,
     is_one: bool,
-    answer: &'r Answer<'a>,
+    answer: &'r Tally<'a>,
 ) -> Result<(), AllocError>
-    ensures { OnOk result (map shown_reference answers.new.items ≡ map shown_reference answers.old.items
-        ++ (if is_one then shown_tally answer.now ∷ [] else [])) }
+    ensures { OnOk result (map tally_at answers.new.items ≡ map tally_at answers.old.items
+        ++ (if is_one then tally_of answer.now ∷ [] else [])) }
 {
     if is_one {
         answers.push(answer)?;
@@ -129,13 +136,13 @@ fn push_if<'r, 'a>(
 fn compare<'r, 'a>(
     alloc: Global,
     shared: Shared,
-    answers: &[&'r Answer<'a>],
+    answers: &[&'r Tally<'a>],
     findings: &mut Vec<ContactFinding<'r, 'a>>,
-) -> Result<Vec<&'r Answer<'a>>, AllocError>
-    ensures findings { OnOk result (map shown_finding findings.new.items ≡ map shown_finding findings.old.items
-        ++ compared (field_of shared) (finding_by shared) (map shown_reference answers.now)) }
-    ensures proper { IfOk result (λ proper. map shown_reference proper.items
-        ≡ propers (field_of shared) (map shown_reference answers.now)) }
+) -> Result<Vec<&'r Tally<'a>>, AllocError>
+    ensures findings { OnOk result (map finding_view findings.new.items ≡ map finding_view findings.old.items
+        ++ compared (field_of shared) (finding_by shared) (map tally_at answers.now)) }
+    ensures proper { IfOk result (λ proper. map tally_at proper.items
+        ≡ propers (field_of shared) (map tally_at answers.now)) }
 {
     let propers = propers_of(alloc, shared, answers)?;
     let mut proper = Vec::new(alloc);
@@ -150,12 +157,12 @@ fn compare<'r, 'a>(
 fn push_finding<'r, 'a>(
     findings: &mut Vec<ContactFinding<'r, 'a>>,
     shared: Shared,
-    answer: &'r Answer<'a>,
-    proper: Option<&'r Answer<'a>>,
+    answer: &'r Tally<'a>,
+    proper: Option<&'r Tally<'a>>,
 ) -> Result<(), AllocError>
-    ensures { OnOk result (map shown_finding findings.new.items ≡ map shown_finding findings.old.items
-        ++ option_to_list (option_map (finding_by shared (shown_tally answer.now))
-        (option_map shown_reference proper.entry))) }
+    ensures { OnOk result (map finding_view findings.new.items ≡ map finding_view findings.old.items
+        ++ option_to_list (option_map (finding_by shared (tally_of answer.now))
+        (option_map tally_at proper.entry))) }
 {
     if let Some(proper) = proper {
         findings.push(ContactFinding::Shares(shared, answer, proper))?;
@@ -163,18 +170,34 @@ fn push_finding<'r, 'a>(
     Ok(())
 }
 
-fn sort_by_lines(findings: &mut Vec<ContactFinding<'_, '_>>)
-    ensures whole { IsPermutation (map shown_finding findings.old.items) (map shown_finding findings.new.items) }
-    ensures in_order { IsSortedByKey line_of nat_cmp (map shown_finding findings.new.items) }
+fn push_git_answers<'r, 'a>(
+    findings: &mut Vec<ContactFinding<'r, 'a>>,
+    git_answers: &'r [Tally<'a>],
+) -> Result<(), AllocError>
+    ensures { OnOk result (map finding_view findings.new.items
+        ≡ map finding_view findings.old.items ++ map spec_git_answers (map tally_of git_answers.now)) }
 {
-    findings.sort_unstable_by_key(line_of);
+    for answer in git_answers {
+        findings.push(ContactFinding::GitAnswers(answer))?;
+    }
+    Ok(())
 }
 
-fn line_of(finding: &ContactFinding<'_, '_>) -> usize
-    ensures { result ≡ line_of (shown_finding finding.now) }
+fn sort_by_places(findings: &mut Vec<ContactFinding<'_, '_>>)
+    ensures whole { IsPermutation (map finding_view findings.old.items) (map finding_view findings.new.items) }
+    ensures in_order { IsSortedByKey place_of place_cmp (map finding_view findings.new.items) }
+{
+    findings.sort_unstable_by_key(place_of);
+}
+
+// The line of a finding, and its rank among those of the line.
+fn place_of(finding: &ContactFinding<'_, '_>) -> (usize, u8)
+    ensures { result ≡ place_of (finding_view finding.now) }
 {
     match finding {
-        ContactFinding::NoContact(line) => *line,
-        ContactFinding::Shares(_, answer, _) => answer.seen.first_line,
+        ContactFinding::NoContact(line) => (*line, 0),
+        ContactFinding::Shares(Shared::Email, answer, _) => (answer.seen.first_line, 1),
+        ContactFinding::Shares(Shared::Name, answer, _) => (answer.seen.first_line, 2),
+        ContactFinding::GitAnswers(answer) => (answer.seen.first_line, 3),
     }
 }

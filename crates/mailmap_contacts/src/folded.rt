@@ -11,8 +11,8 @@ use std::cmp::Ordering;
 
 /// A text as a key: the case of ASCII letters doesn't count.
 #[derive(Clone, Copy)]
-pub(crate) struct Folded<'a> {
-    pub(crate) text: &'a [u8],
+pub struct Folded<'a> {
+    pub text: &'a [u8],
 }
 
 impl PartialEq for Folded<'_> {

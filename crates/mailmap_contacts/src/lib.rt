@@ -4,6 +4,6 @@
 pub mod answers;
 pub mod comparisons;
 pub mod counter;
-mod folded;
+pub mod folded;
 pub mod occurrences;
 pub mod proper;

@@ -24,7 +24,7 @@ pub(crate) fn sum_of(a: Occurrences, b: Occurrences) -> Option<Occurrences>
 }
 
 /// Adds to the occurrences of a key. Fails if memory runs out, or if the count exceeds its type.
-pub(crate) fn add_to<K: Ord + Drop>(
+pub fn add_to<K: Ord + Drop>(
     tallies: &mut BTreeMap<K, Occurrences>,
     key: K,
     seen: Occurrences,

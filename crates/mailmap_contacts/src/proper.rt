@@ -2,14 +2,15 @@
 ghost use Rattle.std.specs.Prelude.{◌≡◌, IfOk, IsFalse, IsTrue, List, OnOk, Some, if◌then◌else◌, map, option_map};
 ghost use Rattle.std.specs.BTreeMap.{get};
 ghost use Rattle.std.specs.Option.{option_copied};
-ghost use Rattle.mailmap_contacts.specs.Answers.{ArePropers, field_of, folded_cmp, shown_reference, shown_tally};
+ghost use Rattle.mailmap_contacts.specs.Answers.{ArePropers, field_of, folded_cmp, tally_at, tally_of};
 ghost use Rattle.mailmap_contacts.specs.Comparisons.{other_proper, shares};
-ghost use Rattle.mailmap_contacts.specs.Contacts.{Tally, same_contact};
+ghost use Rattle.mailmap_contacts.specs.Contacts as contacts;
+ghost use Rattle.mailmap_contacts.specs.Contacts.{same_contact};
 ghost use Rattle.mailmap_contacts.specs.Proper as spec;
 ghost use Rattle.mailmap_contacts.specs.Proper.{better};
 ghost use Rattle.mailmap_contacts.specs.declared.folded.Folded.{Folded as TheKey};
 
-use crate::answers::Answer;
+use crate::answers::Tally;
 use crate::folded::Folded;
 use crate::occurrences::Occurrences;
 use std::alloc::{AllocError, Global};
@@ -23,8 +24,8 @@ pub enum Shared {
 }
 
 impl Shared {
-    pub(crate) fn text<'a>(self, answer: &Answer<'a>) -> &'a [u8]
-        ensures { result.now ≡ field_of self (shown_tally answer.now) }
+    pub(crate) fn text<'a>(self, answer: &Tally<'a>) -> &'a [u8]
+        ensures { result.now ≡ field_of self (tally_of answer.now) }
     {
         match self {
             Shared::Email => answer.email,
@@ -34,14 +35,14 @@ impl Shared {
 }
 
 /// The proper answers, by the texts that they share with others.
-pub(crate) type Propers<'r, 'a> = BTreeMap<Folded<'a>, &'r Answer<'a>>;
+pub(crate) type Propers<'r, 'a> = BTreeMap<Folded<'a>, &'r Tally<'a>>;
 
 pub(crate) fn propers_of<'r, 'a>(
     alloc: Global,
     shared: Shared,
-    answers: &[&'r Answer<'a>],
+    answers: &[&'r Tally<'a>],
 ) -> Result<Propers<'r, 'a>, AllocError>
-    ensures { IfOk result (ArePropers shared (map shown_reference answers.now)) }
+    ensures { IfOk result (ArePropers shared (map tally_at answers.now)) }
 {
     let mut propers = BTreeMap::new(alloc);
     for answer in answers {
@@ -54,12 +55,12 @@ pub(crate) fn propers_of<'r, 'a>(
 fn add_answer<'r, 'a>(
     propers: &mut Propers<'r, 'a>,
     shared: Shared,
-    answer: &'r Answer<'a>,
+    answer: &'r Tally<'a>,
 ) -> Result<(), AllocError>
-    ensures { OnOk result ((key : TheKey) → option_map shown_reference (get folded_cmp propers.new key)
-        ≡ (if shares (field_of shared) key.text.now (shown_tally answer.now)
-        then Some (better (option_map shown_reference (get folded_cmp propers.old key)) (shown_tally answer.now))
-        else option_map shown_reference (get folded_cmp propers.old key))) }
+    ensures { OnOk result ((key : TheKey) → option_map tally_at (get folded_cmp propers.new key)
+        ≡ (if shares (field_of shared) key.text.now (tally_of answer.now)
+        then Some (better (option_map tally_at (get folded_cmp propers.old key)) (tally_of answer.now))
+        else option_map tally_at (get folded_cmp propers.old key))) }
 {
     let key = Folded {
         text: shared.text(answer),
@@ -72,11 +73,11 @@ fn add_answer<'r, 'a>(
 }
 
 // Whether the proper one so far, if there is one, stays so beside another one.
-fn is_kept(best: Option<&&Answer<'_>>, other: &Answer<'_>) -> bool
-    ensures kept { IsTrue result → Some (better (option_map shown_reference (option_copied best.entry))
-        (shown_tally other.now)) ≡ option_map shown_reference (option_copied best.entry) }
-    ensures not_kept { IsFalse result → better (option_map shown_reference (option_copied best.entry))
-        (shown_tally other.now) ≡ shown_tally other.now }
+fn is_kept(best: Option<&&Tally<'_>>, other: &Tally<'_>) -> bool
+    ensures kept { IsTrue result → Some (better (option_map tally_at (option_copied best.entry))
+        (tally_of other.now)) ≡ option_map tally_at (option_copied best.entry) }
+    ensures not_kept { IsFalse result → better (option_map tally_at (option_copied best.entry))
+        (tally_of other.now) ≡ tally_of other.now }
 {
     match best {
         Some(best) => !is_preferred(other, best),
@@ -88,10 +89,10 @@ fn is_kept(best: Option<&&Answer<'_>>, other: &Answer<'_>) -> bool
 pub(crate) fn other_proper<'r, 'a>(
     propers: &Propers<'r, 'a>,
     shared: Shared,
-    answer: &Answer<'a>,
-) -> Option<&'r Answer<'a>>
-    ensures { (answers : List Tally) → ArePropers shared answers propers.now
-        → option_map shown_reference result ≡ other_proper (field_of shared) answers (shown_tally answer.now) }
+    answer: &Tally<'a>,
+) -> Option<&'r Tally<'a>>
+    ensures { (answers : List contacts.Tally) → ArePropers shared answers propers.now
+        → option_map tally_at result ≡ other_proper (field_of shared) answers (tally_of answer.now) }
 {
     let key = Folded {
         text: shared.text(answer),
@@ -105,14 +106,15 @@ pub(crate) fn other_proper<'r, 'a>(
     Some(*proper)
 }
 
-fn is_same(a: &Answer<'_>, b: &Answer<'_>) -> bool
-    ensures { result ≡ same_contact (shown_tally a.now).contact (shown_tally b.now).contact }
+/// Whether two answers have the same name and the same email, byte for byte.
+pub fn is_same(a: &Tally<'_>, b: &Tally<'_>) -> bool
+    ensures { result ≡ same_contact (tally_of a.now).contact (tally_of b.now).contact }
 {
     a.name == b.name && a.email == b.email
 }
 
-fn is_preferred(a: &Answer<'_>, b: &Answer<'_>) -> bool
-    ensures { result ≡ spec.is_preferred (shown_tally a.now) (shown_tally b.now) }
+fn is_preferred(a: &Tally<'_>, b: &Tally<'_>) -> bool
+    ensures { result ≡ spec.is_preferred (tally_of a.now) (tally_of b.now) }
 {
     match (has_text(a.name), has_text(b.name)) {
         (true, false) => true,
@@ -121,7 +123,8 @@ fn is_preferred(a: &Answer<'_>, b: &Answer<'_>) -> bool
     }
 }
 
-pub(crate) fn has_text(text: &[u8]) -> bool
+/// Whether a text isn't empty.
+pub fn has_text(text: &[u8]) -> bool
     ensures { result ≡ spec.has_text text.now }
 {
     !text.is_empty()

@@ -10,11 +10,11 @@ use Rattle.mailmap_entries.specs.Entries.{Mapping}
 use Rattle.mailmap_entries.specs.Folding.{Text}
 use Rattle.mailmap_findings.specs.Git.{GitReading}
 use Rattle.mailmap_grammar.specs.Lines.{Reading, mappings_of, non_empty, strict_reading}
-use Rattle.mailmap_entries.specs.Semantics.{IsNormal, is_accepted, key}
-use Rattle.mailmap_redundancy.specs.Redundancy.{AreEffective, LocatedMapping, entries, last_position}
+use Rattle.mailmap_entries.specs.Semantics.{IsNormal, first, is_accepted, key}
+use Rattle.mailmap_redundancy.specs.Redundancy.{AreEffective, LocatedMapping, entries, last_of_key, last_position}
 use Rattle.mailmap_redundancy.specs.declared.located.Position.{Position}
 use Rattle.mailmap_redundancy.proofs.Kept.{last_stays, one_reduced, reduced_normal, reduced_sublist, some_reduced}
-use Rattle.mailmap_findings.specs.Findings.{AreFindings, Contact, Finding, IsPruned, FindingKind, proper_contact, findings, git_reads, has_no_effect, ignored, ignored_text, is_reported_redundant, is_line_kept, mapped_contact, no_effect, read_otherwise, same_contact, reported_of_contact, reported_of_entry, reported_of_line, reported_of_reading, itself_mapped}
+use Rattle.mailmap_findings.specs.Findings.{AreFindings, Contact, Finding, IsPruned, FindingKind, proper_contact, findings, git_reads, has_no_effect, ignored, ignored_text, is_reported_redundant, is_line_kept, mapped_contact, mapping_positions, no_effect_beside, read_otherwise, same_contact, reported_of_contact, reported_of_entry, reported_of_line, reported_of_reading, itself_mapped}
 use Rattle.mailmap_findings.specs.Positions.{Line, entry, located_lines, located, same_position, has_entry_at}
 use Rattle.mailmap_findings.specs.Marked.{AreApart}
 use Rattle.mailmap_findings.proofs.Accepted.{located_accepted}
@@ -76,12 +76,13 @@ pub git_none : (o : Option GitReading) → list_any has_no_effect (option_to_lis
 git_none None = refl
 git_none (Some r) = refl
 
-pub contact_none : (c to : Contact) → list_any has_no_effect (option_to_list (reported_of_contact c to)) ≡ false
-contact_none c to = elim (same_contact c to) as (λ b. list_any has_no_effect (option_to_list (if b then None else Some (itself_mapped c to))) ≡ false) [ true ↦ refl | false ↦ refl ]
+pub contact_none : (c to : Contact) (by : List Position) → list_any has_no_effect (option_to_list (reported_of_contact c to by)) ≡ false
+contact_none c to [] = refl
+contact_none c to (p ∷ ps) = elim (same_contact c to) as (λ b. list_any has_no_effect (option_to_list (if b then None else Some (itself_mapped c to p (first ps)))) ≡ false) [ true ↦ refl | false ↦ refl ]
 
-position_some : (o : Option Position) → is_some o ≡ true → list_any has_no_effect (option_to_list (option_map no_effect o)) ≡ true
-position_some None e = absurd (true≢false (sym e))
-position_some (Some p) e = refl
+beside_some : (e : Mapping) (o : Option LocatedMapping) → is_some (option_map (λ x. x.position) o) ≡ true → list_any has_no_effect (option_to_list (option_map (no_effect_beside e) o)) ≡ true
+beside_some e None is = absurd (true≢false (sym is))
+beside_some e (Some x) is = refl
 
 -- an effective entry has this key
 abbrev pub IfEffective : List LocatedMapping → Option Mapping → Type 0
@@ -90,8 +91,8 @@ IfEffective kept (Some e) = is_some (last_position kept (key e)) ≡ true
 
 module _ (h : List Mapping) (kept : List LocatedMapping) where
   entry_any : (stays : Bool) (e : Mapping) → IfEffective kept (Some e) → list_any has_no_effect (option_to_list (reported_of_entry h kept stays e)) ≡ not stays
-  entry_any true e beside = contact_none (proper_contact e) (mapped_contact h (proper_contact e))
-  entry_any false e beside = position_some (last_position kept (key e)) beside
+  entry_any true e beside = contact_none (proper_contact e) (mapped_contact h (proper_contact e)) (mapping_positions h kept (proper_contact e))
+  entry_any false e beside = beside_some e (last_of_key kept (key e)) beside
 
   line_any : (l : Line) → IfEffective kept (entry l) → list_any has_no_effect (reported_of_line h kept (has_entry_at kept l.position) l) ≡ not (is_line_kept kept l)
   line_any l beside =

@@ -1,21 +1,21 @@
 -- If git reads each line of a buffer as this library does, it does so for the pruned text, and its answers are the
 -- same.
-use Rattle.std.proofs.Common.{◌≡◌, ◌+◌, ℕ, Bool, true, false, true≢false, if◌then◌else◌, Option, Some, None, is_some, option_to_list, unwrap_or, List, [], ◌∷◌, ◌++◌, filter, refl, sym, ap, ◌∙◌}
+use Rattle.std.proofs.Common.{◌≡◌, ◌+◌, ℕ, Bool, true, false, true≢false, if◌then◌else◌, Option, Some, None, is_some, option_to_list, List, [], ◌∷◌, ◌++◌, filter, refl, sym, ap, ◌∙◌}
 use Rattle.std.specs.List.{AllByRecursion, cons_option, flat_map}
 use Rattle.std.specs.Option.{option_map}
-use Rattle.mailmap_entries.specs.Entries.{Mapping}
-use Rattle.mailmap_entries.specs.Folding.{Text, folded}
+use Rattle.mailmap_entries.specs.Folding.{Text}
 use Rattle.mailmap_findings.specs.Git.{git_entries, git_reading, reads_alike}
 use Rattle.mailmap_grammar.specs.Lines.{mappings_of}
-use Rattle.mailmap_entries.specs.Alike.{Alike}
-use Rattle.mailmap_entries.specs.Semantics.{IsNormal, first, unless_empty}
+use Rattle.mailmap_entries.specs.Semantics.{IsNormal, first}
 use Rattle.mailmap_entries.proofs.EqualListings.{entries_decide}
 use Rattle.mailmap_entries.proofs.Exists.{is_normal, normal}
 use Rattle.mailmap_entries.proofs.Normal.{alike_normal}
+use Rattle.mailmap_redundancy.specs.Origins.{git_answer_from}
 use Rattle.mailmap_redundancy.specs.Redundancy.{entries}
 use Rattle.mailmap_redundancy.specs.declared.located.Position.{Position}
+use Rattle.mailmap_redundancy.proofs.Giving.{same_git_scan}
 use Rattle.mailmap_findings.specs.Findings.{IsPruned, first_read_otherwise, is_line_kept, read_otherwise}
-use Rattle.mailmap_findings.specs.GitAnswers.{git_answer, git_mappings, git_answer_from}
+use Rattle.mailmap_findings.specs.GitAnswers.{git_answer, git_mappings}
 use Rattle.mailmap_findings.specs.Positions.{Line, entry, located_lines, located, located_from, whole_lines}
 use Rattle.mailmap_findings.proofs.Pruned.{mappings_of-one, kept_entries, kept_lines, one_buffer, same_listing, text_entries, text_lines}
 use Rattle.mailmap_findings.proofs.Renumbered.{entry_same, texts-located}
@@ -112,9 +112,6 @@ module _ (buffer text : Text) (pruned : IsPruned buffer text) (none : first_read
       let of_buffer = alike_normal (mappings_of buffer) n d in
       let of_text = alike_normal (mappings_of text) n ((same_listing buffer text n pruned).0 d) in
       ap (λ h. git_answer_from h name email) text_history
-      ∙ alike_scan (mappings_of text) n name email of_text
-      ∙ sym (alike_scan (mappings_of buffer) n name email of_buffer)
+      ∙ same_git_scan (mappings_of text) n name email of_text
+      ∙ sym (same_git_scan (mappings_of buffer) n name email of_buffer)
       ∙ ap (λ h. git_answer_from h name email) (sym (buffer_history buffer all_alike))
-    where
-      alike_scan : (h g : List Mapping) (name email : Text) → Alike h g → git_answer_from h name email ≡ git_answer_from g name email
-      alike_scan h g name email a = λ i. unless_empty (unwrap_or (a.lasts (folded email) (folded name) i) (a.given (folded email) i))

@@ -3,6 +3,7 @@ pub mod WholeLines
 pub mod BufferLines
 pub mod Accepted
 pub mod Mapped
+pub mod Moved
 pub mod Walking
 pub mod LineFindings
 pub mod Known
@@ -13,6 +14,7 @@ pub mod Renumbered
 pub mod Pruned
 pub mod Verified
 pub mod EqualExplanations
+pub mod EqualKinds
 pub mod Ordered
 pub mod Deleted
 pub mod GitAnswers

@@ -1,5 +1,5 @@
 -- The positions of lines, and of their entries, ascend.
-use Rattle.std.proofs.Common.{◌≡◌, ◌+◌, ◌<◌, ℕ, Less, List, [], ◌∷◌, ◌++◌, map, None, Some, sym, ap, ◌∙◌, arith}
+use Rattle.std.proofs.Common.{◌≡◌, ◌+◌, ◌<◌, ℕ, Bool, true, false, if◌then◌else◌, Less, List, [], ◌∷◌, ◌++◌, filter, map, None, Some, sym, ap, ◌∙◌, arith}
 use Rattle.std.specs.Cmp.{nat_cmp_is, tied_itself}
 use Rattle.std.specs.List.{AllByRecursion, cons_option}
 use Rattle.std.specs.List.Sorted.{IsStrictlySortedBy}
@@ -44,6 +44,20 @@ lines_ascend buffer (s ∷ ss) =
     ascend_append (located_from buffer 1 (whole_lines s)) (lines_from (buffer + 1) ss) (located_ascend buffer 1 (whole_lines s)) (lines_ascend (buffer + 1) ss)
     (all_located (λ x. AllByRecursion (λ (y : Line). position_cmp x.position y.position ≡ Less) (lines_from (buffer + 1) ss)) buffer 1 (whole_lines s)
     (λ n t le. all_lines (λ y. position_cmp (position_at buffer n) y.position ≡ Less) (buffer + 1) ss (λ m k u later. later_buffer buffer m n k (omega arith))))
+
+-- some of ascending lines ascend
+pub some_ascend : (test : Line → Bool) (ls : List Line) → Ascend ls → Ascend (filter test ls)
+some_ascend test [] a = tt
+some_ascend test (l ∷ ls) a =
+    elim (test l) as (λ b. Ascend (if b then l ∷ filter test ls else filter test ls)) [
+      | true ↦ (some_above ls a.0, some_ascend test ls a.1)
+      | false ↦ some_ascend test ls a.1
+    ]
+  where
+    some_above : (ms : List Line) → AllByRecursion (λ (m : Line). position_cmp l.position m.position ≡ Less) ms → AllByRecursion (λ (m : Line). position_cmp l.position m.position ≡ Less) (filter test ms)
+    some_above [] a = tt
+    some_above (m ∷ ms) a =
+        elim (test m) as (λ b. AllByRecursion (λ (k : Line). position_cmp l.position k.position ≡ Less) (if b then m ∷ filter test ms else filter test ms)) [ true ↦ (a.0, some_above ms a.1) | false ↦ some_above ms a.1 ]
 
 -- the entries of lines above a position are above it
 entries_above : (p : Position) (ls : List Line) → AllByRecursion (λ (m : Line). position_cmp p m.position ≡ Less) ls → AllByRecursion (λ (x : LocatedMapping). position_cmp p x.position ≡ Less) (located ls)

@@ -7,10 +7,12 @@ use Rattle.mailmap_entries.specs.Entries.{Mapping}
 use Rattle.mailmap_entries.specs.Folding.{Text}
 use Rattle.mailmap_grammar.specs.Lines.{Fault, fault_of, Reading, trailing_text, cut, non_empty, strict_reading}
 use Rattle.mailmap_grammar.specs.Trimming.{trim}
+use Rattle.mailmap_findings.specs.Explanations.{origin_positions}
 use Rattle.mailmap_findings.specs.Git.{GitReading, git_reading_of, read_in_place}
 use Rattle.mailmap_entries.specs.Semantics.{Fields, fields_for, first, key}
 use Rattle.mailmap_entries.specs.Listings.{same_optional}
-use Rattle.mailmap_redundancy.specs.Redundancy.{LocatedMapping, AreEffective, entries, last_position}
+use Rattle.mailmap_redundancy.specs.Origins.{origins}
+use Rattle.mailmap_redundancy.specs.Redundancy.{LocatedMapping, AreEffective, entries, last_of_key}
 use Rattle.mailmap_redundancy.specs.declared.located.Position.{Position}
 use Rattle.mailmap_findings.specs.Positions.{Line, entry, located_lines, located, same_position, has_entry_at}
 use Rattle.mailmap_findings.specs.declared.verify.Contact as the_contact
@@ -27,8 +29,8 @@ pub data FindingKind : Type 0 where
   fault : Fault → FindingKind
   ignored_text : Text → FindingKind
   git_reads : GitReading → FindingKind
-  no_effect : Position → FindingKind
-  itself_mapped : Contact → Contact → FindingKind
+  no_effect : Position → Bool → FindingKind
+  itself_mapped : Contact → Contact → Position → Option Position → FindingKind
 
 pub record Finding : Type 0 where
   pub position : Position
@@ -42,8 +44,9 @@ abbrev pub kind_of : the_kind.FindingKind → FindingKind
 kind_of (variant.Fault e) = fault (fault_of e)
 kind_of (variant.IgnoredText text) = ignored_text text.now
 kind_of (variant.GitReads reading) = git_reads (git_reading_of reading)
-kind_of (variant.NoEffect beside) = no_effect beside
-kind_of (variant.ItselfMapped contact to) = itself_mapped (contact_of contact) (contact_of to)
+kind_of (variant.NoEffect beside is_same) = no_effect beside is_same
+kind_of (variant.ItselfMapped contact to line second) =
+    itself_mapped (contact_of contact) (contact_of to) line second
 
 abbrev pub finding_of : the_finding.Finding → Finding
 finding_of f = record { position = f.position; kind = kind_of f.kind }
@@ -86,14 +89,34 @@ mapped_contact h c = replaced_contact (fields_for h (unwrap_or c.name []) c.emai
 abbrev pub same_contact : Contact → Contact → Bool
 same_contact a b = same_optional a.name b.name && pointwise nat_eq a.email b.email
 
--- a contact that is mapped to another one
-abbrev pub reported_of_contact : Contact → Contact → Option FindingKind
-reported_of_contact c to = if same_contact c to then None else Some (itself_mapped c to)
+-- the lines behind what a contact maps to
+abbrev pub mapping_positions : List Mapping → List LocatedMapping → Contact → List Position
+mapping_positions h kept c =
+    origin_positions (origins kept (unwrap_or c.name []) c.email) (fields_for h (unwrap_or c.name []) c.email)
+
+-- a contact that is mapped to another one by one or two lines
+abbrev pub reported_by : Contact → Contact → Position → Option Position → Option FindingKind
+reported_by c to line second = if same_contact c to then None else Some (itself_mapped c to line second)
+
+abbrev pub reported_of_contact : Contact → Contact → List Position → Option FindingKind
+reported_of_contact c to [] = None
+reported_of_contact c to (p ∷ ps) = reported_by c to p (first ps)
+
+-- whether an entry's contact is itself mapped
+abbrev pub reported_of_proper : List Mapping → List LocatedMapping → Contact → Option FindingKind
+reported_of_proper h kept c = reported_of_contact c (mapped_contact h c) (mapping_positions h kept c)
+
+-- both have the same new name or none, and the same new email or none, byte for byte
+abbrev pub says_same : Mapping → Mapping → Bool
+says_same a b = same_optional a.new_name b.new_name && same_optional a.new_email b.new_email
+
+abbrev pub no_effect_beside : Mapping → LocatedMapping → FindingKind
+no_effect_beside e x = no_effect x.position (says_same e x.entry)
 
 -- For an effective entry, whether its contact is itself mapped; for another one, the last effective entry of its key.
 abbrev pub reported_of_entry : List Mapping → List LocatedMapping → Bool → Mapping → Option FindingKind
-reported_of_entry h kept true e = reported_of_contact (proper_contact e) (mapped_contact h (proper_contact e))
-reported_of_entry h kept false e = option_map no_effect (last_position kept (key e))
+reported_of_entry h kept true e = reported_of_proper h kept (proper_contact e)
+reported_of_entry h kept false e = option_map (no_effect_beside e) (last_of_key kept (key e))
 
 -- ---- all findings of all lines
 
@@ -133,8 +156,8 @@ abbrev pub has_no_effect : FindingKind → Bool
 has_no_effect (fault f) = false
 has_no_effect (ignored_text text) = false
 has_no_effect (git_reads reading) = false
-has_no_effect (no_effect beside) = true
-has_no_effect (itself_mapped c to) = false
+has_no_effect (no_effect beside is_same) = true
+has_no_effect (itself_mapped c to line second) = false
 
 abbrev pub is_reported_redundant : List Finding → Line → Bool
 is_reported_redundant found l = list_any (λ f. has_no_effect f.kind && same_position f.position l.position) found

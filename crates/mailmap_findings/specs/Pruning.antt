@@ -1,6 +1,7 @@
 -- The findings of a pruned text, from those of its buffer.
 use Rattle.std.specs.Prelude.{◌+◌, ◌&&◌, ℕ, Bool, if◌then◌else◌, List, [], ◌∷◌, filter, not}
 use Rattle.std.specs.List.{list_any}
+use Rattle.std.specs.Option.{option_map}
 use Rattle.mailmap_entries.specs.Folding.{Text}
 use Rattle.mailmap_redundancy.specs.declared.located.Position.{Position}
 use Rattle.mailmap_findings.specs.Findings.{Finding, FindingKind, fault, git_reads, has_no_effect, ignored_text, is_reported_redundant, itself_mapped, no_effect}
@@ -19,18 +20,23 @@ abbrev pub number_among : List Line → Position → ℕ
 number_among [] position = 1
 number_among (l ∷ ls) position = if same_position l.position position then 1 else number_among ls position + 1
 
--- only a fault contains the number of its line
-abbrev pub with_number : ℕ → FindingKind → FindingKind
-with_number n (fault f) = fault (record f { line = n })
-with_number n (ignored_text text) = ignored_text text
-with_number n (git_reads reading) = git_reads reading
-with_number n (no_effect beside) = no_effect beside
-with_number n (itself_mapped contact to) = itself_mapped contact to
+-- the same as a position in a text that has only these lines
+abbrev pub position_among : List Line → Position → Position
+position_among ls position = record { buffer = 0; line = number_among ls position }
+
+-- a fault contains the number of its line, and some findings name other lines, which move
+abbrev pub with_number : (Position → Position) → ℕ → FindingKind → FindingKind
+with_number move n (fault f) = fault (record f { line = n })
+with_number move n (ignored_text text) = ignored_text text
+with_number move n (git_reads reading) = git_reads reading
+with_number move n (no_effect beside is_same) = no_effect (move beside) is_same
+with_number move n (itself_mapped contact to line second) =
+    itself_mapped contact to (move line) (option_map move second)
 
 -- moves a finding to line n of a text of its own
-abbrev pub at_line : ℕ → Finding → Finding
-at_line n f = record { position = record { buffer = 0; line = n }; kind = with_number n f.kind }
+abbrev pub at_line : (Position → Position) → ℕ → Finding → Finding
+at_line move n f = record { position = record { buffer = 0; line = n }; kind = with_number move n f.kind }
 
--- moves a finding to where its line is among these lines
+-- moves a finding, and the lines that it names, to where these are among these lines
 abbrev pub renumbered : List Line → Finding → Finding
-renumbered ls f = at_line (number_among ls f.position) f
+renumbered ls f = at_line (position_among ls) (number_among ls f.position) f

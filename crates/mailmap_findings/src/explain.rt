@@ -84,16 +84,7 @@ impl<'m, 'a> Explanations<'m, 'a> {
         ensures positions { IfSome result (λ e. explained_by e
             ≡ origin_positions (origins self.now.kept name.now email.now) (explained e)) }
     {
-        let origins = self.effective.origins(name, email);
-        let fields = origins.fields(email)?;
-        let positions = giving(&origins, &fields);
-        let first = positions.first?;
-        Some(Explanation {
-            name: fields.name,
-            email: fields.email,
-            first,
-            second: positions.second,
-        })
+        explanation_of(&self.effective, name, email)
     }
 
     /// The lines that have an effect, in their order.
@@ -111,6 +102,28 @@ impl<'m, 'a> Explanations<'m, 'a> {
         let origins = self.effective.origins(name, email);
         in_order(origins.name, origins.email.or(origins.spelling))
     }
+}
+
+/// What a name and an email map to and the lines behind it, `None` if no line changes either.
+pub(crate) fn explanation_of<'a>(
+    effective: &Effective<'_, 'a>,
+    name: &[u8],
+    email: &[u8],
+) -> Option<Explanation<'a>>
+    ensures fields { option_map explained result ≡ answer_of (entries effective.now.history) name.now email.now }
+    ensures positions { IfSome result (λ e. explained_by e
+        ≡ origin_positions (origins effective.now.kept name.now email.now) (explained e)) }
+{
+    let origins = effective.origins(name, email);
+    let fields = origins.fields(email)?;
+    let positions = giving(&origins, &fields);
+    let first = positions.first?;
+    Some(Explanation {
+        name: fields.name,
+        email: fields.email,
+        first,
+        second: positions.second,
+    })
 }
 
 fn positions_in(alloc: Global, entries: &[&LocatedEntry<'_>]) -> Result<Vec<Position>, AllocError>

@@ -61,15 +61,22 @@ pub enum FindingKind<'a> {
     /// space at each end, and a line with a zero byte before its email has no entry.
     GitReads(GitReading<'a>),
     /// Deleting all lines with this finding together changes nothing. Deleting only one of them may: a line can be
-    /// without effect because another one is. `beside` is the last line for the same old email and old name that has an
-    /// effect.
+    /// without effect because another one is.
     NoEffect {
+        /// The last line for the same old email and old name that has an effect.
         beside: Position,
+        /// Whether that line has the same new name and the same new email. If not, the two may be in conflict.
+        is_same: bool,
     },
     /// The line maps to a contact that the mailmaps map to another one.
     ItselfMapped {
         contact: Contact<'a>,
         to: Contact<'a>,
+        /// The line that maps `contact`. If there are two, as in an [`Explanation`](crate::explain::Explanation), the
+        /// earlier one.
+        first: Position,
+        /// The later line, if there are two.
+        second: Option<Position>,
     },
 }
 

@@ -8,23 +8,24 @@ use Rattle.std.specs.Ordering.{eq_by_cmp, is_eq}
 use Rattle.std.proofs.lemmas.List.Elements.{All-filter, All-from_recursion, filter_passes, recursion_from_All}
 use Rattle.mailmap_entries.specs.Entries.{Mapping}
 use Rattle.mailmap_entries.specs.Folding.{Text, folded, text_cmp}
-use Rattle.mailmap_entries.specs.Semantics.{Fields, Key, accepted, fields_with_spelling, first, is_accepted, key, key_cmp, last, last_given, new_fields, of_email, of_key, respelled, answer_of, unless_empty}
-use Rattle.mailmap_entries.proofs.Parts.{all_head, all_last, all_mapped, all_tail, and_then-flatten, filter-filter, filter_all, last_of_one}
+use Rattle.mailmap_entries.specs.Semantics.{Fields, Key, accepted, fields_with_spelling, first, is_accepted, key, key_cmp, given_fields, last, last_fields, last_given, new_fields, of_email, of_key, respelled, answer_of, spelling, unless_empty}
+use Rattle.mailmap_entries.specs.Alike.{Alike}
+use Rattle.mailmap_entries.proofs.Parts.{all_head, all_last, all_mapped, all_tail, and_then-flatten, filter-filter, filter_all, is_some-option_map, last_of_one}
 use Rattle.mailmap_batches.proofs.Stable.{filter-map}
-use Rattle.mailmap_redundancy.specs.Origins.{entries_of_email, given, origins, last_or_all, last_with, needed, those_that_count, with_spelling}
+use Rattle.mailmap_redundancy.specs.Origins.{entries_of_email, git_answer_from, git_given, given, origins, last_or_all, last_with, needed, those_that_count, with_spelling}
 use Rattle.mailmap_redundancy.specs.Numbers.{key_origins, said_by}
 use Rattle.mailmap_redundancy.specs.Redundancy.{AreEffective, LocatedMapping, entries, entries_of_key}
 use Rattle.mailmap_redundancy.specs.Summaries.{Summary, summary}
-use Rattle.mailmap_redundancy.proofs.Kept.{reduced_accepted, reduced_scan}
+use Rattle.mailmap_redundancy.proofs.Kept.{reduced_accepted, reduced_alike, reduced_scan}
 use Rattle.mailmap_redundancy.proofs.Keyed.{by_cases, of_other_key}
 
 -- ---- the first and the last of a list
 
-first-map : {X Y : Type 0} (f : X → Y) (xs : List X) → first (map f xs) ≡ option_map f (first xs)
+pub first-map : {X Y : Type 0} (f : X → Y) (xs : List X) → first (map f xs) ≡ option_map f (first xs)
 first-map f [] = refl
 first-map f (x ∷ xs) = refl
 
-last-map : {X Y : Type 0} (f : X → Y) (xs : List X) → last (map f xs) ≡ option_map f (last xs)
+pub last-map : {X Y : Type 0} (f : X → Y) (xs : List X) → last (map f xs) ≡ option_map f (last xs)
 last-map f [] = refl
 last-map f (x ∷ xs) =
     ap (λ o. Some (unwrap_or o (f x))) (last-map f xs)
@@ -157,18 +158,24 @@ spelled email name None (Some x) _ _ = refl
 spelled email name (Some y) (Some x) does _ =
     ap (λ o. unless_empty (record { name = name; email = o })) (first_of_two y.entry.new_email (respelled x.entry.old_email email) None does)
 
-pub origins_answer : (kept : List LocatedMapping) (name email : Text) → AllByRecursion (λ x. is_accepted x.entry ≡ true) kept → answer_of (entries kept) name email ≡ given (origins kept name email) email
-origins_answer kept name email all =
+-- which these are, is said by the entries that count
+fields_count : (kept : List LocatedMapping) (name email : Text) → AllByRecursion (λ x. is_accepted x.entry ≡ true) kept
+    → unwrap_or (last_fields (entries kept) (folded email, Some (folded name))) (given_fields (entries kept) (folded email)) ≡ fields_that_count (those_that_count kept name email)
+fields_count kept name email all =
     let n : Key = (folded email, Some (folded name)) in
     let u : Key = (folded email, None) in
-    let those = those_that_count kept name email in
-    let fields : unwrap_or (option_map new_fields (last (of_key (entries kept) n))) (record { name = last_given (λ e. e.new_name) (of_key (entries kept) u); email = last_given (λ e. e.new_email) (of_key (entries kept) u) }) ≡ fields_that_count those =
     (λ i. unwrap_or (option_map new_fields (last (located_key kept all n i))) (record { name = last_given (λ e. e.new_name) (located_key kept all u i); email = last_given (λ e. e.new_email) (located_key kept all u i) }))
     ∙ ap (λ o. unwrap_or (option_map new_fields o) (record { name = last_given (λ e. e.new_name) (entries (entries_of_key kept u)); email = last_given (λ e. e.new_email) (entries (entries_of_key kept u)) })) (last-map (λ (x : LocatedMapping). x.entry) (entries_of_key kept n))
-    ∙ count (last (entries_of_key kept n)) (entries_of_key kept u) in
-    let head : first (of_email (entries kept) (folded email)) ≡ option_map (λ x. x.entry) (first (entries_of_email kept (folded email))) =
-    ap first (located_email kept all (folded email)) ∙ first-map (λ (x : LocatedMapping). x.entry) (entries_of_email kept (folded email)) in
-    ap₂ (λ f o. fields_with_spelling email f (option_map (λ e. e.old_email) o)) fields head
+    ∙ count (last (entries_of_key kept n)) (entries_of_key kept u)
+
+head_is : (kept : List LocatedMapping) (email : Text) → AllByRecursion (λ x. is_accepted x.entry ≡ true) kept
+    → first (of_email (entries kept) email) ≡ option_map (λ x. x.entry) (first (entries_of_email kept email))
+head_is kept email all = ap first (located_email kept all email) ∙ first-map (λ (x : LocatedMapping). x.entry) (entries_of_email kept email)
+
+pub origins_answer : (kept : List LocatedMapping) (name email : Text) → AllByRecursion (λ x. is_accepted x.entry ≡ true) kept → answer_of (entries kept) name email ≡ given (origins kept name email) email
+origins_answer kept name email all =
+    let those = those_that_count kept name email in
+    ap₂ (λ f o. fields_with_spelling email f (option_map (λ e. e.old_email) o)) (fields_count kept name email all) (head_is kept (folded email) all)
     ∙ spelled email (fields_that_count those).name (last_with (λ e. e.new_email) those) (first (entries_of_email kept (folded email))) (gives (λ e. e.new_email) those) nobody
   where
     no_head : {X : Type 0} (xs : List X) → first xs ≡ None → xs ≡ []
@@ -183,6 +190,31 @@ origins_answer kept name email all =
 
 pub reduced_origins : (xs kept : List LocatedMapping) (name email : Text) → AreEffective xs kept → given (origins kept name email) email ≡ answer_of (entries xs) name email
 reduced_origins xs kept name email s = sym (origins_answer kept name email (reduced_accepted xs kept s)) ∙ reduced_scan xs kept name email s
+
+-- ---- git's answer, and which entries there are
+
+-- alike entries have the same answers by git
+pub same_git_scan : (h g : List Mapping) (name email : Text) → Alike h g → git_answer_from h name email ≡ git_answer_from g name email
+same_git_scan h g name email a = λ i. unless_empty (unwrap_or (a.lasts (folded email) (folded name) i) (a.given (folded email) i))
+
+module _ (xs kept : List LocatedMapping) (s : AreEffective xs kept) where
+  pub reduced_git : (name email : Text) → git_given (origins kept name email) ≡ git_answer_from (entries xs) name email
+  reduced_git name email =
+      sym (ap unless_empty (fields_count kept name email (reduced_accepted xs kept s)))
+      ∙ same_git_scan (entries kept) (entries xs) name email (reduced_alike xs kept s)
+
+  pub reduced_last : (email name : Text) → is_some (last (entries_of_key kept (email, Some name))) ≡ is_some (last_fields (entries xs) (email, Some name))
+  reduced_last email name =
+      let k : Key = (email, Some name) in
+      let found : last (of_key (entries kept) k) ≡ option_map (λ x. x.entry) (last (entries_of_key kept k)) =
+      ap last (located_key kept (reduced_accepted xs kept s) k) ∙ last-map (λ (x : LocatedMapping). x.entry) (entries_of_key kept k) in
+      is_some-option_map (λ x. x.entry) (last (entries_of_key kept k)) ∙ ap is_some (sym found)
+      ∙ is_some-option_map new_fields (last (of_key (entries kept) k)) ∙ ap is_some ((reduced_alike xs kept s).lasts email name)
+
+  pub reduced_first : (email : Text) → is_some (first (entries_of_email kept email)) ≡ is_some (spelling (entries xs) email)
+  reduced_first email =
+      is_some-option_map (λ x. x.entry) (first (entries_of_email kept email)) ∙ ap is_some (sym (head_is kept email (reduced_accepted xs kept s)))
+      ∙ is_some-option_map (λ e. e.old_email) (first (of_email (entries kept) email)) ∙ ap is_some ((reduced_alike xs kept s).spellings email)
 
 -- ---- the answer needs no other entry
 

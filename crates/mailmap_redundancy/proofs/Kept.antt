@@ -11,8 +11,10 @@ use Rattle.std.proofs.lemmas.List.Elements.{All-contains, All-from_recursion, fi
 use Rattle.mailmap_entries.specs.Entries.{Mapping}
 use Rattle.mailmap_entries.specs.Folding.{Text}
 use Rattle.mailmap_entries.specs.Semantics.{IsNormal, Key, key, key_cmp, last, is_accepted, accepted, has_key, answer_of}
-use Rattle.mailmap_entries.proofs.Alike.{alike_accepted, same_scan}
+use Rattle.mailmap_entries.specs.Alike.{Alike}
+use Rattle.mailmap_entries.proofs.Alike.{alike_accepted, alike_back, same_scan}
 use Rattle.mailmap_entries.proofs.Exists.{normal, is_normal}
+use Rattle.mailmap_entries.proofs.Joined.{alike_trans}
 use Rattle.mailmap_entries.proofs.Keys.{keys_total}
 use Rattle.mailmap_entries.proofs.Normal.{alike_normal}
 use Rattle.mailmap_entries.proofs.Unique.{normal_unique}
@@ -48,11 +50,15 @@ reduced_normal _ _ n (again xs some kept p s) =
     (λ d. rest.0 (first.0 d), λ d. first.1 (rest.1 d))
 
 -- effective entries give the same answers
-pub reduced_scan : (xs kept : IndexedEntry) (name email : Text) → AreEffective xs kept → answer_of (entries kept) name email ≡ answer_of (entries xs) name email
-reduced_scan xs kept name email s =
+pub reduced_alike : (xs kept : IndexedEntry) → AreEffective xs kept → Alike (entries kept) (entries xs)
+reduced_alike xs kept s =
     let n = normal (entries xs) in
     let d = is_normal (entries xs) in
-    same_scan (entries kept) n name email (alike_normal (entries kept) n ((reduced_normal xs kept n s).0 d)) ∙ sym (same_scan (entries xs) n name email (alike_normal (entries xs) n d))
+    alike_trans (entries kept) n (entries xs) (alike_normal (entries kept) n ((reduced_normal xs kept n s).0 d))
+    (alike_back (entries xs) n (alike_normal (entries xs) n d))
+
+pub reduced_scan : (xs kept : IndexedEntry) (name email : Text) → AreEffective xs kept → answer_of (entries kept) name email ≡ answer_of (entries xs) name email
+reduced_scan xs kept name email s = same_scan (entries kept) (entries xs) name email (reduced_alike xs kept s)
 
 -- ---- a pass that drops nothing
 

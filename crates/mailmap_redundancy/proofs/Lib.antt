@@ -1,6 +1,7 @@
 pub mod Positions
 pub mod Summaries
 pub mod Giving
+pub mod Moved
 pub mod Redundant
 pub mod Sublists
 pub mod Kept

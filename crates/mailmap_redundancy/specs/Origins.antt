@@ -1,10 +1,11 @@
--- The entries behind the answer to a name and an email.
+-- The entries behind the answer to a name and an email, and git's answer.
 use Rattle.std.specs.Prelude.{◌++◌, if◌then◌else◌, List, [], ◌∷◌, filter, is_some, Option, Some, None, option_to_list}
+use Rattle.std.specs.Prelude.{unwrap_or}
 use Rattle.std.specs.Option.{option_and_then, option_or}
 use Rattle.std.specs.Ordering.{eq_by_cmp}
 use Rattle.mailmap_entries.specs.Entries.{Mapping}
 use Rattle.mailmap_entries.specs.Folding.{Text, folded, text_cmp}
-use Rattle.mailmap_entries.specs.Semantics.{Fields, first, last, respelled, unless_empty}
+use Rattle.mailmap_entries.specs.Semantics.{Fields, first, given_fields, last, last_fields, respelled, unless_empty}
 use Rattle.mailmap_redundancy.specs.Redundancy.{LocatedMapping, entries_of_key}
 
 -- the entries of a folded email
@@ -54,3 +55,18 @@ given g email =
 -- the answer needs only these entries
 abbrev pub needed : Origins → List LocatedMapping
 needed g = option_to_list g.name ++ option_to_list g.email ++ option_to_list g.spelling
+
+-- ---- git's answer
+
+-- git's answer from entries; if they set no new email, the contact keeps its own, spelled as it is
+abbrev pub git_answer_from : List Mapping → Text → Text → Option Fields
+git_answer_from h name email = unless_empty
+    (unwrap_or (last_fields h (folded email, Some (folded name))) (given_fields h (folded email)))
+
+-- the answer that origins make in git
+abbrev pub git_given : Origins → Option Fields
+git_given g =
+    unless_empty (record {
+      name = option_and_then (λ x. x.entry.new_name) g.name;
+      email = option_and_then (λ x. x.entry.new_email) g.email;
+    })

@@ -50,9 +50,11 @@ pub data AreEffective : List LocatedMapping → List LocatedMapping → Type 0 w
 abbrev pub entries_of_key : List LocatedMapping → Key → List LocatedMapping
 entries_of_key xs k = filter (λ x. eq_by_cmp key_cmp k (key x.entry)) xs
 
--- the position of the last entry of a key
+abbrev pub last_of_key : List LocatedMapping → Key → Option LocatedMapping
+last_of_key xs k = last (entries_of_key xs k)
+
 abbrev pub last_position : List LocatedMapping → Key → Option Position
-last_position xs k = option_map (λ x. x.position) (last (entries_of_key xs k))
+last_position xs k = option_map (λ x. x.position) (last_of_key xs k)
 
 -- the first list is the second without some of its elements, in the same order
 pub data IsSublist {X : Type 0} : List X → List X → Type 0 where

@@ -1,20 +1,21 @@
 //! Entries without the redundant ones.
-ghost use Rattle.std.specs.Prelude.{◌≡◌, [], All, IfOk, map, true};
+ghost use Rattle.std.specs.Prelude.{◌≡◌, [], All, IfOk, Some, is_some, map, true};
 ghost use Rattle.std.specs.List.Sorted.{IsStrictlySortedBy};
 ghost use Rattle.std.specs.Option.{option_map};
 ghost use Rattle.mailmap_entries.specs.Entries.{mapping_of};
+ghost use Rattle.mailmap_entries.specs.Folding.{folded};
 ghost use Rattle.mailmap_entries.specs.Semantics as answers;
-ghost use Rattle.mailmap_entries.specs.Semantics.{key, key_cmp, is_accepted};
-ghost use Rattle.mailmap_redundancy.specs.Redundancy.{AreEffective, IsPass, entries, last_position, located_of};
+ghost use Rattle.mailmap_entries.specs.Semantics.{key, key_cmp, is_accepted, last_fields, spelling};
+ghost use Rattle.mailmap_redundancy.specs.Redundancy.{AreEffective, IsPass, entries, last_of_key, located_of};
 ghost use Rattle.mailmap_redundancy.specs.Redundancy.{located_of_reference};
-ghost use Rattle.mailmap_redundancy.specs.Origins.{origins as spec_origins};
+ghost use Rattle.mailmap_redundancy.specs.Origins.{git_answer_from, given, origins as spec_origins};
 ghost use Rattle.mailmap_redundancy.specs.Numbers.{IsEffectiveState, IsNumbered, EffectiveEntries, fields_of};
-ghost use Rattle.mailmap_redundancy.specs.Numbers.{origins_of, mappings};
+ghost use Rattle.mailmap_redundancy.specs.Numbers.{origins_of, mappings, referred};
 
-use crate::keys::{Key, find};
-use crate::located::{LocatedEntry, Position};
+use crate::keys::Key;
+use crate::located::LocatedEntry;
 use crate::numbers::{NumberedEntry, number, unnumbered};
-use crate::origins::{Fields, Origins, find_origins};
+use crate::origins::{Fields, Origins, find_origins, first_of_email, last_of_key};
 use crate::passes::{drop_redundant_once, drop_until_stable};
 use crate::table::Table;
 use mailmap_entries::Entry;
@@ -51,18 +52,19 @@ impl<'p, 'a> Effective<'p, 'a> {
         &self.kept
     }
 
-    /// The position of the last effective entry with the key of `entry`, `None` if there is none.
-    pub fn beside(&self, entry: &Entry<'_>) -> Option<Position>
-        ensures { result ≡ last_position self.now.kept (key (mapping_of entry.now)) }
+    /// The last effective entry with the key of `entry`, `None` if there is none.
+    pub fn beside(&self, entry: &Entry<'_>) -> Option<&'p LocatedEntry<'a>>
+        ensures { referred result ≡ last_of_key self.now.kept (key (mapping_of entry.now)) }
     {
-        let number = find(&self.keys, &Key::of(entry))?;
-        Some(self.table.keys[number].last?.position)
+        last_of_key(&self.keys, &self.table, &Key::of(entry))
     }
 
-    /// The entries behind the answer to a name and an email. Dropping all other effective entries would not change this
-    /// answer.
+    /// The entries behind the answer of all entries to a name and an email. Dropping all other effective entries would
+    /// not change this answer.
     pub fn origins(&self, name: &[u8], email: &[u8]) -> Origins<'p, 'a>
-        ensures { origins_of result ≡ spec_origins self.now.kept name.now email.now }
+        ensures origins { origins_of result ≡ spec_origins self.now.kept name.now email.now }
+        ensures answer { given (origins_of result) email.now
+            ≡ answers.answer_of (entries self.now.history) name.now email.now }
     {
         find_origins(&self.keys, &self.table, name, email)
     }
@@ -72,7 +74,30 @@ impl<'p, 'a> Effective<'p, 'a> {
     pub fn answer_of(&self, name: &[u8], email: &[u8]) -> Option<Fields<'a>>
         ensures { option_map fields_of result ≡ answers.answer_of (entries self.now.history) name.now email.now }
     {
-        find_origins(&self.keys, &self.table, name, email).fields(email)
+        self.origins(name, email).fields(email)
+    }
+
+    /// What git maps a name and an email to by the same entries, `None` if neither changes. Unlike
+    /// [`Effective::answer_of`], it never respells an email.
+    pub fn git_answer_of(&self, name: &[u8], email: &[u8]) -> Option<Fields<'a>>
+        ensures { option_map fields_of result ≡ git_answer_from (entries self.now.history) name.now email.now }
+    {
+        find_origins(&self.keys, &self.table, name, email).git_fields()
+    }
+
+    /// Whether some entry has this name and this email as its old ones.
+    pub fn has_own_entry(&self, name: &[u8], email: &[u8]) -> bool
+        ensures { result
+            ≡ is_some (last_fields (entries self.now.history) (folded email.now, Some (folded name.now))) }
+    {
+        last_of_key(&self.keys, &self.table, &Key::new(email, Some(name))).is_some()
+    }
+
+    /// Whether some entry has this email as its old one, with or without an old name.
+    pub fn has_email(&self, email: &[u8]) -> bool
+        ensures { result ≡ is_some (spelling (entries self.now.history) (folded email.now)) }
+    {
+        first_of_email(&self.keys, &self.table, email).is_some()
     }
 }
 

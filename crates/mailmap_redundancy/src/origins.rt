@@ -4,11 +4,11 @@ ghost use Rattle.std.specs.Option.{option_and_then, option_copied, option_map};
 ghost use Rattle.std.specs.List.Sorted.{IsStrictlySortedBy};
 ghost use Rattle.mailmap_entries.specs.Folding.{folded};
 ghost use Rattle.mailmap_entries.specs.Semantics as answers;
-ghost use Rattle.mailmap_entries.specs.Semantics.{key_cmp};
+ghost use Rattle.mailmap_entries.specs.Semantics.{first, key_cmp, last};
 ghost use Rattle.mailmap_redundancy.specs.Origins as spec;
-ghost use Rattle.mailmap_redundancy.specs.Origins.{those_that_count};
+ghost use Rattle.mailmap_redundancy.specs.Origins.{entries_of_email, those_that_count};
 ghost use Rattle.mailmap_redundancy.specs.Numbers.{IsNumber, IsTable, email_key, fields_of, origins_of, key_origins, key_origins_of, referred};
-ghost use Rattle.mailmap_redundancy.specs.Redundancy.{LocatedMapping};
+ghost use Rattle.mailmap_redundancy.specs.Redundancy.{LocatedMapping, entries_of_key};
 
 use crate::keys::{Key, find};
 use crate::located::{LocatedEntry, new_email, new_name, old_email};
@@ -38,13 +38,28 @@ impl<'p, 'a> Origins<'p, 'a> {
     pub fn fields(&self, email: &[u8]) -> Option<Fields<'a>>
         ensures { option_map fields_of result ≡ spec.given (origins_of self.now) email.now }
     {
-        let name = new_name(self.name);
         let email = new_email(self.email).or(respelling(self.spelling, email));
-        if name.is_none() && email.is_none() {
-            return None;
-        }
-        Some(Fields { name, email })
+        unless_empty(new_name(self.name), email)
     }
+
+    /// What git answers, `None` if nothing changes: it keeps the spelling of an email that no entry sets.
+    pub fn git_fields(&self) -> Option<Fields<'a>>
+        ensures { option_map fields_of result ≡ spec.git_given (origins_of self.now) }
+    {
+        unless_empty(new_name(self.name), new_email(self.email))
+    }
+}
+
+fn unless_empty<'a>(name: Option<&'a [u8]>, email: Option<&'a [u8]>) -> Option<Fields<'a>>
+    ensures { option_map fields_of result ≡ answers.unless_empty (record {
+      name = option_copied name.entry;
+      email = option_copied email.entry;
+    }) }
+{
+    if name.is_none() && email.is_none() {
+        return None;
+    }
+    Some(Fields { name, email })
 }
 
 // The entry's spelling of the email, if it differs in any byte.
@@ -54,6 +69,36 @@ fn respelling<'a>(origin: Option<&LocatedEntry<'a>>, email: &[u8]) -> Option<&'a
 {
     let kept = old_email(origin)?;
     if kept == email { None } else { Some(kept) }
+}
+
+/// The last entry of a key.
+pub(crate) fn last_of_key<'p, 'a>(
+    keys: &[Key<'_>],
+    table: &Table<'p, 'a>,
+    key: &Key<'_>,
+) -> Option<&'p LocatedEntry<'a>>
+    requires ascending { IsStrictlySortedBy key_cmp keys.now }
+    requires table { (xs : List LocatedMapping) × IsTable keys.now xs table.now }
+    ensures { (xs : List LocatedMapping) → IsTable keys.now xs table.now
+        → referred result ≡ last (entries_of_key xs key.now) }
+{
+    let number = find(keys, key)?;
+    table.keys[number].last
+}
+
+/// The first entry of an email.
+pub(crate) fn first_of_email<'p, 'a>(
+    keys: &[Key<'_>],
+    table: &Table<'p, 'a>,
+    email: &[u8],
+) -> Option<&'p LocatedEntry<'a>>
+    requires ascending { IsStrictlySortedBy key_cmp keys.now }
+    requires table { (xs : List LocatedMapping) × IsTable keys.now xs table.now }
+    ensures { (xs : List LocatedMapping) → IsTable keys.now xs table.now
+        → referred result ≡ first (entries_of_email xs (folded email.now)) }
+{
+    let number = find(keys, &Key::of_email(email))?;
+    table.emails[number].first
 }
 
 /// Looks up the origins of an answer in a table of entries.
@@ -94,11 +139,8 @@ fn last_that_count<'p, 'a>(
     ensures { (xs : List LocatedMapping) → IsTable keys.now xs table.now
         → key_origins_of result ≡ key_origins (those_that_count xs name.now email.now) }
 {
-    let others = table.keys[number];
-    match find(keys, &Key::new(email, Some(name))) {
-        Some(named) => last_or_all(table.keys[named].last, others),
-        None => others,
-    }
+    let last = last_of_key(keys, table, &Key::new(email, Some(name)));
+    last_or_all(last, table.keys[number])
 }
 
 fn last_or_all<'p, 'a>(

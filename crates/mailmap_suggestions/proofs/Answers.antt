@@ -31,7 +31,7 @@ no_entry h email o none = by_email h (email, o) ∙ ap (of_name o) (none_first (
 pub no_own : (h : List Mapping) (c : Contact) → spelled h c ≡ None → own_fields h c ≡ None
 no_own h c none = ap (λ l. option_map new_fields (last l)) (no_entry h (folded c.email) (Some (folded c.name)) none)
 
-no_given : (h : List Mapping) (email : Text) → spelling h email ≡ None → given_fields h email ≡ no_fields
+pub no_given : (h : List Mapping) (email : Text) → spelling h email ≡ None → given_fields h email ≡ no_fields
 no_given h email none = λ i. record {
   name = last_given (λ e. e.new_name) (no_entry h email None none i);
   email = last_given (λ e. e.new_email) (no_entry h email None none i);

@@ -5,7 +5,7 @@ use Rattle.std.proofs.lemmas.List.Elements.{filter-append, filter_agree}
 use Rattle.mailmap_entries.specs.Folding.{Text}
 use Rattle.mailmap_entries.proofs.Parts.{all_append, all_weaker, filter-filter}
 use Rattle.mailmap_suggestions.specs.Lines.{distinct}
-use Rattle.mailmap_suggestions.proofs.Entries.{all_filtered}
+use Rattle.mailmap_suggestions.proofs.OneEmail.{all_filtered}
 use Rattle.mailmap_suggestions.proofs.Exact.{equal_bytes, same_bytes}
 
 pub refuted : (b : Bool) → (b ≡ true → ⊥) → b ≡ false
@@ -32,7 +32,7 @@ once_more k x ds same =
     ∙ filter_agree (λ y. not (bytes_eq x y) && bytes_eq k y) (λ y. false) (λ y. ap (λ t. not (bytes_eq t y) && bytes_eq k y) (sym (same_bytes k x same)) ∙ not_itself (bytes_eq k y)) ds
     ∙ filter_nothing ds
 
-others_stay : (k x : Text) (ds : List Text) → bytes_eq k x ≡ false → filter (bytes_eq k) (filter (λ y. not (bytes_eq x y)) ds) ≡ filter (bytes_eq k) ds
+pub others_stay : (k x : Text) (ds : List Text) → bytes_eq k x ≡ false → filter (bytes_eq k) (filter (λ y. not (bytes_eq x y)) ds) ≡ filter (bytes_eq k) ds
 others_stay k x ds other =
     filter-filter (bytes_eq k) (λ y. not (bytes_eq x y)) ds
     ∙ filter_agree (λ y. not (bytes_eq x y) && bytes_eq k y) (bytes_eq k) at ds

@@ -45,12 +45,12 @@ name_back to name fits =
 
 -- ---- one entry
 
-one_of_key : (x : Mapping) (k : Key) → is_accepted x ≡ true → k ≡ key x → of_key (x ∷ []) k ≡ x ∷ []
+pub one_of_key : (x : Mapping) (k : Key) → is_accepted x ≡ true → k ≡ key x → of_key (x ∷ []) k ≡ x ∷ []
 one_of_key x k good is =
     ap (λ b. filter (λ e. eq_by_cmp key_cmp k (key e)) (cond b (x ∷ []) [])) good
     ∙ ap (λ b. cond b (x ∷ []) []) ((same_key k (key x)).1 is)
 
-none_of_key : (x : Mapping) (k : Key) → is_accepted x ≡ true → eq_by_cmp key_cmp k (key x) ≡ false → of_key (x ∷ []) k ≡ []
+pub none_of_key : (x : Mapping) (k : Key) → is_accepted x ≡ true → eq_by_cmp key_cmp k (key x) ≡ false → of_key (x ∷ []) k ≡ []
 none_of_key x k good other =
     ap (λ b. filter (λ e. eq_by_cmp key_cmp k (key e)) (cond b (x ∷ []) [])) good
     ∙ ap (λ b. cond b (x ∷ []) []) other

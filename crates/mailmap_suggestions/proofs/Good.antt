@@ -11,7 +11,7 @@ use Rattle.mailmap_suggestions.proofs.Sharing.{sharing}
 use Rattle.mailmap_suggestions.specs.Lines.{alike, entries_to}
 use Rattle.mailmap_suggestions.specs.Suggestions.{HasNoEmptyName, IsWritableContact, contacts, email_entries, name_entries}
 use Rattle.mailmap_suggestions.proofs.Distinct.{all_joined, somes}
-use Rattle.mailmap_suggestions.proofs.Entries.{all_filtered}
+use Rattle.mailmap_suggestions.proofs.OneEmail.{all_filtered}
 use Rattle.mailmap_suggestions.proofs.Exact.{same_bytes}
 use Rattle.mailmap_suggestions.proofs.Grouped.{CanUnite, part, whole}
 use Rattle.mailmap_suggestions.proofs.Suggested.{First, can_email, can_name, entries_are, proper_to, to}

@@ -12,7 +12,7 @@ use Rattle.mailmap_suggestions.proofs.Sharing.{sharing}
 use Rattle.mailmap_suggestions.specs.Lines.{alike, distinct, entries_to}
 use Rattle.mailmap_suggestions.proofs.Appended.{affects, parts_answer, parts_stay}
 use Rattle.mailmap_suggestions.proofs.Distinct.{all_among, all_of, among_passing, at_each, filter_joined, kept_part, no_part, refuted, somes, unfiltered}
-use Rattle.mailmap_suggestions.proofs.Entries.{all_filtered}
+use Rattle.mailmap_suggestions.proofs.OneEmail.{all_filtered}
 use Rattle.mailmap_suggestions.proofs.Exact.{Answered, equal_bytes, same_bytes}
 use Rattle.mailmap_suggestions.proofs.Linked.{Concerns, Linked, affected_linked}
 use Rattle.mailmap_suggestions.proofs.Wanted.{IsWanting, answered_by_same, entries_all, entries_concern}

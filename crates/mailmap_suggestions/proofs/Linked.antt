@@ -13,7 +13,7 @@ use Rattle.mailmap_suggestions.specs.Contacts.{own_key}
 use Rattle.mailmap_suggestions.specs.Lines.{alike, are_answered, entries_for_email, has_own_entry, is_answered, is_short_enough, long_form, name_of, named_entries, named_form, plain_entries, plus, short_form}
 use Rattle.mailmap_suggestions.proofs.Answers.{answer_is, fields, no_own, own_fields, spelled}
 use Rattle.mailmap_suggestions.proofs.Appended.{affects, affects_at}
-use Rattle.mailmap_suggestions.proofs.Entries.{all_filtered, none_own}
+use Rattle.mailmap_suggestions.proofs.OneEmail.{all_filtered, none_own}
 use Rattle.mailmap_suggestions.proofs.Exact.{same_bytes}
 
 -- contacts with the same key, or with the same email and no entries of their own

@@ -11,7 +11,7 @@ use Rattle.mailmap_contacts.specs.Contacts.{Contact, answer}
 use Rattle.mailmap_suggestions.specs.Suggestions.{HasNoEmptyName}
 use Rattle.mailmap_suggestions.specs.Contacts.{git_answer, own_key}
 use Rattle.mailmap_suggestions.proofs.Answers.{answer_is, fields, git_is, spelled}
-use Rattle.mailmap_suggestions.proofs.Entries.{all_filtered}
+use Rattle.mailmap_suggestions.proofs.OneEmail.{all_filtered}
 
 pub empty_or : (t : Text) → (t ≡ []) ⊎ (t ≢ [])
 empty_or [] = inl refl

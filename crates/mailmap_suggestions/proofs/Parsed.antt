@@ -3,9 +3,8 @@ use Rattle.std.proofs.Common.{◌≡◌, ◌≢◌, ◌+◌, ◌/◌, ◌%◌, �
 use Rattle.std.specs.Fmt.{digit_glyph, digits, digits_onto}
 use Rattle.std.specs.List.{AllByRecursion, flat_map}
 use Rattle.std.specs.Result.{result_ok}
-use Rattle.mailmap_contacts.specs.Contacts.{Contact, Tally, answer, answered, contact_on, contacts_from, once, same_contact, tally_on}
+use Rattle.mailmap_contacts.specs.Contacts.{Contact, Tally, answer, answered, contact_on, contacts_from, once, same_contact, tallied, tally_on}
 use Rattle.mailmap_contacts.specs.declared.occurrences.Occurrences.{Occurrences}
-use Rattle.mailmap_contacts.specs.Proper.{comes_more}
 use Rattle.mailmap_entries.specs.Entries.{Mapping}
 use Rattle.mailmap_entries.specs.Folding.{Text}
 use Rattle.mailmap_entries.proofs.Parts.{all_append, all_apply, all_head, all_mapped, all_tail, all_weaker}
@@ -20,9 +19,11 @@ use Rattle.mailmap_snapshot.proofs.WrittenLine.{one_line}
 use Rattle.mailmap_suggestions.specs.Contacts.{git_answer}
 use Rattle.mailmap_suggestions.specs.Groups.{are_alike, email_shared, name_shared, shared_texts}
 use Rattle.mailmap_suggestions.specs.Lines.{alike}
-use Rattle.mailmap_suggestions.specs.SuggestedText.{by_frequency, by_git, count_line, count_lines, counted, entry_line, entry_lines, fields_text, git_answered, git_counted, group_text, inserted, judged_text, mark, ranked, suggested_text, text_by}
-use Rattle.mailmap_suggestions.specs.Suggestions.{IsWritableContact, contacts, email_entries, group_entries, groups, name_entries, sharers, tallied}
-use Rattle.mailmap_suggestions.proofs.Entries.{all_filtered}
+use Rattle.mailmap_suggestions.specs.Counted.{by_frequency, counted, git_answered, git_counted, ranked}
+use Rattle.mailmap_suggestions.specs.SuggestedText.{by_git, count_line, count_lines, entry_line, entry_lines, fields_text, group_text, judged_text, mark, suggested_text, text_by}
+use Rattle.mailmap_suggestions.specs.Suggestions.{IsWritableContact, contacts, email_entries, group_entries, groups, name_entries, sharers}
+use Rattle.mailmap_suggestions.proofs.OneEmail.{all_filtered}
+use Rattle.mailmap_suggestions.proofs.Frequency.{all_by_frequency}
 use Rattle.mailmap_suggestions.proofs.Proper.{Each, each_tallied}
 use Rattle.mailmap_suggestions.proofs.Good.{emails_good, more_writable, names_good}
 use Rattle.mailmap_suggestions.proofs.Distinct.{all_of}
@@ -156,18 +157,6 @@ entries_said b es all =
 
 -- ---- what is written can be written
 
-each_inserted : (P : Contact → Type 0) (t : Tally) (us : List Tally) → P t.contact → Each P us → Each P (inserted t us)
-each_inserted P t [] p all = (p, tt)
-each_inserted P t (u ∷ us) p all =
-    elim (comes_more t.seen u.seen) as (λ b. Each P (if b then t ∷ u ∷ us else u ∷ inserted t us)) [
-      | true ↦ (p, all)
-      | false ↦ (all.0, each_inserted P t us p all.1)
-    ]
-
-each_by_frequency : (P : Contact → Type 0) (ts : List Tally) → Each P ts → Each P (by_frequency ts)
-each_by_frequency P [] all = tt
-each_by_frequency P (t ∷ ts) all = each_inserted P t (by_frequency ts) all.0 (each_by_frequency P ts all.1)
-
 each_ranked : (P : Contact → Type 0) (n : ℕ) (ts : List Tally) → Each P ts → Each P (ranked n ts)
 each_ranked P n [] all = tt
 each_ranked P n (t ∷ ts) all = (all.0, each_ranked P (n + 1) ts all.1)
@@ -175,7 +164,7 @@ each_ranked P n (t ∷ ts) all = (all.0, each_ranked P (n + 1) ts all.1)
 module _ (h : List Mapping) (writable : AllByRecursion IsWritable h) (g : List Tally) (each : Each IsWritableContact g) where
   each_counted : Each IsWritableContact (counted (alike h) g)
   each_counted =
-      each_by_frequency IsWritableContact (tallied (map (answered h) g))
+      all_by_frequency (λ t. IsWritableContact t.contact) (tallied (map (answered h) g))
       (each_tallied IsWritableContact (map (answered h) g)
       (all_mapped (answered h) (λ t. IsWritableContact t.contact) g (all_weaker g (λ t w. answer_writable h t.contact writable w) each)))
 
@@ -184,8 +173,8 @@ module _ (h : List Mapping) (writable : AllByRecursion IsWritable h) (g : List T
       let others = filter (λ t. not (same_contact (git_answer h t.contact) (answer h t.contact))) (by_frequency (tallied g)) in
       let of_others : Each IsWritableContact others =
       all_filtered (λ t. not (same_contact (git_answer h t.contact) (answer h t.contact))) (λ t. IsWritableContact t.contact) (λ t. IsWritableContact t.contact) (λ t w _. w) (by_frequency (tallied g))
-      (each_by_frequency IsWritableContact (tallied g) (each_tallied IsWritableContact g each)) in
-      each_by_frequency IsWritableContact (tallied (map (git_answered (alike h)) (ranked 1 others)))
+      (all_by_frequency (λ t. IsWritableContact t.contact) (tallied g) (each_tallied IsWritableContact g each)) in
+      all_by_frequency (λ t. IsWritableContact t.contact) (tallied (map (git_answered (alike h)) (ranked 1 others)))
       (each_tallied IsWritableContact (map (git_answered (alike h)) (ranked 1 others))
       (all_mapped (git_answered (alike h)) (λ t. IsWritableContact t.contact) (ranked 1 others)
       (all_weaker (ranked 1 others) (λ t w. git_writable h t.contact writable w) (each_ranked IsWritableContact 1 others of_others))))

@@ -1,25 +1,22 @@
 -- The proper answer is one of the answers, and a named one if there is one.
 use Rattle.std.proofs.Common.{◌≡◌, ◌≢◌, Bool, true, false, true≢false, cond, if◌then◌else◌, not, List, [], ◌∷◌, map, filter, refl, sym, subst}
 use Rattle.std.specs.List.{AllByRecursion}
-use Rattle.mailmap_contacts.specs.Contacts.{Contact, Tally, answer, answered, same_contact}
-use Rattle.mailmap_contacts.specs.Proper.{comes_more, has_text, is_preferred, preferred, preferred_of}
+use Rattle.mailmap_contacts.specs.Contacts.{Contact, Tally, answer, answered, same_contact, tallied}
+use Rattle.mailmap_contacts.specs.Proper.{comes_more, has_text, preferred, preferred_of}
 use Rattle.mailmap_entries.specs.Entries.{Mapping}
 use Rattle.mailmap_entries.specs.Folding.{Text}
 use Rattle.mailmap_entries.proofs.Parts.{all_map, all_mapped}
 use Rattle.mailmap_suggestions.specs.Lines.{alike}
-use Rattle.mailmap_suggestions.specs.Suggestions.{contacts, proper_answer, tallied}
-use Rattle.mailmap_suggestions.proofs.Entries.{all_filtered}
+pub use Rattle.mailmap_contacts.proofs.Tallied.{each_tallied}
+use Rattle.mailmap_suggestions.specs.Suggestions.{contacts, proper_answer}
 use Rattle.mailmap_suggestions.proofs.Exact.{contact_decides}
+use Rattle.mailmap_suggestions.proofs.Preferred.{preferred_among}
 use Rattle.mailmap_suggestions.proofs.United.{IsProperIfAny}
 
 -- ---- tallied contacts are the same ones
 
 abbrev pub Each : (Contact → Type 0) → List Tally → Type 0
 Each P ts = AllByRecursion (λ t. P t.contact) ts
-
-pub each_tallied : (P : Contact → Type 0) (ts : List Tally) → Each P ts → Each P (tallied ts)
-each_tallied P [] all = tt
-each_tallied P (t ∷ ts) all = (all.0, all_filtered (λ u. not (same_contact t.contact u.contact)) (λ u. P u.contact) (λ u. P u.contact) (λ u p _. p) (tallied ts) (each_tallied P ts all.1))
 
 -- those that are left out are the same contact
 with_same : (P : Contact → Type 0) (c : Contact) (us : List Tally) → P c → Each P (filter (λ u. not (same_contact c u.contact)) us) → Each P us
@@ -35,17 +32,6 @@ each_untallied P [] all = tt
 each_untallied P (t ∷ ts) all = (all.0, each_untallied P ts (with_same P t.contact (tallied ts) all.0 all.1))
 
 -- ---- the preferred one
-
-preferred_among : (P : Contact → Type 0) (best : Tally) (ts : List Tally) → P best.contact → Each P ts → P (preferred_of best ts).contact
-preferred_among P best [] p all = p
-preferred_among P best (t ∷ ts) p all = preferred_among P (preferred best t) ts (chosen p all.0) all.1
-  where
-    by : (b : Bool) → P best.contact → P t.contact → P (if b then t else best).contact
-    by true p q = q
-    by false p q = p
-
-    chosen : P best.contact → P t.contact → P (preferred best t).contact
-    chosen p q = by (is_preferred t best) p q
 
 some_text : (s : Text) → has_text s ≡ true → s ≢ []
 some_text [] e = absurd (true≢false (sym e))
@@ -83,7 +69,7 @@ proper_if_any h (t ∷ ts) =
       among = λ P all.
           let each : Each P (tallied (map (answered h) (t ∷ ts))) =
           each_tallied P (map (answered h) (t ∷ ts)) (all_mapped (answered h) (λ u. P u.contact) (t ∷ ts) (all_map (λ u. u.contact) (λ c. P (answer h c)) (t ∷ ts) all)) in
-          preferred_among P _ _ each.0 each.1;
+          preferred_among (λ u. P u.contact) _ _ each.0 each.1;
       named = λ empty.
           all_mapped (λ u. u.contact) (λ c. (answer h c).name ≡ []) (t ∷ ts)
           (all_map (answered h) (λ u. u.contact.name ≡ []) (t ∷ ts)

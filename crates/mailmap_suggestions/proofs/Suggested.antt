@@ -11,7 +11,7 @@ use Rattle.mailmap_suggestions.proofs.Sharing.{sharing}
 use Rattle.mailmap_suggestions.specs.Lines.{alike, entries_to}
 use Rattle.mailmap_suggestions.specs.Suggestions.{HasNoEmptyName, Unites, all_entries, contacts, email_entries, group_entries, groups, is_grouped, name_entries, proper_answer, sharers}
 use Rattle.mailmap_suggestions.proofs.Distinct.{all_of, at_each, refuted, somes, unfiltered}
-use Rattle.mailmap_suggestions.proofs.Entries.{all_filtered}
+use Rattle.mailmap_suggestions.proofs.OneEmail.{all_filtered}
 use Rattle.mailmap_suggestions.proofs.Exact.{Answered, equal_bytes, same_bytes}
 use Rattle.mailmap_suggestions.proofs.Grouped.{CanUnite, part, whole}
 use Rattle.mailmap_suggestions.proofs.Named.{empty_or}

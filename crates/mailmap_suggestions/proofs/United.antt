@@ -10,7 +10,7 @@ use Rattle.mailmap_suggestions.specs.Groups.{are_alike}
 use Rattle.mailmap_suggestions.proofs.Sharing.{sharing}
 use Rattle.mailmap_suggestions.specs.Lines.{alike, is_answered}
 use Rattle.mailmap_suggestions.proofs.Distinct.{all_of, at_each, unfiltered}
-use Rattle.mailmap_suggestions.proofs.Entries.{all_filtered, all_true}
+use Rattle.mailmap_suggestions.proofs.OneEmail.{all_filtered, all_true}
 use Rattle.mailmap_suggestions.proofs.Exact.{Answered, answered_decides, equal_bytes, same_bytes}
 use Rattle.mailmap_suggestions.proofs.Grouped.{CanUnite, Stays, grouped, others, whole}
 use Rattle.mailmap_suggestions.proofs.Linked.{Linked}

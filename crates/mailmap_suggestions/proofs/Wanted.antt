@@ -10,7 +10,7 @@ use Rattle.mailmap_suggestions.specs.Contacts.{git_answer}
 use Rattle.mailmap_suggestions.specs.Lines.{alike, distinct, entries_for_email, entries_to, of_old_email}
 use Rattle.mailmap_suggestions.proofs.Appended.{affects, only_affecting, parts_answer}
 use Rattle.mailmap_suggestions.proofs.Distinct.{all_among, all_joined, all_of, at_each, kept_part, refuted, unfiltered}
-use Rattle.mailmap_suggestions.proofs.Entries.{IsOfEmail, all_filtered, email_all}
+use Rattle.mailmap_suggestions.proofs.OneEmail.{IsOfEmail, all_filtered, email_all}
 use Rattle.mailmap_suggestions.proofs.Exact.{Answered, Fits, equal_bytes, same_bytes}
 use Rattle.mailmap_suggestions.proofs.Linked.{Concerns, affected_linked, email_concern}
 

@@ -17,7 +17,7 @@ use Rattle.mailmap_suggestions.specs.Suggestions.{IsWritableContact}
 use Rattle.mailmap_suggestions.proofs.Answers.{answer_is, fields, git_is, no_own, own_fields, spelled}
 use Rattle.mailmap_suggestions.proofs.Appended.{or_true}
 use Rattle.mailmap_suggestions.proofs.Distinct.{all_joined, all_of, refuted, unfiltered}
-use Rattle.mailmap_suggestions.proofs.Entries.{IsOfEmail, IsPlain, all_filtered, named_none, none_own, own_none, plain_all}
+use Rattle.mailmap_suggestions.proofs.OneEmail.{IsOfEmail, IsPlain, all_filtered, named_none, none_own, own_none, plain_all}
 use Rattle.mailmap_suggestions.proofs.Exact.{Answered, answered_decides, equal_bytes, named_step, same_bytes, spelled_more}
 use Rattle.mailmap_suggestions.proofs.Named.{folded_empty}
 use Rattle.mailmap_suggestions.proofs.Wanted.{IsWanting}

@@ -4,7 +4,7 @@ use Rattle.mailmap_entries.specs.Entries.{Mapping}
 use Rattle.mailmap_entries.specs.Folding.{folded}
 use Rattle.mailmap_entries.specs.Semantics.{Fields, Key, no_fields}
 use Rattle.mailmap_contacts.specs.Contacts.{Contact}
-use Rattle.mailmap_findings.specs.GitAnswers.{git_answer_from}
+use Rattle.mailmap_redundancy.specs.Origins.{git_answer_from}
 
 -- the contact with its fields overridden
 abbrev pub replaced : Fields → Contact → Contact

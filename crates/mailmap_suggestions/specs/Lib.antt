@@ -1,6 +1,13 @@
 pub use Rattle.mailmap_entries.specs.Folding
+pub mod Answered
+pub mod Changes
 pub mod Contacts
+pub mod Counted
+pub mod Grouping
 pub mod Groups
+pub mod Histories
 pub mod Lines
+pub mod Suggested
 pub mod SuggestedText
 pub mod Suggestions
+pub mod Views

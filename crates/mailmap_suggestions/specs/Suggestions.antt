@@ -1,9 +1,9 @@
 -- The entries that mailmaps lack for contacts: those by which no two answers share an email and differ, and those by
 -- which then no two share a name.
-use Rattle.std.specs.Prelude.{◌≡◌, ◌≢◌, ◌&&◌, Bool, false, not, Option, None, Some, List, [], ◌∷◌, map, filter}
-use Rattle.std.specs.Prelude.{bytes_eq, unwrap_or}
+use Rattle.std.specs.Prelude.{◌≡◌, ◌≢◌, ◌&&◌, Bool, false, not, Option, None, Some, List, [], map, filter}
+use Rattle.std.specs.Prelude.{bytes_eq}
 use Rattle.std.specs.List.{AllByRecursion, flat_map}
-use Rattle.mailmap_contacts.specs.Contacts.{Contact, Tally, answer, answered, same_contact, seen_where}
+use Rattle.mailmap_contacts.specs.Contacts.{Contact, Tally, answer, answered, tallied}
 use Rattle.mailmap_contacts.specs.Proper.{proper}
 use Rattle.mailmap_entries.specs.Entries.{Mapping}
 use Rattle.mailmap_entries.specs.Folding.{Text}
@@ -33,15 +33,6 @@ is_grouped shared h ts c =
     not (bytes_eq text []) && not (are_alike h (contacts (sharers shared h ts text)))
 
 -- ---- the proper answer of a group
-
--- each distinct contact once, with all its occurrences
-abbrev pub tallied : List Tally → List Tally
-tallied [] = []
-tallied (t ∷ ts) =
-    record {
-      contact = t.contact;
-      seen = unwrap_or (seen_where (same_contact t.contact) (t ∷ ts)) t.seen;
-    } ∷ filter (λ u. not (same_contact t.contact u.contact)) (tallied ts)
 
 abbrev pub nobody : Contact
 nobody = record { name = []; email = [] }

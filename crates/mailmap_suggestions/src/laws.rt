@@ -11,8 +11,10 @@ ghost use Rattle.mailmap_grammar.specs.CanonicalText.{IsWritable};
 ghost use Rattle.mailmap_grammar.specs.Lines.{HoldsNo, mappings_of, reading, strict_reading};
 ghost use Rattle.mailmap_suggestions.specs.Contacts.{git_answer, own_key};
 ghost use Rattle.mailmap_suggestions.specs.Groups.{email_shared, name_shared};
-ghost use Rattle.mailmap_suggestions.specs.Lines.{alike};
+ghost use Rattle.mailmap_suggestions.specs.Lines.{Histories, alike};
+ghost use Rattle.mailmap_suggestions.specs.Suggested.{suggestions};
 ghost use Rattle.mailmap_suggestions.specs.SuggestedText.{count_line, entry_line, judged_text, mark, suggested_text};
+ghost use Rattle.mailmap_suggestions.specs.SuggestedText.{suggestions_text};
 ghost use Rattle.mailmap_suggestions.specs.Suggestions.{HasNoEmptyName, IsWritableContact, Unites, contacts, email_entries, name_entries};
 
 /// An entry with an old name changes only answers to contacts with its key, if there is an entry for its email before.
@@ -85,7 +87,8 @@ pub fn law_suggested_lines()
 {}
 
 /// The text of suggestions is read as the entries for emails, and with its marks deleted as all entries. This holds for
-/// mappings and contacts that are read from lines, since lines can hold them.
+/// mappings and contacts that are read from lines, since lines can hold them. It is what suggestions are as text, one
+/// after another.
 pub fn law_suggested_text()
     ensures suggested { (h : List Mapping) (ts : List Tally) → AllByRecursion IsWritable h
         → AllByRecursion (λ t. IsWritableContact t.contact) ts
@@ -96,4 +99,5 @@ pub fn law_suggested_text()
     ensures mappings { (buffers : List Text) → AllByRecursion IsWritable (flat_map mappings_of buffers) }
     ensures contacts { (lines : List Text) → AllByRecursion (HoldsNo 10) lines
         → AllByRecursion (λ t. IsWritableContact t.contact) (contacts_from 1 lines) }
+    ensures printed { (h : Histories) (ts : List Tally) → suggestions_text (suggestions h ts) ≡ suggested_text h ts }
 {}

@@ -1,5 +1,13 @@
 //! Which lines a mailmap lacks for the contacts of a history. An internal crate of `gix_mailmap`.
 #![tactic(auto)]
 
+mod answered;
+mod changes;
+mod counted;
+mod entries;
+pub mod git_answers;
+mod groups;
+mod histories;
 pub mod laws;
+pub mod suggestions;
 pub mod text;

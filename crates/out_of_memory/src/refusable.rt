@@ -3,14 +3,19 @@
 use crate::call::Call;
 use crate::run::{Run, Wrong, lists, wants};
 use crate::samples::{
-    ANSWER, ANSWERS, CONTACTS, FAULTY, JANE, LINE, NOBODY, PARTS, PRUNED, TEAM, WRITTEN, all,
-    are_of_faulty, are_unneeded, five, is_jane, is_nobody, later, owns_jane, team, three, two,
+    ANSWER, ANSWERS, CONTACTS, COUNTED, FAULTY, HISTORY, JANE, LINE, NOBODY, PARTS, PRUNED,
+    SUGGESTED, TEAM, WRITTEN, all, are_of_faulty, are_of_history, are_others_of_history,
+    are_unneeded, five, is_jane, is_nobody, later, owns_jane, team, three, two,
 };
 use gix_mailmap::check::ContactStream;
 use gix_mailmap::needs::unneeded;
 use gix_mailmap::snapshot::{Source, WriteError};
 use gix_mailmap::verify::{prune, verify};
 use gix_mailmap::{Entry, Snapshot, actor, check};
+use mailmap_contacts::counter::{ContactCounter, Contacts};
+use mailmap_suggestions::git_answers::other_git_answers;
+use mailmap_suggestions::suggestions::suggest;
+use mailmap_suggestions::text::{push_count, push_entry};
 use std::alloc::{AllocError, Global};
 
 pub fn build(run: &mut Run, alloc: Global) -> Result<Snapshot, Wrong> {
@@ -34,7 +39,9 @@ pub fn judge(run: &mut Run, alloc: Global, team: &Snapshot) -> Result<(), Wrong>
     check_and_compact(run, alloc)?;
     run.judge_at_once(Call::Stream, || streams(alloc))?;
     answer_in_parts(run, alloc)?;
-    verify_and_prune(run, alloc)
+    verify_and_prune(run, alloc)?;
+    suggest_lines(run, alloc)?;
+    write_suggestions(run, alloc)
 }
 
 fn read_and_list(run: &mut Run, alloc: Global, snapshot: &Snapshot) -> Result<(), Wrong> {
@@ -203,5 +210,41 @@ fn verify_and_prune(run: &mut Run, alloc: Global) -> Result<(), Wrong> {
     })?;
     run.judge_at_once(Call::Unneeded, || {
         Ok(are_unneeded(unneeded(alloc, &[TEAM, FAULTY], CONTACTS)?.as_slice()))
+    })
+}
+
+// Suggests lines for contacts, and finds those that git answers otherwise.
+fn suggest_lines(run: &mut Run, alloc: Global) -> Result<(), Wrong> {
+    let contacts = run.judge(
+        Call::CountContacts,
+        || count(alloc),
+        |counted| counted.no_contacts().is_empty(),
+    )?;
+    run.judge_at_once(Call::Suggest, || {
+        Ok(are_of_history(suggest(alloc, &[TEAM, FAULTY], &contacts)?.as_slice()))
+    })?;
+    run.judge_at_once(Call::OtherGitAnswers, || {
+        Ok(are_others_of_history(other_git_answers(alloc, &[TEAM, FAULTY], &contacts)?.as_slice()))
+    })
+}
+
+fn count(alloc: Global) -> Result<Contacts, AllocError> {
+    let mut counter = ContactCounter::new(alloc)?;
+    for line in &HISTORY {
+        counter.add_line(line)?;
+    }
+    counter.into_contacts()
+}
+
+fn write_suggestions(run: &mut Run, alloc: Global) -> Result<(), Wrong> {
+    run.judge_at_once(Call::PushEntry, || {
+        let mut text = Vec::new(alloc);
+        push_entry(&mut text, &team()[1], true)?;
+        Ok(text.as_slice() == SUGGESTED)
+    })?;
+    run.judge_at_once(Call::PushCount, || {
+        let mut text = Vec::new(alloc);
+        push_count(&mut text, 12, b"Jane Doe", b"jane@example.com", true)?;
+        Ok(text.as_slice() == COUNTED)
     })
 }

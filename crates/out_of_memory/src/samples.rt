@@ -6,6 +6,8 @@ use gix_mailmap::lines::Error;
 use gix_mailmap::snapshot::Signature;
 use gix_mailmap::verify::{Contact, Finding, FindingKind, Findings, GitReading, Position};
 use gix_mailmap::{Entry, actor};
+use mailmap_contacts::answers::Tally;
+use mailmap_suggestions::suggestions::Suggestion;
 use std::borrow::CowSlice;
 
 /// A mailmap with two mappings of one email: for everybody, and for one name.
@@ -66,7 +68,11 @@ pub fn are_of_faulty(findings: &[Finding<'_>]) -> bool {
         && is_on(ignored, 3)
         && is_on(mapped, 4)
         && is_on(read_otherwise, 5)
-        && no_effect.kind == FindingKind::NoEffect { beside: at(3) }
+        && no_effect.kind
+            == FindingKind::NoEffect {
+                beside: at(3),
+                is_same: false,
+            }
         && fault.kind
             == FindingKind::Fault(Error::NoEmail {
                 line: 2,
@@ -77,6 +83,8 @@ pub fn are_of_faulty(findings: &[Finding<'_>]) -> bool {
             == FindingKind::ItselfMapped {
                 contact: contact(b"Bob", email),
                 to: contact(b"Ann Lee", email),
+                first: at(3),
+                second: None,
             }
         && read_otherwise.kind
             == FindingKind::GitReads(GitReading::Entry(Entry::change_name_by_email(
@@ -101,6 +109,52 @@ pub fn walk_over_faulty(findings: Findings<'_, '_>) -> bool {
 pub fn are_unneeded(lines: &[Position]) -> bool {
     lines == [at(3), at(4), at(5)].as_slice()
 }
+
+/// Contacts that share an answer's email or its name, and one that git answers otherwise.
+pub static HISTORY: [&[u8]; 4] = [
+    b"JANE <bugs@example.com>",
+    b"jane <jane@example.com>",
+    b"Jane Doe <jd@example.com>",
+    b"E <eve@example.com>",
+];
+
+/// Whether this is suggested for these contacts beside both mailmaps.
+pub fn are_of_history(suggestions: &[Suggestion<'_>]) -> bool {
+    let jane = Entry::change_name_by_email(b"Jane Doe", b"jane@example.com");
+    let eve = Entry::change_name_by_email(b"Eve", b"eve@example.com");
+    let named = Entry::change_name_and_email_by_email(
+        b"Jane Doe",
+        b"jane@example.com",
+        b"jd@example.com",
+    );
+    let [first, second, third] = suggestions else {
+        return false;
+    };
+    has_entry(first, jane)
+        && has_entry(second, eve)
+        && has_entry(third, named)
+        && !first.is_to_judge
+        && third.is_to_judge
+        && first.answers.len() == 2
+        && are_others_of_history(second.git_answers.as_slice())
+}
+
+fn has_entry(suggestion: &Suggestion<'_>, entry: Entry<'_>) -> bool {
+    suggestion.entries.as_slice() == [entry].as_slice()
+}
+
+/// Whether this is the one answer of git to these contacts that is another one.
+pub fn are_others_of_history(others: &[Tally<'_>]) -> bool {
+    match others {
+        [other] => other.name == b"E".as_slice() && other.email == b"eve@example.com".as_slice(),
+        _ => false,
+    }
+}
+
+/// The line of the team's second entry that is to be judged.
+pub const SUGGESTED: &[u8] = b"#?Jane Doe <jane@example.com> Jane <bugs@example.com>\n";
+
+pub const COUNTED: &[u8] = b"# 12 Jane Doe <jane@example.com> by git\n";
 
 fn at(line: usize) -> Position {
     Position { buffer: 1, line }

@@ -16,7 +16,7 @@ use Rattle.command_line.proofs.FirstUnread.{may_read}
 use Rattle.verify_command.specs.declared.failure.TaskFailure.{TaskFailure}
 use Rattle.verify_command.specs.declared.failure.TaskFailure.TheVariants.{Run, Contacts as NoContacts, TooManyFiles, ReadOtherwise}
 use Rattle.verify_command.specs.declared.asked.Mode.{Mode}
-use Rattle.verify_command.specs.declared.asked.Mode.TheVariants.{Contacts, Help, Version}
+use Rattle.verify_command.specs.declared.asked.Mode.TheVariants.{Contacts, Help, Suggest, Version}
 
 pub not_blank : (line text : Text) → (length line == 0) ≡ false → shown_unless_blank line text ≡ shown text ++ 10 ∷ []
 not_blank [] text some = cc
@@ -44,14 +44,14 @@ of_files at paths mailmaps IsText before after are prints = (prints.0, (mailmaps
 
 -- the ways in which reading mailmaps can fail
 pub fails_reading : (at : Text → AtPath) (input : Option Text) (mode : Mode) (contacts : Text) (paths : List Text) (e : Failure) → mode ≢ Help → mode ≢ Version
-    → NamesFile at paths e → (IsOfInput e → (reads_contacts mode contacts ≡ true) ⊎ (paths ≡ [])) → FailsFor at input mode contacts paths (Run e)
+    → NamesFile at paths e → (IsOfInput e → (reads_contacts mode contacts ≡ true) ⊎ ((mode ≢ Suggest) × (paths ≡ []))) → FailsFor at input mode contacts paths (Run e)
 fails_reading at input mode contacts paths (File number cause) no_help no_version names of_input = names
 fails_reading at input mode contacts paths (Input cause) no_help no_version names of_input = (no_help, no_version, of_input tt)
 fails_reading at input mode contacts paths Memory no_help no_version names of_input = tt
 fails_reading at input mode contacts paths Output no_help no_version names of_input = tt
 
 -- mailmaps that were read
-readable : (at : Text → AtPath) (paths mailmaps : List Text) → AreRead at paths mailmaps → EachIndex paths (λ k. MayRead (at (slice_index_or paths k [])))
+pub readable : (at : Text → AtPath) (paths mailmaps : List Text) → AreRead at paths mailmaps → EachIndex paths (λ k. MayRead (at (slice_index_or paths k [])))
 readable at paths mailmaps read = λ k lt. may_read (at (slice_index_or paths k [])) (slice_index_or mailmaps k []) (read.1 k lt)
 
 readable_beside : (at : Text → AtPath) (contacts : Text) (paths : List Text) (input : Option Text) (mailmaps : List Text) (dash : Bool) → is_dash contacts ≡ dash → AreMailmapsBeside at contacts paths input mailmaps
@@ -67,7 +67,7 @@ fails_for_contacts at unread left contacts paths mailmaps (Run (File number caus
 fails_for_contacts at unread left contacts paths mailmaps (Run (Input cause)) are fails = ((λ is. cc), (λ is. cc), inl fails)
 fails_for_contacts at unread left contacts paths mailmaps (Run Memory) are fails = tt
 fails_for_contacts at unread left contacts paths mailmaps (Run Output) are fails = tt
-fails_for_contacts at unread left contacts paths mailmaps (NoContacts cause) are fails = (refl, fails.0, fails.1, readable_beside at contacts paths left mailmaps (is_dash contacts) refl are)
+fails_for_contacts at unread left contacts paths mailmaps (NoContacts cause) are fails = (inl refl, fails.0, fails.1, readable_beside at contacts paths left mailmaps (is_dash contacts) refl are)
 fails_for_contacts at unread left contacts paths mailmaps TooManyFiles are fails = absurd fails
 fails_for_contacts at unread left contacts paths mailmaps (ReadOtherwise position) are fails = absurd fails
 

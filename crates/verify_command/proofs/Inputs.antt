@@ -4,24 +4,25 @@ use Rattle.std.specs.Io.KnownBytes.{IsAtEnd}
 use Rattle.mailmap_entries.specs.Folding.{Text}
 use Rattle.verify_command.specs.Task.{ReadsInput, reads_contacts}
 use Rattle.verify_command.specs.declared.asked.Mode.{Mode}
-use Rattle.verify_command.specs.declared.asked.Mode.TheVariants.{Help, Version, Verify, Prune, Explain, Contacts}
+use Rattle.verify_command.specs.declared.asked.Mode.TheVariants.{Help, Version, Verify, Prune, Explain, Contacts, Suggest}
 
 none_of : {X : Type 0} (f : X → Text) (xs : List X) → map f xs ≡ [] → xs ≡ []
 none_of f [] is = refl
 none_of f (x ∷ xs) is = cc
 
-pub no_contacts : (mode : Mode) (contacts : Text) → mode ≢ Explain → mode ≢ Contacts → reads_contacts mode contacts ≡ false
-no_contacts Help contacts no_explain no_file = refl
-no_contacts Version contacts no_explain no_file = refl
-no_contacts Verify contacts no_explain no_file = refl
-no_contacts Prune contacts no_explain no_file = refl
-no_contacts Explain contacts no_explain no_file = absurd (no_explain refl)
-no_contacts Contacts contacts no_explain no_file = absurd (no_file refl)
+pub no_contacts : (mode : Mode) (contacts : Text) → mode ≢ Explain → mode ≢ Contacts → mode ≢ Suggest → reads_contacts mode contacts ≡ false
+no_contacts Help contacts no_explain no_file no_suggest = refl
+no_contacts Version contacts no_explain no_file no_suggest = refl
+no_contacts Verify contacts no_explain no_file no_suggest = refl
+no_contacts Prune contacts no_explain no_file no_suggest = refl
+no_contacts Explain contacts no_explain no_file no_suggest = absurd (no_explain refl)
+no_contacts Contacts contacts no_explain no_file no_suggest = absurd (no_file refl)
+no_contacts Suggest contacts no_explain no_file no_suggest = absurd (no_suggest refl)
 
 -- the input has the mailmap
 pub has_mailmap : {X : Type 0} (f : X → Text) (mode : Mode) (contacts : Text) (paths : List X) → ReadsInput mode contacts (map f paths) → reads_contacts mode contacts ≡ false → paths ≡ []
 has_mailmap f mode contacts paths (no_help, no_version, inl reads) none = cc
-has_mailmap f mode contacts paths (no_help, no_version, inr is) none = none_of f paths is
+has_mailmap f mode contacts paths (no_help, no_version, inr (no_suggest, is)) none = none_of f paths is
 
 -- standard input is read to its end if it has the contacts, or if it has the mailmap and a file has the contacts
 pub ends_beside : {X : Type 0} (f : X → Text) (dash : Bool) (paths : List X) (between after : Option Text) → (dash ≡ true) ⊎ (map f paths ≡ []) → (dash ≡ true → IsAtEnd after)

@@ -3,5 +3,10 @@ mod Explaining
 mod Grounded
 mod TakingLines
 mod Leaving
+mod Named
 mod Reporting
 mod Inputs
+mod Suggesting
+mod Naming
+mod Words
+mod Objects

@@ -1,26 +1,26 @@
 -- The report of contacts, and of mailmaps together with contacts.
-use Rattle.std.specs.Prelude.{◌≡◌, ℕ, Bool, true, false, if◌then◌else◌, List, [], ◌∷◌, ◌++◌, codes, decimal}
+use Rattle.std.specs.Prelude.{◌≡◌, ◌||◌, ℕ, Bool, Option, Some, None, List, [], ◌∷◌, ◌++◌, codes, decimal}
 use Rattle.std.specs.List.{flat_map, list_any}
 use Rattle.mailmap_entries.specs.Folding.{Text}
-use Rattle.mailmap_contacts.specs.Comparisons.{AreContactFindings, ContactFinding, no_contact, same_email, same_name}
-use Rattle.mailmap_contacts.specs.Contacts.{Tally}
+use Rattle.mailmap_contacts.specs.Comparisons.{AreContactFindings, ContactFinding, git_answers, no_contact, same_email, same_name}
+use Rattle.mailmap_contacts.specs.Contacts.{Tally, contacts_from, tallied}
 use Rattle.mailmap_findings.specs.Needs.{AreUnneeded}
-use Rattle.mailmap_findings.specs.Positions.{located_lines, located, whole_lines}
-use Rattle.mailmap_redundancy.specs.Redundancy.{entries}
+use Rattle.mailmap_findings.specs.Positions.{whole_lines}
 use Rattle.mailmap_redundancy.specs.declared.located.Position.{Position}
 use Rattle.mailmap_findings.specs.Remarks.{AreRemarks, Remark, found as remark_found, unneeded as remark_unneeded}
+use Rattle.mailmap_suggestions.specs.Counted.{other_git_answers}
+use Rattle.mailmap_suggestions.specs.Histories.{histories_of}
+use Rattle.mailmap_suggestions.specs.Lines.{Histories}
 use Rattle.command_line.specs.declared.outcome.Outcome.{Outcome}
-use Rattle.command_line.specs.declared.outcome.Outcome.TheVariants.{Clean, Found}
-use Rattle.verify_command.specs.Report.{finding_line, position_text, shown}
+use Rattle.verify_command.specs.Kinds.{contact_kind, remark_kind}
+use Rattle.verify_command.specs.Json.{FileLine, object_line}
+use Rattle.verify_command.specs.Report.{finding_line, finding_object, labelled, place_at, position_text, shown}
+use Rattle.verify_command.specs.Settings.{Choices, counts, formatted, if_reported, outcome_if}
 use Rattle.verify_command.specs.Shortened.{short_contact}
+use Rattle.verify_command.specs.declared.kinds.Kind.{Kind}
+use Rattle.verify_command.specs.declared.kinds.Kind.TheVariants as kind
 
 -- ---- findings about contacts
-
--- whether it counts for the exit status; an equal name doesn't, since two people can share one
-abbrev pub counts : ContactFinding → Bool
-counts (no_contact line) = true
-counts (same_email a p) = true
-counts (same_name a p) = false
 
 -- FILE:LINE
 abbrev pub place_text : Text → ℕ → Text
@@ -30,16 +30,48 @@ place_text file line = file ++ 58 ∷ decimal line
 abbrev pub counted_contact : Tally → Text
 counted_contact a = short_contact a.contact.name a.contact.email ++ codes " (" ++ decimal a.seen.count ++ 41 ∷ []
 
--- an answer beside the proper one, with the words before and between them
-abbrev pub comparison_text : Text → Text → Text → Tally → Tally → Text
-comparison_text level words file a p =
-    place_text file a.seen.first_line ++ level ++ counted_contact a ++ words ++ counted_contact p
+-- an answer beside the proper one, with the words between them
+abbrev pub comparison_text : Kind → Text → Text → Tally → Tally → Text
+comparison_text kind words file a p =
+    place_text file a.seen.first_line ++ labelled kind (counted_contact a ++ words ++ counted_contact p)
 
 -- a finding before escapes; `file` is the name of the file of contacts
 abbrev pub said : Text → ContactFinding → Text
-said file (no_contact line) = place_text file line ++ codes ": error: no contact"
-said file (same_email a p) = comparison_text (codes ": warning: ") (codes " has the email of ") file a p
-said file (same_name a p) = comparison_text (codes ": note: ") (codes " has the name of ") file a p
+said file (no_contact line) = place_text file line ++ labelled kind.NoContact (codes "no contact")
+said file (same_email a p) = comparison_text kind.SameEmail (codes " has the email of ") file a p
+said file (same_name a p) = comparison_text kind.SameName (codes " has the name of ") file a p
+said file (git_answers a) =
+    place_text file a.seen.first_line
+    ++ labelled kind.GitAnswers (codes "git answers " ++ short_contact a.contact.name a.contact.email)
+
+-- the findings about the contacts on lines, with the entries of mailmaps as this library reads them and as git does
+abbrev pub AreFoundWith : Histories → List Text → List ContactFinding → Type 0
+AreFoundWith h lines found = AreContactFindings h.ours (other_git_answers h (tallied (contacts_from 1 lines))) lines found
+
+-- ---- the same as JSON
+
+abbrev pub contact_words : ContactFinding → Text
+contact_words (no_contact line) = codes "no contact"
+contact_words (same_email a p) = counted_contact a ++ codes " has the email of " ++ counted_contact p
+contact_words (same_name a p) = counted_contact a ++ codes " has the name of " ++ counted_contact p
+contact_words (git_answers a) = codes "git answers " ++ short_contact a.contact.name a.contact.email
+
+abbrev pub contact_line : ContactFinding → ℕ
+contact_line (no_contact line) = line
+contact_line (same_email a p) = a.seen.first_line
+contact_line (same_name a p) = a.seen.first_line
+contact_line (git_answers a) = a.seen.first_line
+
+-- the first line with the answer that another is compared with
+abbrev pub compared : Text → ContactFinding → Option FileLine
+compared file (no_contact line) = None
+compared file (same_email a p) = Some (record { file = file; line = p.seen.first_line })
+compared file (same_name a p) = Some (record { file = file; line = p.seen.first_line })
+compared file (git_answers a) = None
+
+abbrev pub contact_object : Text → ContactFinding → Text
+contact_object file f =
+    object_line (contact_kind f) (record { file = file; line = contact_line f }) (contact_words f) (compared file f)
 
 -- ---- the report as text
 
@@ -47,33 +79,56 @@ said file (same_name a p) = comparison_text (codes ": note: ") (codes " has the 
 abbrev pub said_line : Text → ContactFinding → Text
 said_line file f = shown (said file f) ++ 10 ∷ []
 
-abbrev pub said_text : Text → List ContactFinding → Text
-said_text file found = flat_map (said_line file) found
+abbrev pub formatted_said : Choices → Text → ContactFinding → Text
+formatted_said c file f = formatted c (said_line file f) (contact_object file f)
+
+abbrev pub reported_said : Choices → Text → ContactFinding → Text
+reported_said c file f = if_reported c (contact_kind f) (formatted_said c file f)
+
+abbrev pub said_text : Choices → Text → List ContactFinding → Text
+said_text c file found = flat_map (reported_said c file) found
 
 -- a line of the report of mailmaps
 abbrev pub remark_line : List Text → Remark → Text
 remark_line paths (remark_found f) = finding_line paths f
 remark_line paths (remark_unneeded p) =
-    shown (position_text paths p.buffer p.line ++ codes ": warning: no contact needs it") ++ 10 ∷ []
+    shown (position_text paths p.buffer p.line ++ labelled kind.Unneeded (codes "no contact needs it")) ++ 10 ∷ []
+
+abbrev pub remark_object : List Text → Remark → Text
+remark_object paths (remark_found f) = finding_object paths f
+remark_object paths (remark_unneeded p) =
+    object_line kind.Unneeded (place_at paths p.buffer p.line) (codes "no contact needs it") None
+
+abbrev pub formatted_remark : Choices → List Text → Remark → Text
+formatted_remark c paths r = formatted c (remark_line paths r) (remark_object paths r)
+
+abbrev pub reported_remark : Choices → List Text → Remark → Text
+reported_remark c paths r = if_reported c (remark_kind r) (formatted_remark c paths r)
 
 -- the remarks on the mailmaps, and after them the findings about the contacts
-abbrev pub both_texts : List Text → Text → List Remark → List ContactFinding → Text
-both_texts paths file remarks found = flat_map (remark_line paths) remarks ++ said_text file found
+abbrev pub both_texts : Choices → List Text → Text → List Remark → List ContactFinding → Text
+both_texts c paths file remarks found = flat_map (reported_remark c paths) remarks ++ said_text c file found
 
--- `Found` if there is a remark, or a finding about contacts that counts
-abbrev pub outcome_of_both : List Remark → List ContactFinding → Outcome
-outcome_of_both [] found = if list_any counts found then Found else Clean
-outcome_of_both (r ∷ remarks) found = Found
+-- they count for the exit status
+abbrev pub remark_counts : Choices → Remark → Bool
+remark_counts c r = counts c (remark_kind r)
+
+abbrev pub contact_counts : Choices → ContactFinding → Bool
+contact_counts c f = counts c (contact_kind f)
+
+-- `Found` if there is a remark or a finding about contacts that counts
+abbrev pub outcome_of_both : Choices → List Remark → List ContactFinding → Outcome
+outcome_of_both c remarks found = outcome_if (list_any (remark_counts c) remarks || list_any (contact_counts c) found)
 
 -- The text is the report of the mailmaps with these contacts, followed by the findings about the contacts.
-abbrev pub IsReportBeside : List Text → Text → List Text → Text → Outcome → Text → Type 0
-IsReportBeside paths file mailmaps contacts outcome text = (remarks : List Remark) × (found : List ContactFinding)
+abbrev pub IsReportBeside : Choices → List Text → Text → List Text → Text → Outcome → Text → Type 0
+IsReportBeside c paths file mailmaps contacts outcome text = (remarks : List Remark) × (found : List ContactFinding)
     × AreRemarks mailmaps contacts remarks
-    × AreContactFindings (entries (located (located_lines mailmaps))) (whole_lines contacts) found
-    × (text ≡ both_texts paths file remarks found) × (outcome ≡ outcome_of_both remarks found)
+    × AreFoundWith (histories_of mailmaps) (whole_lines contacts) found
+    × (text ≡ both_texts c paths file remarks found) × (outcome ≡ outcome_of_both c remarks found)
 
 -- the lines that no contact needs, and the findings about the contacts
 pub record AreFoundBeside (mailmaps : List Text) (contacts : Text) (missing : List Position)
     (found : List ContactFinding) : Type 0 where
   pub unneeded : AreUnneeded mailmaps contacts missing
-  pub findings : AreContactFindings (entries (located (located_lines mailmaps))) (whole_lines contacts) found
+  pub findings : AreFoundWith (histories_of mailmaps) (whole_lines contacts) found

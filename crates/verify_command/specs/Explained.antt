@@ -12,9 +12,8 @@ use Rattle.mailmap_snapshot.specs.Parts.{EndsLine}
 use Rattle.mailmap_findings.specs.Positions.{located_lines, located, whole_lines}
 use Rattle.mailmap_redundancy.specs.Redundancy.{AreEffective, LocatedMapping, entries}
 use Rattle.mailmap_grammar.specs.Trimming.{trim}
-use Rattle.mailmap_redundancy.specs.declared.located.Position.{Position}
 use Rattle.answer_cache.specs.CachedLines.{CachedLine}
-use Rattle.verify_command.specs.Report.{position_text, shown}
+use Rattle.verify_command.specs.Report.{positions_text, shown}
 
 -- ---- one line
 
@@ -23,12 +22,6 @@ pub record Grounds : Type 0 where
   pub paths : List Text
   pub history : List LocatedMapping
   pub kept : List LocatedMapping
-
--- FILE:LINE, FILE:LINE
-abbrev pub positions_text : List Text → List Position → Text
-positions_text paths [] = []
-positions_text paths (p ∷ ps) =
-    position_text paths p.buffer p.line ++ flat_map (λ q. codes ", " ++ position_text paths q.buffer q.line) ps
 
 -- the text after a contact: the contact with its new fields, and the lines behind them
 abbrev pub mapped_text : List Text → Origins → Option Fields → Text → Text → Text

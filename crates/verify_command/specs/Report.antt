@@ -1,17 +1,21 @@
 -- The report of findings.
-use Rattle.std.specs.Prelude.{ℕ, List, [], ◌∷◌, ◌++◌, codes, decimal, slice_index_or, unwrap_or}
-use Rattle.std.specs.List.{flat_map}
+use Rattle.std.specs.Prelude.{◌==◌, ◌||◌, ◌&&◌, ℕ, Bool, true, false, if◌then◌else◌, List, [], ◌∷◌, ◌++◌, Option, Some, None, codes, decimal, not, option_to_list, slice_index_or, unwrap_or}
+use Rattle.std.specs.List.{flat_map, list_any}
 use Rattle.std.specs.Option.{option_map}
 use Rattle.mailmap_entries.specs.Folding.{Text}
-use Rattle.mailmap_grammar.specs.Lines.{FaultKind, no_email, missing_closing_bracket, empty_email, nothing_to_map, unclosed_second}
+use Rattle.mailmap_grammar.specs.Lines.{FaultKind, is_comment, no_email, missing_closing_bracket, empty_email, nothing_to_map, unclosed_second}
 use Rattle.mailmap_grammar.specs.CanonicalText.{bracketed_email, email_part, name_part}
 use Rattle.mailmap_entries.specs.Entries.{Mapping}
 use Rattle.mailmap_findings.specs.Findings.{Contact, Finding, FindingKind, fault, ignored_text, git_reads, no_effect, itself_mapped}
 use Rattle.mailmap_findings.specs.Git.{GitReading, Nothing, Entry, Lines}
+use Rattle.mailmap_redundancy.specs.declared.located.Position.{Position}
 pub use Rattle.command_line.specs.Shown.{shown}
+use Rattle.verify_command.specs.Kinds.{finding_kind, kind_level, kind_name, level_name}
 use Rattle.verify_command.specs.Shortened.{short_contact, shortened}
+use Rattle.verify_command.specs.declared.kinds.Kind.{Kind}
 use Rattle.command_line.specs.declared.outcome.Outcome.{Outcome}
-use Rattle.command_line.specs.declared.outcome.Outcome.TheVariants.{Clean, Found}
+use Rattle.verify_command.specs.Json.{FileLine, object_line}
+use Rattle.verify_command.specs.Settings.{Choices, counts, formatted, if_reported, outcome_if}
 
 -- the name of a buffer in messages: its path, or without paths that of standard input
 abbrev pub file_name : List Text → ℕ → Text
@@ -21,6 +25,12 @@ file_name (path ∷ paths) buffer = slice_index_or (path ∷ paths) buffer []
 -- FILE:LINE
 abbrev pub position_text : List Text → ℕ → ℕ → Text
 position_text paths buffer line = file_name paths buffer ++ 58 ∷ decimal line
+
+-- FILE:LINE, FILE:LINE
+abbrev pub positions_text : List Text → List Position → Text
+positions_text paths [] = []
+positions_text paths (p ∷ ps) =
+    position_text paths p.buffer p.line ++ flat_map (λ q. codes ", " ++ position_text paths q.buffer q.line) ps
 
 abbrev pub fault_text : FaultKind → Text
 fault_text no_email = codes "no email in brackets"
@@ -44,28 +54,92 @@ git_text Nothing = codes "nothing here"
 git_text (Entry e) = codes "it as " ++ entry_text e
 git_text (Lines count) = codes "it as " ++ decimal count ++ codes " lines"
 
+-- `<`, `>` or `@`
+abbrev pub is_email_byte : ℕ → Bool
+is_email_byte b = b == 60 || b == 62 || b == 64
+
+-- it has none of these bytes, and doesn't begin with `#`
+abbrev pub looks_like_name : Text → Bool
+looks_like_name text = not (is_comment text) && not (list_any is_email_byte text)
+
+-- what to do about an ignored text
+abbrev pub cure_text : Text → Text
+cure_text text = if looks_like_name text then codes " (an old name needs an email after it)" else []
+
+-- what the line beside one without effect says
+abbrev pub says_text : Bool → Text
+says_text true = codes " says the same"
+says_text false = codes " says something else"
+
+-- the lines that map a contact
+unfoldable pub by_text : List Text → Position → Option Position → Text
+by_text paths line second = codes " by " ++ positions_text paths (line ∷ option_to_list second)
+
+abbrev pub mapping_text : Contact → Contact → Text
+mapping_text c to = contact_text c ++ codes " is itself mapped, to " ++ contact_text to
+
+-- what a finding says
 abbrev pub reported_text : List Text → FindingKind → Text
-reported_text paths (fault f) = codes "error: " ++ fault_text f.kind
-reported_text paths (ignored_text text) = codes "warning: ignored text: " ++ shortened text
-reported_text paths (git_reads reading) = codes "warning: git reads " ++ git_text reading
-reported_text paths (no_effect beside) =
-    codes "warning: no effect beside " ++ position_text paths beside.buffer beside.line
-reported_text paths (itself_mapped c to) =
-    codes "warning: " ++ contact_text c ++ codes " is itself mapped, to " ++ contact_text to
+reported_text paths (fault f) = fault_text f.kind
+reported_text paths (ignored_text text) = codes "ignored text: " ++ shortened text ++ cure_text text
+reported_text paths (git_reads reading) = codes "git reads " ++ git_text reading
+reported_text paths (no_effect beside is_same) =
+    codes "no effect: " ++ position_text paths beside.buffer beside.line ++ says_text is_same
+reported_text paths (itself_mapped c to line second) = mapping_text c to ++ by_text paths line second
+
+-- what stands between the place of a finding and what it says
+unfoldable pub level_text : Kind → Text
+level_text kind = codes ": " ++ level_name (kind_level kind) ++ codes ": "
+
+-- what stands behind that
+unfoldable pub kind_text : Kind → Text
+kind_text kind = codes " [" ++ kind_name kind ++ codes "]"
+
+-- `: LEVEL: TEXT [KIND]`
+abbrev pub labelled : Kind → Text → Text
+labelled kind text = level_text kind ++ text ++ kind_text kind
 
 -- a finding, before escapes
 abbrev pub finding_text : List Text → Finding → Text
 finding_text paths f =
-    position_text paths f.position.buffer f.position.line ++ codes ": " ++ reported_text paths f.kind
+    position_text paths f.position.buffer f.position.line
+    ++ labelled (finding_kind f.kind) (reported_text paths f.kind)
 
 -- the line of a finding
 abbrev pub finding_line : List Text → Finding → Text
 finding_line paths f = shown (finding_text paths f) ++ 10 ∷ []
 
-abbrev pub report : List Text → List Finding → Text
-report paths findings = flat_map (finding_line paths) findings
+-- ---- as JSON
 
--- whether there are findings
-abbrev pub outcome_of : List Finding → Outcome
-outcome_of [] = Clean
-outcome_of (f ∷ findings) = Found
+abbrev pub place_at : List Text → ℕ → ℕ → FileLine
+place_at paths buffer line = record { file = file_name paths buffer; line = line }
+
+-- the other line that a finding refers to, the first one if there are two
+abbrev pub referred : List Text → FindingKind → Option FileLine
+referred paths (fault f) = None
+referred paths (ignored_text text) = None
+referred paths (git_reads reading) = None
+referred paths (no_effect beside is_same) = Some (place_at paths beside.buffer beside.line)
+referred paths (itself_mapped c to line second) = Some (place_at paths line.buffer line.line)
+
+abbrev pub finding_object : List Text → Finding → Text
+finding_object paths f = object_line (finding_kind f.kind) (place_at paths f.position.buffer f.position.line)
+    (reported_text paths f.kind) (referred paths f.kind)
+
+-- ---- the report
+
+abbrev pub formatted_finding : Choices → List Text → Finding → Text
+formatted_finding c paths f = formatted c (finding_line paths f) (finding_object paths f)
+
+abbrev pub reported_line : Choices → List Text → Finding → Text
+reported_line c paths f = if_reported c (finding_kind f.kind) (formatted_finding c paths f)
+
+abbrev pub report : Choices → List Text → List Finding → Text
+report c paths findings = flat_map (reported_line c paths) findings
+
+abbrev pub finding_counts : Choices → Finding → Bool
+finding_counts c f = counts c (finding_kind f.kind)
+
+-- whether there are findings that count
+abbrev pub outcome_of : Choices → List Finding → Outcome
+outcome_of c findings = outcome_if (list_any (finding_counts c) findings)

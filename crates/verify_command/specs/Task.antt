@@ -1,127 +1,39 @@
--- The arguments of `mailmap_verify`, and what each task prints.
-use Rattle.std.specs.Prelude.{◌≡◌, ◌≢◌, ◌⊎◌, ◌<◌, ◌==◌, ◌&&◌, ◌||◌, ⊤, Bool, true, false, if◌then◌else◌, nat_eq, nat_lt, length, EachIndex, slice_index_or, List, [], ◌∷◌, ◌++◌, Option, Some, None, IfErr, IfOk, IfSome, Result, Ok, Err, codes, slice_index}
+-- What each task of `mailmap_verify` prints.
+use Rattle.std.specs.Prelude.{◌≡◌, ◌≢◌, ◌⊎◌, ◌<◌, ⊤, true, false, if◌then◌else◌, length, EachIndex, slice_index_or, List, [], ◌∷◌, ◌++◌, Option, Some, None, IfErr, IfOk, IfSome, OnOk, Result, codes}
 use Rattle.std.specs.Result.{IsErr, IsErrOf}
 use Rattle.std.specs.declared.io.ErrorKind.{ErrorKind}
-use lib.Pointwise.{pointwise}
 use Rattle.mailmap_entries.specs.Folding.{Text}
+use Rattle.mailmap_contacts.specs.Contacts.{contacts_from}
 use Rattle.mailmap_findings.specs.Findings.{AreFindings, IsPruned, Finding, first_read_otherwise}
+use Rattle.mailmap_findings.specs.Positions.{whole_lines}
+use Rattle.mailmap_suggestions.specs.Histories.{histories_of}
+use Rattle.mailmap_suggestions.specs.SuggestedText.{suggested_text}
+use Rattle.mailmap_contacts.specs.Contacts.{tallied}
 use Rattle.command_line.specs.Failures.{IsOfFile}
-use Rattle.command_line.specs.Files.{AreRead, AtPath, Bytes, Fails, Gives, MayRead, NamesFile, Unknown, texts}
+use Rattle.command_line.specs.Files.{AreRead, AtPath, Bytes, Fails, Gives, MayRead, NamesFile, Unknown}
 use Rattle.command_line.specs.Leaving.{LeavesAnswers}
 use Rattle.command_line.specs.Printing.{Prints, PrintsFront}
 use Rattle.command_line.specs.declared.TheConstants.{VERSION}
 use Rattle.command_line.specs.declared.failure.Failure.{Failure}
 use Rattle.command_line.specs.declared.outcome.Outcome.{Outcome}
 use Rattle.command_line.specs.declared.outcome.Outcome.TheVariants.{Clean}
+pub use Rattle.verify_command.specs.Arguments.{is_dash, reads_contacts}
 use Rattle.verify_command.specs.Contacts.{IsReportBeside}
 use Rattle.verify_command.specs.Explained.{ExplainsAll, ExplainsLines, ExplainsWholeLines}
 use Rattle.verify_command.specs.Report.{outcome_of, report}
+use Rattle.verify_command.specs.Settings.{Choices, input_name, mailmap_names}
 use Rattle.command_line.specs.declared.failure.Failure.TheVariants.{File, Input, Memory, Output}
 use Rattle.verify_command.specs.declared.failure.TaskFailure.{TaskFailure}
 use Rattle.verify_command.specs.declared.failure.TaskFailure.TheVariants.{Run, Contacts as NoContacts, TooManyFiles, ReadOtherwise}
-use Rattle.verify_command.specs.declared.asked.Misuse.{Misuse}
-use Rattle.verify_command.specs.declared.asked.Misuse.TheVariants as misuse
 use Rattle.verify_command.specs.declared.asked.Mode.{Mode}
-use Rattle.verify_command.specs.declared.asked.Mode.TheVariants.{Help, Version, Verify, Prune, Explain, Contacts}
-use Rattle.verify_command.specs.declared.asked.Task.{Task}
-use Rattle.verify_command.specs.declared.task.Word.{Word}
-use Rattle.verify_command.specs.declared.task.Word.TheVariants as word
+use Rattle.verify_command.specs.declared.asked.Mode.TheVariants.{Help, Version, Verify, Prune, Explain, Contacts, Suggest}
 use Rattle.verify_command.specs.declared.asked.TheConstants.{USAGE}
 
--- ---- parsing arguments
-
--- a task with its file of contacts and its paths, or the error in the arguments
-pub data Asked : Type 0 where
-  task : Mode → Text → List Text → Asked
-  unknown_option : Text → Asked
-  second_mode : Text → Asked
-  no_file : Text → Asked
-
--- the specification's view of a parsed task or an error
-abbrev pub asked_of : Result Task Misuse → Asked
-asked_of (Ok t) = task t.mode t.contacts.now (texts t.paths.now)
-asked_of (Err (misuse.UnknownOption option)) = unknown_option option.now
-asked_of (Err (misuse.SecondMode option)) = second_mode option.now
-asked_of (Err (misuse.NoFile option)) = no_file option.now
-
-abbrev pub same_text : Text → Text → Bool
-same_text a b = pointwise nat_eq a b
-
--- an argument that starts with `-` and is longer than that
-abbrev pub is_dashed : Text → Bool
-is_dashed argument = slice_index argument 0 == 45 && nat_lt 1 (length argument)
-
--- the kind of an argument where an option can stand
-abbrev pub word_of : Text → Word
-word_of argument =
-    if same_text argument (codes "--") then word.End
-    else if same_text argument (codes "-h") || same_text argument (codes "--help") then word.Help
-    else if same_text argument (codes "--version") then word.Version
-    else if same_text argument (codes "--prune") then word.Mode Prune
-    else if same_text argument (codes "--explain") then word.Mode Explain
-    else if same_text argument (codes "--contacts") then word.Contacts
-    else if is_dashed argument then word.Unknown
-    else word.Path
-
--- `-` as a file means standard input
-abbrev pub is_dash : Text → Bool
-is_dash path = same_text path (codes "-")
-
--- standard input has contacts, and so can't be the mailmap
-abbrev pub reads_contacts : Mode → Text → Bool
-reads_contacts Help contacts = false
-reads_contacts Version contacts = false
-reads_contacts Verify contacts = false
-reads_contacts Prune contacts = false
-reads_contacts Explain contacts = true
-reads_contacts Contacts contacts = is_dash contacts
-
--- standard input has the contacts or the one mailmap
+-- Standard input has the contacts or the one mailmap; lines are suggested without a mailmap if there is no path.
 abbrev pub ReadsInput : Mode → Text → List Text → Type 0
 ReadsInput mode contacts paths =
-    (mode ≢ Help) × (mode ≢ Version) × ((reads_contacts mode contacts ≡ true) ⊎ (paths ≡ []))
-
--- whether the path means standard input: it is `-`, unless standard input has contacts
-abbrev pub is_standard_input : Mode → Text → Text → Bool
-is_standard_input mode contacts path = if reads_contacts mode contacts then false else is_dash path
-
--- the task with these paths; standard input counts as no path
-abbrev pub task_with : Mode → Text → List Text → Asked
-task_with mode contacts [] = task mode contacts []
-task_with mode contacts (path ∷ []) =
-    task mode contacts (if is_standard_input mode contacts path then [] else path ∷ [])
-task_with mode contacts (path ∷ next ∷ paths) = task mode contacts (path ∷ next ∷ paths)
-
--- the arguments after the mode, where another mode is an error
-abbrev pub asked_in : Mode → Text → List Text → Asked
-asked_in mode contacts [] = task_with mode contacts []
-asked_in mode contacts (argument ∷ rest) = elim (word_of argument) [
-  | word.End ↦ task_with mode contacts rest
-  | word.Help ↦ task Help [] []
-  | word.Version ↦ task Version [] []
-  | word.Mode other ↦ second_mode argument
-  | word.Contacts ↦ second_mode argument
-  | word.Unknown ↦ unknown_option argument
-  | word.Path ↦ task_with mode contacts (argument ∷ rest)
-]
-
--- the arguments after `--contacts`, of which the first is its file, whatever it looks like
-abbrev pub asked_beside : Text → List Text → Asked
-asked_beside option [] = no_file option
-asked_beside option (file ∷ rest) = asked_in Contacts file rest
-
--- all arguments; if the first is no option for a mode, the mode is to verify
-abbrev pub asked : List Text → Asked
-asked [] = task_with Verify [] []
-asked (argument ∷ rest) = elim (word_of argument) [
-  | word.Mode mode ↦ asked_in mode [] rest
-  | word.Contacts ↦ asked_beside argument rest
-  | word.End ↦ asked_in Verify [] (argument ∷ rest)
-  | word.Help ↦ asked_in Verify [] (argument ∷ rest)
-  | word.Version ↦ asked_in Verify [] (argument ∷ rest)
-  | word.Unknown ↦ asked_in Verify [] (argument ∷ rest)
-  | word.Path ↦ asked_in Verify [] (argument ∷ rest)
-]
+    (mode ≢ Help) × (mode ≢ Version)
+    × ((reads_contacts mode contacts ≡ true) ⊎ ((mode ≢ Suggest) × (paths ≡ [])))
 
 -- ---- the output of a task
 
@@ -145,13 +57,14 @@ AreContacts at contacts input text =
     × (is_dash contacts ≡ false → Gives (at contacts) text)
 
 -- the name of the file of contacts in messages
-abbrev pub contacts_name : Text → Text
-contacts_name contacts = if is_dash contacts then codes "<stdin>" else contacts
+abbrev pub contacts_name : Choices → Text → Text
+contacts_name c contacts = if is_dash contacts then input_name c else contacts
 
--- The text has a line for each finding in the mailmaps and nothing else, and the outcome tells whether there is one.
-abbrev pub IsReport : List Text → List Text → Outcome → Text → Type 0
-IsReport paths mailmaps outcome text = (findings : List Finding)
-    × AreFindings mailmaps findings × (text ≡ report paths findings) × (outcome ≡ outcome_of findings)
+-- The text has a line for each finding in the mailmaps that is reported, and nothing else, and the outcome tells
+-- whether one of them counts.
+abbrev pub IsReport : Choices → List Text → List Text → Outcome → Text → Type 0
+IsReport c paths mailmaps outcome text = (findings : List Finding) × AreFindings mailmaps findings
+    × (text ≡ report c (mailmap_names c paths) findings) × (outcome ≡ outcome_of c findings)
 
 -- The text is made from the contents of the files at these paths.
 abbrev pub OfFiles : (Text → AtPath) → List Text → (List Text → Text → Type 0) → Text → Type 0
@@ -168,22 +81,39 @@ LeavesExplained at paths unread left contents old new result = LeavesAnswers
     (contents old) (contents new))
     left (contents old) (contents new) result
 
+-- The text suggests lines for the contacts in the file, or of the input, beside the mailmaps at these paths.
+abbrev pub IsSuggested : (Text → AtPath) → Option Text → Text → List Text → Text → Type 0
+IsSuggested at input contacts paths = OfFiles at paths (λ mailmaps text. (lines : Text)
+    × AreContacts at contacts input lines
+    × (text ≡ suggested_text (histories_of mailmaps) (tallied (contacts_from 1 (whole_lines lines)))))
+
+-- What suggesting lines has written when it ends. If writing fails, or if memory runs out while they are printed, that
+-- is a prefix of the text; after any other failure nothing is written.
+pub record LeavesSuggested {W T : Type 0} (IsText : Text → Type 0) (contents : W → Option Text) (old new : W)
+    (result : Result T TaskFailure) : Type 0 where
+  pub prints : OnOk result (Prints IsText (contents old) (contents new))
+  pub breaks_off : IsErrOf result (Run Output) → PrintsFront IsText (contents old) (contents new)
+  pub memory : IsErrOf result (Run Memory) → (new ≡ old) ⊎ PrintsFront IsText (contents old) (contents new)
+  pub silent : IsErr result → ¬ IsErrOf result (Run Output) → ¬ IsErrOf result (Run Memory) → new ≡ old
+
 -- the output of each mode, and its outcome; a mailmap is pruned only if git reads each of its lines alike
-abbrev pub IsAnswer : (Text → AtPath) → Option Text → Mode → Text → List Text → Outcome → Text
-    → Type 0
-IsAnswer at input Help contacts paths outcome text = (text ≡ USAGE.now) × (outcome ≡ Clean)
-IsAnswer at input Version contacts paths outcome text =
+abbrev pub IsAnswer : (Text → AtPath) → Option Text → Choices → Mode → Text → List Text → Outcome
+    → Text → Type 0
+IsAnswer at input c Help contacts paths outcome text = (text ≡ USAGE.now) × (outcome ≡ Clean)
+IsAnswer at input c Version contacts paths outcome text =
     (text ≡ codes "mailmap_verify " ++ VERSION.now ++ 10 ∷ []) × (outcome ≡ Clean)
-IsAnswer at input Verify contacts paths outcome text = (mailmaps : List Text)
-    × AreMailmaps at paths input mailmaps × IsReport paths mailmaps outcome text
-IsAnswer at input Prune contacts paths outcome text = (mailmap : Text)
+IsAnswer at input c Verify contacts paths outcome text = (mailmaps : List Text)
+    × AreMailmaps at paths input mailmaps × IsReport c paths mailmaps outcome text
+IsAnswer at input c Prune contacts paths outcome text = (mailmap : Text)
     × AreMailmaps at paths input (mailmap ∷ [])
     × IsPruned mailmap text × (first_read_otherwise (mailmap ∷ []) ≡ None) × (outcome ≡ Clean)
-IsAnswer at input Explain contacts paths outcome text =
+IsAnswer at input c Explain contacts paths outcome text =
     OfFiles at paths (λ mailmaps. ExplainsAll paths mailmaps input) text × (outcome ≡ Clean)
-IsAnswer at input Contacts contacts paths outcome text = (mailmaps : List Text) × (lines : Text)
+IsAnswer at input c Contacts contacts paths outcome text = (mailmaps : List Text) × (lines : Text)
     × AreMailmapsBeside at contacts paths input mailmaps × AreContacts at contacts input lines
-    × IsReportBeside paths (contacts_name contacts) mailmaps lines outcome text
+    × IsReportBeside c (mailmap_names c paths) (contacts_name c contacts) mailmaps lines outcome text
+IsAnswer at input c Suggest contacts paths outcome text =
+    IsSuggested at input contacts paths text × (outcome ≡ Clean)
 
 -- a file of a mailmap can't be read
 abbrev pub IsOfMailmap : TaskFailure → Type 0
@@ -215,6 +145,17 @@ FailsForContacts at contacts (NoContacts cause) = (is_dash contacts ≡ false) �
 FailsForContacts at contacts TooManyFiles = ⊥
 FailsForContacts at contacts (ReadOtherwise position) = ⊥
 
+-- Suggesting lines can fail in this way.
+abbrev pub FailsToSuggest : (Text → AtPath) → Text → List Text → TaskFailure → Type 0
+FailsToSuggest at contacts paths (Run (File number cause)) = NamesFile at paths (File number cause)
+FailsToSuggest at contacts paths (Run (Input cause)) = is_dash contacts ≡ true
+FailsToSuggest at contacts paths (Run Memory) = ⊤
+FailsToSuggest at contacts paths (Run Output) = ⊤
+FailsToSuggest at contacts paths (NoContacts cause) = (is_dash contacts ≡ false) × HasCause (at contacts) cause
+    × EachIndex paths (λ k. MayRead (at (slice_index_or paths k [])))
+FailsToSuggest at contacts paths TooManyFiles = ⊥
+FailsToSuggest at contacts paths (ReadOtherwise position) = ⊥
+
 -- Such a task can fail in this way. A file that can't be read is named by its number among the paths, from 1. The
 -- position is that of the mailmap's first line that git reads in another way.
 abbrev pub FailsFor : (Text → AtPath) → Option Text → Mode → Text → List Text → TaskFailure
@@ -224,8 +165,8 @@ FailsFor at input mode contacts paths (Run (File number cause)) =
 FailsFor at input mode contacts paths (Run (Input cause)) = ReadsInput mode contacts paths
 FailsFor at input mode contacts paths (Run Memory) = ⊤
 FailsFor at input mode contacts paths (Run Output) = ⊤
-FailsFor at input mode contacts paths (NoContacts cause) = (mode ≡ Contacts) × (is_dash contacts ≡ false)
-    × HasCause (at contacts) cause × EachIndex paths (λ k. MayRead (at (slice_index_or paths k [])))
+FailsFor at input mode contacts paths (NoContacts cause) = ((mode ≡ Contacts) ⊎ (mode ≡ Suggest))
+    × (is_dash contacts ≡ false) × HasCause (at contacts) cause × EachIndex paths (λ k. MayRead (at (slice_index_or paths k [])))
 FailsFor at input mode contacts paths TooManyFiles = (mode ≡ Prune) × (1 < length paths)
 FailsFor at input mode contacts paths (ReadOtherwise position) = (mode ≡ Prune) × ((mailmap : Text)
     × AreMailmaps at paths input (mailmap ∷ []) × (first_read_otherwise (mailmap ∷ []) ≡ Some position))
@@ -233,19 +174,19 @@ FailsFor at input mode contacts paths (ReadOtherwise position) = (mode ≡ Prune
 -- ---- what a run has written
 
 -- What a task has written when it ends. If writing fails, that is a prefix of the answer; so it may be if memory runs
--- out while a report is printed. After any other failure nothing is written, except when contacts are explained: then,
+-- out while a report or suggested lines are printed. After any other failure nothing is written, except when contacts are explained: then,
 -- if the input fails, the explanations of all whole lines read so far are written, and if memory runs out, those of the
 -- first of them.
 pub record Leaves {W : Type 0} (at : Text → AtPath)
-    (unread left : Option Text) (mode : Mode) (contacts : Text) (paths : List Text) (contents : W → Option Text)
-    (old new : W) (result : Result Outcome TaskFailure) : Type 0 where
-  pub prints : IfOk result (λ outcome. Prints (IsAnswer at unread mode contacts paths outcome)
+    (unread left : Option Text) (choices : Choices) (mode : Mode) (contacts : Text) (paths : List Text)
+    (contents : W → Option Text) (old new : W) (result : Result Outcome TaskFailure) : Type 0 where
+  pub prints : IfOk result (λ outcome. Prints (IsAnswer at unread choices mode contacts paths outcome)
       (contents old) (contents new))
   pub breaks_off : IsErrOf result (Run Output) → (outcome : Outcome)
-      × PrintsFront (IsAnswer at unread mode contacts paths outcome) (contents old) (contents new)
+      × PrintsFront (IsAnswer at unread choices mode contacts paths outcome) (contents old) (contents new)
   pub memory : mode ≢ Explain → IsErrOf result (Run Memory) → (new ≡ old)
-      ⊎ (((mode ≡ Verify) ⊎ (mode ≡ Contacts)) × ((outcome : Outcome)
-      × PrintsFront (IsAnswer at unread mode contacts paths outcome) (contents old) (contents new)))
+      ⊎ (((mode ≡ Verify) ⊎ ((mode ≡ Contacts) ⊎ (mode ≡ Suggest))) × ((outcome : Outcome)
+      × PrintsFront (IsAnswer at unread choices mode contacts paths outcome) (contents old) (contents new)))
   pub silent : mode ≢ Explain → IsErr result → ¬ IsErrOf result (Run Output) → ¬ IsErrOf result (Run Memory)
       → new ≡ old
   pub silent_at_files : IfErr result (λ e. IsOfAnyFile e → new ≡ old)

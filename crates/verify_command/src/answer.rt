@@ -1,4 +1,4 @@
-//! The output of each mode but `Mode::Explain` and `Mode::Contacts`.
+//! The output of each mode but `Mode::Explain`, `Mode::Contacts` and `Mode::Suggest`.
 ghost use Rattle.std.specs.Prelude.{◌≡◌, ◌≢◌, ◌<◌, ◌⊎◌, ◌∷◌, ◌++◌, [], IfErr, IfOk, IsErrOf, OnOk, codes, length};
 ghost use Rattle.std.specs.Io.KnownBytes.{IsAtEnd};
 ghost use Rattle.mailmap_entries.specs.Folding.{Text};
@@ -6,9 +6,10 @@ ghost use Rattle.command_line.specs.Printing.{Prints, PrintsFront};
 ghost use Rattle.command_line.specs.declared.outcome.Outcome.{Outcome as TheOutcome};
 ghost use Rattle.command_line.specs.Failures.{IsOfFile, IsOfInput};
 ghost use Rattle.command_line.specs.Files.{NamesFile, texts};
+ghost use Rattle.verify_command.specs.Settings.{choices_of};
 ghost use Rattle.verify_command.specs.Task.{AreMailmaps, FailsFor, IsAnswer, IsOfMailmap, IsReport};
 
-use crate::asked::{Mode, Task, USAGE};
+use crate::asked::{Mode, Settings, Task, USAGE};
 use crate::failure::TaskFailure;
 use crate::report::print_findings;
 use command_line::VERSION;
@@ -31,7 +32,8 @@ pub fn answer_to<F: FileSystem, R: Read>(
     input: &mut R,
 ) -> Result<Vec<u8>, TaskFailure>
     ensures ok { task.entry.mode ≢ Mode.Verify → task.entry.mode ≢ Mode.Explain → task.entry.mode ≢ Mode.Contacts
-        → IfOk result (λ text. IsAnswer (F.at system.now) (R.remaining input.old)
+        → task.entry.mode ≢ Mode.Suggest → IfOk result (λ text. IsAnswer (F.at system.now) (R.remaining input.old)
+        (choices_of task.entry.settings.now)
         task.entry.mode task.entry.contacts.now (texts task.entry.paths.now) Outcome.Clean text.items) }
     ensures reads_all { task.entry.mode ≢ Mode.Help → task.entry.mode ≢ Mode.Version → task.entry.paths.now ≡ []
         → OnOk result (IsAtEnd (R.remaining input.new)) }
@@ -40,7 +42,7 @@ pub fn answer_to<F: FileSystem, R: Read>(
     ensures unread_for_help { task.entry.mode ≡ Mode.Help → input.new ≡ input.old }
     ensures unread_for_version { task.entry.mode ≡ Mode.Version → input.new ≡ input.old }
     ensures fails { task.entry.mode ≢ Mode.Verify → task.entry.mode ≢ Mode.Explain → task.entry.mode ≢ Mode.Contacts
-        → IfErr result (FailsFor (F.at system.now) (R.remaining input.old)
+        → task.entry.mode ≢ Mode.Suggest → IfErr result (FailsFor (F.at system.now) (R.remaining input.old)
         task.entry.mode task.entry.contacts.now (texts task.entry.paths.now)) }
     ensures too_many { task.entry.mode ≡ Mode.Prune → 1 < length task.entry.paths.now
         → IsErrOf result TaskFailure.TooManyFiles }
@@ -68,27 +70,37 @@ fn version_line(alloc: Global) -> Result<Vec<u8>, AllocError>
     Ok(line)
 }
 
-/// Prints the findings in mailmaps, and returns whether there are any.
+/// Prints the findings in mailmaps that are reported, and returns whether one of them counts.
 ///
 /// After a failure, the output is unchanged or a prefix of the report was written.
 pub fn print_report<W: Write>(
     alloc: Global,
+    settings: &Settings,
     paths: &[Vec<u8>],
     mailmaps: &[Vec<u8>],
     output: &mut W,
 ) -> Result<Outcome, Failure>
-    ensures prints { IfOk result (λ outcome. Prints (IsReport (texts paths.now) (texts mailmaps.now) outcome)
+    ensures prints { IfOk result (λ outcome. Prints
+        (IsReport (choices_of settings.now) (texts paths.now) (texts mailmaps.now) outcome)
         (W.contents output.old) (W.contents output.new)) }
     ensures breaks_off { IsErrOf result Failure.Output → (outcome : TheOutcome) × PrintsFront
-        (IsReport (texts paths.now) (texts mailmaps.now) outcome) (W.contents output.old) (W.contents output.new) }
+        (IsReport (choices_of settings.now) (texts paths.now) (texts mailmaps.now) outcome)
+        (W.contents output.old) (W.contents output.new) }
     ensures memory { IsErrOf result Failure.Memory → (output.new ≡ output.old) ⊎ ((outcome : TheOutcome) × PrintsFront
-        (IsReport (texts paths.now) (texts mailmaps.now) outcome) (W.contents output.old) (W.contents output.new)) }
+        (IsReport (choices_of settings.now) (texts paths.now) (texts mailmaps.now) outcome)
+        (W.contents output.old) (W.contents output.new)) }
     ensures only { IfErr result (λ e. (e ≡ Failure.Memory) ⊎ (e ≡ Failure.Output)) }
 {
     let buffers = list_of(alloc, mailmaps)?;
     let mailmaps = Mailmaps::read(alloc, buffers.as_slice())?;
     let verification = Verification::new(alloc, &mailmaps)?;
-    print_findings(alloc, paths, verification.findings(), output)
+    print_findings(
+        alloc,
+        settings,
+        settings.mailmap_names(paths),
+        verification.findings(),
+        output,
+    )
 }
 
 /// Reads the mailmaps at the paths, or without paths the input as one mailmap. Stops at the first failure.

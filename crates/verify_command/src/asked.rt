@@ -1,17 +1,28 @@
 //! What arguments can ask for.
+ghost use Rattle.std.specs.Prelude.{◌≡◌};
+ghost use Rattle.verify_command.specs.declared.asked.ParseError.TheVariants.{Memory};
+
+use crate::kinds::{Kind, Level};
+use std::alloc::{AllocError, AllocFailed};
 
 pub const USAGE: &str = "\
-usage: mailmap_verify [--] [FILE..]          prints what is wrong with the mailmaps
-       mailmap_verify --prune [--] [FILE]    prints the mailmap without the lines that have no effect
-       mailmap_verify --explain [--] [FILE..]
-                                             prints which lines map each contact of standard input
-       mailmap_verify --contacts CONTACTS [--] [FILE..]
-                                             also prints which lines no contact needs, and which contacts are alike
-       mailmap_verify -h | --help            prints this
-       mailmap_verify --version              prints the version
+usage: mailmap_verify [OPTION..] [--] [FILE..]
+Prints what is wrong with the mailmaps, or as one of these modes:
+  --prune              prints the one mailmap without the lines that have no effect
+  --explain            prints which lines map each contact of standard input
+  --contacts CONTACTS  also prints which lines no contact needs, and which contacts are alike
+  --suggest CONTACTS   prints lines that the mailmaps lack
+Options:
+  -S, --severity LEVEL     reports only findings of this level or worse: error, warning or note
+  -e, --exclude KIND,..    leaves findings of these kinds out
+  -f, --format FORMAT      prints findings as gcc does, the default, or as json
+      --stdin-name NAME    the name of standard input in messages
+  -h, --help               prints this
+      --version            prints the version
 Without a FILE, and for a single -, the mailmap is read from standard input, unless that has contacts: always for
---explain, and if CONTACTS is -.
-Status 0: nothing or only notes were found. 1: an error or a warning was found. 2: a failure.
+--explain, and if CONTACTS is -. With --suggest it never is.
+Status 0: nothing or only notes were found. 1: an error or a warning was found, or with -S anything was reported.
+2: a failure.
 ";
 
 #[derive(Clone, Copy, Debug, PartialEq, Eq)]
@@ -28,24 +39,133 @@ pub enum Mode {
     Explain,
     /// Print the findings in the mailmaps and in contacts, and the lines that no contact needs.
     Contacts,
+    /// Print lines that the mailmaps lack.
+    Suggest,
 }
 
+/// How findings are printed.
+#[derive(Clone, Copy, Debug, PartialEq, Eq)]
+pub enum Format {
+    /// Lines as compilers print them.
+    Gcc,
+    /// One object of JSON on each line.
+    Json,
+}
+
+/// Which findings are reported, and how.
+#[derive(Debug, Drop, PartialEq, Eq)]
+pub struct Settings {
+    /// The least level that is reported. Each finding that is reported counts for the exit status then; otherwise notes
+    /// don't.
+    pub severity: Option<Level>,
+    /// The kinds that are not reported.
+    pub excluded: Vec<Kind>,
+    /// Without it, the format is [`Format::Gcc`].
+    pub format: Option<Format>,
+    /// The name of standard input in messages, `<stdin>` without it.
+    pub stdin_name: Option<Vec<u8>>,
+}
+
+/// What arguments ask for.
+#[derive(Debug, Drop, PartialEq, Eq)]
+pub struct Request {
+    pub mode: Mode,
+    /// The path of the file with contacts, `-` for standard input. Only [`Mode::Contacts`] and [`Mode::Suggest`]
+    /// use it.
+    pub contacts: Vec<u8>,
+    pub settings: Settings,
+    /// The paths of the mailmaps. Without a path, standard input is the mailmap, unless it has contacts or lines are
+    /// suggested.
+    pub paths: Vec<Vec<u8>>,
+}
+
+impl Request {
+    /// What to perform.
+    pub fn task(&self) -> Task<'_> {
+        Task {
+            mode: self.mode,
+            contacts: self.contacts.as_slice(),
+            settings: &self.settings,
+            paths: self.paths.as_slice(),
+        }
+    }
+}
+
+/// A request that is lent to be performed.
 #[derive(Clone, Copy, Debug, PartialEq, Eq)]
 pub struct Task<'a> {
     pub mode: Mode,
-    /// The path of the file with contacts, `-` for standard input. Only [`Mode::Contacts`] uses it.
+    /// As in [`Request`].
     pub contacts: &'a [u8],
-    /// The paths of the mailmaps. Without a path, standard input is the mailmap, unless it has contacts.
+    pub settings: &'a Settings,
     pub paths: &'a [Vec<u8>],
 }
 
-/// Errors in the arguments.
+/// An option with a value.
 #[derive(Clone, Copy, Debug, PartialEq, Eq)]
-pub enum Misuse<'a> {
+pub enum Setting {
+    /// `--contacts`, which is also a mode.
+    Contacts,
+    /// `--suggest`, which is also a mode.
+    Suggest,
+    /// `-S` or `--severity`.
+    Severity,
+    /// `-e` or `--exclude`.
+    Exclude,
+    /// `-f` or `--format`.
+    Format,
+    /// `--stdin-name`.
+    StdinName,
+}
+
+impl Setting {
+    /// The long name, as in `--severity`.
+    pub fn name(self) -> &'static str {
+        match self {
+            Setting::Contacts => "--contacts",
+            Setting::Suggest => "--suggest",
+            Setting::Severity => "--severity",
+            Setting::Exclude => "--exclude",
+            Setting::Format => "--format",
+            Setting::StdinName => "--stdin-name",
+        }
+    }
+}
+
+/// Errors in the arguments.
+#[derive(Debug, Drop, PartialEq, Eq)]
+pub enum Misuse {
     /// An unknown option.
-    UnknownOption(&'a [u8]),
+    UnknownOption(Vec<u8>),
     /// An option for a mode after another one or itself.
-    SecondMode(&'a [u8]),
-    /// `--contacts` without a file after it.
-    NoFile(&'a [u8]),
+    SecondMode(Vec<u8>),
+    /// An option without the value that it needs.
+    NoValue(Setting, Vec<u8>),
+    /// An unknown level, kind or format.
+    UnknownValue(Setting, Vec<u8>),
+    /// An option that the mode doesn't use.
+    Unused(Mode, Setting),
+}
+
+/// Why arguments can't be parsed.
+#[derive(Debug, Drop, PartialEq, Eq)]
+pub enum ParseError {
+    Misuse(Misuse),
+    Memory,
+}
+
+impl From<AllocError> for ParseError {
+    ghost from_gives = { λ _ error. error ≡ Memory };
+
+    fn from(_error: AllocError) -> ParseError {
+        ParseError::Memory
+    }
+}
+
+impl<T: Drop> From<AllocFailed<T>> for ParseError {
+    ghost from_gives = { λ _ error. error ≡ Memory };
+
+    fn from(_error: AllocFailed<T>) -> ParseError {
+        ParseError::Memory
+    }
 }

@@ -1,13 +1,14 @@
 //! Reports findings about contacts as text.
 ghost use Rattle.std.specs.Prelude.{◌≡◌, ◌++◌, IfOk, OnOk};
-ghost use Rattle.mailmap_contacts.specs.Answers.{finding_by, shown_finding, shown_tally};
-ghost use Rattle.mailmap_contacts.specs.Comparisons.{no_contact, same_email, same_name};
-ghost use Rattle.verify_command.specs.Contacts.{comparison_text, counted_contact, counts, place_text, said, said_line};
+ghost use Rattle.mailmap_contacts.specs.Answers.{finding_by, finding_view, tally_of};
+ghost use Rattle.mailmap_contacts.specs.Comparisons.{git_answers, no_contact, same_email, same_name};
+ghost use Rattle.verify_command.specs.Contacts.{comparison_text, contact_words, counted_contact, place_text, said, said_line};
 
-use crate::report::shown_text;
+use crate::kinds::Kind;
+use crate::report::{push_kind, push_level, push_words, shown_text};
 use crate::shortened::push_short_contact;
 use itoa::Buffer;
-use mailmap_contacts::answers::Answer;
+use mailmap_contacts::answers::Tally;
 use mailmap_contacts::comparisons::{ContactFinding, Shared};
 use std::alloc::{AllocError, Global};
 
@@ -17,9 +18,10 @@ use std::alloc::{AllocError, Global};
 /// cut. The lines are
 ///
 /// ```text
-/// history:5: error: no contact
-/// history:7: warning: jane <JANE@x> (2) has the email of Jane Doe <jane@x> (9)
-/// history:8: note: Jane Doe <jd@y> (1) has the name of Jane Doe <jane@x> (9)
+/// history:5: error: no contact [no-contact]
+/// history:7: warning: jane <JANE@x> (2) has the email of Jane Doe <jane@x> (9) [same-email]
+/// history:8: note: Jane Doe <jd@y> (1) has the name of Jane Doe <jane@x> (9) [same-name]
+/// history:9: warning: git answers Jane Doe <JANE@x> [git-answers]
 /// ```
 ///
 /// The numbers in brackets say how often each answer comes.
@@ -28,7 +30,7 @@ pub fn finding_line(
     file: &[u8],
     finding: &ContactFinding<'_, '_>,
 ) -> Result<Vec<u8>, AllocError>
-    ensures { IfOk result (λ line. line.items ≡ said_line file.now (shown_finding finding.now)) }
+    ensures { IfOk result (λ line. line.items ≡ said_line file.now (finding_view finding.now)) }
 {
     let mut text = Vec::new(alloc);
     push_finding(&mut text, file, finding)?;
@@ -37,30 +39,20 @@ pub fn finding_line(
     Ok(line)
 }
 
-/// Whether a finding counts for the exit status. An equal name doesn't, since two people can share one.
-pub fn counts(finding: &ContactFinding<'_, '_>) -> bool
-    ensures { result ≡ counts (shown_finding finding.now) }
-{
-    match finding {
-        ContactFinding::NoContact(_) => true,
-        ContactFinding::Shares(Shared::Email, _, _) => true,
-        ContactFinding::Shares(Shared::Name, _, _) => false,
-    }
-}
-
 // Appends a finding, before escapes.
 fn push_finding(
     text: &mut Vec<u8>,
     file: &[u8],
     finding: &ContactFinding<'_, '_>,
 ) -> Result<(), AllocError>
-    ensures { OnOk result (text.new.items ≡ text.old.items ++ said file.now (shown_finding finding.now)) }
+    ensures { OnOk result (text.new.items ≡ text.old.items ++ said file.now (finding_view finding.now)) }
 {
     match finding {
         ContactFinding::NoContact(line) => push_no_contact(text, file, *line),
         ContactFinding::Shares(shared, answer, proper) => {
             push_shared(text, file, *shared, answer, proper)
         }
+        ContactFinding::GitAnswers(answer) => push_git_answer(text, file, answer),
     }
 }
 
@@ -68,11 +60,11 @@ fn push_shared(
     text: &mut Vec<u8>,
     file: &[u8],
     shared: Shared,
-    answer: &Answer<'_>,
-    proper: &Answer<'_>,
+    answer: &Tally<'_>,
+    proper: &Tally<'_>,
 ) -> Result<(), AllocError>
     ensures { OnOk result (text.new.items
-        ≡ text.old.items ++ said file.now (finding_by shared (shown_tally answer.now) (shown_tally proper.now))) }
+        ≡ text.old.items ++ said file.now (finding_by shared (tally_of answer.now) (tally_of proper.now))) }
 {
     match shared {
         Shared::Email => push_same_email(text, file, answer, proper),
@@ -83,18 +75,18 @@ fn push_shared(
 fn push_same_email(
     text: &mut Vec<u8>,
     file: &[u8],
-    answer: &Answer<'_>,
-    proper: &Answer<'_>,
+    answer: &Tally<'_>,
+    proper: &Tally<'_>,
 ) -> Result<(), AllocError>
     ensures { OnOk result (text.new.items
-        ≡ text.old.items ++ said file.now (same_email (shown_tally answer.now) (shown_tally proper.now))) }
+        ≡ text.old.items ++ said file.now (same_email (tally_of answer.now) (tally_of proper.now))) }
 {
     push_comparison(
         text,
         file,
         answer,
         proper,
-        b": warning: ",
+        Kind::SameEmail,
         b" has the email of ",
     )
 }
@@ -102,18 +94,18 @@ fn push_same_email(
 fn push_same_name(
     text: &mut Vec<u8>,
     file: &[u8],
-    answer: &Answer<'_>,
-    proper: &Answer<'_>,
+    answer: &Tally<'_>,
+    proper: &Tally<'_>,
 ) -> Result<(), AllocError>
     ensures { OnOk result (text.new.items
-        ≡ text.old.items ++ said file.now (same_name (shown_tally answer.now) (shown_tally proper.now))) }
+        ≡ text.old.items ++ said file.now (same_name (tally_of answer.now) (tally_of proper.now))) }
 {
     push_comparison(
         text,
         file,
         answer,
         proper,
-        b": note: ",
+        Kind::SameName,
         b" has the name of ",
     )
 }
@@ -122,30 +114,83 @@ fn push_no_contact(text: &mut Vec<u8>, file: &[u8], line: usize) -> Result<(), A
     ensures { OnOk result (text.new.items ≡ text.old.items ++ said file.now (no_contact line)) }
 {
     push_place(text, file, line)?;
-    text.extend_from_slice(b": error: no contact")
+    push_words(text, Kind::NoContact, b"no contact")
+}
+
+fn push_git_answer(
+    text: &mut Vec<u8>,
+    file: &[u8],
+    git_answer: &Tally<'_>,
+) -> Result<(), AllocError>
+    ensures { OnOk result (text.new.items
+        ≡ text.old.items ++ said file.now (git_answers (tally_of git_answer.now))) }
+{
+    push_place(text, file, git_answer.seen.first_line)?;
+    push_level(text, Kind::GitAnswers)?;
+    push_git_words(text, git_answer)?;
+    push_kind(text, Kind::GitAnswers)
+}
+
+fn push_git_words(text: &mut Vec<u8>, git_answer: &Tally<'_>) -> Result<(), AllocError>
+    ensures { OnOk result (text.new.items ≡ text.old.items ++ contact_words (git_answers (tally_of git_answer.now))) }
+{
+    text.extend_from_slice(b"git answers ")?;
+    push_short_contact(text, git_answer.name, git_answer.email)
 }
 
 fn push_comparison(
     text: &mut Vec<u8>,
     file: &[u8],
-    answer: &Answer<'_>,
-    proper: &Answer<'_>,
-    level: &[u8],
+    answer: &Tally<'_>,
+    proper: &Tally<'_>,
+    kind: Kind,
     words: &[u8],
 ) -> Result<(), AllocError>
     ensures { OnOk result (text.new.items ≡ text.old.items
-        ++ comparison_text level.now words.now file.now (shown_tally answer.now) (shown_tally proper.now)) }
+        ++ comparison_text kind words.now file.now (tally_of answer.now) (tally_of proper.now)) }
 {
     push_place(text, file, answer.seen.first_line)?;
-    text.extend_from_slice(level)?;
+    push_level(text, kind)?;
+    push_both(text, answer, words, proper)?;
+    push_kind(text, kind)
+}
+
+fn push_both(
+    text: &mut Vec<u8>,
+    answer: &Tally<'_>,
+    words: &[u8],
+    proper: &Tally<'_>,
+) -> Result<(), AllocError>
+    ensures { OnOk result (text.new.items ≡ text.old.items
+        ++ (counted_contact (tally_of answer.now) ++ words.now ++ counted_contact (tally_of proper.now))) }
+{
     push_counted(text, answer)?;
     text.extend_from_slice(words)?;
     push_counted(text, proper)
 }
 
+/// Appends what a finding says, without its place, its level and its kind.
+pub(crate) fn push_contact_words(
+    text: &mut Vec<u8>,
+    finding: &ContactFinding<'_, '_>,
+) -> Result<(), AllocError>
+    ensures { OnOk result (text.new.items ≡ text.old.items ++ contact_words (finding_view finding.now)) }
+{
+    match finding {
+        ContactFinding::NoContact(_) => text.extend_from_slice(b"no contact"),
+        ContactFinding::Shares(Shared::Email, answer, proper) => {
+            push_both(text, answer, b" has the email of ", proper)
+        }
+        ContactFinding::Shares(Shared::Name, answer, proper) => {
+            push_both(text, answer, b" has the name of ", proper)
+        }
+        ContactFinding::GitAnswers(answer) => push_git_words(text, answer),
+    }
+}
+
 // Appends an answer, and how often it comes.
-fn push_counted(text: &mut Vec<u8>, answer: &Answer<'_>) -> Result<(), AllocError>
-    ensures { OnOk result (text.new.items ≡ text.old.items ++ counted_contact (shown_tally answer.now)) }
+fn push_counted(text: &mut Vec<u8>, answer: &Tally<'_>) -> Result<(), AllocError>
+    ensures { OnOk result (text.new.items ≡ text.old.items ++ counted_contact (tally_of answer.now)) }
 {
     let mut digits = Buffer::new();
     push_short_contact(text, answer.name, answer.email)?;

@@ -1,6 +1,6 @@
 //! Verifies mailmaps together with contacts.
 ghost use Rattle.std.specs.Prelude.{◌≡◌, ◌≢◌, ◌⊎◌, ◌++◌, [], ℕ, IfErr, IfOk, IfSome, IsErr, IsErrOf, List, OnErr, OnOk};
-ghost use Rattle.std.specs.Prelude.{Option, false, map, take, true};
+ghost use Rattle.std.specs.Prelude.{Option, false, if◌then◌else◌, map, take, true};
 ghost use Rattle.std.specs.Io.KnownBytes.{Appends, IsAtEnd};
 ghost use Rattle.std.specs.List.{flat_map, list_any};
 ghost use Rattle.mailmap_entries.specs.Folding.{Text};
@@ -10,19 +10,24 @@ ghost use Rattle.command_line.specs.Failures.{IsOfFile, IsOfInput};
 ghost use Rattle.command_line.specs.Files.{NamesFile, texts};
 ghost use Rattle.command_line.specs.Printing.{IsUnderway, Prints, PrintsFront};
 ghost use Rattle.command_line.specs.declared.outcome.Outcome.{Outcome as TheOutcome};
-ghost use Rattle.mailmap_contacts.specs.Answers.{shown_finding};
+ghost use Rattle.mailmap_contacts.specs.Answers.{finding_view};
 ghost use Rattle.mailmap_contacts.specs.Counts.{AreContactsOf};
-ghost use Rattle.verify_command.specs.Contacts.{AreFoundBeside, IsReportBeside, outcome_of_both, remark_line};
-ghost use Rattle.verify_command.specs.Contacts.{counts as spec_counts, said_line, said_text};
+ghost use Rattle.command_line.specs.declared.outcome.Outcome.TheVariants.{Found as TheFound};
+ghost use Rattle.verify_command.specs.Contacts.{AreFoundBeside, IsReportBeside, contact_counts, formatted_remark, formatted_said};
+ghost use Rattle.verify_command.specs.Contacts.{outcome_of_both};
+ghost use Rattle.verify_command.specs.Contacts.{remark_line, reported_remark, reported_said, said_text};
+ghost use Rattle.verify_command.specs.Settings.{choices_of, mailmap_names};
 ghost use Rattle.verify_command.specs.Taking.{Takes};
 ghost use Rattle.verify_command.specs.Task.{AreContacts, AreMailmapsBeside, FailsFor, FailsForContacts, IsOfMailmap};
 ghost use Rattle.verify_command.specs.Task.{Leaves, ReadsInput, contacts_name, is_dash};
 
 use crate::answer::read_mailmaps;
-use crate::asked::Mode;
-use crate::comparison::{counts, finding_line};
+use crate::asked::{Mode, Settings};
+use crate::comparison::finding_line;
 use crate::failure::TaskFailure;
-use crate::report::{line_of, push_position, shown_text};
+use crate::json::{contact_object, remark_object};
+use crate::kinds::Kind;
+use crate::report::{line_of, push_position, push_words, shown_text};
 use bstr::ByteSlice;
 use command_line::failure::Failure;
 use command_line::files::{FileSystem, list_of, read_files};
@@ -34,6 +39,7 @@ use mailmap_contacts::counter::{ContactCounter, Contacts};
 use mailmap_findings::needs::Needs;
 use mailmap_findings::remarks::{Remark, Remarks};
 use mailmap_findings::verify::{Mailmaps, Position, Verification};
+use mailmap_suggestions::git_answers::other_git_answers;
 use std::alloc::{AllocError, Global};
 use std::io::{ErrorKind, Read, Write};
 
@@ -45,14 +51,16 @@ use std::io::{ErrorKind, Read, Write};
 pub fn verify_contacts<F: FileSystem, R: Read, W: Write>(
     system: &F,
     alloc: Global,
+    settings: &Settings,
     contacts: &[u8],
     paths: &[Vec<u8>],
     input: &mut R,
     output: &mut W,
 ) -> Result<Outcome, TaskFailure>
     // Exactly the report is written; after a failure, a prefix of it or nothing.
-    ensures leaves { Leaves (F.at system.now) (R.remaining input.old)
-        (R.remaining input.new) Mode.Contacts contacts.now (texts paths.now) W.contents output.old output.new result }
+    ensures leaves { Leaves (F.at system.now) (R.remaining input.old) (R.remaining input.new)
+        (choices_of settings.now) Mode.Contacts contacts.now (texts paths.now)
+        W.contents output.old output.new result }
     ensures reads_all { ReadsInput Mode.Contacts contacts.now (texts paths.now)
         → OnOk result (IsAtEnd (R.remaining input.new)) }
     ensures unread { is_dash contacts.now ≡ false → paths.now ≢ [] → input.new ≡ input.old }
@@ -62,11 +70,18 @@ pub fn verify_contacts<F: FileSystem, R: Read, W: Write>(
 {
     let mailmaps = read_beside(system, alloc, contacts, paths, input)?;
     let buffers = list_of(alloc, mailmaps.as_slice())?;
-    let mailmaps = Mailmaps::read(alloc, buffers.as_slice())?;
     let mut contact_counter = ContactCounter::new(alloc)?;
     read_contacts(system, alloc, contacts, input, &mut contact_counter)?;
     let counted = contact_counter.into_contacts()?;
-    let outcome = report(alloc, contacts, paths, &mailmaps, &counted, output)?;
+    let outcome = report(
+        alloc,
+        settings,
+        contacts,
+        paths,
+        buffers.as_slice(),
+        &counted,
+        output,
+    )?;
     Ok(outcome)
 }
 
@@ -94,7 +109,7 @@ fn read_beside<F: FileSystem, R: Read>(
     read_mailmaps(system, alloc, paths, input)
 }
 
-fn read_contacts<F: FileSystem, R: Read>(
+pub(crate) fn read_contacts<F: FileSystem, R: Read>(
     system: &F,
     alloc: Global,
     contacts: &[u8],
@@ -156,37 +171,50 @@ fn add_lines(contact_counter: &mut ContactCounter, text: &[u8]) -> Result<(), Fa
     Ok(())
 }
 
-// Prints the report of the mailmaps and of the contacts that were counted.
-fn report<W: Write>(
+// Prints the report of the mailmaps in buffers and of the contacts that were counted.
+fn report<'a, W: Write>(
     alloc: Global,
+    settings: &Settings,
     contacts: &[u8],
     paths: &[Vec<u8>],
-    mailmaps: &Mailmaps<'_, '_>,
-    counted: &Contacts,
+    buffers: &[&'a [u8]],
+    counted: &'a Contacts,
     output: &mut W,
 ) -> Result<Outcome, Failure>
     ensures ok { (taken : Text) → AreContactsOf (whole_lines taken) counted.now → IfOk result (λ outcome.
-        Prints (IsReportBeside (texts paths.now) (contacts_name contacts.now) mailmaps.now taken
-        outcome) (W.contents output.old) (W.contents output.new)) }
+        Prints (IsReportBeside (choices_of settings.now) (mailmap_names (choices_of settings.now) (texts paths.now))
+        (contacts_name (choices_of settings.now) contacts.now) (map (λ b. b.now) buffers.now) taken outcome)
+        (W.contents output.old) (W.contents output.new)) }
     ensures breaks_off { (taken : Text) → AreContactsOf (whole_lines taken) counted.now
-        → IsErrOf result Failure.Output → (outcome : TheOutcome) × PrintsFront (IsReportBeside (texts paths.now)
-        (contacts_name contacts.now) mailmaps.now taken outcome) (W.contents output.old) (W.contents output.new) }
+        → IsErrOf result Failure.Output → (outcome : TheOutcome) × PrintsFront (IsReportBeside (choices_of settings.now)
+        (mailmap_names (choices_of settings.now) (texts paths.now)) (contacts_name (choices_of settings.now)
+        contacts.now) (map (λ b. b.now) buffers.now) taken outcome) (W.contents output.old) (W.contents output.new) }
     ensures memory { (taken : Text) → AreContactsOf (whole_lines taken) counted.now
         → IsErrOf result Failure.Memory → (output.new ≡ output.old)
-        ⊎ ((outcome : TheOutcome) × PrintsFront (IsReportBeside (texts paths.now)
-        (contacts_name contacts.now) mailmaps.now taken outcome) (W.contents output.old) (W.contents output.new)) }
+        ⊎ ((outcome : TheOutcome) × PrintsFront (IsReportBeside (choices_of settings.now)
+        (mailmap_names (choices_of settings.now) (texts paths.now)) (contacts_name (choices_of settings.now)
+        contacts.now) (map (λ b. b.now) buffers.now) taken outcome) (W.contents output.old) (W.contents output.new)) }
     ensures only { IfErr result (λ e. (e ≡ Failure.Memory) ⊎ (e ≡ Failure.Output)) }
 {
-    let mut needs = Needs::new(alloc, mailmaps)?;
+    // First, so that what it looks up is freed before the rest is built.
+    let git_answers = other_git_answers(alloc, buffers, counted)?;
+    let mailmaps = Mailmaps::read(alloc, buffers)?;
+    let mut needs = Needs::new(alloc, &mailmaps)?;
     counted.add_to_needs(&mut needs);
     let unneeded = needs.unneeded(alloc)?;
     let answers = counted.answers(alloc, &needs)?;
-    let findings = findings_of(alloc, counted.no_contacts(), answers.as_slice())?;
+    let findings = findings_of(
+        alloc,
+        counted.no_contacts(),
+        answers.as_slice(),
+        git_answers.as_slice(),
+    )?;
     print_both(
         alloc,
+        settings,
         contacts,
         paths,
-        mailmaps,
+        &mailmaps,
         unneeded.as_slice(),
         findings.as_slice(),
         output,
@@ -196,6 +224,7 @@ fn report<W: Write>(
 // Prints the findings in the mailmaps and the unneeded lines, and then the findings about the contacts.
 fn print_both<W: Write>(
     alloc: Global,
+    settings: &Settings,
     contacts: &[u8],
     paths: &[Vec<u8>],
     mailmaps: &Mailmaps<'_, '_>,
@@ -203,85 +232,106 @@ fn print_both<W: Write>(
     findings: &[ContactFinding<'_, '_>],
     output: &mut W,
 ) -> Result<Outcome, Failure>
-    ensures ok { (taken : Text) → AreFoundBeside mailmaps.now taken unneeded.now (map shown_finding findings.now)
-        → IfOk result (λ outcome. Prints (IsReportBeside (texts paths.now) (contacts_name contacts.now) mailmaps.now
-        taken outcome) (W.contents output.old) (W.contents output.new)) }
-    ensures err { (taken : Text) → AreFoundBeside mailmaps.now taken unneeded.now (map shown_finding findings.now)
-        → OnErr result ((outcome : TheOutcome) × PrintsFront (IsReportBeside (texts paths.now)
-        (contacts_name contacts.now) mailmaps.now taken outcome) (W.contents output.old) (W.contents output.new)) }
+    ensures ok { (taken : Text) → AreFoundBeside mailmaps.now taken unneeded.now (map finding_view findings.now)
+        → IfOk result (λ outcome. Prints (IsReportBeside (choices_of settings.now)
+        (mailmap_names (choices_of settings.now) (texts paths.now)) (contacts_name (choices_of settings.now)
+        contacts.now) mailmaps.now taken outcome) (W.contents output.old) (W.contents output.new)) }
+    ensures err { (taken : Text) → AreFoundBeside mailmaps.now taken unneeded.now (map finding_view findings.now)
+        → OnErr result ((outcome : TheOutcome) × PrintsFront (IsReportBeside (choices_of settings.now)
+        (mailmap_names (choices_of settings.now) (texts paths.now)) (contacts_name (choices_of settings.now)
+        contacts.now) mailmaps.now taken outcome)
+        (W.contents output.old) (W.contents output.new)) }
     ensures only { IfErr result (λ e. (e ≡ Failure.Memory) ⊎ (e ≡ Failure.Output)) }
 {
     let verification = Verification::new(alloc, mailmaps)?;
     let remarks = Remarks::new(verification.findings(), unneeded);
-    let outcome = print_remarks(alloc, paths, remarks, output)?;
-    print_contact_findings(alloc, shown_name(contacts), findings, output)?;
-    if any_counts(findings) {
-        return Ok(Outcome::Found);
-    }
-    Ok(outcome)
+    let outcome = print_remarks(alloc, settings, paths, remarks, output)?;
+    print_contact_findings(alloc, settings, contacts, findings, output)?;
+    Ok(outcome_with_all(settings, outcome, findings))
 }
 
-// Whether one of the findings counts for the exit status.
-fn any_counts(findings: &[ContactFinding<'_, '_>]) -> bool
-    ensures { result ≡ list_any spec_counts (map shown_finding findings.now) }
+// The outcome after findings about contacts.
+fn outcome_with_all(
+    settings: &Settings,
+    outcome: Outcome,
+    findings: &[ContactFinding<'_, '_>],
+) -> Outcome
+    ensures { result ≡ (if list_any (contact_counts (choices_of settings.now)) (map finding_view findings.now)
+        then TheFound else outcome) }
 {
+    let mut outcome = outcome;
     for finding in findings {
-        if counts(finding) {
-            return true;
-        }
+        outcome = settings.outcome_with(outcome, Kind::of_contact_finding(finding));
     }
-    false
+    outcome
 }
 
-// The name of the file of contacts in messages.
-fn shown_name(contacts: &[u8]) -> &[u8]
-    ensures { result.now ≡ contacts_name contacts.now }
-{
-    if contacts == b"-".as_slice() {
-        return b"<stdin>";
-    }
-    contacts
-}
-
-// Prints a line for each remark, and returns whether there is one.
+// Prints a line for each remark that is reported, and returns whether one counts.
 fn print_remarks<W: Write>(
     alloc: Global,
+    settings: &Settings,
     paths: &[Vec<u8>],
     remarks: Remarks<'_, '_>,
     output: &mut W,
 ) -> Result<Outcome, Failure>
-    ensures ok { IfOk result (λ outcome. (outcome ≡ outcome_of_both remarks.entry [])
-        × Appends (W.contents output.old) (W.contents output.new)
-        (flat_map (remark_line (texts paths.now)) remarks.entry)) }
+    ensures ok { IfOk result (λ outcome. (outcome ≡ outcome_of_both (choices_of settings.now) remarks.entry [])
+        × Appends (W.contents output.old) (W.contents output.new) (flat_map
+        (reported_remark (choices_of settings.now) (mailmap_names (choices_of settings.now) (texts paths.now)))
+        remarks.entry)) }
     ensures err { OnErr result ((count : ℕ) × Appends (W.contents output.old) (W.contents output.new)
-        (take count (flat_map (remark_line (texts paths.now)) remarks.entry))) }
+        (take count (flat_map
+        (reported_remark (choices_of settings.now) (mailmap_names (choices_of settings.now) (texts paths.now)))
+        remarks.entry))) }
     ensures only { IfErr result (λ e. (e ≡ Failure.Memory) ⊎ (e ≡ Failure.Output)) }
 {
     let mut printer = Printer::new(alloc)?;
     let mut outcome = Outcome::Clean;
     for remark in remarks {
-        outcome = Outcome::Found;
-        print_remark(alloc, paths, &remark, &mut printer, output)?;
+        outcome = settings.outcome_with(outcome, Kind::of_remark(&remark));
+        print_remark(alloc, settings, paths, &remark, &mut printer, output)?;
     }
     printer.flush(output)?;
     Ok(outcome)
 }
 
+// Prints the line of a remark if it is reported.
 fn print_remark<W: Write>(
     alloc: Global,
+    settings: &Settings,
     paths: &[Vec<u8>],
     remark: &Remark<'_>,
     printer: &mut Printer,
     output: &mut W,
 ) -> Result<(), Failure>
-    ensures ok { OnOk result (IsUnderway (printer.old ++ remark_line (texts paths.now) (remark_of remark.now))
+    ensures ok { OnOk result (IsUnderway (printer.old ++ reported_remark (choices_of settings.now)
+        (mailmap_names (choices_of settings.now) (texts paths.now)) (remark_of remark.now))
         (W.contents output.old) (W.contents output.new) printer.new) }
     ensures err { OnErr result ((count : ℕ) × Appends (W.contents output.old) (W.contents output.new)
-        (take count (printer.old ++ remark_line (texts paths.now) (remark_of remark.now)))) }
+        (take count (printer.old ++ reported_remark (choices_of settings.now)
+        (mailmap_names (choices_of settings.now) (texts paths.now)) (remark_of remark.now)))) }
     ensures only { IfErr result (λ e. (e ≡ Failure.Memory) ⊎ (e ≡ Failure.Output)) }
 {
-    let line = line_of_remark(alloc, paths, remark)?;
+    if !settings.reports(Kind::of_remark(remark)) {
+        return Ok(());
+    }
+    let line = formatted_remark(alloc, settings, settings.mailmap_names(paths), remark)?;
     printer.print(output, line.as_slice())
+}
+
+// A remark in the format that is asked for, with a line feed.
+fn formatted_remark(
+    alloc: Global,
+    settings: &Settings,
+    names: &[Vec<u8>],
+    remark: &Remark<'_>,
+) -> Result<Vec<u8>, AllocError>
+    ensures { IfOk result (λ line. line.items
+        ≡ formatted_remark (choices_of settings.now) (texts names.now) (remark_of remark.now)) }
+{
+    if settings.is_json() {
+        return remark_object(alloc, names, remark);
+    }
+    line_of_remark(alloc, names, remark)
 }
 
 fn line_of_remark(
@@ -306,7 +356,7 @@ fn unneeded_line(
 {
     let mut text = Vec::new(alloc);
     push_position(&mut text, paths, position)?;
-    text.extend_from_slice(b": warning: no contact needs it")?;
+    push_words(&mut text, Kind::Unneeded, b"no contact needs it")?;
     let mut line = shown_text(alloc, text)?;
     line.push(b'\n')?;
     Ok(line)
@@ -314,36 +364,62 @@ fn unneeded_line(
 
 fn print_contact_findings<W: Write>(
     alloc: Global,
-    file: &[u8],
+    settings: &Settings,
+    contacts: &[u8],
     findings: &[ContactFinding<'_, '_>],
     output: &mut W,
 ) -> Result<(), Failure>
     ensures ok { OnOk result (Appends (W.contents output.old) (W.contents output.new)
-        (said_text file.now (map shown_finding findings.now))) }
+        (said_text (choices_of settings.now) (contacts_name (choices_of settings.now) contacts.now)
+        (map finding_view findings.now))) }
     ensures err { OnErr result ((count : ℕ) × Appends (W.contents output.old) (W.contents output.new)
-        (take count (said_text file.now (map shown_finding findings.now)))) }
+        (take count (said_text (choices_of settings.now) (contacts_name (choices_of settings.now) contacts.now)
+        (map finding_view findings.now)))) }
     ensures only { IfErr result (λ e. (e ≡ Failure.Memory) ⊎ (e ≡ Failure.Output)) }
 {
     let mut printer = Printer::new(alloc)?;
     for finding in findings {
-        print_contact_finding(alloc, file, finding, &mut printer, output)?;
+        print_contact_finding(alloc, settings, contacts, finding, &mut printer, output)?;
     }
     printer.flush(output)
 }
 
+// Prints the line of a finding about contacts if it is reported.
 fn print_contact_finding<W: Write>(
     alloc: Global,
-    file: &[u8],
+    settings: &Settings,
+    contacts: &[u8],
     finding: &ContactFinding<'_, '_>,
     printer: &mut Printer,
     output: &mut W,
 ) -> Result<(), Failure>
-    ensures ok { OnOk result (IsUnderway (printer.old ++ said_line file.now (shown_finding finding.now))
+    ensures ok { OnOk result (IsUnderway (printer.old ++ reported_said (choices_of settings.now)
+        (contacts_name (choices_of settings.now) contacts.now) (finding_view finding.now))
         (W.contents output.old) (W.contents output.new) printer.new) }
     ensures err { OnErr result ((count : ℕ) × Appends (W.contents output.old) (W.contents output.new)
-        (take count (printer.old ++ said_line file.now (shown_finding finding.now)))) }
+        (take count (printer.old ++ reported_said (choices_of settings.now)
+        (contacts_name (choices_of settings.now) contacts.now) (finding_view finding.now)))) }
     ensures only { IfErr result (λ e. (e ≡ Failure.Memory) ⊎ (e ≡ Failure.Output)) }
 {
-    let line = finding_line(alloc, file, finding)?;
+    if !settings.reports(Kind::of_contact_finding(finding)) {
+        return Ok(());
+    }
+    let line = formatted_finding(alloc, settings, settings.contacts_name(contacts), finding)?;
     printer.print(output, line.as_slice())
+}
+
+// A finding about contacts in the format that is asked for, with a line feed.
+fn formatted_finding(
+    alloc: Global,
+    settings: &Settings,
+    file: &[u8],
+    finding: &ContactFinding<'_, '_>,
+) -> Result<Vec<u8>, AllocError>
+    ensures { IfOk result (λ line. line.items
+        ≡ formatted_said (choices_of settings.now) file.now (finding_view finding.now)) }
+{
+    if settings.is_json() {
+        return contact_object(alloc, file, finding);
+    }
+    finding_line(alloc, file, finding)
 }

@@ -1,15 +1,15 @@
 //! Explains a line of contacts.
 ghost use Rattle.std.specs.Prelude.{◌≡◌, ◌++◌, IfOk, OnErr, OnOk, codes, map};
 ghost use Rattle.mailmap_snapshot.specs.Contacts.{contact_with};
-ghost use Rattle.mailmap_findings.specs.Explanations.{explained, explained_by};
+ghost use Rattle.mailmap_findings.specs.Explanations.{explained};
 ghost use Rattle.mailmap_redundancy.specs.Origins.{origins};
 ghost use Rattle.mailmap_entries.specs.Semantics.{answer_of};
 ghost use Rattle.mailmap_grammar.specs.Lines.{cut, trimmed_contact};
 ghost use Rattle.mailmap_findings.specs.Positions.{located_lines, located};
 ghost use Rattle.mailmap_redundancy.specs.Redundancy.{AreEffective, entries};
-ghost use Rattle.verify_command.specs.Explained.{contact_explained, explained_line, mapped_text, positions_text};
+ghost use Rattle.verify_command.specs.Explained.{contact_explained, explained_line, mapped_text};
 
-use crate::report::{push_position, shown_text};
+use crate::report::{push_positions, shown_text};
 use answer_cache::{AnswerCache, hash_of};
 use mailmap_findings::explain::{Explanation, Explanations};
 use mailmap_findings::verify::Mailmaps;
@@ -140,7 +140,7 @@ impl<'p, 'm, 'a> Explainer<'p, 'm, 'a> {
         text.extend_from_slice(b" is ")?;
         push_replaced(text, &found, name, email)?;
         text.extend_from_slice(b" by ")?;
-        push_positions(text, self.paths, &found)
+        push_positions(text, self.paths, found.first, found.second)
     }
 }
 
@@ -164,23 +164,4 @@ fn push_replaced(
         found.name.unwrap_or(name),
         found.email.unwrap_or(email),
     )
-}
-
-// Appends the positions of the lines behind the new fields.
-fn push_positions(
-    text: &mut Vec<u8>,
-    paths: &[Vec<u8>],
-    found: &Explanation<'_>,
-) -> Result<(), AllocError>
-    ensures { OnOk result (text.new.items ≡ text.old.items ++ positions_text (map (λ path. path.items) paths.now)
-        (explained_by found.now)) }
-{
-    push_position(text, paths, found.first)?;
-    match found.second {
-        Some(second) => {
-            text.extend_from_slice(b", ")?;
-            push_position(text, paths, second)
-        }
-        None => Ok(()),
-    }
 }

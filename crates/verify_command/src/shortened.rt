@@ -51,6 +51,14 @@ fn crosses(back: usize, text: &[u8]) -> bool
     char.is_some() && back < size
 }
 
+/// Appends a text, cut if it is long.
+pub(crate) fn push_shortened(text: &mut Vec<u8>, long: &[u8]) -> Result<(), AllocError>
+    ensures { OnOk result (text.new.items ≡ text.old.items ++ shortened long.now) }
+{
+    let short = shortened(*text.allocator(), long)?;
+    text.extend_from_slice(&short)
+}
+
 /// Appends a contact with its texts shortened.
 pub(crate) fn push_short_contact(
     text: &mut Vec<u8>,

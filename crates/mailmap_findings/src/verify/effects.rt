@@ -2,16 +2,17 @@
 ghost use Rattle.std.specs.Prelude.{◌≡◌, [], unwrap_or};
 ghost use Rattle.std.specs.Option.{option_and_then, option_map};
 ghost use Rattle.mailmap_entries.specs.Entries.{mapping_of};
-ghost use Rattle.mailmap_redundancy.specs.Numbers.{fields_of};
-ghost use Rattle.mailmap_redundancy.specs.Redundancy.{entries};
-ghost use Rattle.mailmap_findings.specs.Findings.{contact_of, mapped_contact as spec_mapped, kind_of};
+ghost use Rattle.mailmap_redundancy.specs.Redundancy.{entries, located_of};
+ghost use Rattle.mailmap_findings.specs.Explanations.{explained};
+ghost use Rattle.mailmap_findings.specs.Findings.{contact_of, kind_of, no_effect_beside, reported_of_proper, says_same};
 ghost use Rattle.mailmap_findings.specs.Findings.{proper_contact as spec_contact, replaced_contact as spec_replaced};
-ghost use Rattle.mailmap_findings.specs.Findings.{reported_of_contact as spec_reported_of_contact};
+ghost use Rattle.mailmap_findings.specs.Findings.{reported_by};
 ghost use Rattle.mailmap_findings.specs.Findings.{reported_of_entry as spec_reported};
 
+use crate::explain::{Explanation, explanation_of};
 use crate::verify::{Contact, FindingKind};
 use mailmap_entries::Entry;
-use mailmap_redundancy::{Effective, Fields};
+use mailmap_redundancy::{Effective, LocatedEntry};
 
 /// Reports an entry without effect, or one whose contact is itself mapped.
 pub(crate) fn reported_of_entry<'a>(
@@ -28,7 +29,23 @@ pub(crate) fn reported_of_entry<'a>(
         return reported_of_contact(effective, proper_contact(&entry));
     }
     let beside = effective.beside(&entry)?;
-    Some(FindingKind::NoEffect { beside })
+    Some(reported_beside(&entry, beside))
+}
+
+fn reported_beside<'a>(entry: &Entry<'_>, beside: &LocatedEntry<'_>) -> FindingKind<'a>
+    ensures { kind_of result ≡ no_effect_beside (mapping_of entry.now) (located_of beside.now) }
+{
+    FindingKind::NoEffect {
+        beside: beside.position,
+        is_same: says_same(entry, &beside.entry),
+    }
+}
+
+// Whether two entries give the same new name and the same new email.
+fn says_same(a: &Entry<'_>, b: &Entry<'_>) -> bool
+    ensures { result ≡ says_same (mapping_of a.now) (mapping_of b.now) }
+{
+    a.new_name() == b.new_name() && a.new_email() == b.new_email()
 }
 
 // Reports a contact that is mapped to another one.
@@ -36,21 +53,30 @@ fn reported_of_contact<'a>(
     effective: &Effective<'_, 'a>,
     contact: Contact<'a>,
 ) -> Option<FindingKind<'a>>
-    ensures { option_map kind_of result ≡ spec_reported_of_contact (contact_of contact.entry)
-        (spec_mapped (entries effective.now.history) (contact_of contact.entry)) }
+    ensures { option_map kind_of result
+        ≡ reported_of_proper (entries effective.now.history) effective.now.kept (contact_of contact.entry) }
 {
-    let found = effective.answer_of(name_or_empty(&contact), contact.email)?;
-    reported_of_both(contact, replaced_contact(contact, found))
+    let found = explanation_of(effective, name_or_empty(&contact), contact.email)?;
+    reported_of_both(contact, replaced_contact(contact, &found), &found)
 }
 
-fn reported_of_both<'a>(contact: Contact<'a>, to: Contact<'a>) -> Option<FindingKind<'a>>
+fn reported_of_both<'a>(
+    contact: Contact<'a>,
+    to: Contact<'a>,
+    found: &Explanation<'a>,
+) -> Option<FindingKind<'a>>
     ensures { option_map kind_of result
-        ≡ spec_reported_of_contact (contact_of contact.entry) (contact_of to.entry) }
+        ≡ reported_by (contact_of contact.entry) (contact_of to.entry) found.now.first found.now.second }
 {
     if contact == to {
         return None;
     }
-    Some(FindingKind::ItselfMapped { contact, to })
+    Some(FindingKind::ItselfMapped {
+        contact,
+        to,
+        first: found.first,
+        second: found.second,
+    })
 }
 
 // The contact that an entry maps to.
@@ -72,15 +98,15 @@ fn name_or_empty<'a>(contact: &Contact<'a>) -> &'a [u8]
     }
 }
 
-// The contact with its fields overridden by `fields`. A contact without a name gets none.
-fn replaced_contact<'a>(contact: Contact<'a>, fields: Fields<'a>) -> Contact<'a>
-    ensures { contact_of result ≡ spec_replaced (fields_of fields.entry) (contact_of contact.entry) }
+// The contact with its fields overridden by what is found. A contact without a name gets none.
+fn replaced_contact<'a>(contact: Contact<'a>, found: &Explanation<'a>) -> Contact<'a>
+    ensures { contact_of result ≡ spec_replaced (explained found.now) (contact_of contact.entry) }
 {
-    let email = fields.email.unwrap_or(contact.email);
+    let email = found.email.unwrap_or(contact.email);
     match contact.name {
         None => Contact { name: None, email },
         Some(name) => Contact {
-            name: Some(fields.name.unwrap_or(name)),
+            name: Some(found.name.unwrap_or(name)),
             email,
         },
     }

@@ -1,7 +1,7 @@
 use Rattle.std.proofs.Common.{◌≡◌, ◌∙◌, ◌++◌, ap, append-nil, map, subst, sym}
 use Rattle.std.specs.List.Sorted.{IsStrictlySortedBy}
 use Rattle.std.proofs.lemmas.Map.Iter.{rest_all, rest_more}
-use Rattle.mailmap_contacts.specs.Answers.{shown_tally}
+use Rattle.mailmap_contacts.specs.Answers.{tally_of}
 use Rattle.mailmap_contacts.specs.Contacts.{Tally, contact_cmp, seen_where}
 use Rattle.mailmap_contacts.proofs.Distinct.{are_tallies}
 use Rattle.mailmap_contacts.proofs.Entries.{answers_once, entry_of, moved_more, shown_entries}
@@ -29,5 +29,5 @@ returns c = λ ts same.
     let all : map entry_of answers ≡ es =
     sym (append-nil (map entry_of answers)) ∙ sym (ap (λ l. map entry_of answers ++ l) none) ∙ c.loop-name.invariant in
     let shown = shown_entries answers es all in
-    are_tallies ts (map shown_tally answers) (λ test. ap (seen_where test) shown ∙ same test)
+    are_tallies ts (map tally_of answers) (λ test. ap (seen_where test) shown ∙ same test)
     (subst (λ us. IsStrictlySortedBy contact_cmp (map (λ (a : Tally). a.contact) us)) (sym shown) (answers_once es c.len.ensures.ordered))

@@ -1,5 +1,5 @@
 use Rattle.std.proofs.Common.{◌+◌, map, take}
-use Rattle.mailmap_contacts.specs.Answers.{shown_finding, shown_reference}
+use Rattle.mailmap_contacts.specs.Answers.{finding_view, tally_at}
 use Rattle.mailmap_contacts.proofs.Propers.{compared_more, none_by_some}
 use Rattle.mailmap_contacts.proofs.Steps.{mapped_more}
 use Rattle.mailmap_contacts.proofs.comparisons.compare.Goals as goal
@@ -7,10 +7,10 @@ use Rattle.mailmap_contacts.proofs.comparisons.compare.Goals as goal
 pub loop-answer-preserved : goal.loop-answer-preserved
 loop-answer-preserved c =
     let answers = c.args.answers.now in
-    let all = map shown_reference answers in
+    let all = map tally_at answers in
     let k = c.loop-answer.answer-index in
-    compared_more c.args.shared all (map shown_reference (take k answers)) (map shown_reference (take (k + 1) answers)) _ c.other_proper-other.result c.is_none.result
-    (map shown_finding c.args.findings.now.items) (map shown_finding c.loop-answer.findings.items) (map shown_finding c.push_finding.new.findings.items)
-    (map shown_reference c.loop-answer.proper.items) (map shown_reference c.push_if.new.answers.items)
+    compared_more c.args.shared all (map tally_at (take k answers)) (map tally_at (take (k + 1) answers)) _ c.other_proper-other.result c.is_none.result
+    (map finding_view c.args.findings.now.items) (map finding_view c.loop-answer.findings.items) (map finding_view c.push_finding.new.findings.items)
+    (map tally_at c.loop-answer.proper.items) (map tally_at c.push_if.new.answers.items)
     (c.other_proper-other.ensures all c.in_ok-propers.ensures) (none_by_some c.other_proper-other.result c.is_none.result c.is_none.ensures) c.in_ok-push_finding.ensures c.in_ok-push_if.ensures
-    (mapped_more shown_reference answers k _ c.loop-answer-test.true) c.loop-answer.invariant.0 c.loop-answer.invariant.1
+    (mapped_more tally_at answers k _ c.loop-answer-test.true) c.loop-answer.invariant.0 c.loop-answer.invariant.1

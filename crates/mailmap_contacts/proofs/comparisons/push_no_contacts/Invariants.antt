@@ -1,9 +1,9 @@
 -- The lines so far.
 use Rattle.std.proofs.Common.{◌≡◌, ◌++◌, map, take}
-use Rattle.mailmap_contacts.specs.Answers.{shown_finding}
+use Rattle.mailmap_contacts.specs.Answers.{finding_view}
 use Rattle.mailmap_contacts.specs.Comparisons.{no_contact}
 use Rattle.mailmap_contacts.proofs.comparisons.push_no_contacts.Given as goal
 
 abbrev pub invariant-loop-line : goal.invariant-loop-line
 invariant-loop-line l =
-    map shown_finding l.findings.items ≡ map shown_finding l.fn.findings.items ++ map no_contact (take l.line-index l.no_contacts)
+    map finding_view l.findings.items ≡ map finding_view l.fn.findings.items ++ map no_contact (take l.line-index l.no_contacts)

@@ -1,5 +1,5 @@
 use Rattle.std.proofs.Common.{◌≡◌, Some, option_map, refl, subst}
-use Rattle.mailmap_contacts.specs.Answers.{field_of, shown_reference, shown_tally}
+use Rattle.mailmap_contacts.specs.Answers.{field_of, tally_at, tally_of}
 use Rattle.mailmap_contacts.specs.Proper.{better}
 use Rattle.mailmap_contacts.specs.declared.folded.Folded.{Folded}
 use Rattle.mailmap_contacts.proofs.Propers.{moves, stays}
@@ -7,14 +7,14 @@ use Rattle.mailmap_contacts.proofs.proper.add_answer.Goals as goal
 
 pub returns-then-is_kept : goal.returns-then-is_kept
 returns-then-is_kept c = λ q.
-    let t = shown_tally c.args.answer.now in
+    let t = tally_of c.args.answer.now in
     let key : Folded = record { text = c.text.result } in
-    let kept = subst (λ o. Some (better (option_map shown_reference o) t) ≡ option_map shown_reference o) c.get.ensures.value (c.if-is_kept.ensures.kept refl) in
+    let kept = subst (λ o. Some (better (option_map tally_at o) t) ≡ option_map tally_at o) c.get.ensures.value (c.if-is_kept.ensures.kept refl) in
     stays (field_of c.args.shared) t key c.text.ensures c.args.propers.now kept q
 
 pub returns : goal.returns
 returns c = λ q.
-    let t = shown_tally c.args.answer.now in
+    let t = tally_of c.args.answer.now in
     let key : Folded = record { text = c.text.result } in
-    let best = subst (λ o. better (option_map shown_reference o) t ≡ t) c.get.ensures.value (c.if-is_kept.ensures.not_kept refl) in
+    let best = subst (λ o. better (option_map tally_at o) t ≡ t) c.get.ensures.value (c.if-is_kept.ensures.not_kept refl) in
     moves (field_of c.args.shared) t key c.text.ensures c.args.propers.now c.args.answer c.insert.new.self refl c.in_ok-insert.ensures.updates.0 best q

@@ -1,6 +1,7 @@
 use Rattle.std.proofs.Common.{rules, ◌≡◌, [], List, ℕ, Vec, Global, Err, ap, inl, inr, map, refl, ⊎_elim}
 use Rattle.mailmap_contacts.specs.Counts.{AreContactsOf}
 use Rattle.mailmap_findings.specs.Positions.{whole_lines}
+use Rattle.verify_command.specs.Settings.{choices_of}
 use Rattle.verify_command.specs.Task.{is_dash}
 use Rattle.verify_command.specs.declared.failure.TaskFailure.TheVariants.{Run}
 use Rattle.verify_command.specs.declared.asked.Mode.TheVariants.{Contacts}
@@ -23,7 +24,7 @@ returns-in_err-mailmaps-clause-fails g c =
     let e = c.in_err-mailmaps.field-0.0 in
     let failed : c.from_residual.result ≡ Err (Run e) = search rules in
     rw failed (fails_reading (g.F.FileSystem.at c.args.system.now) (g.R.Read.remaining c.args.input.now) Contacts c.args.contacts.now
-    (map items c.args.paths.now) e (λ is. cc) (λ is. cc) c.in_err-mailmaps.ensures.file (λ of_input. inr (ap (map items) (c.in_err-mailmaps.ensures.input of_input))))
+    (map items c.args.paths.now) e (λ is. cc) (λ is. cc) c.in_err-mailmaps.ensures.file (λ of_input. inr ((λ is. cc), ap (map items) (c.in_err-mailmaps.ensures.input of_input))))
 
 pub returns-clause-leaves : goal.returns-clause-leaves
 returns-clause-leaves g c =
@@ -31,7 +32,7 @@ returns-clause-leaves g c =
     let at = g.F.FileSystem.at c.args.system.now in
     let input = g.R.Read.remaining c.args.input.now in
     let paths = map items c.args.paths.now in
-    let mailmaps = c.in_ok-mailmaps-2.mailmaps in
+    let mailmaps = map (λ b. b.now) c.as_slice-2.result.now in
     let same : map items c.in_ok-mailmaps.mailmaps.items ≡ mailmaps = search rules in
     let taken = c.in_ok-read_contacts.ensures.takes in
     let h : AreContactsOf (whole_lines taken.0) c.in_ok-counted.counted = c.in_ok-counted.ensures (whole_lines taken.0) (taken.2 [] c.in_ok-contact_counter.ensures) in
@@ -39,7 +40,7 @@ returns-clause-leaves g c =
     read_beside at c.args.contacts.now input (g.R.Read.remaining c.read_beside.new.input) paths (map items c.in_ok-mailmaps.mailmaps.items) mailmaps taken.0 c.in_ok-mailmaps.ensures.ok same
     (λ dash. ap (λ i. g.R.Read.remaining i) (c.read_beside.ensures.unread_for_contacts dash)) taken.1 in
     record {
-      prints = prints_answer at input c.args.contacts.now paths mailmaps taken.0 c.in_ok-outcome.outcome (g.W.Write.contents c.args.output.now) (g.W.Write.contents c.report.new.output) are
+      prints = prints_answer at input (choices_of c.args.settings.now) c.args.contacts.now paths mailmaps taken.0 c.in_ok-outcome.outcome (g.W.Write.contents c.args.output.now) (g.W.Write.contents c.report.new.output) are
           (c.in_ok-outcome.ensures.ok taken.0 h);
       breaks_off = λ is. cc;
       memory = λ _ is. cc;
@@ -55,17 +56,17 @@ returns-in_err-outcome-clause-leaves g c =
     let at = g.F.FileSystem.at c.args.system.now in
     let input = g.R.Read.remaining c.args.input.now in
     let paths = map items c.args.paths.now in
-    let mailmaps = c.in_ok-mailmaps-2.mailmaps in
+    let mailmaps = map (λ b. b.now) c.as_slice-2.result.now in
     let same : map items c.in_ok-mailmaps.mailmaps.items ≡ mailmaps = search rules in
     let taken = c.in_ok-read_contacts.ensures.takes in
     let h : AreContactsOf (whole_lines taken.0) c.in_ok-counted.counted = c.in_ok-counted.ensures (whole_lines taken.0) (taken.2 [] c.in_ok-contact_counter.ensures) in
     let are : AreReadBeside at input c.args.contacts.now paths mailmaps taken.0 =
     read_beside at c.args.contacts.now input (g.R.Read.remaining c.read_beside.new.input) paths (map items c.in_ok-mailmaps.mailmaps.items) mailmaps taken.0 c.in_ok-mailmaps.ensures.ok same
     (λ dash. ap (λ i. g.R.Read.remaining i) (c.read_beside.ensures.unread_for_contacts dash)) taken.1 in
-    let begins = begins_answer at input c.args.contacts.now paths mailmaps taken.0 (g.W.Write.contents c.args.output.now) (g.W.Write.contents c.report.new.output) are in
+    let begins = begins_answer at input (choices_of c.args.settings.now) c.args.contacts.now paths mailmaps taken.0 (g.W.Write.contents c.args.output.now) (g.W.Write.contents c.report.new.output) are in
     let e = c.in_err-outcome.field-0.0 in
     let failed : c.from_residual-in_err-outcome.result ≡ Err (Run e) = search rules in
-    rw failed (left_front at input (g.R.Read.remaining c.read_contacts.new.input) Contacts c.args.contacts.now paths g.W.Write.contents c.args.output.now c.report.new.output e (inr refl) (λ is. cc)
+    rw failed (left_front at input (g.R.Read.remaining c.read_contacts.new.input) (choices_of c.args.settings.now) Contacts c.args.contacts.now paths g.W.Write.contents c.args.output.now c.report.new.output e (inr (inl refl)) (λ is. cc)
     c.in_err-outcome.ensures.only (λ of. begins (c.in_err-outcome.ensures.breaks_off taken.0 h of)) (λ of. ⊎_elim inl (λ front. inr (begins front)) (c.in_err-outcome.ensures.memory taken.0 h of)))
 
 pub returns-clause-reads_all : goal.returns-clause-reads_all
@@ -73,5 +74,5 @@ returns-clause-reads_all g c =
     let items : Vec ℕ Global → List ℕ = λ path. path.items in
     let between = g.R.Read.remaining c.read_beside.new.input in
     let after = g.R.Read.remaining c.read_contacts.new.input in
-    λ reads. ends_beside items (is_dash c.args.contacts.now) c.args.paths.now between after reads.2 c.in_ok-read_contacts.ensures.reads_all
+    λ reads. ends_beside items (is_dash c.args.contacts.now) c.args.paths.now between after (⊎_elim inl (λ none. inr none.1) reads.2) c.in_ok-read_contacts.ensures.reads_all
     (λ file. ap (λ i. g.R.Read.remaining i) (c.read_contacts.ensures.unread file)) c.in_ok-mailmaps.ensures.reads_all

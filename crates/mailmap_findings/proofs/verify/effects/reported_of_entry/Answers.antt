@@ -2,7 +2,7 @@ use Rattle.std.proofs.Common.{◌≡◌, ◌∙◌, Some, ap, rules, sym, true}
 use Rattle.std.specs.Option.{option_and_then, option_map}
 use Rattle.mailmap_entries.specs.Entries.{mapping_of}
 use Rattle.mailmap_redundancy.specs.Redundancy.{entries}
-use Rattle.mailmap_findings.specs.Findings.{mapped_contact, reported_of_contact, reported_of_entry}
+use Rattle.mailmap_findings.specs.Findings.{reported_of_entry, reported_of_proper}
 use Rattle.mailmap_findings.proofs.verify.effects.reported_of_entry.Goals as goal
 
 pub returns-then-is_kept : goal.returns-then-is_kept
@@ -12,5 +12,5 @@ returns-then-is_kept c =
     let some : c.args.entry ≡ Some c.in_ok-entry.entry = search rules in
     rw c.if-is_kept.true
     (c.reported_of_contact.ensures
-    ∙ ap (λ x. reported_of_contact x (mapped_contact h x)) c.proper_contact.ensures
+    ∙ ap (reported_of_proper h kept) c.proper_contact.ensures
     ∙ ap (λ o. option_and_then (reported_of_entry h kept true) (option_map mapping_of o)) (sym some))

@@ -5,7 +5,8 @@ use Rattle.mailmap_findings.specs.Explanations.{explained}
 use Rattle.mailmap_redundancy.specs.Origins.{origins}
 use Rattle.mailmap_entries.specs.Semantics.{answer_of}
 use Rattle.mailmap_redundancy.specs.Redundancy.{entries}
-use Rattle.verify_command.specs.Explained.{Grounds, mapped_text, positions_text}
+use Rattle.verify_command.specs.Explained.{Grounds, mapped_text}
+use Rattle.verify_command.specs.Report.{positions_text}
 use Rattle.verify_command.proofs.Grounded.{mapped_pieces}
 use Rattle.verify_command.proofs.explanation.Explainer.push_mapped.Goals as goal
 

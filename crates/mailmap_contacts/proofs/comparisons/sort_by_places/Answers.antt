@@ -1,0 +1,19 @@
+use Rattle.std.proofs.Common.{rules, ◌≡◌}
+use Rattle.std.proofs.lemmas.List.Sorted.{IsPermutation-map, answers_always}
+use Rattle.mailmap_contacts.specs.Answers.{finding_view}
+use Rattle.mailmap_contacts.specs.Comparisons.{place_cmp, place_of}
+use Rattle.mailmap_contacts.specs.declared.comparisons.ContactFinding.TheVariants.{NoContact}
+use Rattle.mailmap_contacts.proofs.Steps.{sorted_mapped}
+use Rattle.mailmap_contacts.proofs.comparisons.sort_by_places.Goals as goal
+
+pub returns-clause-whole : goal.returns-clause-whole
+returns-clause-whole c =
+    IsPermutation-map finding_view c.args.findings.now.items c.sort_unstable_by_key.new.self.items c.sort_unstable_by_key.ensures.permutation
+
+pub returns-clause-in_order : goal.returns-clause-in_order
+returns-clause-in_order c =
+    let computes =
+    answers_always _ (λ a r. r ≡ place_of (finding_view a.0.now)) _
+    (λ f a r f' k. let e : r ≡ place_of (finding_view a.0.now) = search rules in e) in
+    sorted_mapped finding_view place_of place_cmp c.sort_unstable_by_key.new.self.items (NoContact 0)
+    (c.sort_unstable_by_key.ensures.sorted (λ f. place_of (finding_view f)) computes)

@@ -1,0 +1,9 @@
+-- The entries so far were added to both.
+use Rattle.std.proofs.Common.{◌≡◌, map, take}
+use Rattle.mailmap_entries.specs.Entries.{mapping_of}
+use Rattle.mailmap_entries.specs.Semantics.{accepted}
+use Rattle.mailmap_suggestions.specs.Lines.{plus}
+use Rattle.mailmap_suggestions.proofs.histories.Histories.add.Given as goal
+
+abbrev pub invariant-loop-entry : goal.invariant-loop-entry
+invariant-loop-entry l = l.self ≡ plus l.initial.self (accepted (map mapping_of (take l.entry-index l.more)))

@@ -1,0 +1,31 @@
+-- What is suggested for the contacts of a history.
+use Rattle.std.specs.Prelude.{Bool, true, false, List, ◌++◌, map}
+use Rattle.mailmap_contacts.specs.Contacts.{Tally}
+use Rattle.mailmap_entries.specs.Entries.{Mapping}
+use Rattle.mailmap_suggestions.specs.Counted.{counted, git_counted}
+use Rattle.mailmap_suggestions.specs.Groups.{email_shared, name_shared}
+use Rattle.mailmap_suggestions.specs.Lines.{Histories, plus}
+use Rattle.mailmap_suggestions.specs.Suggestions.{email_entries, group_entries, groups}
+
+-- the answers to a group of contacts, and the entries that give it one answer
+pub record Suggestion : Type 0 where
+  pub answers : List Tally
+  -- git's, where they differ
+  pub git_answers : List Tally
+  pub entries : List Mapping
+  -- whether somebody has to judge whether the group is one person
+  pub is_to_judge : Bool
+
+abbrev pub suggestion : Histories → Bool → List Tally → Suggestion
+suggestion h is_to_judge g = record {
+  answers = counted h g;
+  git_answers = git_counted h g;
+  entries = group_entries h g;
+  is_to_judge = is_to_judge;
+}
+
+-- for the groups that share an email, and then for those that share a name
+abbrev pub suggestions : Histories → List Tally → List Suggestion
+suggestions h ts =
+    let more = plus h (email_entries h ts) in
+    map (suggestion h false) (groups email_shared h ts) ++ map (suggestion more true) (groups name_shared more ts)

@@ -1,0 +1,22 @@
+-- Suggestions as the code has them.
+use Rattle.std.specs.Prelude.{Bool, false, map, true}
+use Rattle.mailmap_contacts.specs.Answers.{tally_of}
+use Rattle.mailmap_contacts.specs.declared.proper.Shared.{Shared}
+use Rattle.mailmap_contacts.specs.declared.proper.Shared.TheVariants.{Email, Name}
+use Rattle.mailmap_entries.specs.Entries.{mapping_of}
+use Rattle.mailmap_suggestions.specs.Suggested.{Suggestion}
+use Rattle.mailmap_suggestions.specs.declared.suggestions.Suggestion.{Suggestion as TheSuggestion}
+
+-- the specification's view of a suggestion
+abbrev pub suggestion_of : TheSuggestion → Suggestion
+suggestion_of s = record {
+  answers = map tally_of s.answers.items;
+  git_answers = map tally_of s.git_answers.items;
+  entries = map mapping_of s.entries.items;
+  is_to_judge = s.is_to_judge;
+}
+
+-- whether answers that share this may be two people
+abbrev pub are_to_judge : Shared → Bool
+are_to_judge Email = false
+are_to_judge Name = true

@@ -1,0 +1,181 @@
+//! The entries of mailmaps, as this library reads them and as git does.
+ghost use Rattle.std.specs.Prelude.{◌≡◌, ◌++◌, ◌∷◌, [], IfOk, OnOk, map, true};
+ghost use Rattle.std.specs.List.{All};
+ghost use Rattle.mailmap_entries.specs.Entries.{mapping_of};
+ghost use Rattle.mailmap_entries.specs.Semantics.{accepted, is_accepted as spec_is_accepted};
+ghost use Rattle.mailmap_findings.specs.GitAnswers.{git_mappings};
+ghost use Rattle.mailmap_grammar.specs.Lines.{mappings_of};
+ghost use Rattle.mailmap_findings.specs.Git.{git_entries as spec_git_entries};
+ghost use Rattle.mailmap_contacts.specs.Answers.{tally_of};
+ghost use Rattle.mailmap_redundancy.specs.Redundancy.{entries};
+ghost use Rattle.mailmap_suggestions.specs.Answered.{IsAnswered, tally_in};
+ghost use Rattle.mailmap_suggestions.specs.Histories.{histories_of};
+ghost use Rattle.mailmap_suggestions.specs.Lines.{plus};
+
+use crate::answered::{Answered, answer_all};
+use bstr::ByteSlice;
+use mailmap_contacts::answers::Tally;
+use mailmap_entries::Entry;
+use mailmap_findings::git::git_entries;
+use mailmap_grammar::lines::parse_ignore_errors;
+use mailmap_redundancy::{Effective, LocatedEntry, Position, without_redundant};
+use std::alloc::{AllocError, Global};
+use std::marker::Model;
+
+/// The entries of mailmaps, twice, since git reads some lines in another way than this library.
+#[derive(Drop)]
+pub(crate) struct Histories<'a> {
+    pub(crate) ours: History<'a>,
+    pub(crate) gits: History<'a>,
+}
+
+impl<'a> Model for Histories<'a> {
+    ghost use Rattle.mailmap_suggestions.specs.Lines as spec;
+
+    ghost Value = { spec.Histories };
+
+    ghost view = { λ s. record { ours = s.ours; gits = s.gits } };
+}
+
+/// Entries in their order. Lookups don't depend on their positions.
+#[derive(Drop)]
+pub(crate) struct History<'a> {
+    pub(crate) entries: Vec<LocatedEntry<'a>>,
+}
+
+impl<'a> Model for History<'a> {
+    ghost use Rattle.std.specs.Prelude.{◌≡◌, List, map, true};
+    ghost use Rattle.std.specs.List.{AllByRecursion};
+    ghost use Rattle.mailmap_entries.specs.Entries.{Mapping, mapping_of};
+    ghost use Rattle.mailmap_entries.specs.Semantics.{is_accepted};
+
+    ghost Value = { List Mapping };
+
+    ghost view = { λ s. map (λ x. mapping_of x.entry) s.entries.items };
+
+    ghost invariant = { λ s. AllByRecursion (λ x. is_accepted (mapping_of x.entry) ≡ true) s.entries.items };
+}
+
+impl<'a> Histories<'a> {
+    /// Reads the mailmaps in buffers, one after another.
+    pub(crate) fn read(alloc: Global, buffers: &[&'a [u8]]) -> Result<Histories<'a>, AllocError>
+        ensures { IfOk result (λ h. h ≡ histories_of (map (λ b. b.now) buffers.now)) }
+    {
+        let mut histories = Histories {
+            ours: History::new(alloc),
+            gits: History::new(alloc),
+        };
+        for buffer in buffers {
+            histories.read_more(buffer)?;
+        }
+        Ok(histories)
+    }
+
+    fn read_more(&mut self, buffer: &'a [u8]) -> Result<(), AllocError>
+        ensures ours { OnOk result (self.new.ours ≡ self.old.ours ++ mappings_of buffer.now) }
+        ensures gits { OnOk result (self.new.gits ≡ self.old.gits ++ git_mappings buffer.now) }
+    {
+        self.ours.read(buffer)?;
+        self.gits.read_as_git(buffer)
+    }
+
+    /// The contacts with the answers to them, in their order.
+    pub(crate) fn answer_all(
+        &self,
+        alloc: Global,
+        contacts: &[Tally<'a>],
+    ) -> Result<Vec<Answered<'a>>, AllocError>
+        ensures contacts { IfOk result (λ all. map tally_in all.items ≡ map tally_of contacts.now) }
+        ensures answered { IfOk result (λ all. All (IsAnswered self.now) all.items) }
+    {
+        let ours = self.ours.effective(alloc)?;
+        let gits = self.gits.effective(alloc)?;
+        Ok(answer_all(alloc, contacts, &ours, &gits)?)
+    }
+
+    /// Appends entries that both have, but none that maps nothing.
+    pub(crate) fn add(&mut self, more: &[Entry<'a>]) -> Result<(), AllocError>
+        ensures { OnOk result (self.new ≡ plus self.old (accepted (map mapping_of more.now))) }
+    {
+        for entry in more {
+            self.push_accepted(*entry)?;
+        }
+        Ok(())
+    }
+
+    fn push_accepted(&mut self, entry: Entry<'a>) -> Result<(), AllocError>
+        ensures { OnOk result (self.new ≡ plus self.old (accepted (mapping_of entry.entry ∷ []))) }
+    {
+        if is_accepted(&entry) {
+            return self.push(entry);
+        }
+        Ok(())
+    }
+
+    fn push(&mut self, entry: Entry<'a>) -> Result<(), AllocError>
+        requires { spec_is_accepted (mapping_of entry) ≡ true }
+        ensures { OnOk result (self.new ≡ plus self.old (mapping_of entry.entry ∷ [])) }
+    {
+        self.ours.push(entry)?;
+        self.gits.push(entry)
+    }
+}
+
+impl<'a> History<'a> {
+    fn new(alloc: Global) -> History<'a>
+        ensures { result ≡ [] }
+    {
+        History {
+            entries: Vec::new(alloc),
+        }
+    }
+
+    /// What answers as these entries do.
+    pub(crate) fn effective(&self, alloc: Global) -> Result<Effective<'_, 'a>, AllocError>
+        ensures { IfOk result (λ effective. entries effective.history ≡ self.now) }
+    {
+        Ok(without_redundant(alloc, self.entries.as_slice())?)
+    }
+
+    fn read(&mut self, buffer: &'a [u8]) -> Result<(), AllocError>
+        ensures { OnOk result (self.new ≡ self.old ++ mappings_of buffer.now) }
+    {
+        for entry in parse_ignore_errors(buffer) {
+            self.push(entry)?;
+        }
+        Ok(())
+    }
+
+    fn read_as_git(&mut self, buffer: &'a [u8]) -> Result<(), AllocError>
+        ensures { OnOk result (self.new ≡ self.old ++ git_mappings buffer.now) }
+    {
+        for line in buffer.lines_with_terminator() {
+            self.read_line_as_git(line)?;
+        }
+        Ok(())
+    }
+
+    fn read_line_as_git(&mut self, line: &'a [u8]) -> Result<(), AllocError>
+        ensures { OnOk result (self.new ≡ self.old ++ spec_git_entries line.now) }
+    {
+        for entry in git_entries(line) {
+            self.push(entry)?;
+        }
+        Ok(())
+    }
+
+    fn push(&mut self, entry: Entry<'a>) -> Result<(), AllocError>
+        requires { spec_is_accepted (mapping_of entry) ≡ true }
+        ensures { OnOk result (self.new ≡ self.old ++ mapping_of entry.entry ∷ []) }
+    {
+        let position = Position { buffer: 0, line: 0 };
+        self.entries.push(LocatedEntry { position, entry })?;
+        Ok(())
+    }
+}
+
+fn is_accepted(entry: &Entry<'_>) -> bool
+    ensures { result ≡ spec_is_accepted (mapping_of entry.now) }
+{
+    entry.new_name().is_some() || entry.new_email().is_some()
+}

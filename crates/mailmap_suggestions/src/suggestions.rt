@@ -1,0 +1,132 @@
+//! Suggests the lines that mailmaps lack for the contacts of a history.
+ghost use Rattle.std.specs.Prelude.{◌≡◌, ◌++◌, IfOk, List, OnOk, map};
+ghost use Rattle.std.specs.List.{flat_map};
+ghost use Rattle.mailmap_entries.specs.Folding.{Text};
+ghost use Rattle.mailmap_entries.specs.Semantics.{accepted};
+ghost use Rattle.mailmap_contacts.specs.Answers.{tally_of};
+ghost use Rattle.mailmap_contacts.specs.Contacts.{contacts_from, tallied};
+ghost use Rattle.mailmap_contacts.specs.Counts.{AreContactsOf};
+ghost use Rattle.mailmap_suggestions.specs.Answered.{AreAnswered, HaveAscendingLines, HaveDistinctContacts, tallies_behind};
+ghost use Rattle.mailmap_suggestions.specs.Grouping.{shared_by};
+ghost use Rattle.mailmap_suggestions.specs.Groups.{email_shared, name_shared};
+ghost use Rattle.mailmap_suggestions.specs.Histories.{histories_of};
+ghost use Rattle.mailmap_suggestions.specs.Lines as spec;
+ghost use Rattle.mailmap_suggestions.specs.Lines.{plus};
+ghost use Rattle.mailmap_suggestions.specs.Suggested.{suggestion, suggestions};
+ghost use Rattle.mailmap_suggestions.specs.Suggestions.{groups};
+ghost use Rattle.mailmap_suggestions.specs.Views.{are_to_judge, suggestion_of};
+
+use crate::answered::Answered;
+use crate::counted::{counted_answers, counted_git_answers, proper_of};
+use crate::entries::group_entries;
+use crate::groups::{by_old_email, groups_of};
+use crate::histories::Histories;
+use mailmap_contacts::answers::Tally;
+use mailmap_contacts::counter::Contacts;
+use mailmap_contacts::proper::Shared;
+use mailmap_entries::Entry;
+use std::alloc::{AllocError, Global};
+
+/// What is suggested for a group of contacts whose answers share an email or a name: entries that give all of them one
+/// answer, here and in git.
+#[derive(Drop)]
+pub struct Suggestion<'a> {
+    /// The distinct answers today, the most frequent first.
+    pub answers: Vec<Tally<'a>>,
+    /// git's answers where they differ.
+    pub git_answers: Vec<Tally<'a>>,
+    pub entries: Vec<Entry<'a>>,
+    /// Whether the answers share only a name, so that they may be two people.
+    pub is_to_judge: bool,
+}
+
+/// Suggests entries for the contacts that were counted.
+///
+/// The answers that share an email come first, whatever the case of ASCII letters. Then, with the entries for these
+/// added, those that share a name. Groups come in the order of their first contacts.
+///
+/// Two contacts `jane <jane@x>` and three `Jane Doe <jane@x>` get the entry `Jane Doe <jane@x>`.
+pub fn suggest<'a>(
+    alloc: Global,
+    buffers: &[&'a [u8]],
+    contacts: &'a Contacts,
+) -> Result<Vec<Suggestion<'a>>, AllocError>
+    ensures { (lines : List Text) → AreContactsOf lines contacts.now → IfOk result (λ found. map suggestion_of found.items
+        ≡ suggestions (histories_of (map (λ b. b.now) buffers.now)) (tallied (contacts_from 1 lines))) }
+{
+    let mut histories = Histories::read(alloc, buffers)?;
+    let contacts = contacts.in_order(alloc)?;
+    let mut found = Vec::new(alloc);
+    push_suggestions(alloc, Shared::Email, &histories, &contacts, &mut found)?;
+    add_entries(&mut histories, &found)?;
+    push_suggestions(alloc, Shared::Name, &histories, &contacts, &mut found)?;
+    Ok(found)
+}
+
+// Appends what is suggested for the contacts whose answers share an email or a name.
+fn push_suggestions<'a>(
+    alloc: Global,
+    shared: Shared,
+    histories: &Histories<'a>,
+    contacts: &[Tally<'a>],
+    found: &mut Vec<Suggestion<'a>>,
+) -> Result<(), AllocError>
+    ensures { HaveAscendingLines (map tally_of contacts.now) → HaveDistinctContacts (map tally_of contacts.now)
+        → OnOk result (map suggestion_of found.new.items ≡ map suggestion_of found.old.items
+        ++ map (suggestion histories.now (are_to_judge shared))
+        (groups (shared_by shared) histories.now (map tally_of contacts.now))) }
+{
+    let answered = histories.answer_all(alloc, contacts)?;
+    let groups = groups_of(alloc, shared, &answered)?;
+    for group in &groups {
+        found.push(suggest_for(alloc, group, are_to_judge(shared))?)?;
+    }
+    Ok(())
+}
+
+// Whether answers that share this may be two people.
+fn are_to_judge(shared: Shared) -> bool
+    ensures { result ≡ are_to_judge shared }
+{
+    match shared {
+        Shared::Email => false,
+        Shared::Name => true,
+    }
+}
+
+// What is suggested for a group.
+fn suggest_for<'a>(
+    alloc: Global,
+    group: &[&Answered<'a>],
+    is_to_judge: bool,
+) -> Result<Suggestion<'a>, AllocError>
+    ensures { (h : spec.Histories) → AreAnswered h group.now → HaveAscendingLines (tallies_behind group.now)
+        → HaveDistinctContacts (tallies_behind group.now)
+        → IfOk result (λ s. suggestion_of s ≡ suggestion h is_to_judge (tallies_behind group.now)) }
+{
+    let answers = counted_answers(alloc, group)?;
+    let entries = match proper_of(&answers) {
+        Some(proper) => group_entries(alloc, proper, &by_old_email(alloc, group)?)?,
+        None => Vec::new(alloc),
+    };
+    Ok(Suggestion {
+        answers,
+        git_answers: counted_git_answers(alloc, group)?,
+        entries,
+        is_to_judge,
+    })
+}
+
+// Appends the entries of suggestions to those that both have.
+fn add_entries<'a>(
+    histories: &mut Histories<'a>,
+    found: &[Suggestion<'a>],
+) -> Result<(), AllocError>
+    ensures { OnOk result (histories.new
+        ≡ plus histories.old (accepted (flat_map (λ s. s.entries) (map suggestion_of found.now)))) }
+{
+    for suggestion in found {
+        histories.add(&suggestion.entries)?;
+    }
+    Ok(())
+}

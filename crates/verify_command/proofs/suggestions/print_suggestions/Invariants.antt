@@ -1,0 +1,10 @@
+-- The texts of the suggestions so far were written, or are held.
+use Rattle.std.proofs.Common.{drop}
+use Rattle.mailmap_suggestions.specs.SuggestedText.{suggestion_text}
+use Rattle.mailmap_suggestions.specs.Views.{suggestion_of}
+use Rattle.verify_command.proofs.Explaining.{HasPrinted}
+use Rattle.verify_command.proofs.suggestions.print_suggestions.Given as goal
+
+abbrev pub invariant-loop-suggestion : goal.invariant-loop-suggestion
+invariant-loop-suggestion g l =
+    HasPrinted (λ s. suggestion_text s.is_to_judge (suggestion_of s)) l.suggestions (drop l.suggestion-index l.suggestions) (g.W.Write.contents l.fn.output) (g.W.Write.contents l.output) l.printer

@@ -1,0 +1,331 @@
+-- What the arguments of `mailmap_verify` ask for.
+use Rattle.std.specs.Prelude.{◌==◌, ◌&&◌, ◌||◌, ◌≡◌, ◌+◌, ⊤, ℕ, Bool, true, false, if◌then◌else◌, nat_eq, nat_lt, is_some, length, List, [], ◌∷◌, ◌++◌, Option, Some, None, Result, Ok, Err, codes, drop, not, slice_index, take}
+use Rattle.std.specs.List.{find, list_any, position}
+use Rattle.bstr.specs.Text.{split_at}
+use Rattle.bstr.specs.Find.{matches}
+use lib.Pointwise.{pointwise}
+use Rattle.mailmap_entries.specs.Folding.{Text}
+use Rattle.command_line.specs.Files.{texts}
+use Rattle.verify_command.specs.Kinds.{kind_name}
+use Rattle.verify_command.specs.Settings.{Choices, choices_of, no_choices}
+use Rattle.verify_command.specs.declared.asked.Format.{Format}
+use Rattle.verify_command.specs.declared.asked.Format.TheVariants.{Gcc, Json}
+use Rattle.verify_command.specs.declared.asked.Misuse.{Misuse}
+use Rattle.verify_command.specs.declared.asked.Misuse.TheVariants as misuse
+use Rattle.verify_command.specs.declared.asked.Mode.{Mode}
+use Rattle.verify_command.specs.declared.asked.Mode.TheVariants.{Help, Version, Verify, Prune, Explain, Contacts, Suggest}
+use Rattle.verify_command.specs.declared.asked.ParseError.{ParseError}
+use Rattle.verify_command.specs.declared.asked.ParseError.TheVariants as error
+use Rattle.verify_command.specs.declared.asked.Request.{Request}
+use Rattle.verify_command.specs.declared.asked.Setting.{Setting}
+use Rattle.verify_command.specs.declared.asked.Setting.TheVariants as setting
+use Rattle.verify_command.specs.declared.kinds.Kind.{Kind}
+use Rattle.verify_command.specs.declared.kinds.Kind.TheVariants.{NoEmail, UnclosedEmail, EmptyEmail, NothingToMap, UnclosedSecondEmail, IgnoredText, GitReads, NoEffect, ItselfMapped, Unneeded, NoContact, SameEmail, SameName, GitAnswers}
+use Rattle.verify_command.specs.declared.kinds.Level.{Level}
+use Rattle.verify_command.specs.declared.kinds.Level.TheVariants.{Error, Note, Warning}
+use Rattle.verify_command.specs.declared.request.Word.{Word}
+use Rattle.verify_command.specs.declared.request.Word.TheVariants as word
+
+-- ---- requests and errors
+
+pub record Wanted : Type 0 where
+  pub mode : Mode
+  pub contacts : Text
+  pub choices : Choices
+  pub paths : List Text
+
+-- an error in the arguments
+pub data Wrong : Type 0 where
+  unknown_option : Text → Wrong
+  second_mode : Text → Wrong
+  no_value : Setting → Text → Wrong
+  unknown_value : Setting → Text → Wrong
+  unused : Mode → Setting → Wrong
+
+-- the specification's views
+abbrev pub wanted_of : Request → Wanted
+wanted_of r = record {
+  mode = r.mode;
+  contacts = r.contacts.items;
+  choices = choices_of r.settings;
+  paths = texts r.paths.items;
+}
+
+abbrev pub wrong_of : Misuse → Wrong
+wrong_of (misuse.UnknownOption option) = unknown_option option.items
+wrong_of (misuse.SecondMode option) = second_mode option.items
+wrong_of (misuse.NoValue setting option) = no_value setting option.items
+wrong_of (misuse.UnknownValue setting value) = unknown_value setting value.items
+wrong_of (misuse.Unused mode setting) = unused mode setting
+
+-- Unless memory runs out, this is the request or the error.
+abbrev pub IsAsked : Result Request ParseError → Result Wanted Wrong → Type 0
+IsAsked (Ok request) asked = Ok (wanted_of request) ≡ asked
+IsAsked (Err (error.Misuse m)) asked = Err (wrong_of m) ≡ asked
+IsAsked (Err error.Memory) asked = ⊤
+
+-- what no argument asks for
+abbrev pub plain : Mode → Wanted
+plain mode = record { mode = mode; contacts = []; choices = no_choices; paths = [] }
+
+-- ---- single arguments
+
+abbrev pub same_text : Text → Text → Bool
+same_text a b = pointwise nat_eq a b
+
+-- an argument that starts with `-` and is longer than that
+abbrev pub is_dashed : Text → Bool
+is_dashed argument = slice_index argument 0 == 45 && nat_lt 1 (length argument)
+
+-- an option with a value, by its long name
+abbrev pub setting_named : Text → Option Setting
+setting_named name =
+    if same_text name (codes "--contacts") then Some setting.Contacts
+    else if same_text name (codes "--suggest") then Some setting.Suggest
+    else if same_text name (codes "--severity") then Some setting.Severity
+    else if same_text name (codes "--exclude") then Some setting.Exclude
+    else if same_text name (codes "--format") then Some setting.Format
+    else if same_text name (codes "--stdin-name") then Some setting.StdinName
+    else None
+
+-- and by its letter
+abbrev pub setting_lettered : Text → Option Setting
+setting_lettered name =
+    if same_text name (codes "-S") then Some setting.Severity
+    else if same_text name (codes "-e") then Some setting.Exclude
+    else if same_text name (codes "-f") then Some setting.Format
+    else None
+
+abbrev pub is_equals : ℕ → Bool
+is_equals byte = byte == 61
+
+-- the parts before and after the first `=`; without one, all and nothing
+abbrev pub name_at : Text → Option ℕ → Text
+name_at argument (Some at) = take at argument
+name_at argument None = argument
+
+abbrev pub value_at : Text → Option ℕ → Text
+value_at argument (Some at) = drop (at + 1) argument
+value_at argument None = []
+
+abbrev pub name_in : Text → Text
+name_in argument = name_at argument (position is_equals argument)
+
+abbrev pub value_in : Text → Text
+value_in argument = value_at argument (position is_equals argument)
+
+-- an option with a value that may be in the same argument, as in `--format=json`
+abbrev pub setting_word : Text → Word
+setting_word argument = elim (setting_lettered argument) [
+  | Some setting ↦ word.Next setting
+  | None ↦ elim (setting_named (name_in argument)) [
+    | Some setting ↦ if list_any is_equals argument then word.Joined setting else word.Next setting
+    | None ↦ if is_dashed argument then word.Unknown else word.Path
+  ]
+]
+
+-- the kind of an argument where an option can stand
+abbrev pub word_of : Text → Word
+word_of argument =
+    if same_text argument (codes "--") then word.End
+    else if same_text argument (codes "-h") || same_text argument (codes "--help") then word.Help
+    else if same_text argument (codes "--version") then word.Version
+    else if same_text argument (codes "--prune") then word.Mode Prune
+    else if same_text argument (codes "--explain") then word.Mode Explain
+    else setting_word argument
+
+-- ---- what an option adds to a request
+
+-- whether the mode prints findings
+abbrev pub reports : Mode → Bool
+reports Help = false
+reports Version = false
+reports Verify = true
+reports Prune = false
+reports Explain = false
+reports Contacts = true
+reports Suggest = false
+
+-- whether messages of the mode can name a line of standard input
+abbrev pub names_input : Mode → Bool
+names_input Help = false
+names_input Version = false
+names_input Verify = true
+names_input Prune = true
+names_input Explain = false
+names_input Contacts = true
+names_input Suggest = false
+
+abbrev pub is_empty : {X : Type 0} → List X → Bool
+is_empty xs = length xs == 0
+
+-- the first option that the mode doesn't use
+abbrev pub unused_setting : Wanted → Option Setting
+unused_setting w =
+    if is_some w.choices.severity && not (reports w.mode) then Some setting.Severity
+    else if not (is_empty w.choices.excluded) && not (reports w.mode) then Some setting.Exclude
+    else if is_some w.choices.format && not (reports w.mode) then Some setting.Format
+    else if is_some w.choices.stdin_name && not (names_input w.mode) then Some setting.StdinName
+    else None
+
+abbrev pub checked : Wanted → Result Wanted Wrong
+checked w = elim (unused_setting w) [
+  | None ↦ Ok w
+  | Some setting ↦ Err (unused w.mode setting)
+]
+
+-- whether there is no mode yet: no option asks for the mode to verify
+abbrev pub has_no_mode : Mode → Bool
+has_no_mode Help = false
+has_no_mode Version = false
+has_no_mode Verify = true
+has_no_mode Prune = false
+has_no_mode Explain = false
+has_no_mode Contacts = false
+has_no_mode Suggest = false
+
+-- with this mode and this file of contacts, unless there is a mode
+abbrev pub with_mode : Wanted → Mode → Text → Text → Result Wanted Wrong
+with_mode w mode contacts option =
+    if has_no_mode w.mode then checked (record w { mode = mode; contacts = contacts }) else Err (second_mode option)
+
+abbrev pub level_named : Text → Option Level
+level_named name =
+    if same_text name (codes "error") then Some Error
+    else if same_text name (codes "warning") then Some Warning
+    else if same_text name (codes "note") then Some Note
+    else None
+
+abbrev pub with_severity : Wanted → Text → Result Wanted Wrong
+with_severity w value = elim (level_named value) [
+  | Some level ↦ checked (record w { choices = record w.choices { severity = Some level } })
+  | None ↦ Err (unknown_value setting.Severity value)
+]
+
+abbrev pub format_named : Text → Option Format
+format_named name =
+    if same_text name (codes "gcc") then Some Gcc
+    else if same_text name (codes "json") then Some Json
+    else None
+
+abbrev pub with_format : Wanted → Text → Result Wanted Wrong
+with_format w value = elim (format_named value) [
+  | Some format ↦ checked (record w { choices = record w.choices { format = Some format } })
+  | None ↦ Err (unknown_value setting.Format value)
+]
+
+abbrev pub kinds : List Kind
+kinds = NoEmail ∷ UnclosedEmail ∷ EmptyEmail ∷ NothingToMap ∷ UnclosedSecondEmail ∷ IgnoredText ∷ GitReads ∷ NoEffect
+    ∷ ItselfMapped ∷ Unneeded ∷ NoContact ∷ SameEmail ∷ SameName ∷ GitAnswers ∷ []
+
+abbrev pub kind_named : Text → Option Kind
+kind_named name = find (λ kind. same_text (kind_name kind) name) kinds
+
+-- the names between commas
+abbrev pub names_in : Text → List Text
+names_in value = split_at value 1 0 (matches value (44 ∷ []) 0)
+
+-- the kinds with these names after others, or the first name that is none
+abbrev pub kinds_after : List Kind → List Text → Result (List Kind) Text
+kinds_after kinds [] = Ok kinds
+kinds_after kinds (name ∷ names) = elim (kind_named name) [
+  | Some kind ↦ kinds_after (kinds ++ kind ∷ []) names
+  | None ↦ Err name
+]
+
+abbrev pub with_excluded : Wanted → Text → Result Wanted Wrong
+with_excluded w value = elim (kinds_after w.choices.excluded (names_in value)) [
+  | Ok kinds ↦ checked (record w { choices = record w.choices { excluded = kinds } })
+  | Err name ↦ Err (unknown_value setting.Exclude name)
+]
+
+abbrev pub with_setting : Wanted → Setting → Text → Text → Result Wanted Wrong
+with_setting w setting.Contacts option value = with_mode w Contacts value option
+with_setting w setting.Suggest option value = with_mode w Suggest value option
+with_setting w setting.Severity option value = with_severity w value
+with_setting w setting.Exclude option value = with_excluded w value
+with_setting w setting.Format option value = with_format w value
+with_setting w setting.StdinName option value =
+    checked (record w { choices = record w.choices { stdin_name = Some value } })
+
+-- an option without its value is an error, which may be that of a second mode
+abbrev pub without_value : Wanted → Setting → Text → Wrong
+without_value w setting.Contacts option =
+    if has_no_mode w.mode then no_value setting.Contacts option else second_mode option
+without_value w setting.Suggest option =
+    if has_no_mode w.mode then no_value setting.Suggest option else second_mode option
+without_value w setting.Severity option = no_value setting.Severity option
+without_value w setting.Exclude option = no_value setting.Exclude option
+without_value w setting.Format option = no_value setting.Format option
+without_value w setting.StdinName option = no_value setting.StdinName option
+
+-- ---- all arguments
+
+-- `-` as a file means standard input
+abbrev pub is_dash : Text → Bool
+is_dash path = same_text path (codes "-")
+
+-- standard input has contacts, and so can't be the mailmap
+abbrev pub reads_contacts : Mode → Text → Bool
+reads_contacts Help contacts = false
+reads_contacts Version contacts = false
+reads_contacts Verify contacts = false
+reads_contacts Prune contacts = false
+reads_contacts Explain contacts = true
+reads_contacts Contacts contacts = is_dash contacts
+reads_contacts Suggest contacts = is_dash contacts
+
+-- standard input can be the mailmap; lines are only suggested for files
+abbrev pub can_be_mailmap : Mode → Text → Bool
+can_be_mailmap Help contacts = true
+can_be_mailmap Version contacts = true
+can_be_mailmap Verify contacts = true
+can_be_mailmap Prune contacts = true
+can_be_mailmap Explain contacts = false
+can_be_mailmap Contacts contacts = not (is_dash contacts)
+can_be_mailmap Suggest contacts = false
+
+abbrev pub is_only_dash : List Text → Bool
+is_only_dash [] = false
+is_only_dash (path ∷ []) = is_dash path
+is_only_dash (path ∷ next ∷ paths) = false
+
+-- the only path is standard input, which counts as no path
+abbrev pub is_standard_input : Wanted → Bool
+is_standard_input w = if can_be_mailmap w.mode w.contacts then is_only_dash w.paths else false
+
+abbrev pub finished : Wanted → Wanted
+finished w = if is_standard_input w then record w { paths = [] } else w
+
+abbrev pub with_paths : Wanted → List Text → Wanted
+with_paths w paths = record w { paths = w.paths ++ paths }
+
+-- what comes after a step, unless it found an error
+abbrev pub followed : Result Wanted Wrong → (Wanted → Result Wanted Wrong) → Result Wanted Wrong
+followed (Ok w) next = next w
+followed (Err wrong) next = Err wrong
+
+-- what a word adds, given the words after it and what they make of a request, or of one whose last option waits
+abbrev pub on_word : Word → Text → List Text → Wanted → (Wanted → Option (Setting × Text) → Result Wanted Wrong)
+    → Result Wanted Wrong
+on_word word.End argument rest w more = Ok (finished (with_paths w rest))
+on_word word.Help argument rest w more = Ok (plain Help)
+on_word word.Version argument rest w more = Ok (plain Version)
+on_word (word.Mode mode) argument rest w more = followed (with_mode w mode [] argument) (λ next. more next None)
+on_word (word.Next setting) argument rest w more = more w (Some (setting, argument))
+on_word (word.Joined setting) argument rest w more =
+    followed (with_setting w setting argument (value_in argument)) (λ next. more next None)
+on_word word.Unknown argument rest w more = Err (unknown_option argument)
+on_word word.Path argument rest w more = more (with_paths w (argument ∷ [])) None
+
+-- The arguments after those that gave a request, up to the first error. If an option waits for its value, the next one
+-- is that, whatever it looks like.
+abbrev pub asked_in : List Text → Wanted → Option (Setting × Text) → Result Wanted Wrong
+asked_in [] w None = Ok (finished w)
+asked_in [] w (Some (setting, option)) = Err (without_value w setting option)
+asked_in (argument ∷ rest) w None = on_word (word_of argument) argument rest w (asked_in rest)
+asked_in (value ∷ rest) w (Some (setting, option)) =
+    followed (with_setting w setting option value) (λ next. asked_in rest next None)
+
+abbrev pub asked : List Text → Result Wanted Wrong
+asked arguments = asked_in arguments (plain Verify) None

@@ -1,0 +1,79 @@
+-- The kinds of findings, with their names and levels.
+use Rattle.std.specs.Prelude.{codes}
+use Rattle.mailmap_contacts.specs.Comparisons.{ContactFinding, git_answers, no_contact, same_email, same_name}
+use Rattle.mailmap_entries.specs.Folding.{Text}
+use Rattle.mailmap_findings.specs.Findings.{FindingKind, fault, ignored_text, git_reads, no_effect, itself_mapped}
+use Rattle.mailmap_findings.specs.Remarks.{Remark, found, unneeded}
+use Rattle.mailmap_grammar.specs.Lines.{FaultKind, no_email, missing_closing_bracket, empty_email, nothing_to_map, unclosed_second}
+use Rattle.verify_command.specs.declared.kinds.Kind.{Kind}
+use Rattle.verify_command.specs.declared.kinds.Kind.TheVariants as kind
+use Rattle.verify_command.specs.declared.kinds.Level.{Level}
+use Rattle.verify_command.specs.declared.kinds.Level.TheVariants.{Note, Warning, Error}
+
+-- ---- the kind of a finding
+
+abbrev pub fault_kind : FaultKind → Kind
+fault_kind no_email = kind.NoEmail
+fault_kind missing_closing_bracket = kind.UnclosedEmail
+fault_kind empty_email = kind.EmptyEmail
+fault_kind nothing_to_map = kind.NothingToMap
+fault_kind unclosed_second = kind.UnclosedSecondEmail
+
+abbrev pub finding_kind : FindingKind → Kind
+finding_kind (fault f) = fault_kind f.kind
+finding_kind (ignored_text text) = kind.IgnoredText
+finding_kind (git_reads reading) = kind.GitReads
+finding_kind (no_effect beside is_same) = kind.NoEffect
+finding_kind (itself_mapped c to line second) = kind.ItselfMapped
+
+abbrev pub remark_kind : Remark → Kind
+remark_kind (found f) = finding_kind f.kind
+remark_kind (unneeded position) = kind.Unneeded
+
+abbrev pub contact_kind : ContactFinding → Kind
+contact_kind (no_contact line) = kind.NoContact
+contact_kind (same_email a p) = kind.SameEmail
+contact_kind (same_name a p) = kind.SameName
+contact_kind (git_answers a) = kind.GitAnswers
+
+-- ---- names
+
+abbrev pub kind_name : Kind → Text
+kind_name kind.NoEmail = codes "no-email"
+kind_name kind.UnclosedEmail = codes "unclosed-email"
+kind_name kind.EmptyEmail = codes "empty-email"
+kind_name kind.NothingToMap = codes "nothing-to-map"
+kind_name kind.UnclosedSecondEmail = codes "unclosed-second-email"
+kind_name kind.IgnoredText = codes "ignored-text"
+kind_name kind.GitReads = codes "git-reads"
+kind_name kind.NoEffect = codes "no-effect"
+kind_name kind.ItselfMapped = codes "itself-mapped"
+kind_name kind.Unneeded = codes "unneeded"
+kind_name kind.NoContact = codes "no-contact"
+kind_name kind.SameEmail = codes "same-email"
+kind_name kind.SameName = codes "same-name"
+kind_name kind.GitAnswers = codes "git-answers"
+
+abbrev pub level_name : Level → Text
+level_name Note = codes "note"
+level_name Warning = codes "warning"
+level_name Error = codes "error"
+
+-- ---- levels
+
+-- What can't be read is an error. Two people can share a name, so that is only a note.
+abbrev pub kind_level : Kind → Level
+kind_level kind.NoEmail = Error
+kind_level kind.UnclosedEmail = Error
+kind_level kind.EmptyEmail = Error
+kind_level kind.NothingToMap = Error
+kind_level kind.UnclosedSecondEmail = Error
+kind_level kind.IgnoredText = Warning
+kind_level kind.GitReads = Warning
+kind_level kind.NoEffect = Warning
+kind_level kind.ItselfMapped = Warning
+kind_level kind.Unneeded = Warning
+kind_level kind.NoContact = Error
+kind_level kind.SameEmail = Warning
+kind_level kind.SameName = Note
+kind_level kind.GitAnswers = Warning

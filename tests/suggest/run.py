@@ -1,0 +1,126 @@
+#!/usr/bin/env python3
+"""Runs `mailmap_verify --suggest` on histories, and compares its status and every byte of its output.
+
+    run.py MAILMAP_VERIFY MAILMAP_SHORTLOG
+
+A line of cases.jsonl is a case: its mailmaps, which become the files m1, m2 and so on, its contacts, which become the
+file c, what `--suggest` prints, and the findings about contacts that `--contacts` prints. Texts are in hex. The cases
+come from a model that tries each question on whole lists of entries. tests/model has another such model, written from
+the definitions in specs, which has to give the same and which makes further cases here.
+
+If git is installed, suggestions are made for a repository of 3,000 commits, and git has to answer as promised.
+"""
+import json
+import os
+import sys
+import tempfile
+from pathlib import Path
+
+sys.dont_write_bytecode = True
+TESTS = Path(__file__).resolve().parents[1]
+sys.path += [str(TESTS), str(TESTS / "model")]
+import runs
+from buffers import Writer
+from history import History
+from repository import has_git
+from runs import run, wants
+from suggest import suggest
+
+STORED = Path(__file__).with_name("cases.jsonl")
+MADE = 200
+
+
+def files_of(case):
+    return [bytes.fromhex(file) for file in case["files"]]
+
+
+def written(files, contacts):
+    """The names of files with these mailmaps; the contacts are in the file c."""
+    names = [f"m{number}" for number in range(1, len(files) + 1)]
+    for name, file in zip(names, files):
+        Path(name).write_bytes(file)
+    Path("c").write_bytes(contacts)
+    return names
+
+
+def wants_suggestions(program, what, files, contacts, printed):
+    names = written(files, contacts)
+    wants(what, run(program, ["--suggest", "c", *names]), 0, printed)
+    wants(f"{what}, contacts of standard input", run(program, ["--suggest", "-", *names], contacts), 0, printed)
+
+
+def wants_findings(program, what, files, contacts, found):
+    """Only findings about contacts begin with the name of their file."""
+    names = written(files, contacts)
+    _, printed, _ = run(program, ["--contacts", "c", *names])
+    about = b"".join(line + b"\n" for line in printed.splitlines() if line.startswith(b"c:"))
+    wants(what, (0, about, b""), 0, b"".join(
+        b"c:%d: %b: %b [%b]\n" % (number, level.encode(), bytes.fromhex(words), kind.encode())
+        for number, level, kind, words in found))
+
+
+def stored(program):
+    cases = [json.loads(line) for line in STORED.open(encoding="ascii")]
+    for number, case in enumerate(cases, 1):
+        files, contacts, printed = files_of(case), bytes.fromhex(case["contacts"]), bytes.fromhex(case["suggest"])
+        wants(f"case {number} of the other model", (0, suggest(files, contacts), b""), 0, printed)
+        wants_suggestions(program, f"case {number}", files, contacts, printed)
+        wants_findings(program, f"findings of case {number}", files, contacts, case["findings"])
+    return len(cases)
+
+
+def made(program):
+    """More cases, with stranger texts."""
+    for number in range(MADE):
+        writer = Writer(f"suggest {number}", 0.01)
+        files, contacts = [writer.mailmap() for _ in range(number % 3)], writer.contacts()
+        wants_suggestions(program, f"made case {number}", files, contacts, suggest(files, contacts))
+
+
+def judged(text):
+    """Suggestions of which all are accepted."""
+    return text.replace(b"\n#?", b"\n")
+
+
+def in_history(program, counter):
+    """With the suggestions appended, no two contacts of a history share an email, and git has the same counts."""
+    for what, mailmap in ("no mailmap", b""), ("a mailmap", History.MAILMAP):
+        with tempfile.TemporaryDirectory() as folder:
+            history = History(Path(folder), mailmap)
+            contacts = history.contacts()
+            status, suggested, said = run(program, ["--suggest", "-", *history.mailmaps()], contacts)
+            wants(f"{what}: suggestions", (status, suggest([mailmap], contacts), said), 0, suggested)
+            history.append(suggested)
+            wants_only_names(program, f"{what}: findings", history, contacts)
+            wants_same_counts(counter, f"{what}: counts", history, contacts)
+            history.mailmap.write_bytes(mailmap + judged(suggested))
+            wants_same_counts(counter, f"{what}: counts with names united", history, contacts)
+
+
+def wants_only_names(program, what, history, contacts):
+    """Nothing is found but contacts that share a name, which doesn't count for the status."""
+    status, printed, said = run(program, ["--contacts", "-", *history.mailmaps()], contacts)
+    others = b"".join(line + b"\n" for line in printed.splitlines() if not line.endswith(b" [same-name]"))
+    wants(what, (status, others, said), 0, b"")
+
+
+def wants_same_counts(counter, what, history, contacts):
+    _, printed, _ = run(counter, ["-ne", *history.mailmaps()], contacts)
+    counts, gits = (b"\n".join(sorted(text.splitlines())) for text in (printed, history.shortlog()))
+    wants(what, (0, gits, b""), 0, counts)
+
+
+def main():
+    program, counter = (str(Path(path).resolve()) for path in sys.argv[1:])
+    with tempfile.TemporaryDirectory() as folder:
+        os.chdir(folder)
+        count = stored(program)
+        made(program)
+        if has_git():
+            in_history(program, counter)
+        os.chdir("/")
+    print(f"suggest: {runs.passed} passed, {runs.failed} failed")
+    sys.exit(1 if runs.failed or count != 400 else 0)
+
+
+main()
