@@ -177,8 +177,8 @@ gix_mailmap_status gix_mailmap_add_entry(gix_mailmap *map, const char *new_name,
 
 /* Looks a contact up by its name and email, which are taken as they are, not trimmed. Copies its new name to `name_out`
  * and its new email to `email_out`. If the mailmap gives no new name, the contact's own name is copied; likewise for
- * the email, but spelled as in the first entry for it. `new_name` and `new_email` are written on OK and on TOO_SHORT:
- * the lengths, and whether the mailmap gives the text.
+ * the email, but spelled as in the first entry that was added for it. `new_name` and `new_email` are written on OK and
+ * on TOO_SHORT: the lengths, and whether the mailmap gives the text.
  * OK; TOO_SHORT: one of the buffers is too short, and both are as they were. */
 gix_mailmap_status gix_mailmap_lookup(const gix_mailmap *map, const char *name, size_t name_len, const char *email,
                                       size_t email_len, char *GIX_MAILMAP_RESTRICT name_out, size_t name_out_len,
@@ -285,7 +285,7 @@ gix_mailmap_status gix_mailmap_explain(const gix_mailmap_named *mailmaps, size_t
  * contact on each line, such as all contacts of a history; a line that isn't a contact needs nothing. A contact needs
  * the line that gives its new name, and the line that gives its new email. If no line gives a new email, it needs the
  * first line for its old email that has an effect, which says how that email is spelled. If all listed lines and all
- * lines that have no effect are removed together, the answers for these contacts stay the same. If git reads the
+ * lines that have no effect are removed together, the answers for these contacts stay the same. If git uses the
  * mailmaps, too, fix the lines of GIX_MAILMAP_GIT_READS first. Mailmaps are as for gix_mailmap_report; their names are
  * not read. `out_len` counts positions. `needed` is the number of all listed lines, and 0 on OUT_OF_MEMORY.
  * OK; TOO_SHORT; OUT_OF_MEMORY. */
@@ -303,9 +303,9 @@ gix_mailmap_status gix_mailmap_unneeded(const gix_mailmap_named *mailmaps, size_
  *     Jane Doe <jane@x>
  *
  * and an empty line. `#?` begins the lines for a group that shares only a name, since these may be two people: whoever
- * deletes the `#?` accepts the line. The text is a mailmap, to be appended to the last one. `contacts` has a contact on
- * each line. Mailmaps are as for gix_mailmap_report; their names are not read. `needed` is the length of the text, and
- * 0 on OUT_OF_MEMORY.
+ * deletes the `#?` accepts the line. The text is a mailmap, to be appended to the last one, after a line feed at its
+ * end. `contacts` has a contact on each line. Mailmaps are as for gix_mailmap_report; their names are not read.
+ * `needed` is the length of the text, and 0 on OUT_OF_MEMORY.
  * OK; TOO_SHORT; OUT_OF_MEMORY. */
 gix_mailmap_status gix_mailmap_suggest(const gix_mailmap_named *mailmaps, size_t count, const char *contacts,
                                        size_t contacts_len, char *GIX_MAILMAP_RESTRICT out, size_t out_len,

@@ -15,8 +15,8 @@ use Rattle.mailmap_snapshot.specs.Streams.{AnswersFront}
 use Rattle.mailmap_snapshot.specs.Writing.{IsCompacted}
 
 -- the bytes of the files, if there are files
-abbrev pub bytes_of : Option (Bor (List (Bor (List ℕ)))) → Option (List (List ℕ))
-bytes_of files = option_map (λ given. map (λ file. file.now) given.now) files
+abbrev pub file_bytes : Option (Bor (List (Bor (List ℕ)))) → Option (List (List ℕ))
+file_bytes files = option_map (λ given. map (λ file. file.now) given.now) files
 
 -- The text answers the contact lines: with files, all of the input; without, the lines after the mailmap. An unknown
 -- input allows any text.

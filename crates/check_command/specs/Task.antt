@@ -10,15 +10,15 @@ use Rattle.check_command.specs.Run.{AnswersContacts, AnswersLines, AnswersWholeL
 abbrev pub AsksToCompact : List (List ℕ) → Type 0
 AsksToCompact arguments = slice_get arguments 1 ≡ Some (codes "--compact")
 
-abbrev pub unless_empty : List (List ℕ) → Option (List (List ℕ))
-unless_empty [] = None
-unless_empty (first ∷ rest) = Some (first ∷ rest)
+abbrev pub some_unless_empty : List (List ℕ) → Option (List (List ℕ))
+some_unless_empty [] = None
+some_unless_empty (first ∷ rest) = Some (first ∷ rest)
 
 -- The text is made from the contents of the files at these paths, or without files if there are no paths.
 abbrev pub OfFiles : (List ℕ → AtPath) → List (List ℕ)
     → (Option (List (List ℕ)) → List ℕ → Type 0) → List ℕ → Type 0
 OfFiles at paths IsText text = (contents : List (List ℕ))
-    × AreRead at paths contents × IsText (unless_empty contents) text
+    × AreRead at paths contents × IsText (some_unless_empty contents) text
 
 -- what answering contacts has written, given the paths of the mailmaps
 abbrev pub LeavesAnswersBy : {W T : Type 0} → (List ℕ → AtPath) → List (List ℕ)

@@ -12,7 +12,7 @@ ghost use Rattle.mailmap_snapshot.specs.Streams.{AnswersFront};
 ghost use Rattle.command_line.specs.Failures.{IsOfInput};
 ghost use Rattle.command_line.specs.Leaving.{LeavesText};
 ghost use Rattle.command_line.specs.Printing.{Prints, PrintsFront};
-ghost use Rattle.check_command.specs.Run.{bytes_of, AnswersContacts, AnswersLines, AnswersWholeLines, IsMailmap, LeavesContacts};
+ghost use Rattle.check_command.specs.Run.{file_bytes, AnswersContacts, AnswersLines, AnswersWholeLines, IsMailmap, LeavesContacts};
 
 use command_line::failure::Failure;
 use command_line::streams::{flush, read_input, read_part, write_all, write_unflushed};
@@ -36,7 +36,7 @@ pub fn run<R: Read, W: Write>(
 ) -> Result<(), Failure>
     // All of the input is read, and exactly the answers are written. After a failure, the answers to the first lines
     // are, or a prefix of them.
-    ensures leaves { LeavesContacts (bytes_of files.entry) (R.remaining input.old) (R.remaining input.new)
+    ensures leaves { LeavesContacts (file_bytes files.entry) (R.remaining input.old) (R.remaining input.new)
         W.contents output.old output.new result }
     ensures only { IfErr result (λ e. IsOfInput e ⊎ (e ≡ Failure.Memory) ⊎ (e ≡ Failure.Output)) }
 {
@@ -162,7 +162,7 @@ pub fn run_compact<R: Read, W: Write>(
     output: &mut W,
 ) -> Result<(), Failure>
     // Exactly the mailmap is written, or a prefix of it, or nothing.
-    ensures leaves { LeavesText (IsMailmap (bytes_of files.entry) (R.remaining input.old))
+    ensures leaves { LeavesText (IsMailmap (file_bytes files.entry) (R.remaining input.old))
         W.contents output.old output.new result }
 
     // Without files, all of the input is read before anything is written; with files, none of it.

@@ -4,8 +4,8 @@ ghost use Rattle.std.specs.Io.KnownBytes.{IsAtEnd};
 ghost use Rattle.command_line.specs.Failures.{IsOfFile};
 ghost use Rattle.command_line.specs.Files.{NamesFile, texts};
 ghost use Rattle.command_line.specs.Leaving.{LeavesText};
-ghost use Rattle.check_command.specs.Run.{IsMailmap, bytes_of};
-ghost use Rattle.check_command.specs.Task.{AsksToCompact, LeavesAnswersBy, OfFiles, unless_empty};
+ghost use Rattle.check_command.specs.Run.{IsMailmap, file_bytes};
+ghost use Rattle.check_command.specs.Task.{AsksToCompact, LeavesAnswersBy, OfFiles, some_unless_empty};
 
 use crate::run::{run, run_compact};
 use command_line::failure::Failure;
@@ -93,7 +93,7 @@ pub fn perform<F: FileSystem, R: Read, W: Write>(
 
 // `None` if there are no files, so that standard input is read.
 fn given<'a>(buffers: &'a [&'a [u8]]) -> Option<&'a [&'a [u8]]>
-    ensures { bytes_of result ≡ unless_empty (map (λ buffer. buffer.now) buffers.now) }
+    ensures { file_bytes result ≡ some_unless_empty (map (λ buffer. buffer.now) buffers.now) }
 {
     (!buffers.is_empty()).then_some(buffers)
 }

@@ -4,7 +4,7 @@ use Rattle.mailmap_grammar.specs.Lines.{non_empty}
 use Rattle.mailmap_entries.specs.Entries.{Mapping, mapping}
 use Rattle.mailmap_entries.specs.Folding.{Text}
 use Rattle.mailmap_entries.specs.Building.{IsMerged}
-use Rattle.gix_mailmap_c.specs.Handles.{Leaves}
+use Rattle.gix_mailmap_c.specs.Handles.{LeavesHandle}
 
 -- an entry needs a new name or a new email; with an old name, it needs a new email
 abbrev pub if_entry : Option Text → Option Text → Option Text → Text → Option Mapping
@@ -21,8 +21,8 @@ entry_given new_name new_email old_name old_email =
 -- status 0: the entry is merged after those of the handle; 2: out of memory; 4: there is no entry; 6: the handle is
 -- closed
 abbrev pub AddsGiven : Option (List Mapping) → Option Mapping → Option (List Mapping) → ℕ → Type 0
-AddsGiven None given new status = Leaves 6 None new status
-AddsGiven (Some n) None new status = Leaves 4 (Some n) new status
+AddsGiven None given new status = LeavesHandle 6 None new status
+AddsGiven (Some n) None new status = LeavesHandle 4 (Some n) new status
 AddsGiven (Some n) (Some e) new status =
     ((status ≡ 0) × ((m : List Mapping) × (new ≡ Some m) × IsMerged n (e ∷ []) m))
-    ⊎ Leaves 2 (Some n) new status
+    ⊎ LeavesHandle 2 (Some n) new status

@@ -1,7 +1,7 @@
 -- Borrowing the contacts of an open stream.
 use Rattle.std.specs.Borrow.{Lends, MutBor, Fml}
 use Rattle.gix_mailmap_c.specs.Streamed.{Pending}
-use Rattle.gix_mailmap_c.specs.contracts.stream.contacts.Contacts as Contacts
+use Rattle.gix_mailmap_c.specs.contracts.stream.contacts.ContactQueue as ContactQueue
 use Rattle.gix_mailmap_c.specs.declared.stream.held.Stream.{Stream}
 use Rattle.gix_mailmap_c.specs.contracts.stream.held.Stream.{the_row}
 
@@ -10,4 +10,4 @@ with_pending s pending = record s { pending = pending }
 
 -- when the borrow ends, the stream has the state that r has then
 abbrev pub LendsContacts : MutBor Stream → MutBor Pending → Fml
-LendsContacts s r = Lends the_row Contacts.the_row s r (with_pending s.now)
+LendsContacts s r = Lends the_row ContactQueue.the_row s r (with_pending s.now)

@@ -6,7 +6,7 @@ use Rattle.std.specs.Box.Ownership.{box_owns}
 use Rattle.std.specs.Global.{Global}
 use Rattle.std.specs.contracts.impls.GlobalAllocator.TheImpl.{ghosts}
 use Rattle.gix_mailmap_c.specs.Streamed.{Pending}
-use Rattle.gix_mailmap_c.specs.contracts.stream.contacts.Contacts.{the_row}
+use Rattle.gix_mailmap_c.specs.contracts.stream.contacts.ContactQueue.{the_row}
 
 abbrev pub owns_stream : Global → Bool → Ptr → Pending → Fml
 owns_stream alloc true at pending = box_owns (ghosts.dealloc_token alloc) the_row at pending

@@ -44,7 +44,7 @@ abbrev pub past : ℕ → Pending → Pending
 past count p = record p { unread = drop count p.unread }
 
 -- all unread answers, or as many bytes as fit, are at the front of the buffer, and the rest of it is unchanged
-pub record AreRead (old new : Pending) (before after : Text) (count : ℕ) : Type 0 where
+pub record AreTaken (old new : Pending) (before after : Text) (count : ℕ) : Type 0 where
   pub unread : count ≤ length old.unread
   pub fits : count ≤ length before
   pub all : (count ≡ length old.unread) ⊎ (count ≡ length before)

@@ -8,7 +8,7 @@ mod held;
 
 use crate::held::Parts;
 use crate::status::{CLOSED, OK, OPEN, OUT_OF_MEMORY};
-use contacts::Contacts;
+use contacts::ContactQueue;
 use held::{Stream, closed, discard_closed, into_parts, is_open, lent, opened};
 use std::alloc::{AllocError, Global};
 
@@ -105,15 +105,15 @@ pub extern "C" fn gix_mailmap_stream_handle_close(alloc: Global, s: &mut Stream)
     drop(take(alloc, s));
 }
 
-fn opened_box(alloc: Global, mailmap: &[u8]) -> Result<Box<Contacts>, AllocError>
+fn opened_box(alloc: Global, mailmap: &[u8]) -> Result<Box<ContactQueue>, AllocError>
     ensures { IfOk result (λ b. IsNew mailmap.now b.value) }
 {
-    let contacts = Contacts::new(alloc, mailmap)?;
+    let contacts = ContactQueue::new(alloc, mailmap)?;
     Ok(Box::new(alloc, contacts)?)
 }
 
 // Takes the contacts out of an open handle. The handle is closed afterwards.
-fn take(alloc: Global, s: &mut Stream) -> Option<Box<Contacts>>
+fn take(alloc: Global, s: &mut Stream) -> Option<Box<ContactQueue>>
     ensures taken { option_map (λ b. b.value) result ≡ pending s.old }
     ensures closed { pending s.new ≡ None }
 {
@@ -126,7 +126,7 @@ fn take(alloc: Global, s: &mut Stream) -> Option<Box<Contacts>>
     }
 }
 
-fn put_back(s: &mut Stream, contacts: Box<Contacts>)
+fn put_back(s: &mut Stream, contacts: Box<ContactQueue>)
     requires { pending s.old ≡ None }
     ensures { pending s.new ≡ Some contacts.value }
 {

@@ -1,10 +1,8 @@
 //! Suggests the lines that mailmaps lack for contacts, as `mailmap_verify --suggest` does.
-ghost use Rattle.std.specs.Prelude.{◌≡◌, ◌++◌, IfOk, OnOk, map};
-ghost use Rattle.mailmap_entries.specs.Entries.{mapping_of};
+ghost use Rattle.std.specs.Prelude.{◌≡◌, IfOk, map};
 ghost use Rattle.mailmap_findings.specs.Positions.{whole_lines};
-ghost use Rattle.mailmap_contacts.specs.Answers.{tally_of};
 ghost use Rattle.mailmap_contacts.specs.Counts.{AreContactsOf};
-ghost use Rattle.mailmap_suggestions.specs.SuggestedText.{count_lines, entry_lines, suggestion_text, suggestions_text};
+ghost use Rattle.mailmap_suggestions.specs.SuggestedText.{suggestions_text};
 ghost use Rattle.mailmap_suggestions.specs.Views.{suggestion_of};
 ghost use Rattle.gix_mailmap_c.specs.Buffers.{IsOutput};
 ghost use Rattle.gix_mailmap_c.specs.Report.{cut_by};
@@ -13,11 +11,9 @@ ghost use Rattle.gix_mailmap_c.specs.Suggested.{suggested_for};
 use crate::buffers::hand;
 use crate::named::{Lengths, texts_of};
 use bstr::ByteSlice;
-use mailmap_contacts::answers::Tally;
 use mailmap_contacts::counter::{ContactCounter, Contacts};
-use mailmap_entries::Entry;
 use mailmap_suggestions::suggestions::{Suggestion, suggest};
-use mailmap_suggestions::text::{push_count, push_entry};
+use mailmap_suggestions::text::push_suggestion;
 use std::alloc::{AllocError, Global};
 
 /// Writes the lines that several mailmaps lack for the contacts of a history, as [`suggest`] suggests them.
@@ -75,37 +71,4 @@ fn text_of(alloc: Global, suggestions: &[Suggestion<'_>]) -> Result<Vec<u8>, All
         push_suggestion(&mut text, suggestion)?;
     }
     Ok(text)
-}
-
-fn push_suggestion(text: &mut Vec<u8>, suggestion: &Suggestion<'_>) -> Result<(), AllocError>
-    ensures { OnOk result (text.new.items
-        ≡ text.old.items ++ suggestion_text suggestion.now.is_to_judge (suggestion_of suggestion.now)) }
-{
-    push_counts(text, suggestion.answers.as_slice(), false)?;
-    push_counts(text, suggestion.git_answers.as_slice(), true)?;
-    push_entries(text, suggestion.entries.as_slice(), suggestion.is_to_judge)?;
-    text.push(b'\n')?;
-    Ok(())
-}
-
-fn push_counts(text: &mut Vec<u8>, answers: &[Tally<'_>], are_gits: bool) -> Result<(), AllocError>
-    ensures { OnOk result (text.new.items ≡ text.old.items ++ count_lines are_gits (map tally_of answers.now)) }
-{
-    for answer in answers {
-        push_count(text, answer.seen.count, answer.name, answer.email, are_gits)?;
-    }
-    Ok(())
-}
-
-fn push_entries(
-    text: &mut Vec<u8>,
-    entries: &[Entry<'_>],
-    are_to_judge: bool,
-) -> Result<(), AllocError>
-    ensures { OnOk result (text.new.items ≡ text.old.items ++ entry_lines are_to_judge (map mapping_of entries.now)) }
-{
-    for entry in entries {
-        push_entry(text, entry, are_to_judge)?;
-    }
-    Ok(())
 }

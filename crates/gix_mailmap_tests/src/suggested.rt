@@ -13,11 +13,11 @@ fn assert_line(
     rt: &impl Abort,
     alloc: Global,
     entry: Entry<'_>,
-    is_to_judge: bool,
+    needs_review: bool,
     want: &[u8],
 ) -> Result<(), AllocError> {
     let mut text = Vec::new(alloc);
-    push_entry(&mut text, &entry, is_to_judge)?;
+    push_entry(&mut text, &entry, needs_review)?;
     assert_eq!(rt; text.as_slice(), want);
     Ok(())
 }
@@ -77,7 +77,7 @@ fn push_suggestion(text: &mut Vec<u8>, suggestion: &Suggestion<'_>) -> Result<()
     push_counts(text, suggestion.answers.as_slice(), false)?;
     push_counts(text, suggestion.git_answers.as_slice(), true)?;
     for entry in &suggestion.entries {
-        push_entry(text, entry, suggestion.is_to_judge)?;
+        push_entry(text, entry, suggestion.needs_review)?;
     }
     Ok(())
 }
@@ -138,7 +138,7 @@ fn an_email_gets_the_most_frequent_answer(rt: HostRuntime) -> Result<(), AllocEr
 }
 
 /// Entries take what mailmaps say into account. Answers that share a name come after those that share an email, as if
-/// the entries for these were there, and are to be judged.
+/// the entries for these were there, and need a look first.
 #[test]
 fn mailmaps_get_the_entries_that_they_lack(rt: HostRuntime) -> Result<(), AllocError> {
     static ROWS: [(&[&[u8]], &[&[u8]], &[u8]); 7] = [

@@ -100,7 +100,7 @@ fn with_prefix<'e, 'a>(indexed: IndexedEntry<'e, 'a>) -> PrefixedEntry<'e, 'a>
 }
 
 // How many entries an insertion looks at. So the entries of an email are in order if there are no more than these.
-const MAX_PASSED: usize = 8;
+const MAX_COMPARED: usize = 8;
 
 // The index to insert an entry at so that the keys still ascend, `None` if all of the last few have greater keys.
 #[inline(always)]
@@ -113,7 +113,7 @@ fn place_among(batch: &[IndexedEntry], entry: &IndexedEntry) -> Option<usize>
         (λ other. key_cmp (key (mapping_at entry.now)) (key (mapping_at other)) ≡ Ordering.Less)
         (drop place batch.now)) }
 {
-    let first = batch.len().saturating_sub(MAX_PASSED);
+    let first = batch.len().saturating_sub(MAX_COMPARED);
     let mut place = batch.len();
     while first < place {
         if !compare_keys(entry, &batch[place - 1]).is_lt() {
@@ -132,7 +132,7 @@ fn place_of_prefix(batch: &[PrefixedEntry], entry: &PrefixedEntry) -> usize
         (λ other. key_cmp (key (mapping_at entry.now)) (key (mapping_at other)) ≡ Ordering.Less)
         (drop result batch.now) }
 {
-    let first = batch.len().saturating_sub(MAX_PASSED);
+    let first = batch.len().saturating_sub(MAX_COMPARED);
     let mut place = batch.len();
     while first < place {
         if !is_below_of_prefix(entry, &batch[place - 1]) {

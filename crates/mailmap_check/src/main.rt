@@ -23,7 +23,8 @@ usage: mailmap_check [FILE..]            maps the contacts on standard input wit
        mailmap_check --compact [FILE..]  prints the mailmaps as one
        mailmap_check -h | --help         prints this
        mailmap_check --version           prints the version
-Without a FILE, the mailmap is what comes before the first line -- of standard input.
+Without a FILE, standard input has the mailmap, a line with only --, and the contacts;
+with --compact all of it is the mailmap.
 ";
 
 fn main(rt: HostRuntime) -> ExitCode {

@@ -38,7 +38,7 @@ no_contacts_from-push n (x ∷ xs) line =
 
 pub counted_line : (lines : List Text) (line : Text) (s t : Counter) → HasCounted lines s → t.lines ≡ s.lines + 1
     → SameTallies t.tallies (s.tallies ++ line_tally (s.lines + 1) line)
-    → t.no_contacts ≡ s.no_contacts ++ unless_contact (s.lines + 1) line
+    → t.lines_without_contact ≡ s.lines_without_contact ++ unless_contact (s.lines + 1) line
     → HasCounted (lines ++ line ∷ []) t
 counted_line lines line s t counted number same none =
     let next : s.lines + 1 ≡ 1 + length lines = omega (arith, counted.count) in
@@ -46,8 +46,8 @@ counted_line lines line s t counted number same none =
       tallies = λ test.
           same test ∙ same_more s.tallies (contacts_from 1 lines) (line_tally (s.lines + 1) line) (line_tally (s.lines + 1) line) counted.tallies (λ other. refl) test
           ∙ ap (λ k. seen_where test (contacts_from 1 lines ++ line_tally k line)) next ∙ sym (ap (seen_where test) (contacts_from-push 1 lines line));
-      no_contacts =
-          none ∙ (λ i. counted.no_contacts i ++ unless_contact (next i) line) ∙ sym (no_contacts_from-push 1 lines line);
+      lines_without_contact =
+          none ∙ (λ i. counted.lines_without_contact i ++ unless_contact (next i) line) ∙ sym (no_contacts_from-push 1 lines line);
       count = omega (arith, number, counted.count, length-append lines (line ∷ []));
     }
 

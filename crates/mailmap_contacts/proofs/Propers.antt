@@ -9,7 +9,7 @@ use Rattle.std.proofs.lemmas.Bool.{cases_Bool}
 use Rattle.std.proofs.lemmas.Cmp.{nat_list_cmp_total, on_total}
 use Rattle.std.proofs.lemmas.Map.Text.{is_eq-slice_cmp}
 use Rattle.mailmap_entries.specs.Folding.{Text, folded}
-use Rattle.mailmap_contacts.specs.Answers.{ArePropers, field_of, finding_by, folded_cmp, tally_at}
+use Rattle.mailmap_contacts.specs.Answers.{ArePropers, shared_field, finding_by, folded_cmp, tally_at}
 use Rattle.mailmap_contacts.specs.Comparisons.{ContactFinding, and_other, other_proper, shares}
 use Rattle.mailmap_contacts.specs.Contacts.{Tally}
 use Rattle.mailmap_contacts.specs.Folded.{folded_text}
@@ -35,10 +35,10 @@ proper_if false ts t = ap proper (append-nil ts)
 
 pub propers_more : (shared : Shared) (ts all : List Tally) (m n : BTreeMap Folded (Bor TheTally)) (t : Tally) → ArePropers shared ts m
     → ((key : Folded) → option_map tally_at (get folded_cmp n key)
-    ≡ (if shares (field_of shared) key.text.now t then Some (better (option_map tally_at (get folded_cmp m key)) t) else option_map tally_at (get folded_cmp m key)))
+    ≡ (if shares (shared_field shared) key.text.now t then Some (better (option_map tally_at (get folded_cmp m key)) t) else option_map tally_at (get folded_cmp m key)))
     → all ≡ ts ++ t ∷ [] → ArePropers shared all n
 propers_more shared ts all m n t are added is = λ key.
-    let p = shares (field_of shared) key.text.now in
+    let p = shares (shared_field shared) key.text.now in
     added key ∙ ap (λ o. cond (p t) (Some (better o t)) o) (are key)
     ∙ sym (ap proper (filtered_more p ts all t is) ∙ proper_if (p t) (filter p ts) t)
 
@@ -99,17 +99,17 @@ none_by_some (Some a) false e = refl
 
 -- one more comparison
 pub compared_more : (shared : Shared) (all ts more : List Tally) (a : Tally) (o : Option (Bor TheTally)) (none : Bool) (begun old new : List ContactFinding) (proper proper' : List Tally)
-    → option_map tally_at o ≡ other_proper (field_of shared) all a → none ≡ is_none o
+    → option_map tally_at o ≡ other_proper (shared_field shared) all a → none ≡ is_none o
     → new ≡ old ++ option_to_list (option_map (finding_by shared a) (option_map tally_at o))
     → proper' ≡ proper ++ (if none then a ∷ [] else [])
     → more ≡ ts ++ a ∷ []
-    → old ≡ begun ++ flat_map (λ t. option_to_list (option_map (finding_by shared t) (other_proper (field_of shared) all t))) ts
-    → proper ≡ filter (λ t. is_none (other_proper (field_of shared) all t)) ts
-    → (new ≡ begun ++ flat_map (λ t. option_to_list (option_map (finding_by shared t) (other_proper (field_of shared) all t))) more)
-    × (proper' ≡ filter (λ t. is_none (other_proper (field_of shared) all t)) more)
+    → old ≡ begun ++ flat_map (λ t. option_to_list (option_map (finding_by shared t) (other_proper (shared_field shared) all t))) ts
+    → proper ≡ filter (λ t. is_none (other_proper (shared_field shared) all t)) ts
+    → (new ≡ begun ++ flat_map (λ t. option_to_list (option_map (finding_by shared t) (other_proper (shared_field shared) all t))) more)
+    × (proper' ≡ filter (λ t. is_none (other_proper (shared_field shared) all t)) more)
 compared_more shared all ts more a o none begun old new proper proper' other none_is new_is proper_is more_is found left =
-    let make : Tally → List ContactFinding = λ t. option_to_list (option_map (finding_by shared t) (other_proper (field_of shared) all t)) in
-    let stays : Tally → Bool = λ t. is_none (other_proper (field_of shared) all t) in (
+    let make : Tally → List ContactFinding = λ t. option_to_list (option_map (finding_by shared t) (other_proper (shared_field shared) all t)) in
+    let stays : Tally → Bool = λ t. is_none (other_proper (shared_field shared) all t) in (
       new_is ∙ (λ i. found i ++ option_to_list (option_map (finding_by shared a) (other i))) ∙ append_assoc begun (flat_map make ts) (make a)
           ∙ ap (λ l. begun ++ l) (sym (made_more make ts more a more_is)),
       proper_is ∙ (λ i. left i ++ (if (none_is ∙ none_shown o ∙ ap is_none other) i then a ∷ [] else [])) ∙ sym (filtered_more stays ts more a more_is),

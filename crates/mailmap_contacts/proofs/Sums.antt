@@ -2,7 +2,7 @@
 use Rattle.std.proofs.Common.{◌≡◌, ◌∙◌, ◌+◌, ℕ, Bool, Option, None, Some, List, [], ◌∷◌, ◌++◌, ap, arith, map, min, refl, sym}
 use Rattle.std.specs.Prelude.{if◌then◌else◌}
 use Rattle.mailmap_entries.specs.Entries.{Mapping}
-use Rattle.mailmap_contacts.specs.Contacts.{Contact, Tally, answer, answered, both_seen, seen_where, sum_of}
+use Rattle.mailmap_contacts.specs.Contacts.{Contact, Tally, answer_to, answered, both_seen, seen_where, sum_of}
 use Rattle.mailmap_contacts.specs.Counts.{SameTallies}
 use Rattle.mailmap_contacts.specs.declared.occurrences.Occurrences.{Occurrences}
 
@@ -57,9 +57,9 @@ pub same_turned : (ts us : List Tally) → SameTallies (ts ++ us) (us ++ ts)
 same_turned ts us = λ test. seen-append test ts us ∙ both_comm (seen_where test ts) (seen_where test us) ∙ sym (seen-append test us ts)
 
 -- the answers to tallies
-pub seen-answered : (h : List Mapping) (test : Contact → Bool) (ts : List Tally) → seen_where test (map (answered h) ts) ≡ seen_where (λ c. test (answer h c)) ts
+pub seen-answered : (h : List Mapping) (test : Contact → Bool) (ts : List Tally) → seen_where test (map (answered h) ts) ≡ seen_where (λ c. test (answer_to h c)) ts
 seen-answered h test [] = refl
-seen-answered h test (t ∷ ts) = ap (both_seen (passing (λ c. test (answer h c)) t)) (seen-answered h test ts)
+seen-answered h test (t ∷ ts) = ap (both_seen (passing (λ c. test (answer_to h c)) t)) (seen-answered h test ts)
 
 pub same_answered : (h : List Mapping) (ts us : List Tally) → SameTallies ts us → SameTallies (map (answered h) ts) (map (answered h) us)
-same_answered h ts us same = λ test. seen-answered h test ts ∙ same (λ c. test (answer h c)) ∙ sym (seen-answered h test us)
+same_answered h ts us same = λ test. seen-answered h test ts ∙ same (λ c. test (answer_to h c)) ∙ sym (seen-answered h test us)

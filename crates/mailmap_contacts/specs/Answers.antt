@@ -34,9 +34,9 @@ tally_at a = tally_of a.now
 
 -- ---- what answers share
 
-abbrev pub field_of : Shared → Tally → Text
-field_of Email = email_of
-field_of Name = name_of
+abbrev pub shared_field : Shared → Tally → Text
+shared_field Email = email_of
+shared_field Name = name_of
 
 abbrev pub finding_by : Shared → Tally → Tally → ContactFinding
 finding_by Email = same_email
@@ -55,4 +55,4 @@ folded_cmp = on folded_text (slice_cmp nat_cmp)
 abbrev pub ArePropers : Shared → List Tally → BTreeMap Folded (Bor TheTally) → Type 0
 ArePropers shared answers propers = (key : Folded)
     → option_map tally_at (get folded_cmp propers key)
-    ≡ proper (filter (shares (field_of shared) key.text.now) answers)
+    ≡ proper (filter (shares (shared_field shared) key.text.now) answers)

@@ -22,11 +22,11 @@ pub data ContactFinding : Type 0 where
   git_answers : Tally → ContactFinding
 
 -- the number of its line
-abbrev pub line_of : ContactFinding → ℕ
-line_of (no_contact line) = line
-line_of (same_email a p) = a.seen.first_line
-line_of (same_name a p) = a.seen.first_line
-line_of (git_answers a) = a.seen.first_line
+abbrev pub first_line_of : ContactFinding → ℕ
+first_line_of (no_contact line) = line
+first_line_of (same_email a p) = a.seen.first_line
+first_line_of (same_name a p) = a.seen.first_line
+first_line_of (git_answers a) = a.seen.first_line
 
 -- those of one line come in this order
 abbrev pub rank_of : ContactFinding → ℕ
@@ -35,8 +35,8 @@ rank_of (same_email a p) = 1
 rank_of (same_name a p) = 2
 rank_of (git_answers a) = 3
 
-abbrev pub place_of : ContactFinding → ℕ × ℕ
-place_of f = (line_of f, rank_of f)
+abbrev pub finding_place : ContactFinding → ℕ × ℕ
+finding_place f = (first_line_of f, rank_of f)
 
 abbrev pub place_cmp : ℕ × ℕ → ℕ × ℕ → Ordering
 place_cmp a b = ordering_then (nat_cmp a.0 b.0) (nat_cmp a.1 b.1)
@@ -99,4 +99,4 @@ pub record AreContactFindings (h : List Mapping) (gits : List Tally) (lines : Li
   pub tallies : AreTallies (answers_to h lines) answers
   pub whole : IsPermutation
       (map no_contact (no_contacts_from 1 lines) ++ comparisons answers ++ map git_answers gits) found
-  pub in_order : IsSortedByKey place_of place_cmp found
+  pub in_order : IsSortedByKey finding_place place_cmp found

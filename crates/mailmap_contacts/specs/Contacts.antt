@@ -58,15 +58,15 @@ contacts_from number (line ∷ rest) = line_tally number line ++ contacts_from (
 -- ---- answers
 
 -- the name and the email that a mailmap's mappings replace a contact's with
-abbrev pub answer : List Mapping → Contact → Contact
-answer h c = record {
+abbrev pub answer_to : List Mapping → Contact → Contact
+answer_to h c = record {
   name = unwrap_or (fields_for h c.name c.email).name c.name;
   email = unwrap_or (fields_for h c.name c.email).email c.email;
 }
 
 -- its answer comes where the contact comes
 abbrev pub answered : List Mapping → Tally → Tally
-answered h t = record { contact = answer h t.contact; seen = t.seen }
+answered h t = record { contact = answer_to h t.contact; seen = t.seen }
 
 -- the answers to the contacts on lines
 abbrev pub answers_to : List Mapping → List Text → List Tally

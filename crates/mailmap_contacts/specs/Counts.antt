@@ -32,23 +32,23 @@ SameTallies ts us = (test : Contact → Bool) → seen_where test ts ≡ seen_wh
 -- tallies of contacts, which may be in several of them, and the numbers of the lines that are no contacts
 pub record Tallied : Type 0 where
   pub tallies : List Tally
-  pub no_contacts : List ℕ
+  pub lines_without_contact : List ℕ
 
 -- these are the contacts on these lines
 pub record AreContactsOf (lines : List Text) (s : Tallied) : Type 0 where
   pub tallies : SameTallies s.tallies (contacts_from 1 lines)
-  pub no_contacts : s.no_contacts ≡ no_contacts_from 1 lines
+  pub lines_without_contact : s.lines_without_contact ≡ no_contacts_from 1 lines
 
 -- the same, with the number of the lines
 pub record Counter : Type 0 where
   pub tallies : List Tally
-  pub no_contacts : List ℕ
+  pub lines_without_contact : List ℕ
   pub lines : ℕ
 
 -- these lines were counted
 pub record HasCounted (lines : List Text) (s : Counter) : Type 0 where
   pub tallies : SameTallies s.tallies (contacts_from 1 lines)
-  pub no_contacts : s.no_contacts ≡ no_contacts_from 1 lines
+  pub lines_without_contact : s.lines_without_contact ≡ no_contacts_from 1 lines
   pub count : s.lines ≡ length lines
 
 -- ---- keys and slots

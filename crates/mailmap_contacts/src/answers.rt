@@ -7,7 +7,7 @@ ghost use Rattle.mailmap_findings.specs.Needs.{any_needs};
 ghost use Rattle.mailmap_redundancy.specs.Redundancy.{entries};
 ghost use Rattle.mailmap_contacts.specs.Answers.{answer_key_tally, tally_of};
 ghost use Rattle.mailmap_contacts.specs.Contacts as contacts;
-ghost use Rattle.mailmap_contacts.specs.Contacts.{AreTallies, answer, answers_to, contacts_from, tallied};
+ghost use Rattle.mailmap_contacts.specs.Contacts.{AreTallies, answer_to, answers_to, contacts_from, tallied};
 ghost use Rattle.mailmap_contacts.specs.Counts.{AreContactsOf, SameTallies, key_contact};
 
 use crate::counter::{Contacts, Key};
@@ -89,8 +89,8 @@ fn parts_of(key: &Key) -> (&[u8], &[u8])
 }
 
 fn answer_of<'c>(needs: &Needs<'_, 'c>, key: &'c Key) -> (&'c [u8], &'c [u8])
-    ensures name { result.0.now ≡ (answer (entries needs.now.history) (key_contact key.now)).name }
-    ensures email { result.1.now ≡ (answer (entries needs.now.history) (key_contact key.now)).email }
+    ensures name { result.0.now ≡ (answer_to (entries needs.now.history) (key_contact key.now)).name }
+    ensures email { result.1.now ≡ (answer_to (entries needs.now.history) (key_contact key.now)).email }
 {
     let (name, email) = parts_of(key);
     match needs.answer(name, email) {

@@ -1,9 +1,9 @@
 //! Findings about contacts: answers that share an email or a name with a proper one, and answers of git.
 ghost use Rattle.std.specs.Prelude.{◌≡◌, ◌++◌, ◌∷◌, [], IfOk, OnOk, None, if◌then◌else◌, is_none, map, option_map, option_to_list};
 ghost use Rattle.std.specs.List.Sorted.{IsPermutation, IsSortedByKey};
-ghost use Rattle.mailmap_contacts.specs.Answers.{field_of, finding_by, finding_view, tally_at, tally_of};
+ghost use Rattle.mailmap_contacts.specs.Answers.{shared_field, finding_by, finding_view, tally_at, tally_of};
 ghost use Rattle.mailmap_contacts.specs.Comparisons.{compared, comparisons, email_of, git_answers as spec_git_answers};
-ghost use Rattle.mailmap_contacts.specs.Comparisons.{name_of, no_contact, place_cmp, place_of, propers};
+ghost use Rattle.mailmap_contacts.specs.Comparisons.{name_of, no_contact, place_cmp, finding_place, propers};
 ghost use Rattle.mailmap_contacts.specs.Comparisons.{same_email, same_name, with_text};
 
 use crate::answers::Tally;
@@ -30,18 +30,18 @@ pub enum ContactFinding<'r, 'a> {
 /// proper ones with one name are compared in the same way. An answer without an email takes part in no comparison.
 pub fn findings_of<'r, 'a>(
     alloc: Global,
-    no_contacts: &[usize],
+    lines_without_contact: &[usize],
     answers: &'r [Tally<'a>],
     git_answers: &'r [Tally<'a>],
 ) -> Result<Vec<ContactFinding<'r, 'a>>, AllocError>
     ensures whole { IfOk result (λ found. IsPermutation
-        (map no_contact no_contacts.now ++ comparisons (map tally_of answers.now)
+        (map no_contact lines_without_contact.now ++ comparisons (map tally_of answers.now)
         ++ map spec_git_answers (map tally_of git_answers.now))
         (map finding_view found.items)) }
-    ensures in_order { IfOk result (λ found. IsSortedByKey place_of place_cmp (map finding_view found.items)) }
+    ensures in_order { IfOk result (λ found. IsSortedByKey finding_place place_cmp (map finding_view found.items)) }
 {
     let mut findings = Vec::new(alloc);
-    push_no_contacts(&mut findings, no_contacts)?;
+    push_no_contacts(&mut findings, lines_without_contact)?;
     let proper = compare_emails(alloc, answers, &mut findings)?;
     compare_names(alloc, proper.as_slice(), &mut findings)?;
     push_git_answers(&mut findings, git_answers)?;
@@ -51,12 +51,12 @@ pub fn findings_of<'r, 'a>(
 
 fn push_no_contacts(
     findings: &mut Vec<ContactFinding<'_, '_>>,
-    no_contacts: &[usize],
+    lines_without_contact: &[usize],
 ) -> Result<(), AllocError>
     ensures { OnOk result (map finding_view findings.new.items
-        ≡ map finding_view findings.old.items ++ map no_contact no_contacts.now) }
+        ≡ map finding_view findings.old.items ++ map no_contact lines_without_contact.now) }
 {
-    for line in no_contacts {
+    for line in lines_without_contact {
         findings.push(ContactFinding::NoContact(*line))?;
     }
     Ok(())
@@ -140,9 +140,9 @@ fn compare<'r, 'a>(
     findings: &mut Vec<ContactFinding<'r, 'a>>,
 ) -> Result<Vec<&'r Tally<'a>>, AllocError>
     ensures findings { OnOk result (map finding_view findings.new.items ≡ map finding_view findings.old.items
-        ++ compared (field_of shared) (finding_by shared) (map tally_at answers.now)) }
+        ++ compared (shared_field shared) (finding_by shared) (map tally_at answers.now)) }
     ensures proper { IfOk result (λ proper. map tally_at proper.items
-        ≡ propers (field_of shared) (map tally_at answers.now)) }
+        ≡ propers (shared_field shared) (map tally_at answers.now)) }
 {
     let propers = propers_of(alloc, shared, answers)?;
     let mut proper = Vec::new(alloc);
@@ -185,14 +185,14 @@ fn push_git_answers<'r, 'a>(
 
 fn sort_by_places(findings: &mut Vec<ContactFinding<'_, '_>>)
     ensures whole { IsPermutation (map finding_view findings.old.items) (map finding_view findings.new.items) }
-    ensures in_order { IsSortedByKey place_of place_cmp (map finding_view findings.new.items) }
+    ensures in_order { IsSortedByKey finding_place place_cmp (map finding_view findings.new.items) }
 {
-    findings.sort_unstable_by_key(place_of);
+    findings.sort_unstable_by_key(finding_place);
 }
 
 // The line of a finding, and its rank among those of the line.
-fn place_of(finding: &ContactFinding<'_, '_>) -> (usize, u8)
-    ensures { result ≡ place_of (finding_view finding.now) }
+fn finding_place(finding: &ContactFinding<'_, '_>) -> (usize, u8)
+    ensures { result ≡ finding_place (finding_view finding.now) }
 {
     match finding {
         ContactFinding::NoContact(line) => (*line, 0),

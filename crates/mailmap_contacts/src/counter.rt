@@ -24,11 +24,12 @@ const LONGEST: usize = 256;
 // A contact as a key: the length of its name, and the name followed by the email.
 pub(crate) type Key = (usize, Vec<u8>);
 
-/// The distinct contacts of a history, each with its occurrences, and the numbers of the lines that are no contacts.
+/// The distinct contacts of a history, each with its occurrences, and the numbers of the lines that are neither
+/// blank nor contacts.
 #[derive(Drop)]
 pub struct Contacts {
     pub(crate) tallies: BTreeMap<Key, Occurrences>,
-    pub(crate) no_contacts: Vec<usize>,
+    pub(crate) lines_without_contact: Vec<usize>,
 }
 
 impl Model for Contacts {
@@ -37,7 +38,7 @@ impl Model for Contacts {
 
     ghost Value = { Tallied };
 
-    ghost view = { λ s. record { tallies = map key_tally s.tallies.entries; no_contacts = s.no_contacts.items } };
+    ghost view = { λ s. record { tallies = map key_tally s.tallies.entries; lines_without_contact = s.lines_without_contact.items } };
 }
 
 // A line with a contact that came last of those whose hashes select this slot, and its occurrences that aren't in the
@@ -52,7 +53,7 @@ pub(crate) struct Slot {
 ///
 /// A line that recurs is usually counted in its hash's slot, which is faster than the map. If another line takes the
 /// slot, its occurrences move into the map. So lines made to collide cost no more than the map. Memory grows with the
-/// distinct contacts, and with the number of lines that are no contacts.
+/// distinct contacts, and with the number of lines that are neither blank nor contacts.
 #[derive(Drop)]
 pub struct ContactCounter {
     contacts: Contacts,
@@ -71,7 +72,7 @@ impl Model for ContactCounter {
 
     ghost view = { λ s. record {
       tallies = s.contacts.tallies ++ flat_map slot_tally s.slots.items;
-      no_contacts = s.contacts.no_contacts;
+      lines_without_contact = s.contacts.lines_without_contact;
       lines = s.lines;
     } };
 
@@ -87,7 +88,7 @@ impl ContactCounter {
         Ok(ContactCounter {
             contacts: Contacts {
                 tallies: BTreeMap::new(alloc),
-                no_contacts: Vec::new(alloc),
+                lines_without_contact: Vec::new(alloc),
             },
             slots,
             lines: 0,
@@ -127,18 +128,18 @@ impl ContactCounter {
 
 impl Contacts {
     /// The numbers of the lines that are neither blank nor contacts.
-    pub fn no_contacts(&self) -> &[usize]
-        ensures { result.now ≡ self.now.no_contacts }
+    pub fn lines_without_contact(&self) -> &[usize]
+        ensures { result.now ≡ self.now.lines_without_contact }
     {
-        self.no_contacts.as_slice()
+        self.lines_without_contact.as_slice()
     }
 
     // Adds a line that isn't in its slot. A contact takes the slot, unless its line is long.
     fn add_line(&mut self, slot: &mut Slot, line: &[u8], number: usize) -> Result<(), AllocError>
         ensures tallies { OnOk result (SameTallies (self.new.tallies ++ slot_tally slot.new)
             ((self.old.tallies ++ slot_tally slot.old) ++ line_tally number line.now)) }
-        ensures no_contacts { OnOk result (self.new.no_contacts
-            ≡ self.old.no_contacts ++ unless_contact number line.now) }
+        ensures lines_without_contact { OnOk result (self.new.lines_without_contact
+            ≡ self.old.lines_without_contact ++ unless_contact number line.now) }
         ensures contact { is_no_contact slot.old.line.items ≡ false → is_no_contact slot.new.line.items ≡ false }
     {
         match contact_of(line) {
@@ -146,19 +147,19 @@ impl Contacts {
                 self.add_contact(name, email, once_on(number))
             }
             ParsedContact::Closed { .. } => {
-                let line = Vec::from_slice(*self.no_contacts.allocator(), line)?;
+                let line = Vec::from_slice(*self.lines_without_contact.allocator(), line)?;
                 let seen = once_on(number);
                 let before = mem::replace(slot, Slot { line, seen });
                 self.add_slot(before)
             }
             ParsedContact::Absent => {
                 if !trim(line).is_empty() {
-                    self.no_contacts.push(number)?;
+                    self.lines_without_contact.push(number)?;
                 }
                 Ok(())
             }
             ParsedContact::Unclosed => {
-                self.no_contacts.push(number)?;
+                self.lines_without_contact.push(number)?;
                 Ok(())
             }
         }
@@ -167,7 +168,7 @@ impl Contacts {
     // Adds the occurrences in a slot.
     fn add_slot(&mut self, slot: Slot) -> Result<(), AllocError>
         ensures tallies { OnOk result (SameTallies self.new.tallies (self.old.tallies ++ slot_tally slot)) }
-        ensures no_contacts { self.new.no_contacts ≡ self.old.no_contacts }
+        ensures lines_without_contact { self.new.lines_without_contact ≡ self.old.lines_without_contact }
     {
         match contact_of(slot.line.as_slice()) {
             ParsedContact::Closed { name, email, .. } => self.add_contact(name, email, slot.seen),
@@ -184,9 +185,9 @@ impl Contacts {
     ) -> Result<(), AllocError>
         ensures tallies { OnOk result (SameTallies self.new.tallies (self.old.tallies
             ++ record { contact = record { name = name.now; email = email.now }; seen = seen } ∷ [])) }
-        ensures no_contacts { self.new.no_contacts ≡ self.old.no_contacts }
+        ensures lines_without_contact { self.new.lines_without_contact ≡ self.old.lines_without_contact }
     {
-        let key = key_of(*self.no_contacts.allocator(), name, email)?;
+        let key = key_of(*self.lines_without_contact.allocator(), name, email)?;
         add_to(&mut self.tallies, key, seen)
     }
 }

@@ -2,7 +2,7 @@
 ghost use Rattle.std.specs.Prelude.{◌≡◌, IfOk, IsFalse, IsTrue, List, OnOk, Some, if◌then◌else◌, map, option_map};
 ghost use Rattle.std.specs.BTreeMap.{get};
 ghost use Rattle.std.specs.Option.{option_copied};
-ghost use Rattle.mailmap_contacts.specs.Answers.{ArePropers, field_of, folded_cmp, tally_at, tally_of};
+ghost use Rattle.mailmap_contacts.specs.Answers.{ArePropers, shared_field, folded_cmp, tally_at, tally_of};
 ghost use Rattle.mailmap_contacts.specs.Comparisons.{other_proper, shares};
 ghost use Rattle.mailmap_contacts.specs.Contacts as contacts;
 ghost use Rattle.mailmap_contacts.specs.Contacts.{same_contact};
@@ -25,7 +25,7 @@ pub enum Shared {
 
 impl Shared {
     pub(crate) fn text<'a>(self, answer: &Tally<'a>) -> &'a [u8]
-        ensures { result.now ≡ field_of self (tally_of answer.now) }
+        ensures { result.now ≡ shared_field self (tally_of answer.now) }
     {
         match self {
             Shared::Email => answer.email,
@@ -58,7 +58,7 @@ fn add_answer<'r, 'a>(
     answer: &'r Tally<'a>,
 ) -> Result<(), AllocError>
     ensures { OnOk result ((key : TheKey) → option_map tally_at (get folded_cmp propers.new key)
-        ≡ (if shares (field_of shared) key.text.now (tally_of answer.now)
+        ≡ (if shares (shared_field shared) key.text.now (tally_of answer.now)
         then Some (better (option_map tally_at (get folded_cmp propers.old key)) (tally_of answer.now))
         else option_map tally_at (get folded_cmp propers.old key))) }
 {
@@ -92,7 +92,7 @@ pub(crate) fn other_proper<'r, 'a>(
     answer: &Tally<'a>,
 ) -> Option<&'r Tally<'a>>
     ensures { (answers : List contacts.Tally) → ArePropers shared answers propers.now
-        → option_map tally_at result ≡ other_proper (field_of shared) answers (tally_of answer.now) }
+        → option_map tally_at result ≡ other_proper (shared_field shared) answers (tally_of answer.now) }
 {
     let key = Folded {
         text: shared.text(answer),

@@ -25,7 +25,7 @@ use Rattle.mailmap_findings.proofs.Deleted.{left_entries}
 use Rattle.mailmap_findings.proofs.Read.{mappings_of-located_lines}
 use Rattle.mailmap_findings.proofs.Walking.{same_is, same_itself}
 use Rattle.mailmap_grammar.specs.Lines.{contact_in}
-use Rattle.mailmap_findings.specs.Needs.{AreUnneeded, any_needs, contact_needs, is_reported, needs, unneeded}
+use Rattle.mailmap_findings.specs.Needs.{AreUnneeded, any_needs, contact_needs, is_deletable, needs, unneeded}
 use Rattle.mailmap_findings.proofs.ContactNeeds.{filter_both}
 
 -- ---- the positions that an answer needs are those of the entries it needs
@@ -100,13 +100,13 @@ module _ (p : Position → Bool) where
 
 pub answered : (buffers : List Text) (contacts : Text) (found : List Finding) (missing : List Position) (line name email rest : Text) → AreFindings buffers found → AreUnneeded buffers contacts missing
     → Contains (whole_lines contacts) line → contact_in line ≡ Closed name email rest
-    → answer_of (entries (located (filter (λ l. not (is_reported found missing l)) (located_lines buffers)))) name email ≡ answer_of (flat_map mappings_of buffers) name email
+    → answer_of (entries (located (filter (λ l. not (is_deletable found missing l)) (located_lines buffers)))) name email ≡ answer_of (flat_map mappings_of buffers) name email
 answered buffers contacts found missing line name email rest are un there is =
     let ls = located_lines buffers in
     let all = whole_lines contacts in
     let is_missing : Position → Bool = λ p. list_any (same_position p) missing in
     let stays : LocatedMapping → Bool = λ x. not (is_missing x.position) in
-    let left : located (filter (λ (l : Line). not (is_reported found missing l)) ls) ≡ filter stays un.kept =
+    let left : located (filter (λ (l : Line). not (is_deletable found missing l)) ls) ≡ filter stays un.kept =
     ap located (sym (filter_both (is_reported_redundant found) (λ (l : Line). is_missing l.position) ls))
     ∙ located_filter (λ p. not (is_missing p)) (filter (λ (l : Line). not (is_reported_redundant found l)) ls)
     ∙ ap (filter stays) (left_entries buffers found are ∙ one_reduced (located ls) are.kept un.kept are.effective un.effective) in

@@ -14,7 +14,7 @@ use Rattle.mailmap_entries.specs.Semantics.{IsNormal, first, is_accepted, key}
 use Rattle.mailmap_redundancy.specs.Redundancy.{AreEffective, LocatedMapping, entries, last_of_key, last_position}
 use Rattle.mailmap_redundancy.specs.declared.located.Position.{Position}
 use Rattle.mailmap_redundancy.proofs.Kept.{last_stays, one_reduced, reduced_normal, reduced_sublist, some_reduced}
-use Rattle.mailmap_findings.specs.Findings.{AreFindings, Contact, Finding, IsPruned, FindingKind, proper_contact, findings, git_reads, has_no_effect, ignored, ignored_text, is_reported_redundant, is_line_kept, mapped_contact, mapping_positions, no_effect_beside, read_otherwise, same_contact, reported_of_contact, reported_of_entry, reported_of_line, reported_of_reading, itself_mapped}
+use Rattle.mailmap_findings.specs.Findings.{AreFindings, NewContact, Finding, IsPruned, FindingKind, proper_contact, findings, git_reads, has_no_effect, ignored, ignored_text, is_reported_redundant, is_line_kept, mapped_contact, mapping_positions, no_effect_beside, read_otherwise, is_same_contact, reported_of_contact, reported_of_entry, reported_of_line, reported_of_reading, itself_mapped}
 use Rattle.mailmap_findings.specs.Positions.{Line, entry, located_lines, located, same_position, has_entry_at}
 use Rattle.mailmap_findings.specs.Marked.{AreApart}
 use Rattle.mailmap_findings.proofs.Accepted.{located_accepted}
@@ -76,9 +76,9 @@ pub git_none : (o : Option GitReading) → list_any has_no_effect (option_to_lis
 git_none None = refl
 git_none (Some r) = refl
 
-pub contact_none : (c to : Contact) (by : List Position) → list_any has_no_effect (option_to_list (reported_of_contact c to by)) ≡ false
+pub contact_none : (c to : NewContact) (by : List Position) → list_any has_no_effect (option_to_list (reported_of_contact c to by)) ≡ false
 contact_none c to [] = refl
-contact_none c to (p ∷ ps) = elim (same_contact c to) as (λ b. list_any has_no_effect (option_to_list (if b then None else Some (itself_mapped c to p (first ps)))) ≡ false) [ true ↦ refl | false ↦ refl ]
+contact_none c to (p ∷ ps) = elim (is_same_contact c to) as (λ b. list_any has_no_effect (option_to_list (if b then None else Some (itself_mapped c to p (first ps)))) ≡ false) [ true ↦ refl | false ↦ refl ]
 
 beside_some : (e : Mapping) (o : Option LocatedMapping) → is_some (option_map (λ x. x.position) o) ≡ true → list_any has_no_effect (option_to_list (option_map (no_effect_beside e) o)) ≡ true
 beside_some e None is = absurd (true≢false (sym is))

@@ -13,13 +13,13 @@ use Rattle.mailmap_redundancy.specs.Origins.{origins}
 use Rattle.mailmap_redundancy.specs.Redundancy.{LocatedMapping}
 use Rattle.mailmap_redundancy.specs.declared.located.Position.{Position}
 use Rattle.mailmap_findings.specs.Explanations.{origin_positions}
-use Rattle.mailmap_findings.specs.Findings.{Contact, mapped_contact, mapping_positions, replaced_contact, reported_of_contact, reported_by, reported_of_proper}
+use Rattle.mailmap_findings.specs.Findings.{NewContact, mapped_contact, mapping_positions, replaced_contact, reported_of_contact, reported_by, reported_of_proper}
 
 same_name : (name : Option Text) → option_map (unwrap_or None) name ≡ name
 same_name None = refl
 same_name (Some name) = refl
 
-module _ (h : List Mapping) (kept : List LocatedMapping) (c : Contact) (name : Text) (is : name ≡ unwrap_or c.name []) where
+module _ (h : List Mapping) (kept : List LocatedMapping) (c : NewContact) (name : Text) (is : name ≡ unwrap_or c.name []) where
   made : (o : Option Fields) → o ≡ answer_of h name c.email → replaced_contact (unwrap_or o no_fields) c ≡ mapped_contact h c
   made o found = ap (λ x. replaced_contact (unwrap_or x no_fields) c) (found ∙ ap (λ n. answer_of h n c.email) is)
 
@@ -45,6 +45,6 @@ module _ (h : List Mapping) (kept : List LocatedMapping) (c : Contact) (name : T
       ap (λ o. origin_positions (origins kept name c.email) (unwrap_or o no_fields)) found
       ∙ ap (λ n. origin_positions (origins kept n c.email) (unwrap_or (answer_of h n c.email) no_fields)) is
 
-pub by_lines : (c to : Contact) (line : Position) (second : Option Position) → reported_by c to line second ≡ reported_of_contact c to (line ∷ option_to_list second)
+pub by_lines : (c to : NewContact) (line : Position) (second : Option Position) → reported_by c to line second ≡ reported_of_contact c to (line ∷ option_to_list second)
 by_lines c to line None = refl
 by_lines c to line (Some p) = refl

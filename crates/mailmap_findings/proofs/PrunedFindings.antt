@@ -19,7 +19,7 @@ use Rattle.mailmap_redundancy.specs.declared.located.Position.{Position}
 use Rattle.mailmap_redundancy.proofs.Giving.{first-map}
 use Rattle.mailmap_redundancy.proofs.Moved.{moved_entry}
 use Rattle.mailmap_redundancy.proofs.Kept.{listing_differs, one_reduced, reduced_scan}
-use Rattle.mailmap_findings.specs.Findings.{AreFindings, Contact, Finding, IsPruned, FindingKind, proper_contact, findings, git_reads, has_no_effect, ignored, ignored_text, is_line_kept, is_reported_redundant, mapped_contact, mapping_positions, read_otherwise, replaced_contact, reported_by, reported_of_contact, reported_of_entry, reported_of_line, reported_of_reading, same_contact, itself_mapped}
+use Rattle.mailmap_findings.specs.Findings.{AreFindings, NewContact, Finding, IsPruned, FindingKind, proper_contact, findings, git_reads, has_no_effect, ignored, ignored_text, is_line_kept, is_reported_redundant, mapped_contact, mapping_positions, read_otherwise, replaced_contact, reported_by, reported_of_contact, reported_of_entry, reported_of_line, reported_of_reading, is_same_contact, itself_mapped}
 use Rattle.mailmap_findings.specs.Marked.{AreApart}
 use Rattle.mailmap_findings.specs.Positions.{Line, entry, has_entry_at, located_lines, located, located_entry, located_from, same_position}
 use Rattle.mailmap_findings.specs.Pruning.{at_line, is_left, lines_left, number_among, position_among, renumbered, with_number}
@@ -135,7 +135,7 @@ reading_numbered move n m line =
       | false ↦ blank_numbered move n m line (trim line)
     ]
 
-contact_numbered : (move : Position → Position) (n : ℕ) (c to : Contact) (by moved : List Position) → moved ≡ map move by
+contact_numbered : (move : Position → Position) (n : ℕ) (c to : NewContact) (by moved : List Position) → moved ≡ map move by
     → reported_of_contact c to moved ≡ option_map (with_number move n) (reported_of_contact c to by)
 contact_numbered move n c to by moved is = ap (reported_of_contact c to) is ∙ numbered by
   where
@@ -143,7 +143,7 @@ contact_numbered move n c to by moved is = ap (reported_of_contact c to) is ∙ 
     numbered [] = refl
     numbered (p ∷ ps) =
         ap (reported_by c to (move p)) (first-map move ps)
-        ∙ elim (same_contact c to) as (λ b. (if b then None else Some (itself_mapped c to (move p) (option_map move (first ps))))
+        ∙ elim (is_same_contact c to) as (λ b. (if b then None else Some (itself_mapped c to (move p) (option_map move (first ps))))
         ≡ option_map (with_number move n) (if b then None else Some (itself_mapped c to p (first ps)))) [
           | true ↦ refl
           | false ↦ refl
@@ -166,8 +166,8 @@ numbered_at move n position [] = refl
 numbered_at move n position (t ∷ ts) = ap (λ fs. record { position = record { buffer = 0; line = n }; kind = with_number move n t } ∷ fs) (numbered_at move n position ts)
 
 -- two lists of entries that map each contact alike, by lines that moved
-module _ (move : Position → Position) (g h : List Mapping) (there kept : List LocatedMapping) (same : (c : Contact) → mapped_contact g c ≡ mapped_contact h c)
-    (moved : (c : Contact) → mapping_positions g there c ≡ map move (mapping_positions h kept c)) where
+module _ (move : Position → Position) (g h : List Mapping) (there kept : List LocatedMapping) (same : (c : NewContact) → mapped_contact g c ≡ mapped_contact h c)
+    (moved : (c : NewContact) → mapping_positions g there c ≡ map move (mapping_positions h kept c)) where
   entry_numbered : (n : ℕ) (o : Option Mapping) → option_and_then (reported_of_entry g there true) o ≡ option_map (with_number move n) (option_and_then (reported_of_entry h kept true) o)
   entry_numbered n None = refl
   entry_numbered n (Some e) =
@@ -231,8 +231,8 @@ abbrev numbered_findings : (Position → Position) → List Mapping → List Loc
 numbered_findings move h kept n [] = []
 numbered_findings move h kept n (l ∷ ls) = map (at_line move n) (kept_findings h kept l) ++ numbered_findings move h kept (n + 1) ls
 
-text_found : (move : Position → Position) (g h : List Mapping) (there kept : List LocatedMapping) → ((c : Contact) → mapped_contact g c ≡ mapped_contact h c)
-    → ((c : Contact) → mapping_positions g there c ≡ map move (mapping_positions h kept c)) → (n : ℕ) (ls : List Line)
+text_found : (move : Position → Position) (g h : List Mapping) (there kept : List LocatedMapping) → ((c : NewContact) → mapped_contact g c ≡ mapped_contact h c)
+    → ((c : NewContact) → mapping_positions g there c ≡ map move (mapping_positions h kept c)) → (n : ℕ) (ls : List Line)
     → AllByRecursion (λ l. Stands there l.position (entry l)) (located_from 0 n (texts ls)) → flat_map (findings g there) (located_from 0 n (texts ls)) ≡ numbered_findings move h kept n ls
 unfolding located_from
 text_found move g h there kept same moved n [] all = refl
@@ -302,7 +302,7 @@ module _ (buffer text : Text) (pruned : IsPruned buffer text) where
       ap (λ es. answer_of es name email) (text_entries buffer text pruned)
       ∙ reduced_scan (located (located_lines (buffer ∷ []))) pruned.kept name email pruned.effective
 
-  same_mapped : (c : Contact) → mapped_contact (entries own) c ≡ mapped_contact whole_history c
+  same_mapped : (c : NewContact) → mapped_contact (entries own) c ≡ mapped_contact whole_history c
   same_mapped c = ap (λ o. replaced_contact (unwrap_or o no_fields) c) (same_answer (unwrap_or c.name []) c.email)
 
   left_numbered : AreNumbered left_ones 1 left_ones
@@ -318,7 +318,7 @@ module _ (buffer text : Text) (pruned : IsPruned buffer text) where
       ∙ located_moved left_ones 1 left_ones left_numbered
       ∙ ap (map (moved_entry (position_among left_ones))) (kept_entries buffer text pruned)
 
-  same_moved : (c : Contact) → mapping_positions (entries own) own c ≡ map (position_among left_ones) (mapping_positions whole_history pruned.kept c)
+  same_moved : (c : NewContact) → mapping_positions (entries own) own c ≡ map (position_among left_ones) (mapping_positions whole_history pruned.kept c)
   same_moved c =
       let name = unwrap_or c.name [] in
       let fields = ap (λ o. unwrap_or o no_fields) (same_answer name c.email) in

@@ -10,7 +10,7 @@ use Rattle.mailmap_grammar.specs.Lines.{Closed, contact_in, mappings_of}
 use Rattle.mailmap_redundancy.specs.Redundancy.{entries}
 use Rattle.mailmap_redundancy.specs.declared.located.Position.{Position}
 use Rattle.mailmap_findings.specs.Findings.{AreFindings, Finding, is_reported_redundant}
-use Rattle.mailmap_findings.specs.Needs.{AreUnneeded, is_reported}
+use Rattle.mailmap_findings.specs.Needs.{AreUnneeded, is_deletable}
 use Rattle.mailmap_findings.specs.Positions.{Line, buffer_lines, located_lines, lines_from, located, located_from, texts_from, texts_left, whole_lines}
 use Rattle.mailmap_findings.proofs.Answered.{answered}
 use Rattle.mailmap_findings.proofs.Deleted.{same_listing}
@@ -51,6 +51,6 @@ listing_left buffers found n are =
 
 pub answered_left : (buffers : List Text) (contacts : Text) (found : List Finding) (missing : List Position) (line name email rest : Text) → AreFindings buffers found → AreUnneeded buffers contacts missing
     → Contains (whole_lines contacts) line → contact_in line ≡ Closed name email rest
-    → answer_of (flat_map mappings_of (texts_left (λ l. not (is_reported found missing l)) buffers)) name email ≡ answer_of (flat_map mappings_of buffers) name email
+    → answer_of (flat_map mappings_of (texts_left (λ l. not (is_deletable found missing l)) buffers)) name email ≡ answer_of (flat_map mappings_of buffers) name email
 answered_left buffers contacts found missing line name email rest are un there is =
-    ap (λ h. answer_of h name email) (entries_left (λ l. not (is_reported found missing l)) buffers) ∙ answered buffers contacts found missing line name email rest are un there is
+    ap (λ h. answer_of h name email) (entries_left (λ l. not (is_deletable found missing l)) buffers) ∙ answered buffers contacts found missing line name email rest are un there is

@@ -20,7 +20,7 @@ use Rattle.mailmap_findings.specs.declared.verify.Finding as the_finding
 use Rattle.mailmap_findings.specs.declared.verify.FindingKind as the_kind
 use Rattle.mailmap_findings.specs.declared.verify.FindingKind.TheVariants as variant
 
-pub record Contact : Type 0 where
+pub record NewContact : Type 0 where
   pub name : Option Text
   pub email : Text
 
@@ -30,14 +30,14 @@ pub data FindingKind : Type 0 where
   ignored_text : Text → FindingKind
   git_reads : GitReading → FindingKind
   no_effect : Position → Bool → FindingKind
-  itself_mapped : Contact → Contact → Position → Option Position → FindingKind
+  itself_mapped : NewContact → NewContact → Position → Option Position → FindingKind
 
 pub record Finding : Type 0 where
   pub position : Position
   pub kind : FindingKind
 
 -- the specification's view of a contact, a kind and a finding
-abbrev pub contact_of : the_contact.Contact → Contact
+abbrev pub contact_of : the_contact.Contact → NewContact
 contact_of c = record { name = option_copied c.name; email = c.email.now }
 
 abbrev pub kind_of : the_kind.FindingKind → FindingKind
@@ -75,35 +75,35 @@ first_read_otherwise buffers = option_map (λ l. l.position)
 -- ---- findings about the entry of a line
 
 -- the contact that an entry maps to: its new fields where it has them, else its old ones
-abbrev pub proper_contact : Mapping → Contact
+abbrev pub proper_contact : Mapping → NewContact
 proper_contact e = record { name = option_or e.new_name e.old_name; email = unwrap_or e.new_email e.old_email }
 
 -- the contact with its fields overridden; one without a name gets none
-abbrev pub replaced_contact : Fields → Contact → Contact
+abbrev pub replaced_contact : Fields → NewContact → NewContact
 replaced_contact f c = record { name = option_map (unwrap_or f.name) c.name; email = unwrap_or f.email c.email }
 
 -- what a contact maps to; one without a name is looked up by its email
-abbrev pub mapped_contact : List Mapping → Contact → Contact
+abbrev pub mapped_contact : List Mapping → NewContact → NewContact
 mapped_contact h c = replaced_contact (fields_for h (unwrap_or c.name []) c.email) c
 
-abbrev pub same_contact : Contact → Contact → Bool
-same_contact a b = same_optional a.name b.name && pointwise nat_eq a.email b.email
+abbrev pub is_same_contact : NewContact → NewContact → Bool
+is_same_contact a b = same_optional a.name b.name && pointwise nat_eq a.email b.email
 
 -- the lines behind what a contact maps to
-abbrev pub mapping_positions : List Mapping → List LocatedMapping → Contact → List Position
+abbrev pub mapping_positions : List Mapping → List LocatedMapping → NewContact → List Position
 mapping_positions h kept c =
     origin_positions (origins kept (unwrap_or c.name []) c.email) (fields_for h (unwrap_or c.name []) c.email)
 
 -- a contact that is mapped to another one by one or two lines
-abbrev pub reported_by : Contact → Contact → Position → Option Position → Option FindingKind
-reported_by c to line second = if same_contact c to then None else Some (itself_mapped c to line second)
+abbrev pub reported_by : NewContact → NewContact → Position → Option Position → Option FindingKind
+reported_by c to line second = if is_same_contact c to then None else Some (itself_mapped c to line second)
 
-abbrev pub reported_of_contact : Contact → Contact → List Position → Option FindingKind
+abbrev pub reported_of_contact : NewContact → NewContact → List Position → Option FindingKind
 reported_of_contact c to [] = None
 reported_of_contact c to (p ∷ ps) = reported_by c to p (first ps)
 
 -- whether an entry's contact is itself mapped
-abbrev pub reported_of_proper : List Mapping → List LocatedMapping → Contact → Option FindingKind
+abbrev pub reported_of_proper : List Mapping → List LocatedMapping → NewContact → Option FindingKind
 reported_of_proper h kept c = reported_of_contact c (mapped_contact h c) (mapping_positions h kept c)
 
 -- both have the same new name or none, and the same new email or none, byte for byte

@@ -53,8 +53,8 @@ pub record AreUnneeded (buffers : List Text) (contacts : Text) (found : List Pos
   pub whole : found ≡ unneeded kept (whole_lines contacts)
 
 -- whether a line is reported as without effect, or as needed by no contact
-abbrev pub is_reported : List Finding → List Position → Line → Bool
-is_reported found missing l = is_reported_redundant found l || list_any (same_position l.position) missing
+abbrev pub is_deletable : List Finding → List Position → Line → Bool
+is_deletable found missing l = is_reported_redundant found l || list_any (same_position l.position) missing
 
 -- ---- contacts added one by one
 

@@ -7,7 +7,7 @@ ghost use Rattle.mailmap_grammar.specs.Lines.{mappings_of, readings, reading, st
 ghost use Rattle.mailmap_entries.specs.Semantics.{IsNormal};
 ghost use Rattle.mailmap_redundancy.specs.Redundancy.{entries};
 ghost use Rattle.mailmap_redundancy.specs.declared.located.Position.{Position};
-ghost use Rattle.mailmap_findings.specs.Findings.{AreFindings, AreInOrder, Contact, Finding, IsPruned, first_read_otherwise, is_reported_redundant, same_contact};
+ghost use Rattle.mailmap_findings.specs.Findings.{AreFindings, AreInOrder, NewContact, Finding, IsPruned, first_read_otherwise, is_reported_redundant, is_same_contact};
 ghost use Rattle.mailmap_findings.specs.GitAnswers.{git_answer};
 ghost use Rattle.mailmap_findings.specs.Positions.{located_lines, located, same_position, whole_lines};
 
@@ -45,7 +45,7 @@ pub fn law_one_answer()
 /// Comparing positions, and contacts, decides whether they are equal.
 pub fn law_equal_contacts()
     ensures positions { (a b : Position) → (same_position a b ≡ true) ↔ (a ≡ b) }
-    ensures contacts { (a b : Contact) → (same_contact a b ≡ true) ↔ (a ≡ b) }
+    ensures contacts { (a b : NewContact) → (is_same_contact a b ≡ true) ↔ (a ≡ b) }
 {}
 
 pub fn law_in_order()

@@ -20,10 +20,10 @@ given bs = map without_terminator (lines_of bs)
 pub record HasSkipped (whole rest : List ℕ) (count : ℕ) : Type 0 where
   pub within : count + length rest ≤ length whole
   pub counted : count + length (given rest) ≡ length (given whole)
-  pub silent : (says : ℕ → Text → Reading) (n : ℕ) → readings_from (reading_by says) n (given whole) ≡ readings_from (reading_by says) (n + count) (given rest)
+  pub none_read : (says : ℕ → Text → Reading) (n : ℕ) → readings_from (reading_by says) n (given whole) ≡ readings_from (reading_by says) (n + count) (given rest)
 
 pub none_skipped : (whole : List ℕ) → HasSkipped whole whole 0
-none_skipped whole = record { within = omega arith; counted = omega arith; silent = λ says n. ap (λ k. readings_from (reading_by says) k (given whole)) (omega arith) }
+none_skipped whole = record { within = omega arith; counted = omega arith; none_read = λ says n. ap (λ k. readings_from (reading_by says) k (given whole)) (omega arith) }
 
 -- one more line that says nothing, up to its line feed
 pub one_skipped : (whole rest next : List ℕ) (count feed : ℕ) → HasSkipped whole rest count → IsFirstByte (is_byte 10) rest (Some feed)
@@ -41,11 +41,11 @@ one_skipped whole rest next count feed h first none is =
     record {
       within = omega (arith, h.within, size, ap length is);
       counted = omega (arith, h.counted, ap length lines_are);
-      silent = λ says n.
+      none_read = λ says n.
           let read = reading_by says in
           let nothing : None ≡ read (n + count) (without_terminator line) =
           sym (reading-line read (reading_by-cr says) (n + count) line (take feed rest) (inl ended) ∙ none says (n + count)) in
-          h.silent says n ∙ sym (readings_from-none read (n + count) _ (given rest) (given next) (without_terminator line) refl lines_are nothing)
+          h.none_read says n ∙ sym (readings_from-none read (n + count) _ (given rest) (given next) (without_terminator line) refl lines_are nothing)
           ∙ ap (λ k. readings_from read k (given next)) (omega arith);
     }
 

@@ -6,7 +6,7 @@ pub mod contacts;
 mod feeds;
 pub mod laws;
 pub mod lines;
-mod silent;
+mod skip;
 pub mod strict;
 pub mod trailing;
 pub mod writing;

@@ -26,7 +26,7 @@ ghost use Rattle.mailmap_grammar.specs.Lines.{readings_from, strict_readings, pi
 ghost use Rattle.mailmap_grammar.specs.Trimming.{trim as spec_trim};
 
 use crate::contacts::{ParsedContact, parse_name_and_email, trim};
-use crate::silent::skip_silent;
+use crate::skip::skip_comments_and_blanks;
 use crate::trailing::WithTrailing;
 use bstr::ByteSlice;
 use mailmap_entries::Entry;
@@ -136,13 +136,13 @@ impl<'a> Iterator for Lines<'a> {
     ghost remaining = { item_count (λ s. s) };
 
     fn next(&mut self) -> Option<Result<Entry<'a>, Error<'a>>> {
-        self.line_number += skip_silent(&mut self.lines);
+        self.line_number += skip_comments_and_blanks(&mut self.lines);
         while let Some(text) = self.lines.next() {
             self.line_number += 1;
             if let Some(item) = read_line(text, self.line_number, self.strictness) {
                 return Some(item);
             }
-            self.line_number += skip_silent(&mut self.lines);
+            self.line_number += skip_comments_and_blanks(&mut self.lines);
         }
         None
     }

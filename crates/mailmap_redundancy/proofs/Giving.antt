@@ -13,7 +13,7 @@ use Rattle.mailmap_entries.specs.Alike.{Alike}
 use Rattle.mailmap_entries.proofs.Parts.{all_head, all_last, all_mapped, all_tail, and_then-flatten, filter-filter, filter_all, is_some-option_map, last_of_one}
 use Rattle.mailmap_batches.proofs.Stable.{filter-map}
 use Rattle.mailmap_redundancy.specs.Origins.{entries_of_email, git_answer_from, git_given, given, origins, last_or_all, last_with, needed, those_that_count, with_spelling}
-use Rattle.mailmap_redundancy.specs.Numbers.{key_origins, said_by}
+use Rattle.mailmap_redundancy.specs.Numbers.{key_origins, summary_by}
 use Rattle.mailmap_redundancy.specs.Redundancy.{AreEffective, LocatedMapping, entries, entries_of_key}
 use Rattle.mailmap_redundancy.specs.Summaries.{Summary, summary}
 use Rattle.mailmap_redundancy.proofs.Kept.{reduced_accepted, reduced_alike, reduced_scan}
@@ -102,7 +102,7 @@ module _ (kept : List LocatedMapping) (all : AllByRecursion (λ x. is_accepted x
   located_email email = let q : Mapping → Bool = λ e. eq_by_cmp text_cmp email (folded e.old_email) in ap (filter q) all_accepted ∙ filter-map q (λ (x : LocatedMapping). x.entry) kept
 
   -- a table's summary is the summary of the key's entries
-  pub said_summary : (k : Key) (s : Summary) → s.of_key ≡ said_by (key_origins (entries_of_key kept k))
+  pub said_summary : (k : Key) (s : Summary) → s.of_key ≡ summary_by (key_origins (entries_of_key kept k))
       → s.spelling ≡ option_map (λ x. x.entry.old_email) (first (entries_of_email kept k.0)) → s ≡ summary (entries kept) k
   said_summary k s owned spelled =
       let xs = entries_of_key kept k in

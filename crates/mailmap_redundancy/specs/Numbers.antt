@@ -75,8 +75,8 @@ key_origins_of s =
     record { old_name = referred s.old_name; name = referred s.name; email = referred s.email; last = referred s.last }
 
 -- the summary of the key that these entries make
-abbrev pub said_by : KeyOrigins → KeySummary
-said_by g =
+abbrev pub summary_by : KeyOrigins → KeySummary
+summary_by g =
     record {
       old_name = option_and_then (λ x. x.entry.old_name) g.old_name;
       name = option_and_then (λ x. x.entry.new_name) g.name;
@@ -91,7 +91,7 @@ first_of s = referred s.first
 abbrev pub summary_of : SummaryEntries → Summary
 summary_of s =
     record {
-      of_key = said_by (key_origins_of s.of_key);
+      of_key = summary_by (key_origins_of s.of_key);
       spelling = option_map (λ x. x.entry.old_email) (first_of s.of_email);
     }
 

@@ -1,4 +1,4 @@
-//! Passes over the entries, each of which drops redundant ones.
+//! The passes that drop redundant entries, until one of them drops none.
 ghost use Rattle.std.specs.Prelude.{◌≡◌, All, [], IfOk, map};
 ghost use Rattle.std.specs.Option.{option_copied, option_map};
 ghost use Rattle.std.specs.List.Sorted.{IsStrictlySortedBy};
@@ -7,7 +7,7 @@ ghost use Rattle.mailmap_entries.specs.Semantics.{key_cmp, new_fields};
 ghost use Rattle.mailmap_entries.specs.Listings.{same_optional};
 ghost use Rattle.mailmap_redundancy.specs.Redundancy.{IsPass, AreEffective, located_of};
 ghost use Rattle.mailmap_redundancy.specs.Summaries as spec;
-ghost use Rattle.mailmap_redundancy.specs.Numbers.{IsNumbered, key_origins_of, later_of_each, mappings, referred, said_by, summary_of};
+ghost use Rattle.mailmap_redundancy.specs.Numbers.{IsNumbered, key_origins_of, later_of_each, mappings, referred, summary_by, summary_of};
 
 use crate::keys::Key;
 use crate::located::{LocatedEntry, new_email, new_name, old_email, old_name};
@@ -135,7 +135,7 @@ fn is_redundant(before: &Summary, entry: &Entry, later: Later) -> bool
 // Whether the key keeps its fields, and the spelling of its old name, without the entry. If the key has an old name,
 // its last entry decides both fields; else the last entry with a new name or a new email decides that field.
 fn is_value_unchanged(before: &KeySummary, entry: &Entry, later: Later) -> bool
-    ensures { result ≡ spec.is_value_unchanged (said_by (key_origins_of before.now)) (mapping_of entry.now) later }
+    ensures { result ≡ spec.is_value_unchanged (summary_by (key_origins_of before.now)) (mapping_of entry.now) later }
 {
     if entry.old_name().is_some() {
         (old_name(before.old_name).is_some() || later.same_old_name)
@@ -151,7 +151,7 @@ fn is_value_unchanged(before: &KeySummary, entry: &Entry, later: Later) -> bool
 }
 
 // Whether a field keeps its last value without this entry, whose value is `field`: a later entry overrides it, this
-// entry has none, or an earlier entry already set the same.
+// entry has none, or the last earlier value is the same.
 fn is_last_unchanged(before: Option<&[u8]>, field: Option<&[u8]>, given_later: bool) -> bool
     ensures { result ≡ spec.is_last_unchanged (option_copied before.entry) (option_copied field.entry) given_later }
 {

@@ -6,7 +6,7 @@ use Rattle.std.proofs.lemmas.Bool.{cases_Bool, cond-true, cond-false, ne_eqb, eq
 use Rattle.mailmap_entries.specs.Folding.{Text}
 use Rattle.mailmap_grammar.specs.Lines.{HoldsNo, with_line_feeds, pieces, with_first}
 use Rattle.mailmap_grammar.proofs.LineFeeds.{all_parts, are_pieces}
-use Rattle.mailmap_snapshot.specs.Contacts.{AreLines, IsBare, contact_lines}
+use Rattle.mailmap_snapshot.specs.Contacts.{AreLines, IsWithoutReturn, contact_lines}
 
 no_end : (b : ℕ) (x y : List Text) → cond (b == 13 && false) x y ≡ y
 no_end b x y = elim (b == 13) as (λ t. cond (t && false) x y ≡ y) [ true ↦ refl | false ↦ refl ]
@@ -31,15 +31,15 @@ contact_lines-last b s off =
     ∙ (elim (b == 13) as (λ t. cond (t && true) ([] ∷ contact_lines s) ((b ∷ []) ∷ contact_lines s) ≡ cond t ([] ∷ contact_lines s) ((b ∷ []) ∷ contact_lines s)) [ true ↦ refl | false ↦ refl ])
 
 -- removing the carriage return of a piece doesn't depend on the bytes before it
-bare-cons : (b c : ℕ) (piece line : Text) → IsBare (b ∷ c ∷ piece) line → (rest : Text) × (line ≡ b ∷ rest) × IsBare (c ∷ piece) rest
+bare-cons : (b c : ℕ) (piece line : Text) → IsWithoutReturn (b ∷ c ∷ piece) line → (rest : Text) × (line ≡ b ∷ rest) × IsWithoutReturn (c ∷ piece) rest
 bare-cons b c piece line h = ⊎_elim (λ e. ended line e) (λ same. (c ∷ piece, sym same.0, inr (refl, λ front e. same.1 (b ∷ front) (sym same.0 ∙ ap (λ l. b ∷ l) e)))) h
   where
-    ended : (line : Text) → b ∷ c ∷ piece ≡ line ++ 13 ∷ [] → (rest : Text) × (line ≡ b ∷ rest) × IsBare (c ∷ piece) rest
+    ended : (line : Text) → b ∷ c ∷ piece ≡ line ++ 13 ∷ [] → (rest : Text) × (line ≡ b ∷ rest) × IsWithoutReturn (c ∷ piece) rest
     ended [] e = absurd (cc)
     ended (x ∷ rest) e = (rest, (let h : x ≡ b = cc in ap (λ y. y ∷ rest) h), inl (let h : c ∷ piece ≡ rest ++ 13 ∷ [] = cc in h))
 
 -- the lines of a piece, its line feed, and more text
-contact_lines-line : (piece line rest : Text) → HoldsNo 10 piece → IsBare piece line → contact_lines (piece ++ 10 ∷ rest) ≡ line ∷ contact_lines rest
+contact_lines-line : (piece line rest : Text) → HoldsNo 10 piece → IsWithoutReturn piece line → contact_lines (piece ++ 10 ∷ rest) ≡ line ∷ contact_lines rest
 contact_lines-line [] line rest h bare = contact_lines-feed rest ∙ ap (λ l. l ∷ contact_lines rest) (⊎_elim (λ e. absurd (nothing line e)) (λ same. same.0) bare)
   where
     nothing : (line : Text) → [] ≡ line ++ 13 ∷ [] → ⊥
@@ -76,7 +76,7 @@ contact_lines-open (b ∷ []) h some = cond-false _ _ _ (ne_eqb b 10 h.0) ∙ no
 contact_lines-open (b ∷ c ∷ l) h some = contact_lines-byte b c l h.0 h.1.0 ∙ ap (with_first b) (contact_lines-open (c ∷ l) h.1 (λ e. cc))
 
 -- the lines of pieces with their line feeds, and of more text
-contact_lines-with_line_feeds : (ps ls : List Text) (rest : Text) → AllByRecursion (HoldsNo 10) ps → AllZip IsBare ps ls → contact_lines (with_line_feeds ps ++ rest) ≡ ls ++ contact_lines rest
+contact_lines-with_line_feeds : (ps ls : List Text) (rest : Text) → AllByRecursion (HoldsNo 10) ps → AllZip IsWithoutReturn ps ls → contact_lines (with_line_feeds ps ++ rest) ≡ ls ++ contact_lines rest
 contact_lines-with_line_feeds [] [] rest h bare = refl
 contact_lines-with_line_feeds [] (l ∷ ls) rest h bare = absurd bare
 contact_lines-with_line_feeds (p ∷ ps) [] rest h bare = absurd bare
@@ -97,7 +97,7 @@ contact_lines-are s ls are = ⊎_elim
     are.whole
 
 -- every piece has a line
-bare_of : (piece : Text) → (line : Text) × IsBare piece line
+bare_of : (piece : Text) → (line : Text) × IsWithoutReturn piece line
 bare_of [] = ([], inr (refl, none))
   where
     none : (front : Text) → [] ≡ front ++ 13 ∷ [] → ⊥
@@ -123,7 +123,7 @@ bare_of (b ∷ c ∷ piece) =
     longer line filled kept [] e = filled (cc)
     longer line filled kept (x ∷ front) e = kept front (cc)
 
-bares : (ps : List Text) → (ls : List Text) × AllZip IsBare ps ls
+bares : (ps : List Text) → (ls : List Text) × AllZip IsWithoutReturn ps ls
 bares [] = ([], tt)
 bares (p ∷ ps) = let one = bare_of p in let more = bares ps in (one.0 ∷ more.0, (one.1, more.1))
 

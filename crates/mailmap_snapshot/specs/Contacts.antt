@@ -21,15 +21,15 @@ contact_lines (b ∷ s) =
     else with_first b (contact_lines s)
 
 -- the line is the piece without one carriage return at its end
-abbrev pub IsBare : Text → Text → Type 0
-IsBare piece line = (piece ≡ line ++ 13 ∷ []) ⊎ ((piece ≡ line) × ((front : Text) → line ≡ front ++ 13 ∷ [] → ⊥))
+abbrev pub IsWithoutReturn : Text → Text → Type 0
+IsWithoutReturn piece line = (piece ≡ line ++ 13 ∷ []) ⊎ ((piece ≡ line) × ((front : Text) → line ≡ front ++ 13 ∷ [] → ⊥))
 
 -- ls are the lines of s: the pieces with a line feed, each without its carriage return, and then the last piece as it
 -- is, if it has no line feed
 pub record AreLines (s : Text) (ls : List Text) : Type 0 where
   pub ended : List Text
   pub bare : List Text
-  pub each : AllZip IsBare ended bare
+  pub each : AllZip IsWithoutReturn ended bare
   pub no_feed : AllByRecursion (HoldsNo 10) ended
   pub whole : ((s ≡ with_line_feeds ended) × (ls ≡ bare))
       ⊎ ((last : Text) × (last ≢ []) × HoldsNo 10 last × (s ≡ with_line_feeds ended ++ last) × (ls ≡ bare ++ last ∷ []))

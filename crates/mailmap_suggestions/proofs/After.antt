@@ -4,10 +4,10 @@ use Rattle.std.specs.Option.{option_or}
 use Rattle.mailmap_entries.specs.Entries.{Mapping}
 use Rattle.mailmap_entries.specs.Folding.{Text, folded}
 use Rattle.mailmap_entries.specs.Semantics.{Fields, given_fields}
-use Rattle.mailmap_contacts.specs.Contacts.{Contact, answer, same_contact}
+use Rattle.mailmap_contacts.specs.Contacts.{Contact, answer_to, same_contact}
 use Rattle.mailmap_suggestions.specs.Changes.{fields_to}
-use Rattle.mailmap_suggestions.specs.Contacts.{git_answer, own_key, replaced}
-use Rattle.mailmap_suggestions.specs.Lines.{Histories, is_answered, plus}
+use Rattle.mailmap_suggestions.specs.Contacts.{git_answer_to, own_key, replaced}
+use Rattle.mailmap_suggestions.specs.Forms.{Histories, is_answered, plus}
 use Rattle.mailmap_suggestions.proofs.Answers.{answer_is, fields, git_is, made, no_given, no_own, own_fields, same_answer, same_git_answer, spelled}
 use Rattle.mailmap_suggestions.proofs.Appended.{given_joined, last_joined, spelling_joined}
 
@@ -56,10 +56,10 @@ module _ (h added : List Mapping) (c : Contact) where
       by (Some s) some = spelled_joined ∙ ap (λ o. option_or o (spelled added c)) some ∙ sym some
 
   -- an entry of its own before, and none that is appended
-  pub answers_stay : own_fields added c ≡ None → is_some (own_fields h c) ≡ true → (answer (h ++ added) c ≡ answer h c) × (git_answer (h ++ added) c ≡ git_answer h c)
+  pub answers_stay : own_fields added c ≡ None → is_some (own_fields h c) ≡ true → (answer_to (h ++ added) c ≡ answer_to h c) × (git_answer_to (h ++ added) c ≡ git_answer_to h c)
   answers_stay none own = by (own_fields h c) refl
     where
-      by : (o : Option Fields) → own_fields h c ≡ o → (answer (h ++ added) c ≡ answer h c) × (git_answer (h ++ added) c ≡ git_answer h c)
+      by : (o : Option Fields) → own_fields h c ≡ o → (answer_to (h ++ added) c ≡ answer_to h c) × (git_answer_to (h ++ added) c ≡ git_answer_to h c)
       by None e = absurd (true≢false (sym own ∙ ap is_some e))
       by (Some f) e =
           let same : fields (h ++ added) c ≡ fields h c =
@@ -73,7 +73,7 @@ module _ (h added : List Mapping) (c : Contact) where
     fields_given : fields (h ++ added) c ≡ both_given later before
     fields_given = fields_joined ∙ (λ i. unwrap_or (option_or (none i) (none_out (own_fields h c) unowned i)) (both_given later before))
 
-    pub git_given : git_answer (h ++ added) c ≡ replaced later (git_answer h c)
+    pub git_given : git_answer_to (h ++ added) c ≡ replaced later (git_answer_to h c)
     git_given =
         git_is (h ++ added) c ∙ ap (λ f. replaced f c) fields_given
         ∙ (λ i. record { name = over_text later.name before.name c.name i; email = over_text later.email before.email c.email i })
@@ -83,7 +83,7 @@ module _ (h added : List Mapping) (c : Contact) where
     abbrev respelled : Contact → Contact
     respelled a = record { name = a.name; email = if is_some (spelled h c) then a.email else unwrap_or (spelled added c) a.email }
 
-    pub ours_given : answer (h ++ added) c ≡ replaced later (respelled (answer h c))
+    pub ours_given : answer_to (h ++ added) c ≡ replaced later (respelled (answer_to h c))
     ours_given =
         answer_is (h ++ added) c ∙ (λ i. made c (fields_given i) (spelled_joined i))
         ∙ (λ i. record {
@@ -100,8 +100,8 @@ and_itself false = refl
 
 pub own_decides : (h : Histories) (added : List Mapping) (to c : Contact) → own_fields added c ≡ Some (fields_to to) → same_contact (replaced (fields_to to) c) to ≡ is_answered (plus h added) to c
 own_decides h added to c own =
-    let ours : answer (h.ours ++ added) c ≡ replaced (fields_to to) c =
+    let ours : answer_to (h.ours ++ added) c ≡ replaced (fields_to to) c =
     answer_is (h.ours ++ added) c ∙ ap (λ f. made c f (spelled (h.ours ++ added) c)) (own_after h.ours added c (fields_to to) own) in
-    let gits : git_answer (h.gits ++ added) c ≡ replaced (fields_to to) c =
+    let gits : git_answer_to (h.gits ++ added) c ≡ replaced (fields_to to) c =
     git_is (h.gits ++ added) c ∙ ap (λ f. replaced f c) (own_after h.gits added c (fields_to to) own) in
     and_itself (same_contact (replaced (fields_to to) c) to) ∙ (λ i. same_contact (sym ours i) to && same_contact (sym gits i) to)

@@ -7,8 +7,8 @@ use Rattle.mailmap_entries.specs.Folding.{Text, folded, text_cmp}
 use Rattle.mailmap_entries.specs.Semantics.{Fields, fields_with_spelling, first, given_fields, last, last_fields, last_given, new_fields, no_fields, of_email, of_key, spelling, unless_empty}
 use Rattle.mailmap_entries.proofs.Building.{same_text}
 use Rattle.mailmap_entries.proofs.Reorder.{by_email, of_name}
-use Rattle.mailmap_contacts.specs.Contacts.{Contact, answer}
-use Rattle.mailmap_suggestions.specs.Contacts.{git_answer, own_key, replaced}
+use Rattle.mailmap_contacts.specs.Contacts.{Contact, answer_to}
+use Rattle.mailmap_suggestions.specs.Contacts.{git_answer_to, own_key, replaced}
 
 abbrev pub own_fields : List Mapping → Contact → Option Fields
 own_fields h c = last_fields h (own_key c)
@@ -50,7 +50,7 @@ git_parts c None None = refl
 git_parts c None (Some e) = refl
 git_parts c (Some n) e = refl
 
-pub git_is : (h : List Mapping) (c : Contact) → git_answer h c ≡ replaced (fields h c) c
+pub git_is : (h : List Mapping) (c : Contact) → git_answer_to h c ≡ replaced (fields h c) c
 git_is h c = git_parts c (fields h c).name (fields h c).email
 
 kept_parts : (c : Contact) (n e : Option Text) (kept : Text) (b : Bool) → (b ≡ true → kept ≡ c.email)
@@ -62,7 +62,7 @@ kept_parts c (Some n) None kept true is = λ i. record { name = n; email = sym (
 kept_parts c None None kept false is = refl
 kept_parts c (Some n) None kept false is = refl
 
-pub answer_is : (h : List Mapping) (c : Contact) → answer h c ≡ made c (fields h c) (spelled h c)
+pub answer_is : (h : List Mapping) (c : Contact) → answer_to h c ≡ made c (fields h c) (spelled h c)
 answer_is h c = by (spelled h c) refl
   where
     by : (o : Option Text) → spelled h c ≡ o → replaced (unwrap_or (fields_with_spelling c.email (fields h c) o) no_fields) c ≡ made c (fields h c) o
@@ -70,8 +70,8 @@ answer_is h c = by (spelled h c) refl
     by (Some kept) is = kept_parts c (fields h c).name (fields h c).email kept (eq_by_cmp text_cmp kept c.email) ((same_text kept c.email).0)
 
 -- answers with the same fields and spelling are the same
-pub same_answer : (h g : List Mapping) (c : Contact) → fields h c ≡ fields g c → spelled h c ≡ spelled g c → answer h c ≡ answer g c
+pub same_answer : (h g : List Mapping) (c : Contact) → fields h c ≡ fields g c → spelled h c ≡ spelled g c → answer_to h c ≡ answer_to g c
 same_answer h g c f s = answer_is h c ∙ (λ i. made c (f i) (s i)) ∙ sym (answer_is g c)
 
-pub same_git_answer : (h g : List Mapping) (c : Contact) → fields h c ≡ fields g c → git_answer h c ≡ git_answer g c
+pub same_git_answer : (h g : List Mapping) (c : Contact) → fields h c ≡ fields g c → git_answer_to h c ≡ git_answer_to g c
 same_git_answer h g c f = git_is h c ∙ ap (λ x. replaced x c) f ∙ sym (git_is g c)

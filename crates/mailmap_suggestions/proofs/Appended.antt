@@ -7,8 +7,8 @@ use Rattle.mailmap_entries.specs.Folding.{Text, folded, text_cmp}
 use Rattle.mailmap_entries.specs.Semantics.{Fields, Key, first, given_fields, is_accepted, key, key_cmp, last, last_fields, last_given, new_fields, of_email, of_key, spelling}
 use Rattle.mailmap_entries.proofs.Alike.{first_parts, given_parts, last_parts, picked-append}
 use Rattle.mailmap_entries.proofs.Reorder.{by_email, of_name}
-use Rattle.mailmap_contacts.specs.Contacts.{Contact, answer}
-use Rattle.mailmap_suggestions.specs.Contacts.{git_answer, own_key}
+use Rattle.mailmap_contacts.specs.Contacts.{Contact, answer_to}
+use Rattle.mailmap_suggestions.specs.Contacts.{git_answer_to, own_key}
 use Rattle.mailmap_suggestions.proofs.Answers.{fields, own_fields, same_answer, same_git_answer, spelled}
 
 -- ---- the parts of an answer for joined lists
@@ -151,5 +151,5 @@ parts_stay h c xs none =
       spelled_is = sym p.spelled_is ∙ ap (λ g. spelled g c) e;
     }
 
-pub parts_answer : (c : Contact) (h g : List Mapping) → SameParts c h g → (answer h c ≡ answer g c) × (git_answer h c ≡ git_answer g c)
+pub parts_answer : (c : Contact) (h g : List Mapping) → SameParts c h g → (answer_to h c ≡ answer_to g c) × (git_answer_to h c ≡ git_answer_to g c)
 parts_answer c h g p = (same_answer h g c p.fields_are p.spelled_is, same_git_answer h g c p.fields_are)

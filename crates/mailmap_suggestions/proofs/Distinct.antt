@@ -4,7 +4,7 @@ use Rattle.std.specs.List.{AllByRecursion, flat_map, list_any}
 use Rattle.std.proofs.lemmas.List.Elements.{filter-append, filter_agree}
 use Rattle.mailmap_entries.specs.Folding.{Text}
 use Rattle.mailmap_entries.proofs.Parts.{all_append, all_weaker, filter-filter}
-use Rattle.mailmap_suggestions.specs.Lines.{distinct}
+use Rattle.mailmap_suggestions.specs.Forms.{distinct}
 use Rattle.mailmap_suggestions.proofs.OneEmail.{all_filtered}
 use Rattle.mailmap_suggestions.proofs.Exact.{equal_bytes, same_bytes}
 

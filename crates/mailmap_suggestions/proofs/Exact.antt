@@ -10,15 +10,15 @@ use Rattle.mailmap_entries.specs.Semantics.{Fields, Key, given_fields, is_accept
 use Rattle.mailmap_entries.proofs.Building.{same_key}
 use Rattle.mailmap_entries.proofs.Joined.{never}
 use Rattle.mailmap_entries.proofs.Parts.{last_of_one}
-use Rattle.mailmap_contacts.specs.Contacts.{Contact, answer, same_contact}
-use Rattle.mailmap_suggestions.specs.Contacts.{git_answer, replaced, own_key}
-use Rattle.mailmap_suggestions.specs.Lines.{alike, is_answered, long_form, name_of, named_form}
+use Rattle.mailmap_contacts.specs.Contacts.{Contact, answer_to, same_contact}
+use Rattle.mailmap_suggestions.specs.Contacts.{git_answer_to, replaced, own_key}
+use Rattle.mailmap_suggestions.specs.Forms.{alike, is_answered, long_form, name_unless_empty, named_form}
 use Rattle.mailmap_suggestions.proofs.Answers.{answer_is, fields, git_is, made, own_fields, spelled}
 use Rattle.mailmap_suggestions.proofs.Appended.{affects, given_joined, last_joined, or_true, parts_answer, parts_stay, spelling_joined}
 
 -- both answers to a contact are `to`
 abbrev pub Answered : List Mapping → Contact → Contact → Type 0
-Answered h to c = (answer h c ≡ to) × (git_answer h c ≡ to)
+Answered h to c = (answer_to h c ≡ to) × (git_answer_to h c ≡ to)
 
 pub same_bytes : (a b : Text) → bytes_eq a b ≡ true → a ≡ b
 same_bytes a b = (bytes_decides a b).0
@@ -33,10 +33,10 @@ contact_decides a b =
 
 pub answered_decides : (h : List Mapping) (to c : Contact) → (is_answered (alike h) to c ≡ true → Answered h to c) × (Answered h to c → is_answered (alike h) to c ≡ true)
 answered_decides h to c =
-    Decides-and (same_contact (answer h c) to) (same_contact (git_answer h c) to) (contact_decides (answer h c) to) (contact_decides (git_answer h c) to)
+    Decides-and (same_contact (answer_to h c) to) (same_contact (git_answer_to h c) to) (contact_decides (answer_to h c) to) (contact_decides (git_answer_to h c) to)
 
 -- an unnamed answer keeps a name, which is empty too
-pub name_back : (to : Contact) (name : Text) → (to.name ≡ [] → name ≡ []) → unwrap_or (name_of to) name ≡ to.name
+pub name_back : (to : Contact) (name : Text) → (to.name ≡ [] → name ≡ []) → unwrap_or (name_unless_empty to) name ≡ to.name
 name_back to name fits =
     elim (bytes_eq to.name []) as (λ b. bytes_eq to.name [] ≡ b → unwrap_or (if b then None else Some to.name) name ≡ to.name) [
       | true ↦ λ e. let empty : to.name ≡ [] = same_bytes to.name [] e in fits empty ∙ sym empty
@@ -107,19 +107,19 @@ Fits to c = to.name ≡ [] → c.name ≡ []
 
 pub named_exact : (g : List Mapping) (to c d : Contact) → own_key d ≡ own_key c → Fits to d → Answered (g ++ named_form to c ∷ []) to d
 named_exact g to c d same fits =
-    with_email (g ++ named_form to c ∷ []) d to (name_of to) (named_after g (named_form to c) d (or_true (is_some (name_of to)) true refl) same) (name_back to d.name fits)
+    with_email (g ++ named_form to c ∷ []) d to (name_unless_empty to) (named_after g (named_form to c) d (or_true (is_some (name_unless_empty to)) true refl) same) (name_back to d.name fits)
 
-pub plain_exact : (h : List Mapping) (to c d : Contact) → folded d.email ≡ folded c.email → own_fields h d ≡ None → (to.name ≡ [] → (answer h d).name ≡ []) → Answered (h ++ long_form to c ∷ []) to d
+pub plain_exact : (h : List Mapping) (to c d : Contact) → folded d.email ≡ folded c.email → own_fields h d ≡ None → (to.name ≡ [] → (answer_to h d).name ≡ []) → Answered (h ++ long_form to c ∷ []) to d
 plain_exact h to c d same none unnamed =
     let x = long_form to c in
     let given = given_fields h (folded d.email) in
-    let before : (answer h d).name ≡ unwrap_or given.name d.name = ap (λ a. a.name) (answer_is h d) ∙ ap (λ o. unwrap_or (unwrap_or o given).name d.name) none in
-    with_email (h ++ x ∷ []) d to (option_or (name_of to) given.name)
-    (plain_after h x d (or_true (is_some (name_of to)) true refl) (λ i. (same i, None)) none)
+    let before : (answer_to h d).name ≡ unwrap_or given.name d.name = ap (λ a. a.name) (answer_is h d) ∙ ap (λ o. unwrap_or (unwrap_or o given).name d.name) none in
+    with_email (h ++ x ∷ []) d to (option_or (name_unless_empty to) given.name)
+    (plain_after h x d (or_true (is_some (name_unless_empty to)) true refl) (λ i. (same i, None)) none)
     (over_name to given.name d.name ∙ name_back to (unwrap_or given.name d.name) (λ empty. sym before ∙ unnamed empty))
   where
-    over_name : (to : Contact) (given : Option Text) (name : Text) → unwrap_or (option_or (name_of to) given) name ≡ unwrap_or (name_of to) (unwrap_or given name)
-    over_name to given name = elim (name_of to) as (λ o. unwrap_or (option_or o given) name ≡ unwrap_or o (unwrap_or given name)) [ None ↦ refl | Some n ↦ refl ]
+    over_name : (to : Contact) (given : Option Text) (name : Text) → unwrap_or (option_or (name_unless_empty to) given) name ≡ unwrap_or (name_unless_empty to) (unwrap_or given name)
+    over_name to given name = elim (name_unless_empty to) as (λ o. unwrap_or (option_or o given) name ≡ unwrap_or o (unwrap_or given name)) [ None ↦ refl | Some n ↦ refl ]
 
 -- a form with an old name changes no answer of another key if its email has an entry
 pub named_stays : (g : List Mapping) (to c d : Contact) (s : Text) → spelled g d ≡ Some s → eq_by_cmp key_cmp (own_key d) (own_key c) ≡ false → Answered g to d → Answered (g ++ named_form to c ∷ []) to d

@@ -1,15 +1,15 @@
 -- All suggested entries can be written, if the mappings and the contacts can.
 use Rattle.std.proofs.Common.{◌≢◌, true, false, true≢false, Option, None, Some, IfSome, is_some, unwrap_or, if◌then◌else◌, not, List, [], ◌∷◌, ◌++◌, map, bytes_eq, sym, ap, subst, ◌∙◌}
 use Rattle.std.specs.List.{AllByRecursion}
-use Rattle.mailmap_contacts.specs.Contacts.{Contact, Tally, answer}
+use Rattle.mailmap_contacts.specs.Contacts.{Contact, Tally, answer_to}
 use Rattle.mailmap_entries.specs.Entries.{Mapping}
 use Rattle.mailmap_entries.specs.Folding.{Text, folded}
 use Rattle.mailmap_entries.proofs.Parts.{all_append, all_apply, all_weaker}
 use Rattle.mailmap_grammar.specs.CanonicalText.{IsWritable, IsWritableName}
 use Rattle.mailmap_suggestions.specs.Groups.{are_alike, email_shared, name_shared, shared_texts}
 use Rattle.mailmap_suggestions.proofs.Sharing.{sharing}
-use Rattle.mailmap_suggestions.specs.Lines.{alike, entries_to}
-use Rattle.mailmap_suggestions.specs.Suggestions.{HasNoEmptyName, IsWritableContact, contacts, email_entries, name_entries}
+use Rattle.mailmap_suggestions.specs.Forms.{alike, entries_to}
+use Rattle.mailmap_suggestions.specs.GroupEntries.{HasNoEmptyName, IsWritableContact, contacts, email_entries, name_entries}
 use Rattle.mailmap_suggestions.proofs.Distinct.{all_joined, somes}
 use Rattle.mailmap_suggestions.proofs.OneEmail.{all_filtered}
 use Rattle.mailmap_suggestions.proofs.Exact.{same_bytes}
@@ -24,7 +24,7 @@ module _ (h : List Mapping) (cs : List Contact) (shared : Contact → Text) (In 
     (proper : (text : Text) → text ≢ [] → IsProperIfAny h (sharing shared (alike h) cs text) (to text))
     (has_email : (a : Contact) → shared a ≢ [] → a.email ≢ [])
     (writable : AllByRecursion IsWritable h) (each : AllByRecursion IsWritableContact cs) where
-  one_good : (to : Contact) (ds : List Contact) → IsProperIfAny h ds to → AllByRecursion (IsWanting h to) ds → AllByRecursion (λ c. IsWritableContact c × ((answer h c).email ≢ [])) ds → AllByRecursion IsGood (entries_to (alike h) to ds)
+  one_good : (to : Contact) (ds : List Contact) → IsProperIfAny h ds to → AllByRecursion (IsWanting h to) ds → AllByRecursion (λ c. IsWritableContact c × ((answer_to h c).email ≢ [])) ds → AllByRecursion IsGood (entries_to (alike h) to ds)
   one_good to [] proper wanting all = tt
   one_good to (c ∷ ds) proper wanting all =
       let s : IsSuggestible to = record {
@@ -32,7 +32,7 @@ module _ (h : List Mapping) (cs : List Contact) (shared : Contact → Text) (In 
         some = proper.among (λ a. a.email ≢ []) (all_weaker (c ∷ ds) (λ d p. p.1) all);
       } in
       entries_good h to s writable (c ∷ ds)
-      (all_apply (IsWanting h to) (λ c. IsWritableContact c × ((answer h c).email ≢ [])) (λ c. IsWanting h to c × IsWritableContact c) (λ d w p. (w, p.0)) (c ∷ ds) wanting all)
+      (all_apply (IsWanting h to) (λ c. IsWritableContact c × ((answer_to h c).email ≢ [])) (λ c. IsWanting h to c × IsWritableContact c) (λ d w p. (w, p.0)) (c ∷ ds) wanting all)
 
   part_good : (text : Text) → text ≢ [] → AllByRecursion IsGood (part h cs shared In to can text)
   unfolding part
@@ -41,14 +41,14 @@ module _ (h : List Mapping) (cs : List Contact) (shared : Contact → Text) (In 
       elim (are_alike (alike h) sharers) as (λ b. AllByRecursion IsGood (if not b then entries_to (alike h) (to text) sharers else [])) [
         | true ↦ tt
         | false ↦ one_good (to text) sharers (proper text some) (can.wanting text some)
-            (all_filtered (λ c. bytes_eq text (shared (answer h c))) IsWritableContact (λ c. IsWritableContact c × ((answer h c).email ≢ []))
-            (λ c w same. (w, has_email (answer h c) (λ e. some (same_bytes text (shared (answer h c)) same ∙ e)))) cs each)
+            (all_filtered (λ c. bytes_eq text (shared (answer_to h c))) IsWritableContact (λ c. IsWritableContact c × ((answer_to h c).email ≢ []))
+            (λ c w same. (w, has_email (answer_to h c) (λ e. some (same_bytes text (shared (answer_to h c)) same ∙ e)))) cs each)
       ]
 
   pub whole_good : AllByRecursion IsGood (whole h cs shared In to can)
   whole_good =
       let texts = shared_texts shared (alike h) cs in
-      all_joined IsGood (part h cs shared In to can) texts (all_weaker texts (λ text some. part_good text some) (somes (map (λ c. shared (answer h c)) cs)))
+      all_joined IsGood (part h cs shared In to can) texts (all_weaker texts (λ text some. part_good text some) (somes (map (λ c. shared (answer_to h c)) cs)))
 
 module _ (h : List Mapping) (ts : List Tally) (writable : AllByRecursion IsWritable h) (each : AllByRecursion IsWritableContact (contacts ts)) where
   named : AllByRecursion HasNoEmptyName h

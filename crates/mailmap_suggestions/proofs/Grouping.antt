@@ -14,8 +14,8 @@ use Rattle.mailmap_entries.proofs.Parts.{first_found, list_any-map, or-None}
 use Rattle.mailmap_contacts.specs.Answers.{folded_cmp}
 use Rattle.mailmap_contacts.specs.Folded.{folded_text}
 use Rattle.mailmap_contacts.specs.declared.folded.Folded.{Folded}
-use Rattle.mailmap_suggestions.specs.Grouping.{AreGroups, grouped_by, members, place_of, behind}
-use Rattle.mailmap_suggestions.specs.Lines.{distinct}
+use Rattle.mailmap_suggestions.specs.Grouping.{AreContactGroups, grouped_by, group_members, index_of_text, behind}
+use Rattle.mailmap_suggestions.specs.Forms.{distinct}
 use Rattle.mailmap_suggestions.specs.declared.answered.Answered.{Answered}
 use Rattle.mailmap_suggestions.proofs.Distinct.{once, others_stay}
 use Rattle.mailmap_suggestions.proofs.Exact.{same_bytes}
@@ -26,12 +26,12 @@ some_next : (o : Option ℕ) → is_some (option_map suc o) ≡ is_some o
 some_next None = refl
 some_next (Some n) = refl
 
-some_place : (k : Text) (ts : List Text) → is_some (place_of k ts) ≡ list_any (bytes_eq k) ts
+some_place : (k : Text) (ts : List Text) → is_some (index_of_text k ts) ≡ list_any (bytes_eq k) ts
 some_place k [] = refl
 some_place k (t ∷ ts) =
-    elim (bytes_eq k t) as (λ b. is_some (if b then Some 0 else option_map suc (place_of k ts)) ≡ (b || list_any (bytes_eq k) ts)) [
+    elim (bytes_eq k t) as (λ b. is_some (if b then Some 0 else option_map suc (index_of_text k ts)) ≡ (b || list_any (bytes_eq k) ts)) [
       | true ↦ refl
-      | false ↦ some_next (place_of k ts) ∙ some_place k ts
+      | false ↦ some_next (index_of_text k ts) ∙ some_place k ts
     ]
 
 any_distinct : (k : Text) (xs : List Text) → list_any (bytes_eq k) (distinct xs) ≡ list_any (bytes_eq k) xs
@@ -48,18 +48,18 @@ any_distinct k (x ∷ xs) =
     ] refl
 
 -- whether a text has a place
-pub placed : (k : Text) (xs : List Text) → is_some (place_of k (distinct xs)) ≡ list_any (bytes_eq k) xs
+pub placed : (k : Text) (xs : List Text) → is_some (index_of_text k (distinct xs)) ≡ list_any (bytes_eq k) xs
 placed k xs = some_place k (distinct xs) ∙ any_distinct k xs
 
-pub place_within : (k : Text) (ts : List Text) (i : ℕ) → place_of k ts ≡ Some i → i < length ts
+pub place_within : (k : Text) (ts : List Text) (i : ℕ) → index_of_text k ts ≡ Some i → i < length ts
 place_within k [] i is = cc
 place_within k (t ∷ ts) i is =
-    elim (bytes_eq k t) as (λ b. (if b then Some 0 else option_map suc (place_of k ts)) ≡ Some i → i < suc (length ts)) [
+    elim (bytes_eq k t) as (λ b. (if b then Some 0 else option_map suc (index_of_text k ts)) ≡ Some i → i < suc (length ts)) [
       | true ↦ λ is. let zero_is : 0 ≡ i = ap (λ o. unwrap_or o 0) is in omega (arith, zero_is)
-      | false ↦ next (λ j here. place_within k ts j here) (place_of k ts) refl
+      | false ↦ next (λ j here. place_within k ts j here) (index_of_text k ts) refl
     ] is
   where
-    next : ((j : ℕ) → place_of k ts ≡ Some j → j < length ts) → (o : Option ℕ) → place_of k ts ≡ o → option_map suc o ≡ Some i → i < suc (length ts)
+    next : ((j : ℕ) → index_of_text k ts ≡ Some j → j < length ts) → (o : Option ℕ) → index_of_text k ts ≡ o → option_map suc o ≡ Some i → i < suc (length ts)
     next earlier None here is = cc
     next earlier (Some j) here is =
         let below = earlier j here in
@@ -67,12 +67,12 @@ place_within k (t ∷ ts) i is =
         omega (arith, below, next_is)
 
 -- the place of a text after one more
-pub place_push : (q k : Text) (ts : List Text) → place_of q (ts ++ k ∷ []) ≡ option_or (place_of q ts) (if bytes_eq q k then Some (length ts) else None)
+pub place_push : (q k : Text) (ts : List Text) → index_of_text q (ts ++ k ∷ []) ≡ option_or (index_of_text q ts) (if bytes_eq q k then Some (length ts) else None)
 place_push q k [] = refl
 place_push q k (t ∷ ts) =
-    elim (bytes_eq q t) as (λ b. (if b then Some 0 else option_map suc (place_of q (ts ++ k ∷ []))) ≡ option_or (if b then Some 0 else option_map suc (place_of q ts)) (if bytes_eq q k then Some (suc (length ts)) else None)) [
+    elim (bytes_eq q t) as (λ b. (if b then Some 0 else option_map suc (index_of_text q (ts ++ k ∷ []))) ≡ option_or (if b then Some 0 else option_map suc (index_of_text q ts)) (if bytes_eq q k then Some (suc (length ts)) else None)) [
       | true ↦ refl
-      | false ↦ ap (option_map suc) (place_push q k ts) ∙ shift (place_of q ts) (bytes_eq q k)
+      | false ↦ ap (option_map suc) (place_push q k ts) ∙ shift (index_of_text q ts) (bytes_eq q k)
     ]
   where
     shift : (o : Option ℕ) (b : Bool) → option_map suc (option_or o (if b then Some (length ts) else None)) ≡ option_or (option_map suc o) (if b then Some (suc (length ts)) else None)
@@ -113,10 +113,10 @@ rest (t ∷ ts) = ts
 
 module _ {X : Type 0} (text : X → Text) (xs : List X) (x : X) where
   abbrev before : Text → List X
-  before = members text xs
+  before = group_members text xs
 
   abbrev after : Text → List X
-  after = members text (xs ++ x ∷ [])
+  after = group_members text (xs ++ x ∷ [])
 
   joined : (t : Text) (b : Bool) → bytes_eq t (text x) ≡ b → after t ≡ before t ++ cond b (x ∷ []) []
   joined t b is = filter-append (λ y. bytes_eq t (text y)) xs (x ∷ []) ∙ ap (λ c. before t ++ cond c (x ∷ []) []) is
@@ -140,20 +140,20 @@ module _ {X : Type 0} (text : X → Text) (xs : List X) (x : X) where
   IsAdded ts i = map after ts ≡ set (map before ts) i (get_or (map before ts) i [] ++ x ∷ [])
 
   -- the group at the place of its text has it, too
-  added : (ts : List Text) (i : ℕ) → place_of (text x) ts ≡ Some i → filter (bytes_eq (text x)) ts ≡ text x ∷ [] → IsAdded ts i
+  added : (ts : List Text) (i : ℕ) → index_of_text (text x) ts ≡ Some i → filter (bytes_eq (text x)) ts ≡ text x ∷ [] → IsAdded ts i
   added [] i is single = cc
   added (t ∷ ts) i is single =
-      elim (bytes_eq (text x) t) as (λ b. bytes_eq (text x) t ≡ b → (if b then Some 0 else option_map suc (place_of (text x) ts)) ≡ Some i
+      elim (bytes_eq (text x) t) as (λ b. bytes_eq (text x) t ≡ b → (if b then Some 0 else option_map suc (index_of_text (text x) ts)) ≡ Some i
       → cond b (t ∷ filter (bytes_eq (text x)) ts) (filter (bytes_eq (text x)) ts) ≡ text x ∷ [] → IsAdded (t ∷ ts) i) [
         | true ↦ λ yes is single.
             subst (IsAdded (t ∷ ts)) (ap (λ o. unwrap_or o 0) is) (λ j. same t yes j ∷ others ts (none single) j)
-        | false ↦ λ apart is single. next (λ j here. added ts j here single) (place_of (text x) ts) refl apart is
+        | false ↦ λ apart is single. next (λ j here. added ts j here single) (index_of_text (text x) ts) refl apart is
       ] refl is single
     where
       none : t ∷ filter (bytes_eq (text x)) ts ≡ text x ∷ [] → filter (bytes_eq (text x)) ts ≡ []
       none single = ap rest single
 
-      next : ((j : ℕ) → place_of (text x) ts ≡ Some j → IsAdded ts j) → (o : Option ℕ) → place_of (text x) ts ≡ o → bytes_eq (text x) t ≡ false → option_map suc o ≡ Some i → IsAdded (t ∷ ts) i
+      next : ((j : ℕ) → index_of_text (text x) ts ≡ Some j → IsAdded ts j) → (o : Option ℕ) → index_of_text (text x) ts ≡ o → bytes_eq (text x) t ≡ false → option_map suc o ≡ Some i → IsAdded (t ∷ ts) i
       next earlier None here apart is = cc
       next earlier (Some j) here apart is =
           subst (IsAdded (t ∷ ts)) (ap (λ o. unwrap_or o 0) is) (λ m. other t apart m ∷ earlier j here m)
@@ -164,7 +164,7 @@ module _ {X : Type 0} (text : X → Text) (xs : List X) (x : X) where
   abbrev more_texts : distinct (map text (xs ++ x ∷ [])) ≡ distinct texts ++ (if list_any (bytes_eq (text x)) texts then [] else text x ∷ [])
   more_texts = ap distinct (map-append text xs (x ∷ [])) ∙ distinct_push texts (text x)
 
-  pub grouped_among : (i : ℕ) → place_of (text x) (distinct texts) ≡ Some i
+  pub grouped_among : (i : ℕ) → index_of_text (text x) (distinct texts) ≡ Some i
       → (grouped_by text (xs ++ x ∷ []) ≡ set (grouped_by text xs) i (get_or (grouped_by text xs) i [] ++ x ∷ []))
       × (distinct (map text (xs ++ x ∷ [])) ≡ distinct texts)
   grouped_among i is =
@@ -173,7 +173,7 @@ module _ {X : Type 0} (text : X → Text) (xs : List X) (x : X) where
       more_texts ∙ ap (λ b. distinct texts ++ (if b then [] else text x ∷ [])) among ∙ append-nil (distinct texts) in
       (ap (map after) same_texts ∙ added (distinct texts) i is (once (text x) texts among), same_texts)
 
-  pub grouped_apart : place_of (text x) (distinct texts) ≡ None
+  pub grouped_apart : index_of_text (text x) (distinct texts) ≡ None
       → (grouped_by text (xs ++ x ∷ []) ≡ grouped_by text xs ++ (x ∷ []) ∷ [])
       × (distinct (map text (xs ++ x ∷ [])) ≡ distinct texts ++ text x ∷ [])
   grouped_apart none =
@@ -195,19 +195,19 @@ module _ {X : Type 0} (text : X → Text) (xs : List X) (x : X) where
 abbrev pub listed : Vec (Bor Answered) → List Answered
 listed g = behind g.items
 
-module _ (text : Answered → Text) (cs : List Answered) (places : BTreeMap Folded ℕ) (groups : List (Vec (Bor Answered))) (are : AreGroups text cs places groups) (b : Bor Answered) (key : Folded) (key_is : folded_text key ≡ text b.now) where
-  abbrev place : get folded_cmp places key ≡ place_of (text b.now) (distinct (map text cs))
-  place = are.places key ∙ ap (λ t. place_of t (distinct (map text cs))) key_is
+module _ (text : Answered → Text) (cs : List Answered) (places : BTreeMap Folded ℕ) (groups : List (Vec (Bor Answered))) (are : AreContactGroups text cs places groups) (b : Bor Answered) (key : Folded) (key_is : folded_text key ≡ text b.now) where
+  abbrev place : get folded_cmp places key ≡ index_of_text (text b.now) (distinct (map text cs))
+  place = are.places key ∙ ap (λ t. index_of_text t (distinct (map text cs))) key_is
 
   same_len : length groups ≡ length (distinct (map text cs))
-  same_len = sym (length-map groups listed) ∙ ap length are.groups ∙ length-map (distinct (map text cs)) (members text cs)
+  same_len = sym (length-map groups listed) ∙ ap length are.groups ∙ length-map (distinct (map text cs)) (group_members text cs)
 
   pub within : (i : ℕ) → get folded_cmp places key ≡ Some i → i < length groups
   within i is = let below = place_within (text b.now) (distinct (map text cs)) i (sym place ∙ is) in omega (arith, below, same_len)
 
   -- it joins the group at this place
   pub joins : (i : ℕ) (g v : Vec (Bor Answered)) → get folded_cmp places key ≡ Some i → g ≡ get_or groups i g → v.items ≡ g.items ++ b ∷ []
-      → AreGroups text (cs ++ b.now ∷ []) places (set groups i v)
+      → AreContactGroups text (cs ++ b.now ∷ []) places (set groups i v)
   joins i g v is g_is v_is =
       let at = grouped_among text cs b.now i (sym place ∙ is) in
       let old : behind g.items ≡ get_or (grouped_by text cs) i [] =
@@ -217,13 +217,13 @@ module _ (text : Answered → Text) (cs : List Answered) (places : BTreeMap Fold
             map-set listed groups i v
             ∙ (λ j. set (are.groups j) i ((ap behind v_is ∙ map-append (λ c. c.now) g.items (b ∷ []) ∙ ap (λ l. l ++ b.now ∷ []) old) j))
             ∙ sym at.0;
-        places = λ t. are.places t ∙ ap (place_of (folded_text t)) (sym at.1);
+        places = λ t. are.places t ∙ ap (index_of_text (folded_text t)) (sym at.1);
       }
 
   -- it begins a group
   pub begins : (places' : BTreeMap Folded ℕ) (n : ℕ) (v : Vec (Bor Answered)) → get folded_cmp places key ≡ None → n ≡ length groups
       → ((q : Folded) → get folded_cmp places' q ≡ cond (is_at (folded_cmp key) q) (Some n) (get folded_cmp places q)) → v.items ≡ b ∷ []
-      → AreGroups text (cs ++ b.now ∷ []) places' (groups ++ v ∷ [])
+      → AreContactGroups text (cs ++ b.now ∷ []) places' (groups ++ v ∷ [])
   begins places' n v none n_is put v_is =
       let texts = distinct (map text cs) in
       let apart = grouped_apart text cs b.now (sym place ∙ none) in
@@ -232,7 +232,7 @@ module _ (text : Answered → Text) (cs : List Answered) (places : BTreeMap Fold
             map-append listed groups (v ∷ [])
             ∙ (λ j. are.groups j ++ behind (v_is j) ∷ [])
             ∙ sym apart.0;
-        places = λ q. put q ∙ ap (λ m. cond (is_at (folded_cmp key) q) (Some m) (get folded_cmp places q)) n_is ∙ at none q (bytes_eq (text b.now) (folded_text q)) refl ∙ sym (place_push (folded_text q) (text b.now) texts) ∙ ap (place_of (folded_text q)) (sym apart.1);
+        places = λ q. put q ∙ ap (λ m. cond (is_at (folded_cmp key) q) (Some m) (get folded_cmp places q)) n_is ∙ at none q (bytes_eq (text b.now) (folded_text q)) refl ∙ sym (place_push (folded_text q) (text b.now) texts) ∙ ap (index_of_text (folded_text q)) (sym apart.1);
       }
     where
       at_is : (q : Folded) → is_at (folded_cmp key) q ≡ bytes_eq (text b.now) (folded_text q)
@@ -240,14 +240,14 @@ module _ (text : Answered → Text) (cs : List Answered) (places : BTreeMap Fold
 
       at : get folded_cmp places key ≡ None → (q : Folded) (c : Bool) → bytes_eq (text b.now) (folded_text q) ≡ c
           → cond (is_at (folded_cmp key) q) (Some (length groups)) (get folded_cmp places q)
-          ≡ option_or (place_of (folded_text q) (distinct (map text cs))) (if bytes_eq (folded_text q) (text b.now) then Some (length (distinct (map text cs))) else None)
+          ≡ option_or (index_of_text (folded_text q) (distinct (map text cs))) (if bytes_eq (folded_text q) (text b.now) then Some (length (distinct (map text cs))) else None)
       at none q true is =
           ap (λ c. cond c (Some (length groups)) (get folded_cmp places q)) (at_is q ∙ is)
           ∙ ap Some same_len
-          ∙ (λ j. option_or (sym (ap (λ t. place_of t (distinct (map text cs))) (sym (same_bytes (text b.now) (folded_text q) is)) ∙ sym place ∙ none) j)
+          ∙ (λ j. option_or (sym (ap (λ t. index_of_text t (distinct (map text cs))) (sym (same_bytes (text b.now) (folded_text q) is)) ∙ sym place ∙ none) j)
           (if sym (nat_list_eq_equiv.symm (folded_text q) (text b.now) ∙ is) j then Some (length (distinct (map text cs))) else None))
       at none q false is =
           ap (λ c. cond c (Some (length groups)) (get folded_cmp places q)) (at_is q ∙ is)
           ∙ are.places q
-          ∙ or-None (place_of (folded_text q) (distinct (map text cs)))
-          ∙ ap (λ c. option_or (place_of (folded_text q) (distinct (map text cs))) (if c then Some (length (distinct (map text cs))) else None)) (sym (nat_list_eq_equiv.symm (folded_text q) (text b.now) ∙ is))
+          ∙ or-None (index_of_text (folded_text q) (distinct (map text cs)))
+          ∙ ap (λ c. option_or (index_of_text (folded_text q) (distinct (map text cs))) (if c then Some (length (distinct (map text cs))) else None)) (sym (nat_list_eq_equiv.symm (folded_text q) (text b.now) ∙ is))

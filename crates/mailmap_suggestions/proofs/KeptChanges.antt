@@ -16,7 +16,7 @@ use Rattle.mailmap_contacts.specs.Contacts.{Contact}
 use Rattle.mailmap_contacts.specs.Folded.{folded_text}
 use Rattle.mailmap_contacts.specs.declared.folded.Folded.{Folded}
 use Rattle.mailmap_suggestions.specs.Changes.{AreChangesBy, IsPlain, fields_to, given_in}
-use Rattle.mailmap_suggestions.specs.Lines.{name_of, named_form}
+use Rattle.mailmap_suggestions.specs.Forms.{name_unless_empty, named_form}
 use Rattle.mailmap_suggestions.specs.declared.changes.Changes.{Changes}
 use Rattle.mailmap_suggestions.proofs.Appended.{given_joined, last_joined, or_true, spelling_joined}
 use Rattle.mailmap_suggestions.proofs.Distinct.{refuted}
@@ -62,7 +62,7 @@ module _ (to c : Contact) where
   form = named_form to c
 
   good : is_accepted form ≡ true
-  good = or_true (is_some (name_of to)) true refl
+  good = or_true (is_some (name_unless_empty to)) true refl
 
   given_still : (added : List Mapping) (email : Text) → given_fields (added ++ form ∷ []) email ≡ given_fields added email
   given_still added email =

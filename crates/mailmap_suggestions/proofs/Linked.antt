@@ -8,9 +8,9 @@ use Rattle.mailmap_entries.specs.Folding.{Text, folded}
 use Rattle.mailmap_entries.specs.Semantics.{given_fields, key, key_cmp, last_fields, spelling}
 use Rattle.mailmap_entries.proofs.Building.{same_text, same_key}
 use Rattle.mailmap_entries.proofs.Parts.{all_append}
-use Rattle.mailmap_contacts.specs.Contacts.{Contact, answer}
+use Rattle.mailmap_contacts.specs.Contacts.{Contact, answer_to}
 use Rattle.mailmap_suggestions.specs.Contacts.{own_key}
-use Rattle.mailmap_suggestions.specs.Lines.{alike, are_answered, entries_for_email, has_own_entry, is_answered, is_short_enough, long_form, name_of, named_entries, named_form, plain_entries, plus, short_form}
+use Rattle.mailmap_suggestions.specs.Forms.{alike, are_answered, entries_for_email, has_own_entry, is_answered, is_short_enough, long_form, name_unless_empty, named_entries, named_form, plain_entries, plus, short_form}
 use Rattle.mailmap_suggestions.proofs.Answers.{answer_is, fields, no_own, own_fields, spelled}
 use Rattle.mailmap_suggestions.proofs.Appended.{affects, affects_at}
 use Rattle.mailmap_suggestions.proofs.OneEmail.{all_filtered, none_own}
@@ -28,7 +28,7 @@ linked_fields h b c l =
     l.names
 
 -- their answers have the same email, ASCII case aside
-pub linked_email : (h : List Mapping) (b c : Contact) → Linked h b c → folded (answer h b).email ≡ folded (answer h c).email
+pub linked_email : (h : List Mapping) (b c : Contact) → Linked h b c → folded (answer_to h b).email ≡ folded (answer_to h c).email
 linked_email h b c l =
     ap (λ a. folded a.email) (answer_is h b)
     ∙ (λ i. folded (unwrap_or (linked_fields h b c l i).email (unwrap_or (spelling h (l.emails i)) b.email)))
@@ -49,7 +49,7 @@ is_none_out None e = refl
 is_none_out (Some x) e = absurd (true≢false (sym e))
 
 -- with the same key they have the same name, too
-pub linked_name : (h : List Mapping) (b c : Contact) → own_key b ≡ own_key c → folded (answer h b).name ≡ folded (answer h c).name
+pub linked_name : (h : List Mapping) (b c : Contact) → own_key b ≡ own_key c → folded (answer_to h b).name ≡ folded (answer_to h c).name
 linked_name h b c keys =
     ap (λ a. folded a.name) (answer_is h b)
     ∙ (λ i. folded (unwrap_or (unwrap_or (last_fields h (keys i)) (given_fields h (keys i).0)).name b.name))
@@ -93,8 +93,8 @@ module _ (h : List Mapping) (In : Contact → Type 0) (email : Text) where
         | false ↦ (
           elim (is_short_enough (alike h) to c cs) as (λ b. is_short_enough (alike h) to c cs ≡ b → Concerns h In email (if b then short_form to else long_form to c)) [
             | true ↦ λ enough.
-                let same = and_parts (is_some (name_of to)) (bytes_eq (folded to.email) (folded c.email))
-                (and_parts (is_some (name_of to) && bytes_eq (folded to.email) (folded c.email)) (are_answered (plus (alike h) (short_form to ∷ [])) to (c ∷ cs)) enough).0 in
+                let same = and_parts (is_some (name_unless_empty to)) (bytes_eq (folded to.email) (folded c.email))
+                (and_parts (is_some (name_unless_empty to) && bytes_eq (folded to.email) (folded c.email)) (are_answered (plus (alike h) (short_form to ∷ [])) to (c ∷ cs)) enough).0 in
                 record { b = c; is_in = all.0.0.0; contact_email = all.0.0.1; entry_email = same_bytes (folded to.email) (folded c.email) same.1 ∙ all.0.0.1; names = inl (refl, all.0.1) }
             | false ↦ λ _. record { b = c; is_in = all.0.0.0; contact_email = all.0.0.1; entry_email = all.0.0.1; names = inl (refl, all.0.1) }
           ] refl,

@@ -7,9 +7,9 @@ use Rattle.mailmap_entries.specs.Folding.{Text, folded, text_cmp}
 use Rattle.mailmap_entries.specs.Semantics.{Fields, Key, accepted, first, given_fields, is_accepted, key, key_cmp, last, new_fields, of_key, spelling}
 use Rattle.mailmap_entries.proofs.Building.{same_text}
 use Rattle.mailmap_entries.proofs.Parts.{all_last}
-use Rattle.mailmap_contacts.specs.Contacts.{Contact, answer}
-use Rattle.mailmap_suggestions.specs.Suggestions.{HasNoEmptyName}
-use Rattle.mailmap_suggestions.specs.Contacts.{git_answer, own_key}
+use Rattle.mailmap_contacts.specs.Contacts.{Contact, answer_to}
+use Rattle.mailmap_suggestions.specs.GroupEntries.{HasNoEmptyName}
+use Rattle.mailmap_suggestions.specs.Contacts.{git_answer_to, own_key}
 use Rattle.mailmap_suggestions.proofs.Answers.{answer_is, fields, git_is, spelled}
 use Rattle.mailmap_suggestions.proofs.OneEmail.{all_filtered}
 
@@ -45,7 +45,7 @@ fields_named h c all =
     last_or (of_key h (own_key c)) (given_fields h (folded c.email)) (of_key_named h (own_key c) all)
     (last_named (of_key h (folded c.email, None)) (of_key_named h (folded c.email, None) all))
 
-pub unnamed_contact : (h : List Mapping) (c : Contact) → AllByRecursion HasNoEmptyName h → (answer h c).name ≡ [] → c.name ≡ []
+pub unnamed_contact : (h : List Mapping) (c : Contact) → AllByRecursion HasNoEmptyName h → (answer_to h c).name ≡ [] → c.name ≡ []
 unnamed_contact h c all empty = by (fields h c).name (fields_named h c all) (sym (ap (λ a. a.name) (answer_is h c)) ∙ empty)
   where
     by : (o : Option Text) → o ≢ Some [] → unwrap_or o c.name ≡ [] → c.name ≡ []
@@ -71,7 +71,7 @@ spelling_folded h email s is =
     let w = first_passing (λ e. eq_by_cmp text_cmp email (folded e.old_email)) (accepted h) s is in
     ap folded (sym w.2) ∙ sym ((same_text email (folded w.0.old_email)).0 w.1)
 
-pub git_without_email : (h : List Mapping) (c : Contact) → folded (answer h c).email ≡ [] → git_answer h c ≡ answer h c
+pub git_without_email : (h : List Mapping) (c : Contact) → folded (answer_to h c).email ≡ [] → git_answer_to h c ≡ answer_to h c
 git_without_email h c empty =
     git_is h c
     ∙ (λ i. record { name = unwrap_or (fields h c).name c.name; email = emails (fields h c).email (spelled h c) refl (sym (ap (λ a. folded a.email) (answer_is h c)) ∙ empty) i })

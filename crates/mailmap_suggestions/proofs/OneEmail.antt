@@ -6,9 +6,9 @@ use Rattle.mailmap_entries.specs.Entries.{Mapping}
 use Rattle.mailmap_entries.specs.Folding.{Text, folded}
 use Rattle.mailmap_entries.specs.Semantics.{Fields, spelling}
 use Rattle.mailmap_entries.proofs.Parts.{all_weaker, filter_all}
-use Rattle.mailmap_contacts.specs.Contacts.{Contact, answer}
+use Rattle.mailmap_contacts.specs.Contacts.{Contact, answer_to}
 pub use Rattle.mailmap_contacts.proofs.Steps.{all_filtered}
-use Rattle.mailmap_suggestions.specs.Lines.{alike, are_answered, entries_for_email, has_own_entry, is_answered, is_short_enough, long_form, name_of, named_entries, named_form, plain_entries, plus, short_form}
+use Rattle.mailmap_suggestions.specs.Forms.{alike, are_answered, entries_for_email, has_own_entry, is_answered, is_short_enough, long_form, name_unless_empty, named_entries, named_form, plain_entries, plus, short_form}
 use Rattle.mailmap_suggestions.proofs.Answers.{no_own, own_fields, spelled}
 use Rattle.mailmap_suggestions.proofs.Exact.{Answered, Fits, answered_decides, named_exact, named_step, plain_exact, spelled_more}
 
@@ -22,7 +22,7 @@ all_true p P f (x ∷ xs) e = let parts = and_parts (p x) (list_all p xs) e in (
 pub record IsPlain (h : List Mapping) (to : Contact) (email : Text) (c : Contact) : Type 0 where
   pub email_is : folded c.email ≡ email
   pub none : own_fields h c ≡ None
-  pub unnamed : to.name ≡ [] → (answer h c).name ≡ []
+  pub unnamed : to.name ≡ [] → (answer_to h c).name ≡ []
 
 pub plain_all : (h : List Mapping) (to : Contact) (email : Text) (ps : List Contact) → AllByRecursion (IsPlain h to email) ps → AllByRecursion (Answered (h ++ plain_entries (alike h) to ps) to) ps
 plain_all h to email [] all = tt
@@ -31,7 +31,7 @@ plain_all h to email (c ∷ cs) all =
       | true ↦ λ yes. subst (λ l. AllByRecursion (Answered l to) (c ∷ cs)) (sym (append-nil h)) (all_true (is_answered (alike h) to) (Answered h to) (λ d. (answered_decides h to d).0) (c ∷ cs) yes)
       | false ↦ λ _. elim (is_short_enough (alike h) to c cs) as (λ b. is_short_enough (alike h) to c cs ≡ b → AllByRecursion (Answered (h ++ (if b then short_form to else long_form to c) ∷ []) to) (c ∷ cs)) [
         | true ↦ λ enough. all_true (is_answered (alike (h ++ short_form to ∷ [])) to) (Answered (h ++ short_form to ∷ []) to) (λ d. (answered_decides (h ++ short_form to ∷ []) to d).0) (c ∷ cs)
-            (and_parts (is_some (name_of to) && bytes_eq (folded to.email) (folded c.email)) (are_answered (plus (alike h) (short_form to ∷ [])) to (c ∷ cs)) enough).1
+            (and_parts (is_some (name_unless_empty to) && bytes_eq (folded to.email) (folded c.email)) (are_answered (plus (alike h) (short_form to ∷ [])) to (c ∷ cs)) enough).1
         | false ↦ λ _. all_weaker (c ∷ cs) (λ d p. plain_exact h to c d (p.email_is ∙ sym (all.0).email_is) p.none p.unnamed) all
       ] refl
     ] refl
@@ -77,7 +77,7 @@ named_none to g (c ∷ cs) all =
 pub record IsOfEmail (h : List Mapping) (to : Contact) (email : Text) (c : Contact) : Type 0 where
   pub email_is : folded c.email ≡ email
   pub fits : Fits to c
-  pub unnamed : to.name ≡ [] → (answer h c).name ≡ []
+  pub unnamed : to.name ≡ [] → (answer_to h c).name ≡ []
 
 pub own_none : (h : List Mapping) (c : Contact) → own_fields h c ≡ None → not (has_own_entry (alike h) c) ≡ true
 own_none h c none = ap (λ o. not (is_some o || is_some o)) none

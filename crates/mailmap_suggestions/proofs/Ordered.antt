@@ -9,7 +9,7 @@ use Rattle.std.proofs.lemmas.List.Kept.{IsStrictlySortedBy-filter}
 use Rattle.std.proofs.lemmas.Map.Keys.{IsDistinct-IsPermutation}
 use Rattle.mailmap_batches.specs.Batches.{IsAscending}
 use Rattle.mailmap_contacts.specs.Answers.{answer_key, answer_key_tally, tally_of}
-use Rattle.mailmap_contacts.specs.Contacts.{AreTallies, Tally, answer, answered, same_contact, seen_where}
+use Rattle.mailmap_contacts.specs.Contacts.{AreTallies, Tally, answer_to, answered, same_contact, seen_where}
 use Rattle.mailmap_contacts.specs.Counts.{HasMore, SameTallies}
 use Rattle.mailmap_contacts.specs.declared.occurrences.Occurrences.{Occurrences}
 use Rattle.mailmap_contacts.proofs.Distinct.{itself}
@@ -19,9 +19,9 @@ use Rattle.mailmap_contacts.proofs.Sums.{same_more}
 use Rattle.mailmap_entries.specs.Folding.{Text}
 use Rattle.mailmap_entries.proofs.Parts.{all_mapped, all_weaker}
 use Rattle.mailmap_suggestions.specs.Answered.{AreAnswered, HaveAscendingLines, HaveDistinctContacts, tallies_behind, tally_behind}
-use Rattle.mailmap_suggestions.specs.Contacts.{git_answer}
+use Rattle.mailmap_suggestions.specs.Contacts.{git_answer_to}
 use Rattle.mailmap_suggestions.specs.Counted.{by_frequency, counted, frequency_cmp, git_answered, ranked}
-use Rattle.mailmap_suggestions.specs.Lines.{Histories}
+use Rattle.mailmap_suggestions.specs.Forms.{Histories}
 use Rattle.mailmap_contacts.specs.Contacts.{tallied}
 use Rattle.mailmap_suggestions.specs.declared.answered.Answered.{Answered}
 use Rattle.mailmap_suggestions.proofs.OneEmail.{all_filtered}
@@ -106,7 +106,7 @@ abbrev pub differs : Bor Answered → Bool
 differs a = not (same_contact (tally_of a.now.gits).contact (tally_of a.now.ours).contact)
 
 abbrev pub is_other : Histories → Tally → Bool
-is_other h t = not (same_contact (git_answer h.gits t.contact) (answer h.ours t.contact))
+is_other h t = not (same_contact (git_answer_to h.gits t.contact) (answer_to h.ours t.contact))
 
 pub others_are : (h : Histories) (group : List (Bor Answered)) → AreAnswered h group → tallies_behind (filter differs group) ≡ filter (is_other h) (tallies_behind group)
 others_are h [] all = refl

@@ -3,7 +3,7 @@ use Rattle.std.proofs.Common.{◌≡◌, ◌≢◌, ◌+◌, ◌/◌, ◌%◌, �
 use Rattle.std.specs.Fmt.{digit_glyph, digits, digits_onto}
 use Rattle.std.specs.List.{AllByRecursion, flat_map}
 use Rattle.std.specs.Result.{result_ok}
-use Rattle.mailmap_contacts.specs.Contacts.{Contact, Tally, answer, answered, contact_on, contacts_from, once, same_contact, tallied, tally_on}
+use Rattle.mailmap_contacts.specs.Contacts.{Contact, Tally, answer_to, answered, contact_on, contacts_from, once, same_contact, tallied, tally_on}
 use Rattle.mailmap_contacts.specs.declared.occurrences.Occurrences.{Occurrences}
 use Rattle.mailmap_entries.specs.Entries.{Mapping}
 use Rattle.mailmap_entries.specs.Folding.{Text}
@@ -16,12 +16,12 @@ use Rattle.mailmap_grammar.proofs.LineFeeds.{pieces-line}
 use Rattle.mailmap_snapshot.specs.Contacts.{contact_line}
 use Rattle.mailmap_snapshot.proofs.WhiteEnds.{HoldsNo-trim, trim-nil, trim-trim}
 use Rattle.mailmap_snapshot.proofs.WrittenLine.{one_line}
-use Rattle.mailmap_suggestions.specs.Contacts.{git_answer}
+use Rattle.mailmap_suggestions.specs.Contacts.{git_answer_to}
 use Rattle.mailmap_suggestions.specs.Groups.{are_alike, email_shared, name_shared, shared_texts}
-use Rattle.mailmap_suggestions.specs.Lines.{alike}
+use Rattle.mailmap_suggestions.specs.Forms.{alike}
 use Rattle.mailmap_suggestions.specs.Counted.{by_frequency, counted, git_answered, git_counted, ranked}
-use Rattle.mailmap_suggestions.specs.SuggestedText.{by_git, count_line, count_lines, entry_line, entry_lines, fields_text, group_text, judged_text, mark, suggested_text, text_by}
-use Rattle.mailmap_suggestions.specs.Suggestions.{IsWritableContact, contacts, email_entries, group_entries, groups, name_entries, sharers}
+use Rattle.mailmap_suggestions.specs.SuggestedText.{by_git, count_line, count_lines, entry_line, entry_lines, fields_text, group_text, reviewed_text, mark, suggested_text, text_by}
+use Rattle.mailmap_suggestions.specs.GroupEntries.{IsWritableContact, contacts, email_entries, group_entries, groups, name_entries, sharers}
 use Rattle.mailmap_suggestions.proofs.OneEmail.{all_filtered}
 use Rattle.mailmap_suggestions.proofs.Frequency.{all_by_frequency}
 use Rattle.mailmap_suggestions.proofs.Proper.{Each, each_tallied}
@@ -170,9 +170,9 @@ module _ (h : List Mapping) (writable : AllByRecursion IsWritable h) (g : List T
 
   each_git_counted : Each IsWritableContact (git_counted (alike h) g)
   each_git_counted =
-      let others = filter (λ t. not (same_contact (git_answer h t.contact) (answer h t.contact))) (by_frequency (tallied g)) in
+      let others = filter (λ t. not (same_contact (git_answer_to h t.contact) (answer_to h t.contact))) (by_frequency (tallied g)) in
       let of_others : Each IsWritableContact others =
-      all_filtered (λ t. not (same_contact (git_answer h t.contact) (answer h t.contact))) (λ t. IsWritableContact t.contact) (λ t. IsWritableContact t.contact) (λ t w _. w) (by_frequency (tallied g))
+      all_filtered (λ t. not (same_contact (git_answer_to h t.contact) (answer_to h t.contact))) (λ t. IsWritableContact t.contact) (λ t. IsWritableContact t.contact) (λ t w _. w) (by_frequency (tallied g))
       (all_by_frequency (λ t. IsWritableContact t.contact) (tallied g) (each_tallied IsWritableContact g each)) in
       all_by_frequency (λ t. IsWritableContact t.contact) (tallied (map (git_answered (alike h)) (ranked 1 others)))
       (each_tallied IsWritableContact (map (git_answered (alike h)) (ranked 1 others))
@@ -207,7 +207,7 @@ groups_said h ts shared b writable each good =
     all_filtered (λ g. not (are_alike (alike h) (contacts g))) (Each IsWritableContact) (Each IsWritableContact) (λ g w _. w) (map (sharers shared (alike h) ts) texts)
     (all_mapped (sharers shared (alike h) ts) (Each IsWritableContact) texts
     (all_of (λ text. Each IsWritableContact (sharers shared (alike h) ts text))
-    (λ text. all_filtered (λ t. bytes_eq text (shared (answer h t.contact))) (λ t. IsWritableContact t.contact) (λ t. IsWritableContact t.contact) (λ t w _. w) ts each) texts)) in
+    (λ text. all_filtered (λ t. bytes_eq text (shared (answer_to h t.contact))) (λ t. IsWritableContact t.contact) (λ t. IsWritableContact t.contact) (λ t w _. w) ts each) texts)) in
     subst (Says (flat_map (group_text (alike h) b) gs)) (marked_joined b (group_entries (alike h)) gs)
     (all_said (group_text (alike h) b) (λ g. unless_marked b (group_entries (alike h) g)) gs
     (all_apply (Each IsWritableContact) (λ g. AllByRecursion IsGood (group_entries (alike h) g)) (λ g. Says (group_text (alike h) b g) (unless_marked b (group_entries (alike h) g)))
@@ -230,8 +230,8 @@ module _ (h : List Mapping) (ts : List Tally) (writable : AllByRecursion IsWrita
 pub suggested_said : (h : List Mapping) (ts : List Tally) → AllByRecursion IsWritable h → Each IsWritableContact ts → mappings_of (suggested_text (alike h) ts) ≡ email_entries (alike h) ts
 suggested_said h ts writable each = text_said h ts writable each true ∙ append-nil (email_entries (alike h) ts)
 
-pub judged_said : (h : List Mapping) (ts : List Tally) → AllByRecursion IsWritable h → Each IsWritableContact ts → mappings_of (judged_text (alike h) ts) ≡ email_entries (alike h) ts ++ name_entries (alike h) ts
-judged_said h ts writable each = text_said h ts writable each false
+pub reviewed_said : (h : List Mapping) (ts : List Tally) → AllByRecursion IsWritable h → Each IsWritableContact ts → mappings_of (reviewed_text (alike h) ts) ≡ email_entries (alike h) ts ++ name_entries (alike h) ts
+reviewed_said h ts writable each = text_said h ts writable each false
 
 -- ---- contacts of lines can be written
 

@@ -10,7 +10,7 @@ use Rattle.mailmap_entries.proofs.Parts.{all_mapped, all_weaker}
 use Rattle.mailmap_contacts.specs.Contacts.{Contact}
 use Rattle.mailmap_suggestions.specs.Answered.{contact_behind}
 use Rattle.mailmap_suggestions.specs.Changes.{IsAnsweredFor, IsPlain}
-use Rattle.mailmap_suggestions.specs.Lines.{Histories, are_answered, has_own_entry, is_short_enough, long_form, name_of, plain_entries, plus, short_form}
+use Rattle.mailmap_suggestions.specs.Forms.{Histories, are_answered, has_own_entry, is_short_enough, long_form, name_unless_empty, plain_entries, plus, short_form}
 use Rattle.mailmap_suggestions.specs.declared.answered.Answered.{Answered}
 use Rattle.mailmap_suggestions.proofs.Exact.{same_bytes}
 use Rattle.mailmap_suggestions.proofs.OneEmail.{all_filtered}
@@ -38,7 +38,7 @@ first_email h email answers c rest all is = let emails : AllByRecursion (λ (c :
 -- ---- the short form
 
 abbrev fits : Contact → Text → Bool
-fits to email = is_some (name_of to) && bytes_eq (folded to.email) email
+fits to email = is_some (name_unless_empty to) && bytes_eq (folded to.email) email
 
 short_some : (b : Bool) (m s : Mapping) → Some m ≡ (if b then Some s else None) → (b ≡ true) × (m ≡ s)
 short_some true m s is = (refl, cc)
@@ -46,7 +46,7 @@ short_some false m s is = let e : ◌≡◌ {A = Option Mapping} (Some m) None =
 
 plain_short : (to : Contact) (email : Text) → fits to email ≡ true → IsPlain email (short_form to)
 plain_short to email fit =
-    let parts = and_parts (is_some (name_of to)) (bytes_eq (folded to.email) email) fit in
+    let parts = and_parts (is_some (name_unless_empty to)) (bytes_eq (folded to.email) email) fit in
     (ap (λ b. b || false) parts.0, λ i. (same_bytes (folded to.email) email parts.1 i, None))
 
 module _ (h : Histories) (to c : Contact) (cs : List Contact) (m : Mapping) (short : Some m ≡ (if fits to (folded c.email) then Some (short_form to) else None)) where

@@ -7,9 +7,9 @@ use Rattle.mailmap_entries.specs.Entries.{Mapping}
 use Rattle.mailmap_entries.specs.Folding.{Text}
 use Rattle.mailmap_entries.specs.Semantics.{first}
 use Rattle.mailmap_contacts.specs.Contacts.{Contact}
-use Rattle.mailmap_suggestions.specs.Answered.{IsAnswered, contact_behind, contact_in}
+use Rattle.mailmap_suggestions.specs.Answered.{IsRightFor, contact_behind, answered_contact}
 use Rattle.mailmap_suggestions.specs.Changes.{AreChangesBy, IsAnsweredFor, email_in}
-use Rattle.mailmap_suggestions.specs.Lines.{Histories, are_answered, has_own_entry, is_answered, plus}
+use Rattle.mailmap_suggestions.specs.Forms.{Histories, are_answered, has_own_entry, is_answered, plus}
 use Rattle.mailmap_suggestions.specs.declared.answered.Answered.{Answered}
 use Rattle.mailmap_suggestions.specs.declared.changes.Changes.{Changes}
 
@@ -37,7 +37,7 @@ module _ (h : Histories) (email : Text) (answers : List (Bor Answered)) (i : ℕ
   item = (get_or answers i d).now
 
   abbrev IsPlainAnswer : Bool → Type 0
-  IsPlainAnswer b = (h : Histories) → IsAnswered h item → b ≡ not (has_own_entry h (contact_in item))
+  IsPlainAnswer b = (h : Histories) → IsRightFor h item → b ≡ not (has_own_entry h (answered_contact item))
 
   pub first_later : i < length answers → All (IsAnsweredFor h email) answers → IsPlainAnswer false → first (plain_ones h (drop i answers)) ≡ first (plain_ones h answers)
       → first (plain_ones h (drop (i + 1) answers)) ≡ first (plain_ones h answers)
@@ -47,7 +47,7 @@ module _ (h : Histories) (email : Text) (answers : List (Bor Answered)) (i : ℕ
       ∙ before
 
   pub first_here : i < length answers → All (IsAnsweredFor h email) answers → IsPlainAnswer true → first (plain_ones h (drop i answers)) ≡ first (plain_ones h answers)
-      → Some (contact_in item) ≡ first (plain_ones h answers)
+      → Some (answered_contact item) ≡ first (plain_ones h answers)
   first_here lt all says before =
       sym (at_drop_more (λ l. first (plain_ones h l)) answers i d lt
       ∙ ap first (plain_more h (get_or answers i d) (drop (i + 1) answers) true (says h (All-get_or (IsAnsweredFor h email) answers i d lt all).0)))
@@ -55,8 +55,8 @@ module _ (h : Histories) (email : Text) (answers : List (Bor Answered)) (i : ℕ
 
   module _ (to : Contact) (added : List Mapping) (changes : Changes) where
     abbrev IsMissed : Bool → Type 0
-    IsMissed b = (h : Histories) (added : List Mapping) → IsAnswered h item → AreChangesBy to (email_in item) added changes
-        → b ≡ (not (has_own_entry h (contact_in item)) && not (is_answered (plus h added) to (contact_in item)))
+    IsMissed b = (h : Histories) (added : List Mapping) → IsRightFor h item → AreChangesBy to (email_in item) added changes
+        → b ≡ (not (has_own_entry h (answered_contact item)) && not (is_answered (plus h added) to (answered_contact item)))
 
     abbrev all_in : List (Bor Answered) → Bool
     all_in l = are_answered (plus h added) to (plain_ones h l)

@@ -6,15 +6,15 @@ use Rattle.std.proofs.lemmas.List.Folds.{flat_map-map}
 use Rattle.mailmap_contacts.specs.Contacts.{Tally}
 use Rattle.mailmap_entries.specs.Folding.{Text}
 use Rattle.mailmap_suggestions.specs.Groups.{email_shared, name_shared}
-use Rattle.mailmap_suggestions.specs.Lines.{Histories, plus}
-use Rattle.mailmap_suggestions.specs.Suggested.{Suggestion, suggestion, suggestions}
+use Rattle.mailmap_suggestions.specs.Forms.{Histories, plus}
+use Rattle.mailmap_suggestions.specs.Suggestions.{Suggestion, suggestion, suggestions}
 use Rattle.mailmap_suggestions.specs.SuggestedText.{suggested_text, suggestion_text, suggestions_text}
-use Rattle.mailmap_suggestions.specs.Suggestions.{email_entries, groups}
+use Rattle.mailmap_suggestions.specs.GroupEntries.{email_entries, groups}
 
 -- they are the text that is suggested
 pub suggestions_said : (h : Histories) (ts : List Tally) → suggestions_text (suggestions h ts) ≡ suggested_text h ts
 suggestions_said h ts =
-    let said : Suggestion → Text = λ s. suggestion_text s.is_to_judge s in
+    let said : Suggestion → Text = λ s. suggestion_text s.needs_review s in
     let more = plus h (email_entries h ts) in
     let emails = groups email_shared h ts in
     let names = groups name_shared more ts in

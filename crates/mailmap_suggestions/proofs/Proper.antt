@@ -1,14 +1,14 @@
 -- The proper answer is one of the answers, and a named one if there is one.
 use Rattle.std.proofs.Common.{◌≡◌, ◌≢◌, Bool, true, false, true≢false, cond, if◌then◌else◌, not, List, [], ◌∷◌, map, filter, refl, sym, subst}
 use Rattle.std.specs.List.{AllByRecursion}
-use Rattle.mailmap_contacts.specs.Contacts.{Contact, Tally, answer, answered, same_contact, tallied}
+use Rattle.mailmap_contacts.specs.Contacts.{Contact, Tally, answer_to, answered, same_contact, tallied}
 use Rattle.mailmap_contacts.specs.Proper.{comes_more, has_text, preferred, preferred_of}
 use Rattle.mailmap_entries.specs.Entries.{Mapping}
 use Rattle.mailmap_entries.specs.Folding.{Text}
 use Rattle.mailmap_entries.proofs.Parts.{all_map, all_mapped}
-use Rattle.mailmap_suggestions.specs.Lines.{alike}
+use Rattle.mailmap_suggestions.specs.Forms.{alike}
 pub use Rattle.mailmap_contacts.proofs.Tallied.{each_tallied}
-use Rattle.mailmap_suggestions.specs.Suggestions.{contacts, proper_answer}
+use Rattle.mailmap_suggestions.specs.GroupEntries.{contacts, proper_answer}
 use Rattle.mailmap_suggestions.proofs.Exact.{contact_decides}
 use Rattle.mailmap_suggestions.proofs.Preferred.{preferred_among}
 use Rattle.mailmap_suggestions.proofs.United.{IsProperIfAny}
@@ -68,10 +68,10 @@ proper_if_any h (t ∷ ts) =
     record {
       among = λ P all.
           let each : Each P (tallied (map (answered h) (t ∷ ts))) =
-          each_tallied P (map (answered h) (t ∷ ts)) (all_mapped (answered h) (λ u. P u.contact) (t ∷ ts) (all_map (λ u. u.contact) (λ c. P (answer h c)) (t ∷ ts) all)) in
+          each_tallied P (map (answered h) (t ∷ ts)) (all_mapped (answered h) (λ u. P u.contact) (t ∷ ts) (all_map (λ u. u.contact) (λ c. P (answer_to h c)) (t ∷ ts) all)) in
           preferred_among (λ u. P u.contact) _ _ each.0 each.1;
       named = λ empty.
-          all_mapped (λ u. u.contact) (λ c. (answer h c).name ≡ []) (t ∷ ts)
+          all_mapped (λ u. u.contact) (λ c. (answer_to h c).name ≡ []) (t ∷ ts)
           (all_map (answered h) (λ u. u.contact.name ≡ []) (t ∷ ts)
           (each_untallied (λ c. c.name ≡ []) (map (answered h) (t ∷ ts)) (all_unnamed _ _ empty)));
     }

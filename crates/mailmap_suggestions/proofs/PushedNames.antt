@@ -6,9 +6,9 @@ use Rattle.mailmap_entries.specs.Entries.{Mapping}
 use Rattle.mailmap_entries.specs.Folding.{Text}
 use Rattle.mailmap_contacts.specs.Contacts.{Contact}
 use Rattle.mailmap_contacts.proofs.Steps.{mapped_more}
-use Rattle.mailmap_suggestions.specs.Answered.{IsAnswered, contact_behind, contact_in}
+use Rattle.mailmap_suggestions.specs.Answered.{IsRightFor, contact_behind, answered_contact}
 use Rattle.mailmap_suggestions.specs.Changes.{AreChangesBy, IsAnsweredFor, email_in}
-use Rattle.mailmap_suggestions.specs.Lines.{Histories, is_answered, named_entries, named_form, plus}
+use Rattle.mailmap_suggestions.specs.Forms.{Histories, is_answered, named_entries, named_form, plus}
 use Rattle.mailmap_suggestions.specs.declared.answered.Answered.{Answered}
 use Rattle.mailmap_suggestions.specs.declared.changes.Changes.{Changes}
 
@@ -48,8 +48,8 @@ module _ (to : Contact) (answers : List (Bor Answered)) (i : ℕ) (d : Bor Answe
   pushed_at h plain n = named_entries (plus h plain) to (map contact_behind (take n answers))
 
   pub pushed_step : (old new begun : List Mapping) (a b : Changes)
-      → ((h : Histories) (added : List Mapping) → IsAnswered h item → AreChangesBy to (email_in item) added a → new ≡ old ++ form_if_needed (plus h added) to (contact_in item))
-      → ((h : Histories) (added : List Mapping) → IsAnswered h item → AreChangesBy to (email_in item) added a → AreChangesBy to (email_in item) (added ++ form_if_needed (plus h added) to (contact_in item)) b)
+      → ((h : Histories) (added : List Mapping) → IsRightFor h item → AreChangesBy to (email_in item) added a → new ≡ old ++ form_if_needed (plus h added) to (answered_contact item))
+      → ((h : Histories) (added : List Mapping) → IsRightFor h item → AreChangesBy to (email_in item) added a → AreChangesBy to (email_in item) (added ++ form_if_needed (plus h added) to (answered_contact item)) b)
       → (h : Histories) (email : Text) (plain : List Mapping) → i < length answers → All (IsAnsweredFor h email) answers
       → (old ≡ begun ++ pushed_at h plain i) × AreChangesBy to email (plain ++ pushed_at h plain i) a
       → (new ≡ begun ++ pushed_at h plain (i + 1)) × AreChangesBy to email (plain ++ pushed_at h plain (i + 1)) b
@@ -57,9 +57,9 @@ module _ (to : Contact) (answers : List (Bor Answered)) (i : ℕ) (d : Bor Answe
       let own = All-get_or (IsAnsweredFor h email) answers i d lt all in
       let pushed = pushed_at h plain i in
       let changed = subst (λ e. AreChangesBy to e (plain ++ pushed) a) (sym own.1) before.1 in
-      let more = form_if_needed (plus h (plain ++ pushed)) to (contact_in item) in
+      let more = form_if_needed (plus h (plain ++ pushed)) to (answered_contact item) in
       let is : pushed_at h plain (i + 1) ≡ pushed ++ more =
-      pushed_more h to plain (map contact_behind (take (i + 1) answers)) (map contact_behind (take i answers)) (contact_in item) (mapped_more contact_behind answers i d lt) in (
+      pushed_more h to plain (map contact_behind (take (i + 1) answers)) (map contact_behind (take i answers)) (answered_contact item) (mapped_more contact_behind answers i d lt) in (
         pushes h (plain ++ pushed) own.0 changed ∙ ap (λ l. l ++ more) before.0 ∙ append_assoc begun pushed more ∙ ap (λ l. begun ++ l) (sym is),
         subst (λ e. AreChangesBy to e (plain ++ pushed_at h plain (i + 1)) b) own.1
             (subst (λ l. AreChangesBy to (email_in item) l b) (append_assoc plain pushed more ∙ ap (λ l. plain ++ l) (sym is)) (changes h (plain ++ pushed) own.0 changed)),

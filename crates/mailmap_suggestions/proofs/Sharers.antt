@@ -9,13 +9,13 @@ use Rattle.mailmap_batches.proofs.Stable.{filter-map}
 use Rattle.mailmap_entries.specs.Folding.{Text}
 use Rattle.mailmap_entries.proofs.Parts.{all_map, all_mapped, all_weaker, filter-filter}
 use Rattle.mailmap_contacts.specs.Answers.{tally_of}
-use Rattle.mailmap_contacts.specs.Contacts.{Contact, Tally, answer, same_contact}
+use Rattle.mailmap_contacts.specs.Contacts.{Contact, Tally, answer_to, same_contact}
 use Rattle.mailmap_contacts.specs.declared.proper.Shared.{Shared}
-use Rattle.mailmap_suggestions.specs.Answered.{IsAnswered, contact_in, tallies_behind, tally_in}
-use Rattle.mailmap_suggestions.specs.Grouping.{are_answered_alike, grouped_by, is_answered_so, members, shared_by, text_by, behind}
+use Rattle.mailmap_suggestions.specs.Answered.{IsRightFor, answered_contact, tallies_behind, tally_in}
+use Rattle.mailmap_suggestions.specs.Grouping.{are_answered_alike, grouped_by, is_answered_so, group_members, shared_by, criterion_text, behind}
 use Rattle.mailmap_suggestions.specs.Groups.{are_alike, shared_texts}
-use Rattle.mailmap_suggestions.specs.Lines.{Histories, distinct, is_answered}
-use Rattle.mailmap_suggestions.specs.Suggestions.{contacts, groups, sharers}
+use Rattle.mailmap_suggestions.specs.Forms.{Histories, distinct, is_answered}
+use Rattle.mailmap_suggestions.specs.GroupEntries.{contacts, groups, sharers}
 use Rattle.mailmap_suggestions.specs.declared.answered.Answered.{Answered}
 use Rattle.mailmap_suggestions.specs.declared.groups.Criterion.TheVariants.{Answer}
 use Rattle.mailmap_suggestions.proofs.Distinct.{all_of, somes}
@@ -36,8 +36,8 @@ map_alike f g (x ∷ xs) agree = λ i. agree.0 i ∷ map_alike f g xs agree.1 i
 -- what holds of all holds of the members of groups
 pub all_grouped : {X : Type 0} (P : X → Type 0) (text : X → Text) (xs : List X) → AllByRecursion P xs → AllByRecursion (AllByRecursion P) (grouped_by text xs)
 all_grouped P text xs all =
-    all_mapped (members text xs) (AllByRecursion P) (distinct (map text xs))
-    (all_of (λ t. AllByRecursion P (members text xs t)) (λ t. all_filtered (λ x. bytes_eq t (text x)) P P (λ x p _. p) xs all) (distinct (map text xs)))
+    all_mapped (group_members text xs) (AllByRecursion P) (distinct (map text xs))
+    (all_of (λ t. AllByRecursion P (group_members text xs t)) (λ t. all_filtered (λ x. bytes_eq t (text x)) P P (λ x p _. p) xs all) (distinct (map text xs)))
 
 pub all_behind : (P : Answered → Type 0) (gs : List (Vec (Bor Answered))) → AllByRecursion (AllByRecursion P) (map listed gs) → All (λ g. All (λ c. P c.now) g.items) gs
 all_behind P gs all =
@@ -56,18 +56,18 @@ answered_as_first (c ∷ cs) a is =
 
 module _ (shared : Shared) (h : Histories) where
   abbrev text : Answered → Text
-  text = text_by (Answer shared)
+  text = criterion_text (Answer shared)
 
   abbrev answer_text : Contact → Text
-  answer_text c = shared_by shared (answer h.ours c)
+  answer_text c = shared_by shared (answer_to h.ours c)
 
   abbrev is_some : Text → Bool
   is_some t = not (bytes_eq t [])
 
-  pub shares : (a : Answered) → IsAnswered h a → text a ≡ answer_text (contact_in a)
+  pub shares : (a : Answered) → IsRightFor h a → text a ≡ answer_text (answered_contact a)
   shares a is = ap (λ (t : Tally). shared_by shared t.contact) is.ours
 
-  texts_are : (cs : List Answered) → AllByRecursion (IsAnswered h) cs → map text cs ≡ map answer_text (contacts (map tally_in cs))
+  texts_are : (cs : List Answered) → AllByRecursion (IsRightFor h) cs → map text cs ≡ map answer_text (contacts (map tally_in cs))
   texts_are [] all = refl
   texts_are (c ∷ cs) all = λ i. shares c all.0 i ∷ texts_are cs all.1 i
 
@@ -86,16 +86,16 @@ module _ (shared : Shared) (h : Histories) where
       none true = refl
       none false = refl
 
-  module _ (cs : List Answered) (all : AllByRecursion (IsAnswered h) cs) where
+  module _ (cs : List Answered) (all : AllByRecursion (IsRightFor h) cs) where
     abbrev some : List Answered
     some = filter (λ a. is_some (text a)) cs
 
-    sharers_are : (t : Text) → t ≢ [] → map tally_in (members text some t) ≡ sharers (shared_by shared) h (map tally_in cs) t
+    sharers_are : (t : Text) → t ≢ [] → map tally_in (group_members text some t) ≡ sharers (shared_by shared) h (map tally_in cs) t
     sharers_are t is_text =
         ap (map tally_in)
         (filter-filter (λ a. bytes_eq t (text a)) (λ a. is_some (text a)) cs
         ∙ filter_agree (λ a. is_some (text a) && bytes_eq t (text a)) (λ a. bytes_eq t (text a)) (some_kept t is_text) cs
-        ∙ filter_alike (λ a. bytes_eq t (text a)) (λ a. bytes_eq t (answer_text (contact_in a))) cs (all_weaker cs (λ a is. ap (bytes_eq t) (shares a is)) all))
+        ∙ filter_alike (λ a. bytes_eq t (text a)) (λ a. bytes_eq t (answer_text (answered_contact a))) cs (all_weaker cs (λ a is. ap (bytes_eq t) (shares a is)) all))
         ∙ sym (filter-map (λ (u : Tally). bytes_eq t (answer_text u.contact)) tally_in cs)
 
     sharing_texts : distinct (map text some) ≡ shared_texts (shared_by shared) h (contacts (map tally_in cs))
@@ -103,17 +103,17 @@ module _ (shared : Shared) (h : Histories) where
 
     all_are : map (map tally_in) (grouped_by text some) ≡ map (sharers (shared_by shared) h (map tally_in cs)) (shared_texts (shared_by shared) h (contacts (map tally_in cs)))
     all_are =
-        ap (λ ts. map (map tally_in) (map (members text some) ts)) sharing_texts
-        ∙ map-map (map tally_in) (members text some) (shared_texts (shared_by shared) h (contacts (map tally_in cs)))
-        ∙ map_alike (λ t. map tally_in (members text some t)) (sharers (shared_by shared) h (map tally_in cs)) (shared_texts (shared_by shared) h (contacts (map tally_in cs)))
+        ap (λ ts. map (map tally_in) (map (group_members text some) ts)) sharing_texts
+        ∙ map-map (map tally_in) (group_members text some) (shared_texts (shared_by shared) h (contacts (map tally_in cs)))
+        ∙ map_alike (λ t. map tally_in (group_members text some t)) (sharers (shared_by shared) h (map tally_in cs)) (shared_texts (shared_by shared) h (contacts (map tally_in cs)))
         (all_weaker (shared_texts (shared_by shared) h (contacts (map tally_in cs))) sharers_are (somes (map answer_text (contacts (map tally_in cs)))))
 
-    answered_so : (to : Contact) (g : List Answered) → AllByRecursion (IsAnswered h) g → list_all (is_answered_so to) g ≡ list_all (is_answered h to) (contacts (map tally_in g))
+    answered_so : (to : Contact) (g : List Answered) → AllByRecursion (IsRightFor h) g → list_all (is_answered_so to) g ≡ list_all (is_answered h to) (contacts (map tally_in g))
     answered_so to [] each = refl
     answered_so to (a ∷ rest) each =
         λ i. (same_contact (each.0.ours i).contact to && same_contact (each.0.gits i).contact to) && answered_so to rest each.1 i
 
-    alike_is : (g : List Answered) → AllByRecursion (IsAnswered h) g → are_answered_alike g ≡ are_alike h (contacts (map tally_in g))
+    alike_is : (g : List Answered) → AllByRecursion (IsRightFor h) g → are_answered_alike g ≡ are_alike h (contacts (map tally_in g))
     alike_is [] each = refl
     alike_is (a ∷ rest) each =
         answered_so (tally_of a.ours).contact (a ∷ rest) each
@@ -122,8 +122,8 @@ module _ (shared : Shared) (h : Histories) where
     abbrev kept : List (List Answered)
     kept = filter (λ g. not (are_answered_alike g)) (grouped_by text some)
 
-    each_answered : AllByRecursion (AllByRecursion (IsAnswered h)) (grouped_by text some)
-    each_answered = all_grouped (IsAnswered h) text some (all_filtered (λ a. is_some (text a)) (IsAnswered h) (IsAnswered h) (λ a is _. is) cs all)
+    each_answered : AllByRecursion (AllByRecursion (IsRightFor h)) (grouped_by text some)
+    each_answered = all_grouped (IsRightFor h) text some (all_filtered (λ a. is_some (text a)) (IsRightFor h) (IsRightFor h) (λ a is _. is) cs all)
 
     kept_are : map (map tally_in) kept ≡ groups (shared_by shared) h (map tally_in cs)
     kept_are =
@@ -145,8 +145,8 @@ module _ (shared : Shared) (h : Histories) where
           ∙ ap (map (map tally_in)) left_are
           ∙ kept_are
 
-      pub found_answered : All (λ g. All (λ c. IsAnswered h c.now) g.items) left
+      pub found_answered : All (λ g. All (λ c. IsRightFor h c.now) g.items) left
       found_answered =
-          all_behind (IsAnswered h) left
-          (subst (AllByRecursion (AllByRecursion (IsAnswered h))) (sym left_are)
-          (all_filtered (λ g. not (are_answered_alike g)) (AllByRecursion (IsAnswered h)) (AllByRecursion (IsAnswered h)) (λ g each _. each) (grouped_by text some) each_answered))
+          all_behind (IsRightFor h) left
+          (subst (AllByRecursion (AllByRecursion (IsRightFor h))) (sym left_are)
+          (all_filtered (λ g. not (are_answered_alike g)) (AllByRecursion (IsRightFor h)) (AllByRecursion (IsRightFor h)) (λ g each _. each) (grouped_by text some) each_answered))

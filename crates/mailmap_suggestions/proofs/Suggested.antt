@@ -1,15 +1,15 @@
 -- The suggested entries are those that unite the contacts.
 use Rattle.std.proofs.Common.{◌≡◌, ◌≢◌, ◌⊎◌, inl, inr, ⊎_elim, Bool, true, false, true≢false, cond, if◌then◌else◌, not, ◌&&◌, List, [], ◌∷◌, ◌++◌, map, filter, bytes_eq, refl, sym, ap, subst, ◌∙◌}
 use Rattle.std.specs.List.{AllByRecursion, flat_map}
-use Rattle.mailmap_contacts.specs.Contacts.{Contact, Tally, answer}
+use Rattle.mailmap_contacts.specs.Contacts.{Contact, Tally, answer_to}
 use Rattle.mailmap_entries.specs.Entries.{Mapping}
 use Rattle.mailmap_entries.specs.Folding.{Text}
 use Rattle.mailmap_entries.proofs.Parts.{all_apply, all_mapped, all_weaker}
-use Rattle.mailmap_suggestions.specs.Contacts.{git_answer}
+use Rattle.mailmap_suggestions.specs.Contacts.{git_answer_to}
 use Rattle.mailmap_suggestions.specs.Groups.{are_alike, email_shared, name_shared, shared_texts}
 use Rattle.mailmap_suggestions.proofs.Sharing.{sharing}
-use Rattle.mailmap_suggestions.specs.Lines.{alike, entries_to}
-use Rattle.mailmap_suggestions.specs.Suggestions.{HasNoEmptyName, Unites, all_entries, contacts, email_entries, group_entries, groups, is_grouped, name_entries, proper_answer, sharers}
+use Rattle.mailmap_suggestions.specs.Forms.{alike, entries_to}
+use Rattle.mailmap_suggestions.specs.GroupEntries.{HasNoEmptyName, Unites, all_entries, contacts, email_entries, group_entries, groups, is_grouped, name_entries, proper_answer, sharers}
 use Rattle.mailmap_suggestions.proofs.Distinct.{all_of, at_each, refuted, somes, unfiltered}
 use Rattle.mailmap_suggestions.proofs.OneEmail.{all_filtered}
 use Rattle.mailmap_suggestions.proofs.Exact.{Answered, equal_bytes, same_bytes}
@@ -44,7 +44,7 @@ module _ (h : List Mapping) (ts : List Tally) (shared : Contact → Text) where
   to text = proper_answer (alike h) (sharers shared (alike h) ts text)
 
   pub same_sharers : (text : Text) → contacts (sharers shared (alike h) ts text) ≡ sharing shared (alike h) (contacts ts) text
-  same_sharers text = map_filter (λ c. bytes_eq text (shared (answer h c))) ts
+  same_sharers text = map_filter (λ c. bytes_eq text (shared (answer_to h c))) ts
 
   pub proper_to : (text : Text) → text ≢ [] → IsProperIfAny h (sharing shared (alike h) (contacts ts) text) (to text)
   proper_to text some = coe_proper (same_sharers text) (proper_if_any h (sharers shared (alike h) ts text))
@@ -64,62 +64,62 @@ module _ (h g : List Mapping) (ts : List Tally) (shared : Contact → Text) (In 
   abbrev wanted : Text → Contact
   wanted text = to h ts shared text
 
-  of_group : (text : Text) → text ≢ [] → AllByRecursion (λ c. answer g c ≡ wanted text) (contacts (sharers shared (alike h) ts text))
+  of_group : (text : Text) → text ≢ [] → AllByRecursion (λ c. answer_to g c ≡ wanted text) (contacts (sharers shared (alike h) ts text))
   of_group text some =
-      subst (AllByRecursion (λ c. answer g c ≡ wanted text)) (sym (same_sharers h ts shared text))
-      (all_filtered (λ c. bytes_eq text (shared (answer h c))) (IsUnited h g shared In (to h ts shared)) (λ c. answer g c ≡ wanted text)
+      subst (AllByRecursion (λ c. answer_to g c ≡ wanted text)) (sym (same_sharers h ts shared text))
+      (all_filtered (λ c. bytes_eq text (shared (answer_to h c))) (IsUnited h g shared In (to h ts shared)) (λ c. answer_to g c ≡ wanted text)
       (λ c u passes.
-      let same : text ≡ shared (answer h c) = same_bytes text (shared (answer h c)) passes in
+      let same : text ≡ shared (answer_to h c) = same_bytes text (shared (answer_to h c)) passes in
       (u.grouped (λ e. some (same ∙ e))).0 ∙ ap wanted (sym same))
       (contacts ts) all)
 
-  in_groups : AllByRecursion (λ group. AllByRecursion (λ c. answer g c ≡ proper_answer (alike h) group) (contacts group)) (groups shared (alike h) ts)
+  in_groups : AllByRecursion (λ group. AllByRecursion (λ c. answer_to g c ≡ proper_answer (alike h) group) (contacts group)) (groups shared (alike h) ts)
   in_groups =
-      let P : List Tally → Type 0 = λ group. AllByRecursion (λ c. answer g c ≡ proper_answer (alike h) group) (contacts group) in
+      let P : List Tally → Type 0 = λ group. AllByRecursion (λ c. answer_to g c ≡ proper_answer (alike h) group) (contacts group) in
       let texts = shared_texts shared (alike h) (contacts ts) in
       all_filtered (λ group. not (are_alike (alike h) (contacts group))) P P (λ group p _. p) (map (sharers shared (alike h) ts) texts)
-      (all_mapped (sharers shared (alike h) ts) P texts (all_weaker texts (λ text some. of_group text some) (somes (map (λ c. shared (answer h c)) (contacts ts)))))
+      (all_mapped (sharers shared (alike h) ts) P texts (all_weaker texts (λ text some. of_group text some) (somes (map (λ c. shared (answer_to h c)) (contacts ts)))))
 
   -- those who are answered alike are answered by the wanted contact
   IsAlikeAt : Text → Contact → Type 0
-  IsAlikeAt text c = text ≢ [] → are_alike (alike h) (sharing shared (alike h) (contacts ts) text) ≡ true → bytes_eq text (shared (answer h c)) ≡ true → Answered h (wanted text) c
+  IsAlikeAt text c = text ≢ [] → are_alike (alike h) (sharing shared (alike h) (contacts ts) text) ≡ true → bytes_eq text (shared (answer_to h c)) ≡ true → Answered h (wanted text) c
 
   alike_at : (text : Text) → AllByRecursion (IsAlikeAt text) (contacts ts)
   unfolding IsAlikeAt
   alike_at text =
       by (empty_or text) (are_alike (alike h) (sharing shared (alike h) (contacts ts) text)) refl
     where
-      by : (text ≡ []) ⊎ (text ≢ []) → (b : Bool) → are_alike (alike h) (sharing shared (alike h) (contacts ts) text) ≡ b → AllByRecursion (λ c. text ≢ [] → are_alike (alike h) (sharing shared (alike h) (contacts ts) text) ≡ true → bytes_eq text (shared (answer h c)) ≡ true → Answered h (wanted text) c) (contacts ts)
-      by (inl empty) b is = all_of (λ c. text ≢ [] → are_alike (alike h) (sharing shared (alike h) (contacts ts) text) ≡ true → bytes_eq text (shared (answer h c)) ≡ true → Answered h (wanted text) c) (λ c some. absurd (some empty)) (contacts ts)
-      by (inr some) false is = all_of (λ c. text ≢ [] → are_alike (alike h) (sharing shared (alike h) (contacts ts) text) ≡ true → bytes_eq text (shared (answer h c)) ≡ true → Answered h (wanted text) c) (λ c _ same. absurd (true≢false (sym same ∙ is))) (contacts ts)
+      by : (text ≡ []) ⊎ (text ≢ []) → (b : Bool) → are_alike (alike h) (sharing shared (alike h) (contacts ts) text) ≡ b → AllByRecursion (λ c. text ≢ [] → are_alike (alike h) (sharing shared (alike h) (contacts ts) text) ≡ true → bytes_eq text (shared (answer_to h c)) ≡ true → Answered h (wanted text) c) (contacts ts)
+      by (inl empty) b is = all_of (λ c. text ≢ [] → are_alike (alike h) (sharing shared (alike h) (contacts ts) text) ≡ true → bytes_eq text (shared (answer_to h c)) ≡ true → Answered h (wanted text) c) (λ c some. absurd (some empty)) (contacts ts)
+      by (inr some) false is = all_of (λ c. text ≢ [] → are_alike (alike h) (sharing shared (alike h) (contacts ts) text) ≡ true → bytes_eq text (shared (answer_to h c)) ≡ true → Answered h (wanted text) c) (λ c _ same. absurd (true≢false (sym same ∙ is))) (contacts ts)
       by (inr some) true is =
           all_weaker (contacts ts) (λ c f _ _ passes. f passes)
-          (unfiltered (λ c. bytes_eq text (shared (answer h c))) (Answered h (wanted text)) (contacts ts)
+          (unfiltered (λ c. bytes_eq text (shared (answer_to h c))) (Answered h (wanted text)) (contacts ts)
           (can.if_alike text some is))
 
-  one_other : (c : Contact) → IsUnited h g shared In (to h ts shared) c → IsAlikeAt (shared (answer h c)) c → is_grouped shared (alike h) ts c ≡ false → (answer g c ≡ answer h c) × (git_answer g c ≡ git_answer h c)
+  one_other : (c : Contact) → IsUnited h g shared In (to h ts shared) c → IsAlikeAt (shared (answer_to h c)) c → is_grouped shared (alike h) ts c ≡ false → (answer_to g c ≡ answer_to h c) × (git_answer_to g c ≡ git_answer_to h c)
   unfolding IsAlikeAt
   one_other c u at out = ⊎_elim
       u.other
       (λ some.
-      let text = shared (answer h c) in
+      let text = shared (answer_to h c) in
       let is_alike : are_alike (alike h) (contacts (sharers shared (alike h) ts text)) ≡ true =
       not_not _ (sym (ap (λ b. not b && not (are_alike (alike h) (contacts (sharers shared (alike h) ts text)))) (refuted (bytes_eq text []) (λ e. some (same_bytes text [] e)))) ∙ out) in
       let before = at some (ap (are_alike (alike h)) (sym (same_sharers h ts shared text)) ∙ is_alike) (equal_bytes text text refl) in
       ((u.grouped some).0 ∙ sym before.0, (u.grouped some).1 ∙ sym before.1))
-      (empty_or (shared (answer h c)))
+      (empty_or (shared (answer_to h c)))
     where
       not_not : (b : Bool) → not b ≡ false → b ≡ true
       not_not true e = refl
       not_not false e = absurd (true≢false e)
 
-  pub unites : AllByRecursion (λ c. git_answer g c ≡ answer g c) (contacts ts) → Unites shared h ts g
+  pub unites : AllByRecursion (λ c. git_answer_to g c ≡ answer_to g c) (contacts ts) → Unites shared h ts g
   unfolding IsAlikeAt
   unites git =
       record {
         groups = in_groups;
-        others = all_apply (IsUnited h g shared In (to h ts shared)) (λ c. IsAlikeAt (shared (answer h c)) c) (λ c. is_grouped shared (alike h) ts c ≡ false → (answer g c ≡ answer h c) × (git_answer g c ≡ git_answer h c))
-            one_other (contacts ts) all (at_each (λ c. shared (answer h c)) IsAlikeAt (contacts ts) alike_at);
+        others = all_apply (IsUnited h g shared In (to h ts shared)) (λ c. IsAlikeAt (shared (answer_to h c)) c) (λ c. is_grouped shared (alike h) ts c ≡ false → (answer_to g c ≡ answer_to h c) × (git_answer_to g c ≡ git_answer_to h c))
+            one_other (contacts ts) all (at_each (λ c. shared (answer_to h c)) IsAlikeAt (contacts ts) alike_at);
         distinct = all_weaker (contacts ts) (λ b u. all_weaker (contacts ts) (λ c v same some. same_after h g shared In (to h ts shared) b c u v same some) all) all;
         git = git;
       }
@@ -179,5 +179,5 @@ module _ (h : List Mapping) (ts : List Tally) (named : AllByRecursion HasNoEmpty
       (all_weaker cs (λ c p. git_agrees_then h with_emails with_names to_email to_name c p.0 p.1) both_known)
 
   -- no two answers share an email and differ then, either
-  pub emails_stay : AllByRecursion (λ b. AllByRecursion (λ c. email_shared (answer with_names b) ≡ email_shared (answer with_names c) → email_shared (answer with_names c) ≢ [] → answer with_names b ≡ answer with_names c) cs) cs
+  pub emails_stay : AllByRecursion (λ b. AllByRecursion (λ c. email_shared (answer_to with_names b) ≡ email_shared (answer_to with_names c) → email_shared (answer_to with_names c) ≢ [] → answer_to with_names b ≡ answer_to with_names c) cs) cs
   emails_stay = all_weaker cs (λ b u. all_weaker cs (λ c v same some. one_by_email_then h with_emails with_names to_email to_name b c u.0 v.0 u.1 v.1 same some) both_known) both_known

@@ -10,7 +10,7 @@ use Rattle.std.proofs.lemmas.Bool.{and_parts}
 use Rattle.std.proofs.lemmas.List.Elements.{filter-append}
 use Rattle.std.proofs.lemmas.List.Folds.{flat_map-map}
 use Rattle.std.proofs.lemmas.List.Kept.{IsStrictlySortedBy-filter}
-use Rattle.mailmap_contacts.specs.Contacts.{Contact, Tally, answer, contacts_from, same_contact, tallied}
+use Rattle.mailmap_contacts.specs.Contacts.{Contact, Tally, answer_to, contacts_from, same_contact, tallied}
 use Rattle.mailmap_contacts.proofs.Tallied.{Ascends, ascends_tallied, contacts_ascend, later}
 use Rattle.mailmap_entries.specs.Entries.{Mapping, mapping_of}
 use Rattle.mailmap_entries.specs.Folding.{Text, folded}
@@ -20,9 +20,9 @@ use Rattle.mailmap_redundancy.specs.Redundancy.{LocatedMapping, entries, located
 use Rattle.mailmap_redundancy.specs.declared.located.LocatedEntry.{LocatedEntry}
 use Rattle.mailmap_suggestions.specs.Answered.{HaveAscendingLines, HaveDistinctContacts, contact_behind, tallies_behind}
 use Rattle.mailmap_suggestions.specs.Groups.{are_alike, shared_texts}
-use Rattle.mailmap_suggestions.specs.Lines.{Histories, are_answered, distinct, entries_for_email, entries_to, has_own_entry, is_answered, is_short_enough, long_form, name_of, named_entries, named_form, of_old_email, plain_entries, plus, short_form}
-use Rattle.mailmap_suggestions.specs.Suggested.{Suggestion, suggestion}
-use Rattle.mailmap_suggestions.specs.Suggestions.{contacts, group_entries, groups, proper_answer, sharers}
+use Rattle.mailmap_suggestions.specs.Forms.{Histories, are_answered, distinct, entries_for_email, entries_to, has_own_entry, is_answered, is_short_enough, long_form, name_unless_empty, named_entries, named_form, of_old_email, plain_entries, plus, short_form}
+use Rattle.mailmap_suggestions.specs.Suggestions.{Suggestion, suggestion}
+use Rattle.mailmap_suggestions.specs.GroupEntries.{contacts, group_entries, groups, proper_answer, sharers}
 use Rattle.mailmap_suggestions.specs.declared.answered.Answered.{Answered}
 use Rattle.mailmap_suggestions.proofs.Accepted.{AreAccepted}
 use Rattle.mailmap_suggestions.proofs.Appended.{or_true}
@@ -42,9 +42,9 @@ module _ (to : Contact) where
         | false ↦ (
           elim (is_short_enough h to c cs) as (λ b. is_short_enough h to c cs ≡ b → is_accepted (if b then short_form to else long_form to c) ≡ true) [
             | true ↦ λ enough. ap (λ b. b || false)
-                (and_parts (is_some (name_of to)) (bytes_eq (folded to.email) (folded c.email))
+                (and_parts (is_some (name_unless_empty to)) (bytes_eq (folded to.email) (folded c.email))
                 (and_parts _ (are_answered (plus h (short_form to ∷ [])) to (c ∷ cs)) enough).0).0
-            | false ↦ λ _. or_true (is_some (name_of to)) true refl
+            | false ↦ λ _. or_true (is_some (name_unless_empty to)) true refl
           ] refl,
           tt,
         )
@@ -55,7 +55,7 @@ module _ (to : Contact) where
   named_accepted h (c ∷ cs) =
       elim (is_answered h to c) as (λ b. AreAccepted (if b then named_entries h to cs else named_form to c ∷ named_entries (plus h (named_form to c ∷ [])) to cs)) [
         | true ↦ named_accepted h cs
-        | false ↦ (or_true (is_some (name_of to)) true refl, named_accepted (plus h (named_form to c ∷ [])) cs)
+        | false ↦ (or_true (is_some (name_unless_empty to)) true refl, named_accepted (plus h (named_form to c ∷ [])) cs)
       ]
 
   email_accepted : (h : Histories) (cs : List Contact) → AreAccepted (entries_for_email h to cs)
@@ -83,7 +83,7 @@ each_group P kept shared h ts all =
 
     each : (us : List Text) → AllByRecursion P (map (sharers shared h ts) us)
     each [] = tt
-    each (u ∷ us) = (kept (λ t. bytes_eq u (shared (answer h.ours t.contact))) ts all, each us)
+    each (u ∷ us) = (kept (λ t. bytes_eq u (shared (answer_to h.ours t.contact))) ts all, each us)
 
 pub ascends_kept : (p : Tally → Bool) (ts : List Tally) → HaveAscendingLines ts → HaveAscendingLines (filter p ts)
 ascends_kept p ts up = IsStrictlySortedBy-filter (on (λ (t : Tally). t.seen.first_line) nat_cmp) p ts up

@@ -14,7 +14,7 @@ use Rattle.mailmap_contacts.proofs.Distinct.{contact_total, found, itself, same_
 use Rattle.mailmap_entries.proofs.Parts.{all_weaker, filter_all}
 use Rattle.mailmap_suggestions.specs.Answered.{HaveAscendingLines, HaveDistinctContacts}
 use Rattle.mailmap_contacts.specs.Contacts.{tallied}
-use Rattle.mailmap_suggestions.specs.Suggestions.{contacts}
+use Rattle.mailmap_suggestions.specs.GroupEntries.{contacts}
 use Rattle.mailmap_suggestions.proofs.Distinct.{unfiltered}
 use Rattle.mailmap_suggestions.proofs.OneEmail.{all_filtered}
 use Rattle.mailmap_suggestions.proofs.Frequency.{HasOnly}

@@ -19,7 +19,7 @@ use Rattle.mailmap_findings.proofs.Concatenated.{texts}
 use Rattle.mailmap_grammar.specs.Lines.{Absent, Closed, ParsedContact, Unclosed, cut, first_contact, is_comment, line_reading, mappings_of, reading, trimmed_contact, two_contacts, unless_blank}
 use Rattle.mailmap_grammar.specs.Trimming.{trim}
 use Rattle.mailmap_redundancy.specs.Redundancy.{entries}
-use Rattle.mailmap_suggestions.specs.Suggestions.{HasNoEmptyName}
+use Rattle.mailmap_suggestions.specs.GroupEntries.{HasNoEmptyName}
 
 -- ---- git's entries are the same
 

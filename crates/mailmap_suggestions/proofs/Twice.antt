@@ -3,12 +3,12 @@ use Rattle.std.proofs.Common.{◌≡◌, ◌≢◌, ⊎_elim, true, false, if◌
 use Rattle.std.specs.List.{AllByRecursion}
 use Rattle.mailmap_entries.specs.Entries.{Mapping}
 use Rattle.mailmap_entries.specs.Folding.{Text, folded}
-use Rattle.mailmap_contacts.specs.Contacts.{Contact, answer}
-use Rattle.mailmap_suggestions.specs.Contacts.{git_answer}
-use Rattle.mailmap_suggestions.specs.Suggestions.{HasNoEmptyName}
+use Rattle.mailmap_contacts.specs.Contacts.{Contact, answer_to}
+use Rattle.mailmap_suggestions.specs.Contacts.{git_answer_to}
+use Rattle.mailmap_suggestions.specs.GroupEntries.{HasNoEmptyName}
 use Rattle.mailmap_suggestions.specs.Groups.{email_shared, name_shared}
 use Rattle.mailmap_suggestions.proofs.Sharing.{sharing}
-use Rattle.mailmap_suggestions.specs.Lines.{alike}
+use Rattle.mailmap_suggestions.specs.Forms.{alike}
 use Rattle.mailmap_suggestions.proofs.Distinct.{all_of}
 use Rattle.mailmap_suggestions.proofs.Exact.{equal_bytes}
 use Rattle.mailmap_suggestions.proofs.Grouped.{CanUnite}
@@ -41,14 +41,14 @@ module _ (h g : List Mapping) (to : Text → Contact) where
   IsUnitedByEmail c = IsUnited h g email_shared Any to c
 
   -- git answers as this library does
-  pub git_agrees : (c : Contact) → IsUnitedByEmail c → git_answer g c ≡ answer g c
+  pub git_agrees : (c : Contact) → IsUnitedByEmail c → git_answer_to g c ≡ answer_to g c
   git_agrees c u = ⊎_elim
       (λ none. (u.other none).1 ∙ git_without_email h c none ∙ sym (u.other none).0)
       (λ some. (u.grouped some).1 ∙ sym (u.grouped some).0)
-      (empty_or (email_shared (answer h c)))
+      (empty_or (email_shared (answer_to h c)))
 
   -- two answers with the same email are the same
-  pub one_by_email : (b c : Contact) → IsUnitedByEmail b → IsUnitedByEmail c → folded (answer g b).email ≡ folded (answer g c).email → folded (answer g c).email ≢ [] → answer g b ≡ answer g c
+  pub one_by_email : (b c : Contact) → IsUnitedByEmail b → IsUnitedByEmail c → folded (answer_to g b).email ≡ folded (answer_to g c).email → folded (answer_to g c).email ≢ [] → answer_to g b ≡ answer_to g c
   one_by_email b c u v same some = same_after h g email_shared Any to b c u v same some
 
 -- ---- then by name
@@ -63,8 +63,8 @@ module _ (h g : List Mapping) (cs : List Contact) (to : Text → Contact) (first
   pub can_by_name : CanUnite g cs name_shared (IsUnitedByEmail h g to) next
   can_by_name =
       can_unite g cs name_shared (IsUnitedByEmail h g to) next first
-      (λ b c u v linked some. ap name_shared (one_by_email h g to b c u v (linked_email g b c linked) (some_email (answer g c) some)))
-      (λ c _ some empty. absurd (some_name (answer g c) some empty))
+      (λ b c u v linked some. ap name_shared (one_by_email h g to b c u v (linked_email g b c linked) (some_email (answer_to g c) some)))
+      (λ c _ some empty. absurd (some_name (answer_to g c) some empty))
       proper
 
   unfoldable pub added_by_name : List Mapping
@@ -78,18 +78,18 @@ module _ (h g k : List Mapping) (to next : Text → Contact) where
   abbrev IsUnitedByName : Contact → Type 0
   IsUnitedByName c = IsUnited g k name_shared (IsUnitedByEmail h g to) next c
 
-  pub git_agrees_then : (c : Contact) → IsUnitedByEmail h g to c → IsUnitedByName c → git_answer k c ≡ answer k c
+  pub git_agrees_then : (c : Contact) → IsUnitedByEmail h g to c → IsUnitedByName c → git_answer_to k c ≡ answer_to k c
   git_agrees_then c is u = ⊎_elim
       (λ none. (u.other none).1 ∙ git_agrees h g to c is ∙ sym (u.other none).0)
       (λ some. (u.grouped some).1 ∙ sym (u.grouped some).0)
-      (empty_or (name_shared (answer g c)))
+      (empty_or (name_shared (answer_to g c)))
 
   -- two answers with an email and the same name are the same
-  pub one_by_name : (b c : Contact) → IsUnitedByName b → IsUnitedByName c → name_shared (answer k b) ≡ name_shared (answer k c) → name_shared (answer k c) ≢ [] → answer k b ≡ answer k c
+  pub one_by_name : (b c : Contact) → IsUnitedByName b → IsUnitedByName c → name_shared (answer_to k b) ≡ name_shared (answer_to k c) → name_shared (answer_to k c) ≢ [] → answer_to k b ≡ answer_to k c
   one_by_name b c u v same some = same_after g k name_shared (IsUnitedByEmail h g to) next b c u v same some
 
   -- and two with the same email still are
-  pub one_by_email_then : (b c : Contact) → IsUnitedByEmail h g to b → IsUnitedByEmail h g to c → IsUnitedByName b → IsUnitedByName c → folded (answer k b).email ≡ folded (answer k c).email → folded (answer k c).email ≢ [] → answer k b ≡ answer k c
+  pub one_by_email_then : (b c : Contact) → IsUnitedByEmail h g to b → IsUnitedByEmail h g to c → IsUnitedByName b → IsUnitedByName c → folded (answer_to k b).email ≡ folded (answer_to k c).email → folded (answer_to k c).email ≢ [] → answer_to k b ≡ answer_to k c
   one_by_email_then b c is_b is_c u v same some =
       let d = comes_from g k name_shared (IsUnitedByEmail h g to) next b is_b u in
       let e = comes_from g k name_shared (IsUnitedByEmail h g to) next c is_c v in

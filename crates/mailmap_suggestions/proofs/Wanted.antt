@@ -5,9 +5,9 @@ use Rattle.mailmap_entries.specs.Entries.{Mapping}
 use Rattle.mailmap_entries.specs.Folding.{Text, folded}
 use Rattle.mailmap_entries.proofs.Joined.{filter_none}
 use Rattle.mailmap_entries.proofs.Parts.{all_apply, all_weaker}
-use Rattle.mailmap_contacts.specs.Contacts.{Contact, answer}
-use Rattle.mailmap_suggestions.specs.Contacts.{git_answer}
-use Rattle.mailmap_suggestions.specs.Lines.{alike, distinct, entries_for_email, entries_to, of_old_email}
+use Rattle.mailmap_contacts.specs.Contacts.{Contact, answer_to}
+use Rattle.mailmap_suggestions.specs.Contacts.{git_answer_to}
+use Rattle.mailmap_suggestions.specs.Forms.{alike, distinct, entries_for_email, entries_to, of_old_email}
 use Rattle.mailmap_suggestions.proofs.Appended.{affects, only_affecting, parts_answer}
 use Rattle.mailmap_suggestions.proofs.Distinct.{all_among, all_joined, all_of, at_each, kept_part, refuted, unfiltered}
 use Rattle.mailmap_suggestions.proofs.OneEmail.{IsOfEmail, all_filtered, email_all}
@@ -19,14 +19,14 @@ pub answered_by_same : (h xs ys : List Mapping) (to c : Contact) → filter (aff
 answered_by_same h xs ys to c same before =
     let x = parts_answer c (h ++ filter (affects h c) xs) (h ++ xs) (only_affecting h c xs) in
     let y = parts_answer c (h ++ filter (affects h c) ys) (h ++ ys) (only_affecting h c ys) in (
-      sym y.0 ∙ ap (λ l. answer (h ++ l) c) (sym same) ∙ x.0 ∙ before.0,
-      sym y.1 ∙ ap (λ l. git_answer (h ++ l) c) (sym same) ∙ x.1 ∙ before.1,
+      sym y.0 ∙ ap (λ l. answer_to (h ++ l) c) (sym same) ∙ x.0 ∙ before.0,
+      sym y.1 ∙ ap (λ l. git_answer_to (h ++ l) c) (sym same) ∙ x.1 ∙ before.1,
     )
 
 -- what is known of each contact: if `to` is unnamed, so are it and its answer
 pub record IsWanting (h : List Mapping) (to c : Contact) : Type 0 where
   pub fits : Fits to c
-  pub unnamed : to.name ≡ [] → (answer h c).name ≡ []
+  pub unnamed : to.name ≡ [] → (answer_to h c).name ≡ []
 
 module _ (h : List Mapping) (to : Contact) (cs : List Contact) where
   part : Text → List Mapping

@@ -3,7 +3,7 @@ use Rattle.std.proofs.Common.{◌≡◌, ◌≢◌, Bool, true, false, true≢fa
 use Rattle.std.specs.List.{AllByRecursion, cons_option}
 use Rattle.std.specs.Ordering.{eq_by_cmp}
 use Rattle.std.proofs.lemmas.Bool.{and_parts}
-use Rattle.mailmap_contacts.specs.Contacts.{Contact, answer}
+use Rattle.mailmap_contacts.specs.Contacts.{Contact, answer_to}
 use Rattle.mailmap_entries.specs.Entries.{Mapping}
 use Rattle.mailmap_entries.specs.Folding.{Text, folded, text_cmp}
 use Rattle.mailmap_entries.specs.Semantics.{Fields, Key, accepted, first, given_fields, is_accepted, key, key_cmp, last, new_fields, of_email, of_key, spelling}
@@ -11,9 +11,9 @@ use Rattle.mailmap_entries.proofs.Building.{same_key}
 use Rattle.mailmap_entries.proofs.Joined.{filter_none}
 use Rattle.mailmap_entries.proofs.Parts.{all_append, all_apply, all_last, all_weaker}
 use Rattle.mailmap_grammar.specs.CanonicalText.{IsWritable, IsWritableEmail, IsWritableName}
-use Rattle.mailmap_suggestions.specs.Contacts.{git_answer, own_key}
-use Rattle.mailmap_suggestions.specs.Lines.{alike, are_answered, distinct, entries_for_email, entries_to, has_own_entry, is_answered, is_short_enough, long_form, name_of, named_entries, named_form, of_old_email, plain_entries, plus, short_form}
-use Rattle.mailmap_suggestions.specs.Suggestions.{IsWritableContact}
+use Rattle.mailmap_suggestions.specs.Contacts.{git_answer_to, own_key}
+use Rattle.mailmap_suggestions.specs.Forms.{alike, are_answered, distinct, entries_for_email, entries_to, has_own_entry, is_answered, is_short_enough, long_form, name_unless_empty, named_entries, named_form, of_old_email, plain_entries, plus, short_form}
+use Rattle.mailmap_suggestions.specs.GroupEntries.{IsWritableContact}
 use Rattle.mailmap_suggestions.proofs.Answers.{answer_is, fields, git_is, no_own, own_fields, spelled}
 use Rattle.mailmap_suggestions.proofs.Appended.{or_true}
 use Rattle.mailmap_suggestions.proofs.Distinct.{all_joined, all_of, refuted, unfiltered}
@@ -69,7 +69,7 @@ spelled_writable h c all =
     by [] all = tt
     by (x ∷ xs) all = all.0.emails.1
 
-pub answer_writable : (h : List Mapping) (c : Contact) → AllByRecursion IsWritable h → IsWritableContact c → IsWritableContact (answer h c)
+pub answer_writable : (h : List Mapping) (c : Contact) → AllByRecursion IsWritable h → IsWritableContact c → IsWritableContact (answer_to h c)
 answer_writable h c all w =
     let f = fields_writable h c all in
     subst IsWritableContact (sym (answer_is h c))
@@ -84,7 +84,7 @@ answer_writable h c all w =
     emails None (Some t) p q = q
     emails (Some t) s p q = p
 
-pub git_writable : (h : List Mapping) (c : Contact) → AllByRecursion IsWritable h → IsWritableContact c → IsWritableContact (git_answer h c)
+pub git_writable : (h : List Mapping) (c : Contact) → AllByRecursion IsWritable h → IsWritableContact c → IsWritableContact (git_answer_to h c)
 git_writable h c all w =
     let f = fields_writable h c all in
     subst IsWritableContact (sym (git_is h c)) (record { name = names (fields h c).name f.0; email = emails (fields h c).email f.1 })
@@ -116,7 +116,7 @@ pub record IsSuggestible (to : Contact) : Type 0 where
   pub writable : IsWritableContact to
   pub some : to.email ≢ []
 
-name_writable : (to : Contact) → IsWritableContact to → IfSome (name_of to) IsWritableName
+name_writable : (to : Contact) → IsWritableContact to → IfSome (name_unless_empty to) IsWritableName
 name_writable to w =
     elim (bytes_eq to.name []) as (λ b. bytes_eq to.name [] ≡ b → IfSome (if b then None else Some to.name) IsWritableName) [
       | true ↦ λ _. tt
@@ -126,10 +126,10 @@ name_writable to w =
 long_good : (to c : Contact) → IsSuggestible to → IsWritableContact c → IsGood (long_form to c)
 long_good to c s w = (
   record { names = (name_writable to s.writable, tt); emails = (s.writable.email, w.email); some_new = s.some; some_old = tt; paired = tt },
-  or_true (is_some (name_of to)) true refl,
+  or_true (is_some (name_unless_empty to)) true refl,
 )
 
-short_good : (to : Contact) → IsSuggestible to → is_some (name_of to) ≡ true → IsGood (short_form to)
+short_good : (to : Contact) → IsSuggestible to → is_some (name_unless_empty to) ≡ true → IsGood (short_form to)
 short_good to s named = (
   record { names = (name_writable to s.writable, tt); emails = (tt, s.writable.email); some_new = tt; some_old = s.some; paired = tt },
   ap (λ b. b || false) named,
@@ -138,7 +138,7 @@ short_good to s named = (
 named_good : (to c : Contact) → IsSuggestible to → IsWritableContact c → c.name ≢ [] → IsGood (named_form to c)
 named_good to c s w some = (
   record { names = (name_writable to s.writable, w.name some); emails = (s.writable.email, w.email); some_new = s.some; some_old = tt; paired = refl },
-  or_true (is_some (name_of to)) true refl,
+  or_true (is_some (name_unless_empty to)) true refl,
 )
 
 -- ---- the entries for one old email
@@ -152,7 +152,7 @@ module _ (h : List Mapping) (to : Contact) (s : IsSuggestible to) where
         | false ↦ (
           elim (is_short_enough (alike h) to c cs) as (λ b. is_short_enough (alike h) to c cs ≡ b → IsGood (if b then short_form to else long_form to c)) [
             | true ↦ λ enough. short_good to s
-                (and_parts (is_some (name_of to)) (bytes_eq (folded to.email) (folded c.email))
+                (and_parts (is_some (name_unless_empty to)) (bytes_eq (folded to.email) (folded c.email))
                 (and_parts _ (are_answered (plus (alike h) (short_form to ∷ [])) to (c ∷ cs)) enough).0).0
             | false ↦ λ _. long_good to c s all.0
           ] refl,

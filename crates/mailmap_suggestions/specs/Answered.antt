@@ -12,7 +12,7 @@ use Rattle.mailmap_contacts.specs.Answers.{tally_of}
 use Rattle.mailmap_contacts.specs.Contacts.{Contact, Tally, answered, same_contact}
 use Rattle.mailmap_suggestions.specs.Contacts.{own_key}
 use Rattle.mailmap_suggestions.specs.Counted.{git_answered}
-use Rattle.mailmap_suggestions.specs.Lines.{Histories}
+use Rattle.mailmap_suggestions.specs.Forms.{Histories}
 use Rattle.mailmap_suggestions.specs.declared.answered.Answered.{Answered}
 
 -- the entries as this library reads them, and as git does
@@ -23,16 +23,16 @@ histories ours gits = record { ours = entries ours.history; gits = entries gits.
 abbrev pub tally_in : Answered → Tally
 tally_in a = tally_of a.contact
 
-abbrev pub contact_in : Answered → Contact
-contact_in a = (tally_in a).contact
+abbrev pub answered_contact : Answered → Contact
+answered_contact a = (tally_in a).contact
 
--- what it has is so for these entries
-pub record IsAnswered (h : Histories) (a : Answered) : Type 0 where
+-- its answers and flags are those by these entries
+pub record IsRightFor (h : Histories) (a : Answered) : Type 0 where
   pub ours : tally_of a.ours ≡ answered h.ours (tally_in a)
   pub gits : tally_of a.gits ≡ git_answered h (tally_in a)
-  pub own : a.has_own_entry ≡ is_some (last_fields h.ours (own_key (contact_in a)))
-  pub own_in_git : a.has_own_entry_in_git ≡ is_some (last_fields h.gits (own_key (contact_in a)))
-  pub email : a.has_email ≡ is_some (spelling h.ours (folded (contact_in a).email))
+  pub own : a.has_own_entry ≡ is_some (last_fields h.ours (own_key (answered_contact a)))
+  pub own_in_git : a.has_own_entry_in_git ≡ is_some (last_fields h.gits (own_key (answered_contact a)))
+  pub email : a.has_email ≡ is_some (spelling h.ours (folded (answered_contact a).email))
 
 -- ---- references
 
@@ -40,13 +40,13 @@ abbrev pub tally_behind : Bor Answered → Tally
 tally_behind a = tally_in a.now
 
 abbrev pub contact_behind : Bor Answered → Contact
-contact_behind a = contact_in a.now
+contact_behind a = answered_contact a.now
 
 abbrev pub tallies_behind : List (Bor Answered) → List Tally
 tallies_behind group = map tally_behind group
 
 abbrev pub AreAnswered : Histories → List (Bor Answered) → Type 0
-AreAnswered h group = AllByRecursion (λ a. IsAnswered h a.now) group
+AreAnswered h group = AllByRecursion (λ a. IsRightFor h a.now) group
 
 -- ---- groups
 

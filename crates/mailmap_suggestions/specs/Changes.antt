@@ -13,23 +13,23 @@ use Rattle.mailmap_contacts.specs.Answers.{folded_cmp}
 use Rattle.mailmap_contacts.specs.Contacts.{Contact}
 use Rattle.mailmap_contacts.specs.Folded.{folded_text}
 use Rattle.mailmap_contacts.specs.declared.folded.Folded.{Folded}
-use Rattle.mailmap_suggestions.specs.Answered.{IsAnswered, contact_behind, contact_in}
-use Rattle.mailmap_suggestions.specs.Lines.{Histories, distinct, name_of, of_old_email}
+use Rattle.mailmap_suggestions.specs.Answered.{IsRightFor, contact_behind, answered_contact}
+use Rattle.mailmap_suggestions.specs.Forms.{Histories, distinct, name_unless_empty, of_old_email}
 use Rattle.mailmap_suggestions.specs.declared.answered.Answered.{Answered}
 use Rattle.mailmap_suggestions.specs.declared.changes.Changes.{Changes}
 
 -- ---- contacts
 
 abbrev pub email_in : Answered → Text
-email_in a = folded (contact_in a).email
+email_in a = folded (answered_contact a).email
 
 -- what it has is so for these entries, and it has this old email
 abbrev pub IsAnsweredFor : Histories → Text → Bor Answered → Type 0
-IsAnsweredFor h email a = IsAnswered h a.now × (email_in a.now ≡ email)
+IsAnsweredFor h email a = IsRightFor h a.now × (email_in a.now ≡ email)
 
 -- each part has the contacts with one old email
 pub record AreParts (h : Histories) (cs : List Contact) (parts : List (Vec (Bor Answered))) : Type 0 where
-  pub answered : All (λ part. All (λ a. IsAnswered h a.now) part.items) parts
+  pub answered : All (λ part. All (λ a. IsRightFor h a.now) part.items) parts
   pub emails : map (λ part. map contact_behind part.items) parts
       ≡ map (λ email. of_old_email email cs) (distinct (map (λ c. folded c.email) cs))
 
@@ -45,7 +45,7 @@ IsPlain email x = (is_accepted x ≡ true) × (key x ≡ (email, None))
 
 -- the new fields of entries with an old name
 abbrev pub fields_to : Contact → Fields
-fields_to to = record { name = name_of to; email = Some to.email }
+fields_to to = record { name = name_unless_empty to; email = Some to.email }
 
 abbrev pub given_in : Changes → Fields
 given_in a = record { name = option_copied a.new_name; email = option_copied a.new_email }

@@ -11,8 +11,8 @@ abbrev pub replaced : Fields → Contact → Contact
 replaced f c = record { name = unwrap_or f.name c.name; email = unwrap_or f.email c.email }
 
 -- git's answer
-abbrev pub git_answer : List Mapping → Contact → Contact
-git_answer h c = replaced (unwrap_or (git_answer_from h c.name c.email) no_fields) c
+abbrev pub git_answer_to : List Mapping → Contact → Contact
+git_answer_to h c = replaced (unwrap_or (git_answer_from h c.name c.email) no_fields) c
 
 -- the key of entries that have the contact's name and email as their old ones
 abbrev pub own_key : Contact → Key

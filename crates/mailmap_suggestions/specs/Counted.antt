@@ -2,12 +2,12 @@
 use Rattle.std.specs.Prelude.{◌+◌, ℕ, not, if◌then◌else◌, List, [], ◌∷◌, map, filter}
 use Rattle.std.specs.Ordering.{nat_cmp, ordering_then}
 use Rattle.std.specs.declared.cmp.Ordering.{Ordering}
-use Rattle.mailmap_contacts.specs.Contacts.{Tally, answer, answered, same_contact, tallied}
+use Rattle.mailmap_contacts.specs.Contacts.{Tally, answer_to, answered, same_contact, tallied}
 use Rattle.mailmap_contacts.specs.Proper.{comes_more}
-use Rattle.mailmap_suggestions.specs.Contacts.{git_answer}
-use Rattle.mailmap_suggestions.specs.Lines.{Histories}
+use Rattle.mailmap_suggestions.specs.Contacts.{git_answer_to}
+use Rattle.mailmap_suggestions.specs.Forms.{Histories}
 
--- what comes more is less
+-- by descending count, then by ascending first line
 abbrev pub frequency_cmp : Tally → Tally → Ordering
 frequency_cmp a b = ordering_then (nat_cmp b.seen.count a.seen.count) (nat_cmp a.seen.first_line b.seen.first_line)
 
@@ -30,11 +30,11 @@ ranked number (t ∷ ts) =
     record { contact = t.contact; seen = record { count = t.seen.count; first_line = number } } ∷ ranked (number + 1) ts
 
 abbrev pub git_answered : Histories → Tally → Tally
-git_answered h t = record { contact = git_answer h.gits t.contact; seen = t.seen }
+git_answered h t = record { contact = git_answer_to h.gits t.contact; seen = t.seen }
 
 -- those that git answers otherwise than this library
 abbrev pub answered_otherwise : Histories → List Tally → List Tally
-answered_otherwise h ts = filter (λ t. not (same_contact (git_answer h.gits t.contact) (answer h.ours t.contact))) ts
+answered_otherwise h ts = filter (λ t. not (same_contact (git_answer_to h.gits t.contact) (answer_to h.ours t.contact))) ts
 
 -- git's answers to them; each comes where its contact comes
 abbrev pub other_git_answers : Histories → List Tally → List Tally

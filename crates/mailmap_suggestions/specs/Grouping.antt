@@ -13,9 +13,9 @@ use Rattle.mailmap_contacts.specs.Folded.{folded_text}
 use Rattle.mailmap_contacts.specs.declared.folded.Folded.{Folded}
 use Rattle.mailmap_contacts.specs.declared.proper.Shared.{Shared}
 use Rattle.mailmap_contacts.specs.declared.proper.Shared.TheVariants.{Email, Name}
-use Rattle.mailmap_suggestions.specs.Answered.{contact_in}
+use Rattle.mailmap_suggestions.specs.Answered.{answered_contact}
 use Rattle.mailmap_suggestions.specs.Groups.{email_shared, name_shared}
-use Rattle.mailmap_suggestions.specs.Lines.{distinct}
+use Rattle.mailmap_suggestions.specs.Forms.{distinct}
 use Rattle.mailmap_suggestions.specs.declared.answered.Answered.{Answered}
 use Rattle.mailmap_suggestions.specs.declared.groups.Criterion.{Criterion}
 use Rattle.mailmap_suggestions.specs.declared.groups.Criterion.TheVariants.{OldEmail, Answer}
@@ -30,29 +30,29 @@ shared_by Email = email_shared
 shared_by Name = name_shared
 
 -- their old email, or what their answers share
-abbrev pub text_by : Criterion → Answered → Text
-text_by OldEmail a = folded (contact_in a).email
-text_by (Answer shared) a = shared_by shared (tally_of a.ours).contact
+abbrev pub criterion_text : Criterion → Answered → Text
+criterion_text OldEmail a = folded (answered_contact a).email
+criterion_text (Answer shared) a = shared_by shared (tally_of a.ours).contact
 
 -- ---- groups
 
-abbrev pub members : {X : Type 0} → (X → Text) → List X → Text → List X
-members text xs t = filter (λ x. bytes_eq t (text x)) xs
+abbrev pub group_members : {X : Type 0} → (X → Text) → List X → Text → List X
+group_members text xs t = filter (λ x. bytes_eq t (text x)) xs
 
 -- one for each text, in the order of first occurrence
 abbrev pub grouped_by : {X : Type 0} → (X → Text) → List X → List (List X)
-grouped_by text xs = map (members text xs) (distinct (map text xs))
+grouped_by text xs = map (group_members text xs) (distinct (map text xs))
 
 -- the index of a text
-abbrev pub place_of : Text → List Text → Option ℕ
-place_of t [] = None
-place_of t (u ∷ us) = if bytes_eq t u then Some 0 else option_map suc (place_of t us)
+abbrev pub index_of_text : Text → List Text → Option ℕ
+index_of_text t [] = None
+index_of_text t (u ∷ us) = if bytes_eq t u then Some 0 else option_map suc (index_of_text t us)
 
 -- `found` are the groups of these contacts, and `at` has the place of each text's group
-pub record AreGroups (text : Answered → Text) (cs : List Answered) (at : BTreeMap Folded ℕ)
+pub record AreContactGroups (text : Answered → Text) (cs : List Answered) (at : BTreeMap Folded ℕ)
     (found : List (Vec (Bor Answered))) : Type 0 where
   pub groups : map (λ g. behind g.items) found ≡ grouped_by text cs
-  pub places : (t : Folded) → get folded_cmp at t ≡ place_of (folded_text t) (distinct (map text cs))
+  pub places : (t : Folded) → get folded_cmp at t ≡ index_of_text (folded_text t) (distinct (map text cs))
 
 -- ---- what is known of a group
 

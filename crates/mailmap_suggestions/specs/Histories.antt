@@ -4,7 +4,7 @@ use Rattle.std.specs.List.{flat_map}
 use Rattle.mailmap_entries.specs.Folding.{Text}
 use Rattle.mailmap_findings.specs.GitAnswers.{git_mappings}
 use Rattle.mailmap_grammar.specs.Lines.{mappings_of}
-use Rattle.mailmap_suggestions.specs.Lines.{Histories}
+use Rattle.mailmap_suggestions.specs.Forms.{Histories}
 
 -- as this library reads them, and as git does
 abbrev pub histories_of : List Text → Histories

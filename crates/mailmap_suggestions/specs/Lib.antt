@@ -6,8 +6,8 @@ pub mod Counted
 pub mod Grouping
 pub mod Groups
 pub mod Histories
-pub mod Lines
-pub mod Suggested
-pub mod SuggestedText
+pub mod Forms
 pub mod Suggestions
+pub mod SuggestedText
+pub mod GroupEntries
 pub mod Views

@@ -1,5 +1,5 @@
 -- The text of suggestions: groups with their counted answers as comments, and the lines of their entries. It is a
--- mailmap, in which the lines that are to be judged first are comments, too.
+-- mailmap, in which the lines that need a look first are comments, too.
 use Rattle.std.specs.Prelude.{◌++◌, ℕ, Bool, true, false, if◌then◌else◌, unwrap_or, codes, decimal, List, [], ◌∷◌}
 use Rattle.std.specs.List.{flat_map}
 use Rattle.mailmap_contacts.specs.Contacts.{Contact, Tally}
@@ -9,9 +9,9 @@ use Rattle.mailmap_grammar.specs.CanonicalText.{bracketed_email, email_part, nam
 use Rattle.mailmap_grammar.specs.Lines.{is_comment}
 use Rattle.mailmap_snapshot.specs.Contacts.{contact_line}
 use Rattle.mailmap_suggestions.specs.Groups.{email_shared, name_shared}
-use Rattle.mailmap_suggestions.specs.Lines.{Histories, plus}
-use Rattle.mailmap_suggestions.specs.Suggested.{Suggestion, suggestion}
-use Rattle.mailmap_suggestions.specs.Suggestions.{email_entries, groups}
+use Rattle.mailmap_suggestions.specs.Forms.{Histories, plus}
+use Rattle.mailmap_suggestions.specs.Suggestions.{Suggestion, suggestion}
+use Rattle.mailmap_suggestions.specs.GroupEntries.{email_entries, groups}
 
 -- ---- lines, without their line feeds
 
@@ -22,9 +22,9 @@ fields_text e = name_part e.new_name ++ email_part e.new_email ++ name_part e.ol
 abbrev pub entry_line : Mapping → Text
 entry_line e = (if is_comment (unwrap_or e.new_name []) then 32 ∷ [] else []) ++ fields_text e
 
--- `#?` before the line of an entry that is to be judged
+-- `#?` before the line of an entry that needs a look first
 abbrev pub mark : Bool → Text
-mark is_to_judge = if is_to_judge then codes "#?" else []
+mark needs_review = if needs_review then codes "#?" else []
 
 abbrev pub by_git : Bool → Text
 by_git is_gits = if is_gits then codes " by git" else []
@@ -39,16 +39,16 @@ abbrev pub count_lines : Bool → List Tally → Text
 count_lines is_gits ts = flat_map (λ t. count_line is_gits t.seen.count t.contact ++ 10 ∷ []) ts
 
 abbrev pub entry_lines : Bool → List Mapping → Text
-entry_lines is_to_judge es = flat_map (λ e. mark is_to_judge ++ entry_line e ++ 10 ∷ []) es
+entry_lines needs_review es = flat_map (λ e. mark needs_review ++ entry_line e ++ 10 ∷ []) es
 
 -- the comments and the lines of a suggestion, and an empty line
 abbrev pub suggestion_text : Bool → Suggestion → Text
 suggestion_text is_marked s = count_lines false s.answers ++ count_lines true s.git_answers
     ++ entry_lines is_marked s.entries ++ 10 ∷ []
 
--- the text of suggestions, in which the lines of those that are to be judged are marked
+-- the text of suggestions, in which the lines of those that need a look are marked
 abbrev pub suggestions_text : List Suggestion → Text
-suggestions_text found = flat_map (λ s. suggestion_text s.is_to_judge s) found
+suggestions_text found = flat_map (λ s. suggestion_text s.needs_review s) found
 
 abbrev pub group_text : Histories → Bool → List Tally → Text
 group_text h is_marked g = suggestion_text is_marked (suggestion h is_marked g)
@@ -64,5 +64,5 @@ abbrev pub suggested_text : Histories → List Tally → Text
 suggested_text = text_by true
 
 -- with all marks deleted
-abbrev pub judged_text : Histories → List Tally → Text
-judged_text = text_by false
+abbrev pub reviewed_text : Histories → List Tally → Text
+reviewed_text = text_by false

@@ -1,85 +1,31 @@
--- The entries that mailmaps lack for contacts: those by which no two answers share an email and differ, and those by
--- which then no two share a name.
-use Rattle.std.specs.Prelude.{◌≡◌, ◌≢◌, ◌&&◌, Bool, false, not, Option, None, Some, List, [], map, filter}
-use Rattle.std.specs.Prelude.{bytes_eq}
-use Rattle.std.specs.List.{AllByRecursion, flat_map}
-use Rattle.mailmap_contacts.specs.Contacts.{Contact, Tally, answer, answered, tallied}
-use Rattle.mailmap_contacts.specs.Proper.{proper}
+-- What is suggested for the contacts of a history.
+use Rattle.std.specs.Prelude.{Bool, true, false, List, ◌++◌, map}
+use Rattle.mailmap_contacts.specs.Contacts.{Tally}
 use Rattle.mailmap_entries.specs.Entries.{Mapping}
-use Rattle.mailmap_entries.specs.Folding.{Text}
-use Rattle.mailmap_grammar.specs.CanonicalText.{IsWritableEmail, IsWritableName}
-use Rattle.mailmap_suggestions.specs.Contacts.{git_answer}
-use Rattle.mailmap_suggestions.specs.Groups.{are_alike, email_shared, name_shared, shared_texts}
-use Rattle.mailmap_suggestions.specs.Lines.{Histories, alike, entries_to, plus}
+use Rattle.mailmap_suggestions.specs.Counted.{counted, git_counted}
+use Rattle.mailmap_suggestions.specs.Groups.{email_shared, name_shared}
+use Rattle.mailmap_suggestions.specs.Forms.{Histories, plus}
+use Rattle.mailmap_suggestions.specs.GroupEntries.{email_entries, group_entries, groups}
 
-abbrev pub contacts : List Tally → List Contact
-contacts ts = map (λ t. t.contact) ts
+-- the answers to a group of contacts, and the entries that give it one answer
+pub record Suggestion : Type 0 where
+  pub answers : List Tally
+  -- git's, where they differ
+  pub git_answers : List Tally
+  pub entries : List Mapping
+  -- whether somebody has to judge whether the group is one person
+  pub needs_review : Bool
 
--- ---- groups
+abbrev pub suggestion : Histories → Bool → List Tally → Suggestion
+suggestion h needs_review g = record {
+  answers = counted h g;
+  git_answers = git_counted h g;
+  entries = group_entries h g;
+  needs_review = needs_review;
+}
 
--- those whose answers share a text
-abbrev pub sharers : (Contact → Text) → Histories → List Tally → Text → List Tally
-sharers shared h ts text = filter (λ t. bytes_eq text (shared (answer h.ours t.contact))) ts
-
--- those that share something and aren't all answered alike
-abbrev pub groups : (Contact → Text) → Histories → List Tally → List (List Tally)
-groups shared h ts = filter (λ g. not (are_alike h (contacts g)))
-    (map (sharers shared h ts) (shared_texts shared h (contacts ts)))
-
--- whether a contact is in such a group
-abbrev pub is_grouped : (Contact → Text) → Histories → List Tally → Contact → Bool
-is_grouped shared h ts c =
-    let text = shared (answer h.ours c) in
-    not (bytes_eq text []) && not (are_alike h (contacts (sharers shared h ts text)))
-
--- ---- the proper answer of a group
-
-abbrev pub nobody : Contact
-nobody = record { name = []; email = [] }
-
-abbrev pub contact_of : Option Tally → Contact
-contact_of None = nobody
-contact_of (Some t) = t.contact
-
-abbrev pub proper_answer : Histories → List Tally → Contact
-proper_answer h g = contact_of (proper (tallied (map (answered h.ours) g)))
-
--- ---- entries
-
--- by which all contacts of a group get its proper answer
-abbrev pub group_entries : Histories → List Tally → List Mapping
-group_entries h g = entries_to h (proper_answer h g) (contacts g)
-
-abbrev pub all_entries : (Contact → Text) → Histories → List Tally → List Mapping
-all_entries shared h ts = flat_map (group_entries h) (groups shared h ts)
-
--- for answers that share an email
-abbrev pub email_entries : Histories → List Tally → List Mapping
-email_entries h ts = all_entries email_shared h ts
-
--- for answers that share a name then; two people may share one, so these are for somebody to judge
-abbrev pub name_entries : Histories → List Tally → List Mapping
-name_entries h ts = all_entries name_shared (plus h (email_entries h ts)) ts
-
--- ---- what they do
-
--- as in each entry that is read from a line
-abbrev pub HasNoEmptyName : Mapping → Type 0
-HasNoEmptyName e = e.new_name ≢ Some []
-
--- The mappings g answer the contacts as h does, but those of each group by its proper answer. So no two answers share
--- an email, or a name, and differ.
-pub record Unites (shared : Contact → Text) (h : List Mapping) (ts : List Tally) (g : List Mapping) : Type 0 where
-  pub groups : AllByRecursion (λ group. AllByRecursion (λ c. answer g c ≡ proper_answer (alike h) group)
-      (contacts group)) (groups shared (alike h) ts)
-  pub others : AllByRecursion (λ c. is_grouped shared (alike h) ts c ≡ false
-      → (answer g c ≡ answer h c) × (git_answer g c ≡ git_answer h c)) (contacts ts)
-  pub distinct : AllByRecursion (λ b. AllByRecursion (λ c. shared (answer g b) ≡ shared (answer g c)
-      → shared (answer g c) ≢ [] → answer g b ≡ answer g c) (contacts ts)) (contacts ts)
-  -- git's answers are the same
-  pub git : AllByRecursion (λ c. git_answer g c ≡ answer g c) (contacts ts)
-
--- as in each contact that is read from a line
-pub record IsWritableContact (c : Contact) : Type 0 where
-  pub name : c.name ≢ [] → IsWritableName c.name
-  pub email : IsWritableEmail c.email
+-- for the groups that share an email, and then for those that share a name
+abbrev pub suggestions : Histories → List Tally → List Suggestion
+suggestions h ts =
+    let more = plus h (email_entries h ts) in
+    map (suggestion h false) (groups email_shared h ts) ++ map (suggestion more true) (groups name_shared more ts)

@@ -4,7 +4,7 @@ use Rattle.mailmap_contacts.specs.Answers.{tally_of}
 use Rattle.mailmap_contacts.specs.declared.proper.Shared.{Shared}
 use Rattle.mailmap_contacts.specs.declared.proper.Shared.TheVariants.{Email, Name}
 use Rattle.mailmap_entries.specs.Entries.{mapping_of}
-use Rattle.mailmap_suggestions.specs.Suggested.{Suggestion}
+use Rattle.mailmap_suggestions.specs.Suggestions.{Suggestion}
 use Rattle.mailmap_suggestions.specs.declared.suggestions.Suggestion.{Suggestion as TheSuggestion}
 
 -- the specification's view of a suggestion
@@ -13,10 +13,10 @@ suggestion_of s = record {
   answers = map tally_of s.answers.items;
   git_answers = map tally_of s.git_answers.items;
   entries = map mapping_of s.entries.items;
-  is_to_judge = s.is_to_judge;
+  needs_review = s.needs_review;
 }
 
 -- whether answers that share this may be two people
-abbrev pub are_to_judge : Shared → Bool
-are_to_judge Email = false
-are_to_judge Name = true
+abbrev pub need_review : Shared → Bool
+need_review Email = false
+need_review Name = true

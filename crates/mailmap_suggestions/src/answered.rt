@@ -6,8 +6,8 @@ ghost use Rattle.mailmap_redundancy.specs.Numbers.{fields_of};
 ghost use Rattle.mailmap_redundancy.specs.Redundancy.{entries};
 ghost use Rattle.mailmap_contacts.specs.Answers.{tally_of};
 ghost use Rattle.mailmap_contacts.specs.Contacts.{answered};
-ghost use Rattle.mailmap_suggestions.specs.Answered.{IsAnswered, histories, tally_in};
-ghost use Rattle.mailmap_suggestions.specs.Contacts.{git_answer, replaced};
+ghost use Rattle.mailmap_suggestions.specs.Answered.{IsRightFor, histories, tally_in};
+ghost use Rattle.mailmap_suggestions.specs.Contacts.{git_answer_to, replaced};
 
 use mailmap_contacts::answers::Tally;
 use mailmap_redundancy::{Effective, Fields};
@@ -37,7 +37,7 @@ pub(crate) fn answer_all<'a>(
     gits: &Effective<'_, 'a>,
 ) -> Result<Vec<Answered<'a>>, AllocError>
     ensures contacts { IfOk result (λ all. map tally_in all.items ≡ map tally_of contacts.now) }
-    ensures answered { IfOk result (λ all. All (IsAnswered (histories ours.now gits.now)) all.items) }
+    ensures answered { IfOk result (λ all. All (IsRightFor (histories ours.now gits.now)) all.items) }
 {
     let mut all = Vec::with_capacity(alloc, contacts.len())?;
     for contact in contacts {
@@ -52,7 +52,7 @@ fn answer<'a>(
     gits: &Effective<'_, 'a>,
 ) -> Answered<'a>
     ensures contact { tally_in result ≡ tally_of contact.entry }
-    ensures answered { IsAnswered (histories ours.now gits.now) result }
+    ensures answered { IsRightFor (histories ours.now gits.now) result }
 {
     let Tally { name, email, .. } = contact;
     Answered {
@@ -75,7 +75,7 @@ pub(crate) fn answer_to<'a>(contact: Tally<'a>, ours: &Effective<'_, 'a>) -> Tal
 /// What git answers to a contact.
 pub(crate) fn git_answer_to<'a>(contact: Tally<'a>, gits: &Effective<'_, 'a>) -> Tally<'a>
     ensures contact { (tally_of result).contact
-        ≡ git_answer (entries gits.now.history) (tally_of contact.entry).contact }
+        ≡ git_answer_to (entries gits.now.history) (tally_of contact.entry).contact }
     ensures seen { (tally_of result).seen ≡ (tally_of contact.entry).seen }
 {
     with_fields(contact, gits.git_answer_of(contact.name, contact.email))

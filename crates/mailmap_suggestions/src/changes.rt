@@ -6,11 +6,11 @@ ghost use Rattle.mailmap_entries.specs.Entries.{Mapping};
 ghost use Rattle.mailmap_entries.specs.Folding.{Text};
 ghost use Rattle.mailmap_entries.specs.Semantics.{last_fields};
 ghost use Rattle.mailmap_contacts.specs.Answers.{answer_key, tally_of};
-ghost use Rattle.mailmap_contacts.specs.Contacts.{Contact, answer, same_contact};
-ghost use Rattle.mailmap_suggestions.specs.Answered.{IsAnswered, contact_in};
+ghost use Rattle.mailmap_contacts.specs.Contacts.{Contact, answer_to, same_contact};
+ghost use Rattle.mailmap_suggestions.specs.Answered.{IsRightFor, answered_contact};
 ghost use Rattle.mailmap_suggestions.specs.Changes.{AreChangesBy, IsPlain, email_in, fields_to, given_in, listed};
-ghost use Rattle.mailmap_suggestions.specs.Contacts.{git_answer, own_key, replaced};
-ghost use Rattle.mailmap_suggestions.specs.Lines.{Histories, is_answered, name_of, named_form, plus};
+ghost use Rattle.mailmap_suggestions.specs.Contacts.{git_answer_to, own_key, replaced};
+ghost use Rattle.mailmap_suggestions.specs.Forms.{Histories, is_answered, name_unless_empty, named_form, plus};
 
 use crate::answered::Answered;
 use mailmap_contacts::answers::Tally;
@@ -60,7 +60,7 @@ impl<'a> Changes<'a> {
     pub(crate) fn add_name(&mut self, contact: &Answered<'a>) -> Result<(), AllocError>
         ensures { OnOk result ((to : Contact) (added : List Mapping)
             → AreChangesBy to (email_in contact.now) added self.old
-            → AreChangesBy to (email_in contact.now) (added ++ named_form to (contact_in contact.now) ∷ []) self.new) }
+            → AreChangesBy to (email_in contact.now) (added ++ named_form to (answered_contact contact.now) ∷ []) self.new) }
     {
         self.names.insert(Folded {
             text: contact.contact.name,
@@ -73,9 +73,9 @@ impl<'a> Changes<'a> {
 
     /// Whether this library and git both answer a contact by `to`.
     pub(crate) fn answers(&self, to: &Tally<'a>, contact: &Answered<'a>) -> bool
-        ensures { (h : Histories) (added : List Mapping) → IsAnswered h contact.now
+        ensures { (h : Histories) (added : List Mapping) → IsRightFor h contact.now
             → AreChangesBy (tally_of to.now).contact (email_in contact.now) added self.now
-            → result ≡ is_answered (plus h added) (tally_of to.now).contact (contact_in contact.now) }
+            → result ≡ is_answered (plus h added) (tally_of to.now).contact (answered_contact contact.now) }
     {
         let key = Folded {
             text: contact.contact.name,
@@ -88,10 +88,10 @@ impl<'a> Changes<'a> {
 
     // What this library answers to a contact, if no entry here has its name.
     fn ours(&self, contact: &Answered<'a>) -> (&'a [u8], &'a [u8])
-        ensures { (h : Histories) (to : Contact) (added : List Mapping) → IsAnswered h contact.now
+        ensures { (h : Histories) (to : Contact) (added : List Mapping) → IsRightFor h contact.now
             → AreChangesBy to (email_in contact.now) added self.now
-            → last_fields added (own_key (contact_in contact.now)) ≡ None
-            → answer_key result ≡ answer (plus h added).ours (contact_in contact.now) }
+            → last_fields added (own_key (answered_contact contact.now)) ≡ None
+            → answer_key result ≡ answer_to (plus h added).ours (answered_contact contact.now) }
     {
         if contact.has_own_entry {
             return (contact.ours.name, contact.ours.email);
@@ -112,10 +112,10 @@ impl<'a> Changes<'a> {
 
     // What git answers to a contact, if no entry here has its name.
     fn gits(&self, contact: &Answered<'a>) -> (&'a [u8], &'a [u8])
-        ensures { (h : Histories) (to : Contact) (added : List Mapping) → IsAnswered h contact.now
+        ensures { (h : Histories) (to : Contact) (added : List Mapping) → IsRightFor h contact.now
             → AreChangesBy to (email_in contact.now) added self.now
-            → last_fields added (own_key (contact_in contact.now)) ≡ None
-            → answer_key result ≡ git_answer (plus h added).gits (contact_in contact.now) }
+            → last_fields added (own_key (answered_contact contact.now)) ≡ None
+            → answer_key result ≡ git_answer_to (plus h added).gits (answered_contact contact.now) }
     {
         if contact.has_own_entry_in_git {
             return (contact.gits.name, contact.gits.email);
@@ -135,8 +135,8 @@ impl<'a> Changes<'a> {
 }
 
 /// The new name of entries, `None` if it is empty.
-pub(crate) fn name_of<'a>(to: &Tally<'a>) -> Option<&'a [u8]>
-    ensures { option_copied result ≡ name_of (tally_of to.now).contact }
+pub(crate) fn name_unless_empty<'a>(to: &Tally<'a>) -> Option<&'a [u8]>
+    ensures { option_copied result ≡ name_unless_empty (tally_of to.now).contact }
 {
     if to.name.is_empty() {
         None
@@ -147,9 +147,12 @@ pub(crate) fn name_of<'a>(to: &Tally<'a>) -> Option<&'a [u8]>
 
 // What a contact is answered if an entry here has its name.
 fn named<'a>(to: &Tally<'a>, contact: &Answered<'a>) -> (&'a [u8], &'a [u8])
-    ensures { answer_key result ≡ replaced (fields_to (tally_of to.now).contact) (contact_in contact.now) }
+    ensures { answer_key result ≡ replaced (fields_to (tally_of to.now).contact) (answered_contact contact.now) }
 {
-    (name_of(to).unwrap_or(contact.contact.name), to.email)
+    (
+        name_unless_empty(to).unwrap_or(contact.contact.name),
+        to.email,
+    )
 }
 
 fn is_same(answer: (&[u8], &[u8]), to: &Tally<'_>) -> bool

@@ -2,16 +2,16 @@
 ghost use Rattle.std.specs.Prelude.{◌≡◌, [], IfOk, IsNone, List, filter, map, not, option_map};
 ghost use Rattle.mailmap_contacts.specs.Answers.{answer_key_tally, tally_at, tally_of};
 ghost use Rattle.mailmap_contacts.specs.Contacts as contacts;
-ghost use Rattle.mailmap_contacts.specs.Contacts.{answer, same_contact};
+ghost use Rattle.mailmap_contacts.specs.Contacts.{answer_to, same_contact};
 ghost use Rattle.mailmap_contacts.specs.Counts.{SameTallies};
 ghost use Rattle.mailmap_suggestions.specs.Answered.{AreAnswered, HaveAscendingLines, HaveDistinctContacts};
 ghost use Rattle.mailmap_suggestions.specs.Answered.{tallies_behind, tally_behind};
-ghost use Rattle.mailmap_suggestions.specs.Contacts.{git_answer};
+ghost use Rattle.mailmap_suggestions.specs.Contacts.{git_answer_to};
 ghost use Rattle.mailmap_suggestions.specs.Counted.{by_frequency, counted, frequency_cmp};
 ghost use Rattle.mailmap_suggestions.specs.Counted.{git_answered, git_counted, ranked};
-ghost use Rattle.mailmap_suggestions.specs.Lines.{Histories};
+ghost use Rattle.mailmap_suggestions.specs.Forms.{Histories};
 ghost use Rattle.mailmap_contacts.specs.Contacts.{tallied};
-ghost use Rattle.mailmap_suggestions.specs.Suggestions.{contact_of, proper_answer};
+ghost use Rattle.mailmap_suggestions.specs.GroupEntries.{contact_or_nobody, proper_answer};
 
 use crate::answered::Answered;
 use mailmap_contacts::answers::{Tally, answers_in};
@@ -83,7 +83,7 @@ fn answered_otherwise<'r, 'a>(
     ensures others { (h : Histories) → AreAnswered h group.now → HaveAscendingLines (tallies_behind group.now)
         → HaveDistinctContacts (tallies_behind group.now)
         → IfOk result (λ others. tallies_behind others.items
-        ≡ filter (λ t. not (same_contact (git_answer h.gits t.contact) (answer h.ours t.contact)))
+        ≡ filter (λ t. not (same_contact (git_answer_to h.gits t.contact) (answer_to h.ours t.contact)))
         (by_frequency (tallied (tallies_behind group.now)))) }
 {
     let mut others = Vec::new(alloc);
@@ -125,7 +125,7 @@ fn compare_tallies(a: &Tally<'_>, b: &Tally<'_>) -> Ordering
 /// The proper one of counted answers, `None` if there are none: the first with a name, or else the first.
 pub(crate) fn proper_of<'r, 'a>(answers: &'r [Tally<'a>]) -> Option<&'r Tally<'a>>
     ensures proper { (h : Histories) (g : List contacts.Tally) → HaveAscendingLines g
-        → map tally_of answers.now ≡ counted h g → contact_of (option_map tally_at result) ≡ proper_answer h g }
+        → map tally_of answers.now ≡ counted h g → contact_or_nobody (option_map tally_at result) ≡ proper_answer h g }
     ensures none { IsNone result → answers.now ≡ [] }
 {
     answers

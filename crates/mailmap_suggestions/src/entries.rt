@@ -7,14 +7,14 @@ ghost use Rattle.mailmap_entries.specs.Folding.{Text, folded};
 ghost use Rattle.mailmap_entries.specs.Semantics.{first};
 ghost use Rattle.mailmap_contacts.specs.Answers.{tally_of};
 ghost use Rattle.mailmap_contacts.specs.Contacts.{Contact};
-ghost use Rattle.mailmap_suggestions.specs.Answered.{IsAnswered, contact_behind, contact_in};
+ghost use Rattle.mailmap_suggestions.specs.Answered.{IsRightFor, contact_behind, answered_contact};
 ghost use Rattle.mailmap_suggestions.specs.Changes.{AreChangesBy, AreParts, IsAnsweredFor, IsPlain, email_in, listed};
-ghost use Rattle.mailmap_suggestions.specs.Lines.{Histories, are_answered, entries_for_email, entries_to};
-ghost use Rattle.mailmap_suggestions.specs.Lines.{has_own_entry, is_answered, is_short_enough, long_form, name_of};
-ghost use Rattle.mailmap_suggestions.specs.Lines.{named_entries, named_form, plain_entries, plus, short_form};
+ghost use Rattle.mailmap_suggestions.specs.Forms.{Histories, are_answered, entries_for_email, entries_to};
+ghost use Rattle.mailmap_suggestions.specs.Forms.{has_own_entry, is_answered, is_short_enough, long_form, name_unless_empty};
+ghost use Rattle.mailmap_suggestions.specs.Forms.{named_entries, named_form, plain_entries, plus, short_form};
 
 use crate::answered::Answered;
-use crate::changes::{Changes, name_of};
+use crate::changes::{Changes, name_unless_empty};
 use mailmap_contacts::answers::Tally;
 use mailmap_entries::Entry;
 use mailmap_entries::fold::cmp_ignore_ascii_case;
@@ -94,7 +94,7 @@ fn first_plain<'c, 'a>(contacts: &[&'c Answered<'a>]) -> Option<&'c Answered<'a>
 
 // Whether neither this library nor git has an entry with the contact's name and email as old ones.
 fn is_plain(contact: &Answered<'_>) -> bool
-    ensures { (h : Histories) → IsAnswered h contact.now → result ≡ not (has_own_entry h (contact_in contact.now)) }
+    ensures { (h : Histories) → IsRightFor h contact.now → result ≡ not (has_own_entry h (answered_contact contact.now)) }
 {
     !(contact.has_own_entry || contact.has_own_entry_in_git)
 }
@@ -115,10 +115,10 @@ fn are_answered<'a>(changes: &Changes<'a>, to: &Tally<'a>, contacts: &[&Answered
 }
 
 fn is_missed<'a>(changes: &Changes<'a>, to: &Tally<'a>, contact: &Answered<'a>) -> bool
-    ensures { (h : Histories) (added : List Mapping) → IsAnswered h contact.now
+    ensures { (h : Histories) (added : List Mapping) → IsRightFor h contact.now
         → AreChangesBy (tally_of to.now).contact (email_in contact.now) added changes.now
-        → result ≡ (not (has_own_entry h (contact_in contact.now))
-        && not (is_answered (plus h added) (tally_of to.now).contact (contact_in contact.now))) }
+        → result ≡ (not (has_own_entry h (answered_contact contact.now))
+        && not (is_answered (plus h added) (tally_of to.now).contact (answered_contact contact.now))) }
 {
     is_plain(contact) && !changes.answers(to, contact)
 }
@@ -132,9 +132,9 @@ fn plain_form<'a>(
 ) -> Entry<'a>
     ensures entry { (h : Histories) (email : Text) (cs : List Contact) → All (IsAnsweredFor h email) contacts.now
         → email_in first.now ≡ email
-        → filter (λ c. not (has_own_entry h c)) (map contact_behind contacts.now) ≡ contact_in first.now ∷ cs
-        → mapping_of result ≡ (if is_short_enough h (tally_of to.now).contact (contact_in first.now) cs
-        then short_form (tally_of to.now).contact else long_form (tally_of to.now).contact (contact_in first.now)) }
+        → filter (λ c. not (has_own_entry h c)) (map contact_behind contacts.now) ≡ answered_contact first.now ∷ cs
+        → mapping_of result ≡ (if is_short_enough h (tally_of to.now).contact (answered_contact first.now) cs
+        then short_form (tally_of to.now).contact else long_form (tally_of to.now).contact (answered_contact first.now)) }
     ensures plain { IsPlain (email_in first.now) (mapping_of result) }
 {
     let Some(short) = short_form(to, first) else {
@@ -151,11 +151,11 @@ fn plain_form<'a>(
 
 // `None` if the entry would have no name, or be for another email.
 fn short_form<'a>(to: &Tally<'a>, first: &Answered<'a>) -> Option<Entry<'a>>
-    ensures { option_map mapping_of result ≡ (if is_some (name_of (tally_of to.now).contact)
+    ensures { option_map mapping_of result ≡ (if is_some (name_unless_empty (tally_of to.now).contact)
         && bytes_eq (folded (tally_of to.now).contact.email) (email_in first.now)
         then Some (short_form (tally_of to.now).contact) else None) }
 {
-    let name = name_of(to)?;
+    let name = name_unless_empty(to)?;
     if cmp_ignore_ascii_case(to.email, first.contact.email).is_ne() {
         return None;
     }
@@ -163,19 +163,19 @@ fn short_form<'a>(to: &Tally<'a>, first: &Answered<'a>) -> Option<Entry<'a>>
 }
 
 fn long_form<'a>(to: &Tally<'a>, first: &Answered<'a>) -> Entry<'a>
-    ensures { mapping_of result ≡ long_form (tally_of to.now).contact (contact_in first.now) }
+    ensures { mapping_of result ≡ long_form (tally_of to.now).contact (answered_contact first.now) }
 {
-    match name_of(to) {
+    match name_unless_empty(to) {
         Some(name) => Entry::change_name_and_email_by_email(name, to.email, first.contact.email),
         None => Entry::change_email_by_email(to.email, first.contact.email),
     }
 }
 
 fn named_form<'a>(to: &Tally<'a>, contact: &Answered<'a>) -> Entry<'a>
-    ensures { mapping_of result ≡ named_form (tally_of to.now).contact (contact_in contact.now) }
+    ensures { mapping_of result ≡ named_form (tally_of to.now).contact (answered_contact contact.now) }
 {
     let old = &contact.contact;
-    match name_of(to) {
+    match name_unless_empty(to) {
         Some(name) => {
             Entry::change_name_and_email_by_name_and_email(name, to.email, old.name, old.email)
         }
@@ -210,16 +210,16 @@ fn push_if_needed<'a>(
     changes: &mut Changes<'a>,
     contact: &Answered<'a>,
 ) -> Result<(), AllocError>
-    ensures entries { OnOk result ((h : Histories) (added : List Mapping) → IsAnswered h contact.now
+    ensures entries { OnOk result ((h : Histories) (added : List Mapping) → IsRightFor h contact.now
         → AreChangesBy (tally_of to.now).contact (email_in contact.now) added changes.old
         → map mapping_of entries.new.items ≡ map mapping_of entries.old.items
-        ++ (if is_answered (plus h added) (tally_of to.now).contact (contact_in contact.now) then []
-        else named_form (tally_of to.now).contact (contact_in contact.now) ∷ [])) }
-    ensures changes { OnOk result ((h : Histories) (added : List Mapping) → IsAnswered h contact.now
+        ++ (if is_answered (plus h added) (tally_of to.now).contact (answered_contact contact.now) then []
+        else named_form (tally_of to.now).contact (answered_contact contact.now) ∷ [])) }
+    ensures changes { OnOk result ((h : Histories) (added : List Mapping) → IsRightFor h contact.now
         → AreChangesBy (tally_of to.now).contact (email_in contact.now) added changes.old
         → AreChangesBy (tally_of to.now).contact (email_in contact.now) (added
-        ++ (if is_answered (plus h added) (tally_of to.now).contact (contact_in contact.now) then []
-        else named_form (tally_of to.now).contact (contact_in contact.now) ∷ [])) changes.new) }
+        ++ (if is_answered (plus h added) (tally_of to.now).contact (answered_contact contact.now) then []
+        else named_form (tally_of to.now).contact (answered_contact contact.now) ∷ [])) changes.new) }
 {
     if changes.answers(to, contact) {
         return Ok(());

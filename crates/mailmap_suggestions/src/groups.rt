@@ -4,12 +4,12 @@ ghost use Rattle.std.specs.Prelude.{bytes_eq};
 ghost use Rattle.std.specs.List.{list_all};
 ghost use Rattle.mailmap_entries.specs.Folding.{folded};
 ghost use Rattle.mailmap_contacts.specs.Answers.{tally_of};
-ghost use Rattle.mailmap_suggestions.specs.Answered.{IsAnswered, contact_behind, tallies_behind, tally_in};
-ghost use Rattle.mailmap_suggestions.specs.Grouping.{AreGroups, HasOneEmail, are_answered_alike, behind};
-ghost use Rattle.mailmap_suggestions.specs.Grouping.{grouped_by, is_answered_so, shared_by, text_by};
+ghost use Rattle.mailmap_suggestions.specs.Answered.{IsRightFor, contact_behind, tallies_behind, tally_in};
+ghost use Rattle.mailmap_suggestions.specs.Grouping.{AreContactGroups, HasOneEmail, are_answered_alike, behind};
+ghost use Rattle.mailmap_suggestions.specs.Grouping.{grouped_by, is_answered_so, shared_by, criterion_text};
 ghost use Rattle.mailmap_suggestions.specs.Groups.{name_shared};
-ghost use Rattle.mailmap_suggestions.specs.Lines.{Histories, distinct, of_old_email};
-ghost use Rattle.mailmap_suggestions.specs.Suggestions.{groups};
+ghost use Rattle.mailmap_suggestions.specs.Forms.{Histories, distinct, of_old_email};
+ghost use Rattle.mailmap_suggestions.specs.GroupEntries.{groups};
 ghost use Rattle.mailmap_suggestions.specs.declared.answered.Answered.{Answered as TheAnswered};
 
 use crate::answered::Answered;
@@ -32,7 +32,7 @@ enum Criterion {
 impl Criterion {
     // The text that they share. Case doesn't count.
     fn text<'a>(self, contact: &Answered<'a>) -> &'a [u8]
-        ensures { folded result.now ≡ text_by self contact.now }
+        ensures { folded result.now ≡ criterion_text self contact.now }
     {
         match self {
             Criterion::OldEmail => contact.contact.email,
@@ -60,11 +60,11 @@ pub(crate) fn groups_of<'r, 'a>(
     shared: Shared,
     answered: &'r [Answered<'a>],
 ) -> Result<Groups<'r, 'a>, AllocError>
-    ensures groups { (h : Histories) → All (IsAnswered h) answered.now
+    ensures groups { (h : Histories) → All (IsRightFor h) answered.now
         → IfOk result (λ found. map (λ g. tallies_behind g.items) found.items
         ≡ groups (shared_by shared) h (map tally_in answered.now)) }
-    ensures answered { (h : Histories) → All (IsAnswered h) answered.now
-        → IfOk result (λ found. All (λ g. All (λ a. IsAnswered h a.now) g.items) found.items) }
+    ensures answered { (h : Histories) → All (IsRightFor h) answered.now
+        → IfOk result (λ found. All (λ g. All (λ a. IsRightFor h a.now) g.items) found.items) }
 {
     let criterion = Criterion::Answer(shared);
     let sharing = with_text(alloc, criterion, answered)?;
@@ -82,8 +82,8 @@ pub(crate) fn by_old_email<'r, 'a>(
         ≡ map (λ email. of_old_email email (map contact_behind group.now))
         (distinct (map (λ c. folded c.email) (map contact_behind group.now)))) }
     ensures one_email { IfOk result (λ parts. All (λ p. HasOneEmail (map contact_behind p.items)) parts.items) }
-    ensures answered { (h : Histories) → All (λ a. IsAnswered h a.now) group.now
-        → IfOk result (λ parts. All (λ p. All (λ a. IsAnswered h a.now) p.items) parts.items) }
+    ensures answered { (h : Histories) → All (λ a. IsRightFor h a.now) group.now
+        → IfOk result (λ parts. All (λ p. All (λ a. IsRightFor h a.now) p.items) parts.items) }
 {
     grouped(alloc, Criterion::OldEmail, group)
 }
@@ -95,7 +95,7 @@ fn with_text<'r, 'a>(
     answered: &'r [Answered<'a>],
 ) -> Result<Vec<&'r Answered<'a>>, AllocError>
     ensures { IfOk result (λ some. behind some.items
-        ≡ filter (λ a. not (bytes_eq (text_by criterion a) [])) answered.now) }
+        ≡ filter (λ a. not (bytes_eq (criterion_text criterion a) [])) answered.now) }
 {
     let mut some = Vec::new(alloc);
     for contact in answered {
@@ -107,7 +107,7 @@ fn with_text<'r, 'a>(
 }
 
 fn has_text(criterion: Criterion, contact: &Answered<'_>) -> bool
-    ensures { result ≡ not (bytes_eq (text_by criterion contact.now) []) }
+    ensures { result ≡ not (bytes_eq (criterion_text criterion contact.now) []) }
 {
     !criterion.text(contact).is_empty()
 }
@@ -119,7 +119,7 @@ fn grouped<'r, 'a>(
     contacts: &[&'r Answered<'a>],
 ) -> Result<Groups<'r, 'a>, AllocError>
     ensures { IfOk result (λ groups. map (λ g. behind g.items) groups.items
-        ≡ grouped_by (text_by criterion) (behind contacts.now)) }
+        ≡ grouped_by (criterion_text criterion) (behind contacts.now)) }
 {
     let mut groups = Vec::new(alloc);
     let mut places = BTreeMap::new(alloc);
@@ -137,9 +137,9 @@ fn add_to_group<'r, 'a>(
     places: &mut BTreeMap<Folded<'a>, usize>,
     groups: &mut Groups<'r, 'a>,
 ) -> Result<(), AllocError>
-    requires { (members : List TheAnswered) × AreGroups (text_by criterion) members places.old groups.old.items }
-    ensures { (members : List TheAnswered) → AreGroups (text_by criterion) members places.old groups.old.items
-        → OnOk result (AreGroups (text_by criterion) (members ++ contact.now ∷ []) places.new groups.new.items) }
+    requires { (members : List TheAnswered) × AreContactGroups (criterion_text criterion) members places.old groups.old.items }
+    ensures { (members : List TheAnswered) → AreContactGroups (criterion_text criterion) members places.old groups.old.items
+        → OnOk result (AreContactGroups (criterion_text criterion) (members ++ contact.now ∷ []) places.new groups.new.items) }
 {
     let text = Folded {
         text: criterion.text(contact),

@@ -8,9 +8,9 @@ ghost use Rattle.mailmap_grammar.specs.Lines.{mappings_of};
 ghost use Rattle.mailmap_findings.specs.Git.{git_entries as spec_git_entries};
 ghost use Rattle.mailmap_contacts.specs.Answers.{tally_of};
 ghost use Rattle.mailmap_redundancy.specs.Redundancy.{entries};
-ghost use Rattle.mailmap_suggestions.specs.Answered.{IsAnswered, tally_in};
+ghost use Rattle.mailmap_suggestions.specs.Answered.{IsRightFor, tally_in};
 ghost use Rattle.mailmap_suggestions.specs.Histories.{histories_of};
-ghost use Rattle.mailmap_suggestions.specs.Lines.{plus};
+ghost use Rattle.mailmap_suggestions.specs.Forms.{plus};
 
 use crate::answered::{Answered, answer_all};
 use bstr::ByteSlice;
@@ -30,7 +30,7 @@ pub(crate) struct Histories<'a> {
 }
 
 impl<'a> Model for Histories<'a> {
-    ghost use Rattle.mailmap_suggestions.specs.Lines as spec;
+    ghost use Rattle.mailmap_suggestions.specs.Forms as spec;
 
     ghost Value = { spec.Histories };
 
@@ -86,7 +86,7 @@ impl<'a> Histories<'a> {
         contacts: &[Tally<'a>],
     ) -> Result<Vec<Answered<'a>>, AllocError>
         ensures contacts { IfOk result (λ all. map tally_in all.items ≡ map tally_of contacts.now) }
-        ensures answered { IfOk result (λ all. All (IsAnswered self.now) all.items) }
+        ensures answered { IfOk result (λ all. All (IsRightFor self.now) all.items) }
     {
         let ours = self.ours.effective(alloc)?;
         let gits = self.gits.effective(alloc)?;

@@ -4,18 +4,18 @@ ghost use Rattle.std.specs.Prelude.{◌≡◌, ◌≢◌, ◌⊎◌, ◌++◌, �
 ghost use Rattle.mailmap_entries.specs.Entries.{Mapping, mapping};
 ghost use Rattle.mailmap_entries.specs.Folding.{Text, folded};
 ghost use Rattle.mailmap_entries.specs.Semantics.{is_accepted, key, last_fields, spelling};
-ghost use Rattle.mailmap_contacts.specs.Contacts.{Contact, Tally, answer, contacts_from};
+ghost use Rattle.mailmap_contacts.specs.Contacts.{Contact, Tally, answer_to, contacts_from};
 ghost use Rattle.mailmap_findings.specs.Findings.{first_read_otherwise};
 ghost use Rattle.mailmap_findings.specs.GitAnswers.{git_mappings};
 ghost use Rattle.mailmap_grammar.specs.CanonicalText.{IsWritable};
 ghost use Rattle.mailmap_grammar.specs.Lines.{HoldsNo, mappings_of, reading, strict_reading};
-ghost use Rattle.mailmap_suggestions.specs.Contacts.{git_answer, own_key};
+ghost use Rattle.mailmap_suggestions.specs.Contacts.{git_answer_to, own_key};
 ghost use Rattle.mailmap_suggestions.specs.Groups.{email_shared, name_shared};
-ghost use Rattle.mailmap_suggestions.specs.Lines.{Histories, alike};
-ghost use Rattle.mailmap_suggestions.specs.Suggested.{suggestions};
-ghost use Rattle.mailmap_suggestions.specs.SuggestedText.{count_line, entry_line, judged_text, mark, suggested_text};
+ghost use Rattle.mailmap_suggestions.specs.Forms.{Histories, alike};
+ghost use Rattle.mailmap_suggestions.specs.Suggestions.{suggestions};
+ghost use Rattle.mailmap_suggestions.specs.SuggestedText.{count_line, entry_line, reviewed_text, mark, suggested_text};
 ghost use Rattle.mailmap_suggestions.specs.SuggestedText.{suggestions_text};
-ghost use Rattle.mailmap_suggestions.specs.Suggestions.{HasNoEmptyName, IsWritableContact, Unites, contacts, email_entries, name_entries};
+ghost use Rattle.mailmap_suggestions.specs.GroupEntries.{HasNoEmptyName, IsWritableContact, Unites, contacts, email_entries, name_entries};
 
 /// An entry with an old name changes only answers to contacts with its key, if there is an entry for its email before.
 /// An entry without one changes only answers to contacts with its email that have no entry of their own.
@@ -23,25 +23,25 @@ pub fn law_others_stay()
     ensures named { (h : List Mapping) (x : Mapping) (c : Contact) → IsSome x.old_name
         → (key x ≡ own_key c → ⊥)
         → (folded x.old_email ≡ folded c.email → IsSome (spelling h (folded c.email)))
-        → (answer (h ++ x ∷ []) c ≡ answer h c) × (git_answer (h ++ x ∷ []) c ≡ git_answer h c) }
+        → (answer_to (h ++ x ∷ []) c ≡ answer_to h c) × (git_answer_to (h ++ x ∷ []) c ≡ git_answer_to h c) }
     ensures plain { (h : List Mapping) (x : Mapping) (c : Contact) → x.old_name ≡ None
         → (folded x.old_email ≡ folded c.email → IsSome (last_fields h (own_key c)))
-        → (answer (h ++ x ∷ []) c ≡ answer h c) × (git_answer (h ++ x ∷ []) c ≡ git_answer h c) }
+        → (answer_to (h ++ x ∷ []) c ≡ answer_to h c) × (git_answer_to (h ++ x ∷ []) c ≡ git_answer_to h c) }
 {}
 
 /// After an entry with a new name and a new email for the key of a contact, its answer is exactly these.
 pub fn law_exact()
     ensures named { (h : List Mapping) (c : Contact) (name email old_name old_email : Text)
         → folded old_name ≡ folded c.name → folded old_email ≡ folded c.email
-        → (answer (h ++ mapping (Some name) (Some email) (Some old_name) old_email ∷ []) c
+        → (answer_to (h ++ mapping (Some name) (Some email) (Some old_name) old_email ∷ []) c
         ≡ record { name = name; email = email })
-        × (git_answer (h ++ mapping (Some name) (Some email) (Some old_name) old_email ∷ []) c
+        × (git_answer_to (h ++ mapping (Some name) (Some email) (Some old_name) old_email ∷ []) c
         ≡ record { name = name; email = email }) }
     ensures plain { (h : List Mapping) (c : Contact) (name email old_email : Text)
         → last_fields h (own_key c) ≡ None → folded old_email ≡ folded c.email
-        → (answer (h ++ mapping (Some name) (Some email) None old_email ∷ []) c
+        → (answer_to (h ++ mapping (Some name) (Some email) None old_email ∷ []) c
         ≡ record { name = name; email = email })
-        × (git_answer (h ++ mapping (Some name) (Some email) None old_email ∷ []) c
+        × (git_answer_to (h ++ mapping (Some name) (Some email) None old_email ∷ []) c
         ≡ record { name = name; email = email }) }
 {}
 
@@ -50,9 +50,9 @@ pub fn law_exact()
 pub fn law_linked()
     ensures email { (h : List Mapping) (b c : Contact) → folded b.email ≡ folded c.email
         → (folded b.name ≡ folded c.name) ⊎ ((last_fields h (own_key b) ≡ None) × (last_fields h (own_key c) ≡ None))
-        → folded (answer h b).email ≡ folded (answer h c).email }
+        → folded (answer_to h b).email ≡ folded (answer_to h c).email }
     ensures name { (h : List Mapping) (b c : Contact) → own_key b ≡ own_key c
-        → folded (answer h b).name ≡ folded (answer h c).name }
+        → folded (answer_to h b).name ≡ folded (answer_to h c).name }
 {}
 
 /// If git reads each line of mailmaps as this library does, both have the same entries. No new name that is read is
@@ -73,8 +73,8 @@ pub fn law_suggestions()
         → let g = h ++ email_entries (alike h) ts in Unites name_shared g ts (g ++ name_entries (alike h) ts) }
     ensures emails_stay { (h : List Mapping) (ts : List Tally) → AllByRecursion HasNoEmptyName h
         → let g = (h ++ email_entries (alike h) ts) ++ name_entries (alike h) ts in
-        AllByRecursion (λ b. AllByRecursion (λ c. email_shared (answer g b) ≡ email_shared (answer g c)
-        → email_shared (answer g c) ≢ [] → answer g b ≡ answer g c) (contacts ts)) (contacts ts) }
+        AllByRecursion (λ b. AllByRecursion (λ c. email_shared (answer_to g b) ≡ email_shared (answer_to g c)
+        → email_shared (answer_to g c) ≢ [] → answer_to g b ≡ answer_to g c) (contacts ts)) (contacts ts) }
 {}
 
 /// The line of a suggested entry is read as the entry if a line can hold it, and as a comment with its mark. What says
@@ -93,9 +93,9 @@ pub fn law_suggested_text()
     ensures suggested { (h : List Mapping) (ts : List Tally) → AllByRecursion IsWritable h
         → AllByRecursion (λ t. IsWritableContact t.contact) ts
         → mappings_of (suggested_text (alike h) ts) ≡ email_entries (alike h) ts }
-    ensures judged { (h : List Mapping) (ts : List Tally) → AllByRecursion IsWritable h
+    ensures reviewed { (h : List Mapping) (ts : List Tally) → AllByRecursion IsWritable h
         → AllByRecursion (λ t. IsWritableContact t.contact) ts
-        → mappings_of (judged_text (alike h) ts) ≡ email_entries (alike h) ts ++ name_entries (alike h) ts }
+        → mappings_of (reviewed_text (alike h) ts) ≡ email_entries (alike h) ts ++ name_entries (alike h) ts }
     ensures mappings { (buffers : List Text) → AllByRecursion IsWritable (flat_map mappings_of buffers) }
     ensures contacts { (lines : List Text) → AllByRecursion (HoldsNo 10) lines
         → AllByRecursion (λ t. IsWritableContact t.contact) (contacts_from 1 lines) }

@@ -10,11 +10,11 @@ ghost use Rattle.mailmap_suggestions.specs.Answered.{AreAnswered, HaveAscendingL
 ghost use Rattle.mailmap_suggestions.specs.Grouping.{shared_by};
 ghost use Rattle.mailmap_suggestions.specs.Groups.{email_shared, name_shared};
 ghost use Rattle.mailmap_suggestions.specs.Histories.{histories_of};
-ghost use Rattle.mailmap_suggestions.specs.Lines as spec;
-ghost use Rattle.mailmap_suggestions.specs.Lines.{plus};
-ghost use Rattle.mailmap_suggestions.specs.Suggested.{suggestion, suggestions};
-ghost use Rattle.mailmap_suggestions.specs.Suggestions.{groups};
-ghost use Rattle.mailmap_suggestions.specs.Views.{are_to_judge, suggestion_of};
+ghost use Rattle.mailmap_suggestions.specs.Forms as spec;
+ghost use Rattle.mailmap_suggestions.specs.Forms.{plus};
+ghost use Rattle.mailmap_suggestions.specs.Suggestions.{suggestion, suggestions};
+ghost use Rattle.mailmap_suggestions.specs.GroupEntries.{groups};
+ghost use Rattle.mailmap_suggestions.specs.Views.{need_review, suggestion_of};
 
 use crate::answered::Answered;
 use crate::counted::{counted_answers, counted_git_answers, proper_of};
@@ -31,13 +31,14 @@ use std::alloc::{AllocError, Global};
 /// answer, here and in git.
 #[derive(Drop)]
 pub struct Suggestion<'a> {
-    /// The distinct answers today, the most frequent first.
+    /// The distinct answers without these entries, the most frequent first. For a group by name, the suggested entries
+    /// for emails count already.
     pub answers: Vec<Tally<'a>>,
-    /// git's answers where they differ.
+    /// git's answers to the contacts that it answers otherwise than this library.
     pub git_answers: Vec<Tally<'a>>,
     pub entries: Vec<Entry<'a>>,
-    /// Whether the answers share only a name, so that they may be two people.
-    pub is_to_judge: bool,
+    /// Whether somebody has to look at the entries first: the answers share only a name, so they may be two people.
+    pub needs_review: bool,
 }
 
 /// Suggests entries for the contacts that were counted.
@@ -73,20 +74,20 @@ fn push_suggestions<'a>(
 ) -> Result<(), AllocError>
     ensures { HaveAscendingLines (map tally_of contacts.now) → HaveDistinctContacts (map tally_of contacts.now)
         → OnOk result (map suggestion_of found.new.items ≡ map suggestion_of found.old.items
-        ++ map (suggestion histories.now (are_to_judge shared))
+        ++ map (suggestion histories.now (need_review shared))
         (groups (shared_by shared) histories.now (map tally_of contacts.now))) }
 {
     let answered = histories.answer_all(alloc, contacts)?;
     let groups = groups_of(alloc, shared, &answered)?;
     for group in &groups {
-        found.push(suggest_for(alloc, group, are_to_judge(shared))?)?;
+        found.push(suggest_for(alloc, group, need_review(shared))?)?;
     }
     Ok(())
 }
 
 // Whether answers that share this may be two people.
-fn are_to_judge(shared: Shared) -> bool
-    ensures { result ≡ are_to_judge shared }
+fn need_review(shared: Shared) -> bool
+    ensures { result ≡ need_review shared }
 {
     match shared {
         Shared::Email => false,
@@ -98,11 +99,11 @@ fn are_to_judge(shared: Shared) -> bool
 fn suggest_for<'a>(
     alloc: Global,
     group: &[&Answered<'a>],
-    is_to_judge: bool,
+    needs_review: bool,
 ) -> Result<Suggestion<'a>, AllocError>
     ensures { (h : spec.Histories) → AreAnswered h group.now → HaveAscendingLines (tallies_behind group.now)
         → HaveDistinctContacts (tallies_behind group.now)
-        → IfOk result (λ s. suggestion_of s ≡ suggestion h is_to_judge (tallies_behind group.now)) }
+        → IfOk result (λ s. suggestion_of s ≡ suggestion h needs_review (tallies_behind group.now)) }
 {
     let answers = counted_answers(alloc, group)?;
     let entries = match proper_of(&answers) {
@@ -113,11 +114,11 @@ fn suggest_for<'a>(
         answers,
         git_answers: counted_git_answers(alloc, group)?,
         entries,
-        is_to_judge,
+        needs_review,
     })
 }
 
-// Appends the entries of suggestions to those that both have.
+// Appends the entries of suggestions to those that this library has read, and to those that git reads.
 fn add_entries<'a>(
     histories: &mut Histories<'a>,
     found: &[Suggestion<'a>],

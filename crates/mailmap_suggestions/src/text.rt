@@ -1,15 +1,60 @@
 //! The text of suggestions.
-ghost use Rattle.std.specs.Prelude.{◌≡◌, ◌++◌, ◌∷◌, [], OnOk, if◌then◌else◌, unwrap_or};
+ghost use Rattle.std.specs.Prelude.{◌≡◌, ◌++◌, ◌∷◌, [], OnOk, if◌then◌else◌, map, unwrap_or};
 ghost use Rattle.std.specs.Option.{option_copied};
+ghost use Rattle.mailmap_contacts.specs.Answers.{tally_of};
 ghost use Rattle.mailmap_entries.specs.Entries.{mapping_of};
 ghost use Rattle.mailmap_grammar.specs.Lines.{is_comment};
-ghost use Rattle.mailmap_suggestions.specs.SuggestedText.{by_git, count_line, entry_line, fields_text, mark};
+ghost use Rattle.mailmap_suggestions.specs.SuggestedText.{by_git, count_line, count_lines, entry_line, entry_lines, fields_text, mark, suggestion_text};
+ghost use Rattle.mailmap_suggestions.specs.Views.{suggestion_of};
 
+use crate::suggestions::Suggestion;
 use itoa::Buffer;
+use mailmap_contacts::answers::Tally;
 use mailmap_entries::Entry;
 use mailmap_grammar::writing::{push_email, push_name};
 use mailmap_snapshot::check::push_contact;
 use std::alloc::AllocError;
+
+/// Appends the lines of a suggestion: how often each answer comes, the entries, and an empty line.
+///
+/// ```text
+/// # 2 Jane Doe <jane@x>
+/// # 1 jane <jane@z>
+/// #?Jane Doe <jane@x> <jane@z>
+///
+/// ```
+pub fn push_suggestion(out: &mut Vec<u8>, suggestion: &Suggestion<'_>) -> Result<(), AllocError>
+    ensures { OnOk result (out.new.items
+        ≡ out.old.items ++ suggestion_text suggestion.now.needs_review (suggestion_of suggestion.now)) }
+{
+    push_counts(out, suggestion.answers.as_slice(), false)?;
+    push_counts(out, suggestion.git_answers.as_slice(), true)?;
+    push_entries(out, suggestion.entries.as_slice(), suggestion.needs_review)?;
+    out.push(b'\n')?;
+    Ok(())
+}
+
+fn push_counts(out: &mut Vec<u8>, answers: &[Tally<'_>], are_gits: bool) -> Result<(), AllocError>
+    ensures { OnOk result (out.new.items ≡ out.old.items ++ count_lines are_gits (map tally_of answers.now)) }
+{
+    for answer in answers {
+        push_count(out, answer.seen.count, answer.name, answer.email, are_gits)?;
+    }
+    Ok(())
+}
+
+fn push_entries(
+    out: &mut Vec<u8>,
+    entries: &[Entry<'_>],
+    need_review: bool,
+) -> Result<(), AllocError>
+    ensures { OnOk result (out.new.items ≡ out.old.items ++ entry_lines need_review (map mapping_of entries.now)) }
+{
+    for entry in entries {
+        push_entry(out, entry, need_review)?;
+    }
+    Ok(())
+}
 
 /// Appends the line of a suggested entry, with its line feed.
 ///
@@ -18,12 +63,16 @@ use std::alloc::AllocError;
 /// #?Jane Doe <jane@x> <jane@z>
 /// ```
 ///
-/// The second one is to be judged first: whoever deletes the `#?` accepts it.
-pub fn push_entry(out: &mut Vec<u8>, entry: &Entry<'_>, is_to_judge: bool) -> Result<(), AllocError>
+/// The second one needs a look first: whoever deletes the `#?` accepts it.
+pub fn push_entry(
+    out: &mut Vec<u8>,
+    entry: &Entry<'_>,
+    needs_review: bool,
+) -> Result<(), AllocError>
     ensures { OnOk result (out.new.items
-        ≡ out.old.items ++ mark is_to_judge ++ entry_line (mapping_of entry.now) ++ 10 ∷ []) }
+        ≡ out.old.items ++ mark needs_review ++ entry_line (mapping_of entry.now) ++ 10 ∷ []) }
 {
-    if is_to_judge {
+    if needs_review {
         out.extend_from_slice(b"#?")?;
     }
     if begins_comment(entry.new_name()) {

@@ -13,7 +13,7 @@ pub mod NameLookups
 pub mod NamesLoop
 pub mod RowCount
 pub mod Given
-pub mod Passing
+pub mod Copying
 pub mod EmailsAppended
 pub mod OwnTexts
 pub mod GroupsAppended

@@ -12,7 +12,7 @@ use Rattle.mailmap_tables.specs.declared.texts.Span.{Span}
 use Rattle.mailmap_tables.specs.declared.texts.RowTexts.{RowTexts}
 use Rattle.mailmap_tables.proofs.EmailsAppended.{options_on, spelled_on}
 use Rattle.mailmap_tables.proofs.NameLookups.{extends_through}
-use Rattle.mailmap_tables.proofs.Passing.{group_on}
+use Rattle.mailmap_tables.proofs.Copying.{group_on}
 
 -- the name is written to the pool first, then the email
 pub own_spells : (a one two three : Text) (row own : RowTexts) (given : Fields) (old : Span)

@@ -9,7 +9,7 @@ ghost use Rattle.mailmap_entries.specs.Semantics.{accepted, is_accepted};
 ghost use Rattle.mailmap_tables.specs.Groups.{IsComplete, row_count};
 ghost use Rattle.mailmap_tables.specs.Collecting.{IsCollected};
 
-use crate::join::{joined, rewritten_if_half_unused};
+use crate::join::{joined, rebuilt_if_half_unused};
 use crate::tables::Tables;
 use mailmap_entries::Entry;
 use std::alloc::{AllocError, Global};
@@ -26,7 +26,7 @@ const BYTES_PER_ENTRY: usize = 256;
 /// Accepted entries that are being merged into tables.
 #[derive(Drop)]
 pub(crate) struct Collected<'a> {
-    // the old tables joined with all chunks so far, `None` before the first chunk
+    // the existing tables joined with all chunks so far, `None` before the first chunk
     pub(crate) joined: Option<Tables>,
     // the accepted entries after these chunks
     pub(crate) batch: Vec<Entry<'a>>,
@@ -34,27 +34,27 @@ pub(crate) struct Collected<'a> {
     chunk_len: usize,
 }
 
-/// Collects the accepted entries of an iterator, to be merged after those of the old tables.
+/// Collects the accepted entries of an iterator, to be merged after those of the existing tables.
 pub(crate) fn accepted_of<'a, I: Iterator<Item = Entry<'a>> + Drop>(
     alloc: Global,
-    old_tables: &Tables,
+    existing_tables: &Tables,
     entries: I,
 ) -> Result<Collected<'a>, AllocError>
     requires can { I.can_next entries }
     requires finite { IsFinite (I.remaining entries) }
-    requires complete { IsComplete old_tables.now }
+    requires complete { IsComplete existing_tables.now }
     ensures ok { IfOk result
         (λ c. (xs : List Item) × Drains I.next_gives entries xs
-        × IsCollected old_tables.now (map mapping_of xs) c.joined (map mapping_of c.batch.items)) }
+        × IsCollected existing_tables.now (map mapping_of xs) c.joined (map mapping_of c.batch.items)) }
 
     // out of memory is reported only after an entry was accepted
     ensures out_of_memory { OnErr result
         ((xs : List Item) × (rest : I) × Yields I.next_gives entries xs rest × (accepted (map mapping_of xs) ≢ [])) }
 {
-    let mut collected = Collected::none(alloc, old_tables);
+    let mut collected = Collected::none(alloc, existing_tables);
     for entry in entries {
         if has_new_name_or_email(&entry) {
-            collected.push(old_tables, entry)?;
+            collected.push(existing_tables, entry)?;
         }
     }
     Ok(collected)
@@ -68,80 +68,80 @@ fn has_new_name_or_email(entry: &Entry) -> bool
 }
 
 impl<'a> Collected<'a> {
-    fn none(alloc: Global, old_tables: &Tables) -> Collected<'a>
-        requires { IsComplete old_tables.now }
-        ensures { IsCollected old_tables.now [] result.joined (map mapping_of result.batch.items) }
+    fn none(alloc: Global, existing_tables: &Tables) -> Collected<'a>
+        requires { IsComplete existing_tables.now }
+        ensures { IsCollected existing_tables.now [] result.joined (map mapping_of result.batch.items) }
     {
         Collected {
             joined: None,
             batch: Vec::new(alloc),
-            chunk_len: chunk_len_after(old_tables),
+            chunk_len: chunk_len_after(existing_tables),
         }
     }
 
     // Adds an accepted entry to the batch, and joins the batch once it is a chunk.
     #[inline(always)]
-    fn push(&mut self, old_tables: &Tables, entry: Entry<'a>) -> Result<(), AllocError>
+    fn push(&mut self, existing_tables: &Tables, entry: Entry<'a>) -> Result<(), AllocError>
         requires accepted { is_accepted (mapping_of entry) ≡ true }
         requires collected { (h : List Mapping)
-            × IsCollected old_tables.now h self.old.joined (map mapping_of self.old.batch.items) }
+            × IsCollected existing_tables.now h self.old.joined (map mapping_of self.old.batch.items) }
         ensures { OnOk result
-            ((h : List Mapping) → IsCollected old_tables.now h self.old.joined (map mapping_of self.old.batch.items)
-            → IsCollected old_tables.now (h ++ mapping_of entry.entry ∷ []) self.new.joined
+            ((h : List Mapping) → IsCollected existing_tables.now h self.old.joined (map mapping_of self.old.batch.items)
+            → IsCollected existing_tables.now (h ++ mapping_of entry.entry ∷ []) self.new.joined
             (map mapping_of self.new.batch.items)) }
     {
         self.batch.push(entry)?;
         if self.batch.len() < self.chunk_len {
             return Ok(());
         }
-        self.end_chunk(old_tables)
+        self.end_chunk(existing_tables)
     }
 
     // Joins the batch with the tables, and empties it.
-    fn end_chunk(&mut self, old_tables: &Tables) -> Result<(), AllocError>
+    fn end_chunk(&mut self, existing_tables: &Tables) -> Result<(), AllocError>
         requires { (h : List Mapping)
-            × IsCollected old_tables.now h self.old.joined (map mapping_of self.old.batch.items) }
+            × IsCollected existing_tables.now h self.old.joined (map mapping_of self.old.batch.items) }
         ensures { OnOk result
-            ((h : List Mapping) → IsCollected old_tables.now h self.old.joined (map mapping_of self.old.batch.items)
-            → IsCollected old_tables.now h self.new.joined (map mapping_of self.new.batch.items)) }
+            ((h : List Mapping) → IsCollected existing_tables.now h self.old.joined (map mapping_of self.old.batch.items)
+            → IsCollected existing_tables.now h self.new.joined (map mapping_of self.new.batch.items)) }
     {
-        let joined = self.tables(old_tables)?;
+        let joined = self.tables(existing_tables)?;
         self.chunk_len = chunk_len_after(&joined);
         self.joined = Some(joined);
         self.batch.clear();
         Ok(())
     }
 
-    /// Replaces the old tables by those that were joined with the chunks, if there were any. Drops the batch.
-    pub(crate) fn replace_tables(self, old_tables: &mut Tables)
-        ensures { old_tables.new ≡ unwrap_or self.entry.joined old_tables.old }
+    /// Replaces the existing tables by those that were joined with the chunks, if there were any. Drops the batch.
+    pub(crate) fn replace_tables(self, existing_tables: &mut Tables)
+        ensures { existing_tables.new ≡ unwrap_or self.entry.joined existing_tables.old }
     {
         let Collected { joined, .. } = self;
         if let Some(joined) = joined {
-            *old_tables = joined;
+            *existing_tables = joined;
         }
     }
 
-    /// The old tables joined with all entries.
-    pub(crate) fn tables(&self, old_tables: &Tables) -> Result<Tables, AllocError>
+    /// The existing tables joined with all entries.
+    pub(crate) fn tables(&self, existing_tables: &Tables) -> Result<Tables, AllocError>
         requires { (h : List Mapping)
-            × IsCollected old_tables.now h self.now.joined (map mapping_of self.now.batch.items) }
+            × IsCollected existing_tables.now h self.now.joined (map mapping_of self.now.batch.items) }
         ensures { IfOk result
             (λ t. (h : List Mapping)
-            → IsCollected old_tables.now h self.now.joined (map mapping_of self.now.batch.items)
-            → IsCollected old_tables.now h (Some t) []) }
+            → IsCollected existing_tables.now h self.now.joined (map mapping_of self.now.batch.items)
+            → IsCollected existing_tables.now h (Some t) []) }
     {
         let alloc = *self.batch.allocator();
-        rewritten_if_half_unused(joined(alloc, self.base(old_tables), &self.batch)?)
+        rebuilt_if_half_unused(joined(alloc, self.base(existing_tables), &self.batch)?)
     }
 
     // The tables that the batch is to be joined with.
-    fn base<'t>(&'t self, old_tables: &'t Tables) -> &'t Tables
-        ensures { result.now ≡ unwrap_or self.now.joined old_tables.now }
+    fn base<'t>(&'t self, existing_tables: &'t Tables) -> &'t Tables
+        ensures { result.now ≡ unwrap_or self.now.joined existing_tables.now }
     {
         match &self.joined {
             Some(joined) => joined,
-            None => old_tables,
+            None => existing_tables,
         }
     }
 }

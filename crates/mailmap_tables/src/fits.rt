@@ -96,7 +96,7 @@ fn replaced_len(
     names: &[NameRow],
     old_name: Option<&[u8]>,
 ) -> usize
-    requires lie { AllByRecursion (NameInPool (length tables.now.pool)) names.now }
+    requires in_pool { AllByRecursion (NameInPool (length tables.now.pool)) names.now }
     requires ascending { IsStrictlySortedBy text_cmp (map name_key (map (name_group tables.now.pool) names.now)) }
 {
     match old_name {

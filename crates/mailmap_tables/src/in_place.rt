@@ -171,7 +171,7 @@ fn find_name_row(
     ensures existing { IfOk result
         (λ f. HoldsAt (λ (g : EmailGroup). slice_get g.names f.0 ≡ Some (name_group tables.now.held.pool f.1))
         tables.now.held.groups email) }
-    ensures lies { IfOk result (λ f. NameInPool (length tables.now.held.pool) f.1) }
+    ensures in_pool { IfOk result (λ f. NameInPool (length tables.now.held.pool) f.1) }
     ensures len { IfOk result (λ f. f.1.old_len ≡ length name.now) }
     ensures missing { IfErr result
         (λ index. HoldsAt (λ (g : EmailGroup). IsMissing name_key (folded name.now) 0 g.names index)

@@ -80,7 +80,7 @@ impl<'a> Iterator for Iter<'a> {
 
 // The entry of an email that applies to all names, if there is one.
 fn own_entry<'a>(tables: &View<'a>, old_email: &'a [u8], texts: RowTexts) -> Option<Entry<'a>>
-    requires lies { TextsInPool (length tables.now.pool) texts }
+    requires in_pool { TextsInPool (length tables.now.pool) texts }
     requires old_email { old_email.now ≡ spelled tables.now.pool (old_span texts) }
     ensures { option_to_list (option_map mapping_of result) ≡ own_rows (group_of tables.now.pool texts []) }
 {

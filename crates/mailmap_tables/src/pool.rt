@@ -52,7 +52,7 @@ impl Pool {
         ensures grown { Extends self.old.bytes.items self.new.bytes.items }
         ensures counted { self.new.unused ≡ self.old.unused }
         ensures text { OnOk result (self.new.bytes.items ≡ self.old.bytes.items ++ text.now) }
-        ensures lies { IfOk result (LiesIn (length self.new.bytes.items)) }
+        ensures in_pool { IfOk result (LiesIn (length self.new.bytes.items)) }
         ensures spells { IfOk result (λ span. spelled self.new.bytes.items span ≡ text.now) }
         ensures len { IfOk result (λ span. span.len ≡ length text.now) }
         ensures growth { GrowsBy (length text.now) self.old.bytes self.new.bytes result }
@@ -74,7 +74,7 @@ impl Pool {
         requires { ForSome existing (LiesIn (length self.old.bytes.items)) }
         ensures grown { Extends self.old.bytes.items self.new.bytes.items }
         ensures counted { self.new.unused ≡ self.old.unused }
-        ensures lies { IfOk result (λ span. ForSome span (LiesIn (length self.new.bytes.items))) }
+        ensures in_pool { IfOk result (λ span. ForSome span (LiesIn (length self.new.bytes.items))) }
         ensures spells { IfOk result (λ span. option_map (spelled self.new.bytes.items) span
             ≡ option_or (option_copied given.entry) (option_map (spelled self.old.bytes.items) existing)) }
         ensures growth { GrowsBy (optional_bytes (option_copied given.entry)) self.old.bytes self.new.bytes result }
@@ -103,7 +103,7 @@ impl Pool {
         ensures grown { Extends self.old.bytes.items self.new.bytes.items }
         ensures counted { IfOk result (λ row. self.new.unused
             ≡ min (self.old.unused + given_up len (length self.new.bytes.items) existing row) usize.MAX) }
-        ensures lies { IfOk result (TextsInPool (length self.new.bytes.items)) }
+        ensures in_pool { IfOk result (TextsInPool (length self.new.bytes.items)) }
         ensures spells { IfOk result (RowSpells self.old.bytes.items self.new.bytes.items
             (old_span existing) new_name new_email) }
         ensures growth { GrowsBy (existing.old_len + (span_bytes new_name + span_bytes new_email))
@@ -126,7 +126,7 @@ impl Pool {
         ensures grown { Extends self.old.bytes.items self.new.bytes.items }
         ensures counted { IfOk result (λ row. self.new.unused ≡ min (self.old.unused
             + given_up (length self.old.bytes.items) (length self.new.bytes.items) existing row) usize.MAX) }
-        ensures lies { IfOk result (NameInPool (length self.new.bytes.items)) }
+        ensures in_pool { IfOk result (NameInPool (length self.new.bytes.items)) }
         ensures spells { IfOk result (λ row. name_group self.new.bytes.items row
             ≡ record (named_group named.entry) { old_name = spelled self.old.bytes.items (old_span existing) }) }
         ensures growth { GrowsBy (existing.old_len + fields_growth (named_group named.entry))
@@ -149,7 +149,7 @@ impl Pool {
         ensures grown { Extends self.old.bytes.items self.new.bytes.items }
         ensures counted { IfOk result (λ row. self.new.unused ≡ min (self.old.unused
             + given_up (length self.old.bytes.items) (length self.new.bytes.items) texts row) usize.MAX) }
-        ensures lies { IfOk result (TextsInPool (length self.new.bytes.items)) }
+        ensures in_pool { IfOk result (TextsInPool (length self.new.bytes.items)) }
         ensures spells { IfOk result
             (OwnSpells self.old.bytes.items self.new.bytes.items texts (fields_given given.entry)) }
         ensures growth { GrowsBy (own_growth (group_of self.old.bytes.items texts []) (fields_given given.entry))

@@ -126,7 +126,7 @@ impl ReservedTables {
         requires reserved { length text.now ≤ self.old.bytes }
         ensures held { self.new.held ≡ record self.old.held { pool = self.old.held.pool ++ text.now } }
         ensures reserved { TookReserved (length text.now) 0 0 self.old self.new }
-        ensures lies { LiesIn (length self.new.held.pool) result }
+        ensures in_pool { LiesIn (length self.new.held.pool) result }
         ensures spells { spelled self.new.held.pool result ≡ text.now }
     {
         self.pool.push_text(text).unwrap()
@@ -134,10 +134,10 @@ impl ReservedTables {
 
     /// Writes the fields of a name in place of those of its existing row, and returns its new row.
     pub(crate) fn name_row(&mut self, existing: RowTexts, named: NamedFields<'_>) -> NameRow
-        requires lies { TextsInPool (length self.old.held.pool) existing }
+        requires in_pool { TextsInPool (length self.old.held.pool) existing }
         requires reserved { existing.old_len + fields_growth (named_group named) ≤ self.old.bytes }
         ensures grown { (more : List ℕ) × (self.new.held ≡ record self.old.held { pool = self.old.held.pool ++ more }) }
-        ensures lies { NameInPool (length self.new.held.pool) result }
+        ensures in_pool { NameInPool (length self.new.held.pool) result }
         ensures spells { name_group self.new.held.pool result
             ≡ record (named_group named.entry) { old_name = spelled self.old.held.pool (old_span existing) } }
         ensures reserved { TookReserved (existing.old_len + fields_growth (named_group named.entry)) 0 0 self.old
@@ -148,10 +148,10 @@ impl ReservedTables {
 
     /// Writes the new fields of an email, and returns its new row. A field that isn't given stays as it is.
     pub(crate) fn email_row(&mut self, texts: RowTexts, given: DefaultFields<'_>) -> RowTexts
-        requires lies { TextsInPool (length self.old.held.pool) texts }
+        requires in_pool { TextsInPool (length self.old.held.pool) texts }
         requires reserved { own_growth (group_of self.old.held.pool texts []) (fields_given given) ≤ self.old.bytes }
         ensures grown { (more : List ℕ) × (self.new.held ≡ record self.old.held { pool = self.old.held.pool ++ more }) }
-        ensures lies { TextsInPool (length self.new.held.pool) result }
+        ensures in_pool { TextsInPool (length self.new.held.pool) result }
         ensures spells { OwnSpells self.old.held.pool self.new.held.pool texts (fields_given given.entry) result }
         ensures reserved { TookReserved
             (own_growth (group_of self.old.held.pool texts []) (fields_given given.entry)) 0 0 self.old self.new }
@@ -162,7 +162,7 @@ impl ReservedTables {
     /// Inserts an email without new fields and names before the one at an index.
     pub(crate) fn insert_email(&mut self, index: usize, old_email: Span)
         requires index { index ≤ length self.old.held.groups }
-        requires lies { LiesIn (length self.old.held.pool) old_email }
+        requires in_pool { LiesIn (length self.old.held.pool) old_email }
         requires reserved { 0 < self.old.emails }
         ensures held { self.new.held
             ≡ record self.old.held {
@@ -186,7 +186,7 @@ impl ReservedTables {
     pub(crate) fn insert_name(&mut self, email: usize, index: usize, row: NameRow)
         requires email { email < length self.old.held.groups }
         requires index { HoldsAt (λ (g : EmailGroup). index ≤ length g.names) self.old.held.groups email }
-        requires lies { NameInPool (length self.old.held.pool) row }
+        requires in_pool { NameInPool (length self.old.held.pool) row }
         requires reserved { 0 < self.old.names }
         ensures held { HoldsAt
             (λ (g : EmailGroup). self.new.held
@@ -205,7 +205,7 @@ impl ReservedTables {
     pub(crate) fn replace_name(&mut self, email: usize, index: usize, row: NameRow)
         requires email { email < length self.old.held.groups }
         requires index { HoldsAt (λ (g : EmailGroup). index < length g.names) self.old.held.groups email }
-        requires lies { NameInPool (length self.old.held.pool) row }
+        requires in_pool { NameInPool (length self.old.held.pool) row }
         ensures held { HoldsAt
             (λ (g : EmailGroup). self.new.held
             ≡ with_email_at self.old.held email
@@ -221,7 +221,7 @@ impl ReservedTables {
     /// Replaces the texts of an email. The spelling of the old email stays the same.
     pub(crate) fn replace_texts(&mut self, email: usize, texts: RowTexts)
         requires email { email < length self.old.held.groups }
-        requires lies { TextsInPool (length self.old.held.pool) texts }
+        requires in_pool { TextsInPool (length self.old.held.pool) texts }
         requires same { HoldsAt (λ (g : EmailGroup). spelled self.old.held.pool (old_span texts) ≡ g.old_email)
             self.old.held.groups email }
         ensures held { HoldsAt

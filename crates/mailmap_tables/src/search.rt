@@ -45,7 +45,7 @@ struct NameProbe<'a> {
     names: &'a [NameRow],
     name: &'a [u8],
     steps: Steps,
-    ghost lie: { All (λ r. LiesIn (length tables.now.pool) (old_span r)) names.now },
+    ghost in_pool: { All (λ r. LiesIn (length tables.now.pool) (old_span r)) names.now },
 }
 
 impl Probe for NameProbe<'_> {
@@ -91,7 +91,7 @@ pub(crate) fn find_email_last_first(tables: &View<'_>, email: &[u8]) -> Result<u
 
 /// The index of a name among the names of an email, or the index to insert it at.
 pub(crate) fn find_name(tables: &View<'_>, names: &[NameRow], name: &[u8]) -> Result<usize, usize>
-    requires lie { AllByRecursion (NameInPool (length tables.now.pool)) names.now }
+    requires in_pool { AllByRecursion (NameInPool (length tables.now.pool)) names.now }
     requires ascending { IsStrictlySortedBy text_cmp
         (map name_key (map (name_group tables.now.pool) names.now)) }
     ensures found { IfOk result
@@ -142,7 +142,7 @@ pub fn find_name_counted(
     name: &[u8],
     steps: &mut Steps,
 ) -> Result<usize, usize>
-    requires lie { AllByRecursion (NameInPool (length tables.now.pool)) names.now }
+    requires in_pool { AllByRecursion (NameInPool (length tables.now.pool)) names.now }
     requires ascending { IsStrictlySortedBy text_cmp
         (map name_key (map (name_group tables.now.pool) names.now)) }
     requires countable { steps.old ≤ usize.MAX - 64 }

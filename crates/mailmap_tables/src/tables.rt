@@ -59,30 +59,30 @@ impl Tables {
         }
     }
 
-    /// Tables with a copy of the pool of `old_tables`, in which texts keep their positions, but without emails and
-    /// names. There is capacity for the rows of `old_tables` and up to `rows` more, and for `bytes` more bytes in the
+    /// Tables with a copy of the pool of `existing_tables`, in which texts keep their positions, but without emails and
+    /// names. There is capacity for the rows of `existing_tables` and up to `rows` more, and for `bytes` more bytes in the
     /// pool.
     pub(crate) fn over_pool(
         alloc: Global,
-        old_tables: &Tables,
+        existing_tables: &Tables,
         rows: usize,
         bytes: usize,
     ) -> Result<Tables, AllocError>
         ensures { IfOk result
-            (λ made. made ≡ record { pool = old_tables.now.pool; groups = []; unassigned_names = [] }) }
+            (λ made. made ≡ record { pool = existing_tables.now.pool; groups = []; unassigned_names = [] }) }
     {
         Ok(Tables {
-            pool: old_tables.pool.try_clone(alloc, bytes)?,
-            emails: Vec::with_capacity(alloc, with_more(old_tables.emails.len(), rows))?,
-            names: Vec::with_capacity(alloc, with_more(old_tables.names.len(), rows))?,
-            prefixes: Vec::with_capacity(alloc, with_more(old_tables.emails.len(), rows))?,
+            pool: existing_tables.pool.try_clone(alloc, bytes)?,
+            emails: Vec::with_capacity(alloc, with_more(existing_tables.emails.len(), rows))?,
+            names: Vec::with_capacity(alloc, with_more(existing_tables.names.len(), rows))?,
+            prefixes: Vec::with_capacity(alloc, with_more(existing_tables.emails.len(), rows))?,
         })
     }
 
     /// Appends a text to the pool.
     pub(crate) fn push_text(&mut self, text: &[u8]) -> Result<Span, AllocError>
         ensures grown { OnOk result (self.new ≡ record self.old { pool = self.old.pool ++ text.now }) }
-        ensures lies { IfOk result (LiesIn (length self.new.pool)) }
+        ensures in_pool { IfOk result (LiesIn (length self.new.pool)) }
         ensures spells { IfOk result (λ span. spelled self.new.pool span ≡ text.now) }
     {
         self.pool.push_text(text)
@@ -96,7 +96,7 @@ impl Tables {
     ) -> Result<NameRow, AllocError>
         requires { TextsInPool (length self.old.pool) existing }
         ensures grown { (more : List ℕ) × (self.new ≡ record self.old { pool = self.old.pool ++ more }) }
-        ensures lies { IfOk result (NameInPool (length self.new.pool)) }
+        ensures in_pool { IfOk result (NameInPool (length self.new.pool)) }
         ensures spells { IfOk result (λ row. name_group self.new.pool row
             ≡ record (named_group named.entry) { old_name = spelled self.old.pool (old_span existing) }) }
     {
@@ -111,7 +111,7 @@ impl Tables {
     ) -> Result<RowTexts, AllocError>
         requires { TextsInPool (length self.old.pool) texts }
         ensures grown { (more : List ℕ) × (self.new ≡ record self.old { pool = self.old.pool ++ more }) }
-        ensures lies { IfOk result (TextsInPool (length self.new.pool)) }
+        ensures in_pool { IfOk result (TextsInPool (length self.new.pool)) }
         ensures spells { IfOk result (OwnSpells self.old.pool self.new.pool texts (fields_given given.entry)) }
     {
         self.pool.email_row(texts, given)
@@ -162,7 +162,7 @@ impl Tables {
         count: usize,
         prefix: u128,
     ) -> Result<(), AllocError>
-        requires lies { TextsInPool (length self.old.pool) texts }
+        requires in_pool { TextsInPool (length self.old.pool) texts }
         requires prefix { IsKeyPrefix prefix (folded (spelled self.old.pool (old_span texts))) }
         requires unassigned_names { count ≤ length self.old.unassigned_names }
         ensures { OnOk result (self.new ≡ record {

@@ -133,7 +133,7 @@ pub(crate) fn together(
     requires new_name { ForSome new_name (LiesIn (length pool.old.items)) }
     requires new_email { ForSome new_email (LiesIn (length pool.old.items)) }
     ensures grown { Extends pool.old.items pool.new.items }
-    ensures lies { IfOk result (TextsInPool (length pool.new.items)) }
+    ensures in_pool { IfOk result (TextsInPool (length pool.new.items)) }
     ensures spells { IfOk result (RowSpells pool.old.items pool.new.items old new_name new_email) }
     ensures growth { GrowsBy (old.len + (span_bytes new_name + span_bytes new_email)) pool.old pool.new result }
 {

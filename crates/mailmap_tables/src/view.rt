@@ -105,7 +105,7 @@ impl<'a> View<'a> {
     pub fn email(&self, index: usize) -> (RowTexts, &'a [NameRow])
         requires { index < length self.now.groups }
         ensures group { slice_get self.now.groups index ≡ Some (group_of self.now.pool result.0 result.1.now) }
-        ensures lie { RowsInPool self.now.pool result.0 result.1.now }
+        ensures in_pool { RowsInPool self.now.pool result.0 result.1.now }
     {
         let row = at(self.emails, index);
         (row.texts, part(self.names, row.names_start, row.names_end))
@@ -117,7 +117,7 @@ impl<'a> View<'a> {
         requires within { to ≤ length self.now.groups }
         ensures names { map (name_group self.now.pool) result.now
             ≡ flat_map (λ (g : EmailGroup). g.names) (take (to - from) (drop from self.now.groups)) }
-        ensures lie { AllByRecursion (NameInPool (length self.now.pool)) result.now }
+        ensures in_pool { AllByRecursion (NameInPool (length self.now.pool)) result.now }
     {
         part(
             self.names,

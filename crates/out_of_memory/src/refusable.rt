@@ -218,7 +218,7 @@ fn suggest_lines(run: &mut Run, alloc: Global) -> Result<(), Wrong> {
     let contacts = run.judge(
         Call::CountContacts,
         || count(alloc),
-        |counted| counted.no_contacts().is_empty(),
+        |counted| counted.lines_without_contact().is_empty(),
     )?;
     run.judge_at_once(Call::Suggest, || {
         Ok(are_of_history(suggest(alloc, &[TEAM, FAULTY], &contacts)?.as_slice()))

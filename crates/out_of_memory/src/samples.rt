@@ -133,8 +133,8 @@ pub fn are_of_history(suggestions: &[Suggestion<'_>]) -> bool {
     has_entry(first, jane)
         && has_entry(second, eve)
         && has_entry(third, named)
-        && !first.is_to_judge
-        && third.is_to_judge
+        && !first.needs_review
+        && third.needs_review
         && first.answers.len() == 2
         && are_others_of_history(second.git_answers.as_slice())
 }
@@ -151,7 +151,7 @@ pub fn are_others_of_history(others: &[Tally<'_>]) -> bool {
     }
 }
 
-/// The line of the team's second entry that is to be judged.
+/// The line of the team's second entry that needs a look first.
 pub const SUGGESTED: &[u8] = b"#?Jane Doe <jane@example.com> Jane <bugs@example.com>\n";
 
 pub const COUNTED: &[u8] = b"# 12 Jane Doe <jane@example.com> by git\n";

@@ -11,7 +11,7 @@ use Rattle.mailmap_snapshot.specs.Semantics.{IsNormal}
 use Rattle.mailmap_batches.specs.Batches.{IsAscending}
 use Rattle.mailmap_entries.proofs.Parts.{all_weaker}
 use Rattle.shortlog_command.specs.Counts.{AreCounts, AreSums, Counted, SameCounts, mapped_count, passing_count}
-use Rattle.shortlog_command.specs.Shortlog.{IsListing, IsShortlog, answers_counted, counted_text, line_counted, order, times}
+use Rattle.shortlog_command.specs.Shortlog.{IsCountedList, IsShortlog, answers_counted, counted_text, line_counted, order, times}
 use Rattle.shortlog_command.proofs.Answered.{same_mapped_counts}
 use Rattle.shortlog_command.proofs.Counting.{sums_mapped, weight}
 use Rattle.shortlog_command.proofs.Ordered.{occurs, found, is, moved_all, order_ties, order_total, own, strictly, text_of}
@@ -25,7 +25,7 @@ pub listing : (by_count : Bool) (f : Text → Option Text) (texts : List Text) (
     → AreCounts texts counts → SameCounts answers (flat_map (mapped_count f) counts)
     → AllByRecursion (λ c. 0 < c.count) answers → IsStrictlySortedBy text_cmp (map text_of answers)
     → IsPermutation answers listed → IsAscending (order by_count) listed
-    → IsListing by_count (filter_map f texts) listed
+    → IsCountedList by_count (filter_map f texts) listed
 listing by_count f texts counts answers listed are same some once moved up =
     let all : AreSums (filter_map f texts) answers = λ test. same test ∙ sums_mapped f texts counts are.of_each test in
     let last : (test : Text → Bool) → passing_count test listed ≡ passing_count test answers =

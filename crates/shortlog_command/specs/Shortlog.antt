@@ -52,7 +52,7 @@ abbrev pub order : Bool → Counted → Counted → Ordering
 order by_count a b = if by_count then count_order a b else text_order a b
 
 -- each text among the answers is listed once, with how often it occurs, and no other text is
-pub record IsListing (by_count : Bool) (answers : List Text) (listed : List Counted) : Type 0 where
+pub record IsCountedList (by_count : Bool) (answers : List Text) (listed : List Counted) : Type 0 where
   pub every : (answer : Text) → Contains answers answer → Contains (map (λ c. c.text) listed) answer
   pub each : AllByRecursion (λ c. (c.count ≡ times c.text answers) × (0 < c.count)) listed
   pub in_order : IsStrictlySortedBy (order by_count) listed
@@ -68,4 +68,4 @@ counted_text c = six_columns c.count ++ 9 ∷ c.text ++ 10 ∷ []
 -- the text has such a line for each distinct answer
 abbrev pub IsShortlog : Bool → List Text → Text → Type 0
 IsShortlog by_count answers text =
-    (listed : List Counted) × IsListing by_count answers listed × (text ≡ flat_map counted_text listed)
+    (listed : List Counted) × IsCountedList by_count answers listed × (text ≡ flat_map counted_text listed)

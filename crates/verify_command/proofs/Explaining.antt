@@ -17,7 +17,7 @@ use Rattle.command_line.proofs.Printed.{Appends-both, Appends-longer, underway-b
 use Rattle.mailmap_findings.proofs.Concatenated.{joined}
 use Rattle.mailmap_entries.specs.Folding.{Text}
 use Rattle.mailmap_findings.specs.Positions.{whole_lines}
-use Rattle.verify_command.specs.Explained.{AnswersAll, AnswersFront, AnswersLines, AnswersWholeLines, each_line}
+use Rattle.verify_command.specs.Explained.{MapsAll, MapsFront, MapsLines, MapsWholeLines, each_line}
 use Rattle.verify_command.proofs.Fronts.{each_line-append, front-lines, front-longer, front-more, front-none, front-whole, none_answered}
 
 -- ---- printing pieces, such as the answers to the lines of a text
@@ -55,7 +55,7 @@ printed_broken answer all left rest line piece before between after held n h ste
 -- the held bytes are written before the remaining pieces are printed
 pub printed_first : (answer : Text → Text) (bytes : Text) (left rest : List Text) (line : Text) (before between after : Option Text) (held : Text)
     → HasPrinted answer (whole_lines bytes) left before between held → left ≡ line ∷ rest → Appends between after held
-    → Prints (λ made. (rest : Text) × AnswersFront answer bytes made rest) before after
+    → Prints (λ made. (rest : Text) × MapsFront answer bytes made rest) before after
 printed_first answer bytes left rest line before between after held h step written =
     let is : whole_lines bytes ≡ h.0 ++ line ∷ rest = h.1 ∙ ap (λ l. h.0 ++ l) step in (
       flat_map answer h.0,
@@ -83,7 +83,7 @@ printed_all answer all left before between after held h none written =
 
 -- answers to the first lines of some bytes
 abbrev pub SomeAnswered : (Text → Text) → Text → Text → Type 0
-SomeAnswered answer bytes made = (rest : Text) × AnswersFront answer bytes made rest
+SomeAnswered answer bytes made = (rest : Text) × MapsFront answer bytes made rest
 
 -- `lines` were read and their answers written
 pub record HasAnswered (answer : Text → Text) (old now : Option Text) (held : Text) (before after : Option Text) : Type 0 where
@@ -115,7 +115,7 @@ one_more answer old now later held text rest more before between after is h r w 
 
 -- at the end of the input
 pub ended : (answer : Text → Text) (old now later : Option Text) (held text rest : Text) (more : Bool) (before between after : Option Text) → more ≡ false → (h : HasAnswered answer old now held before between)
-    → ReadsText old later h.lines text rest more → Appends between after (each_line answer text) → Prints (AnswersAll answer old) before after
+    → ReadsText old later h.lines text rest more → Appends between after (each_line answer text) → Prints (MapsAll answer old) before after
 ended answer old now later held text rest more before between after is h r w = (
   each_line answer (h.lines ++ text),
   (h.lines ++ text, all_read old later h.lines text rest (subst (ReadsText old later h.lines text rest) is r), refl),
@@ -124,7 +124,7 @@ ended answer old now later held text rest more before between after is h r w = (
 
 -- a prefix of the answers to the first lines is a prefix of all answers
 lines_broken : (answer : Text → Text) (old now : Option Text) (lines rest : Text) (before after : Option Text) (n : ℕ) → Consumes old now (lines ++ rest) → EndsLine lines
-    → Appends before after (take n (each_line answer lines)) → PrintsFront (AnswersAll answer old) before after
+    → Appends before after (take n (each_line answer lines)) → PrintsFront (MapsAll answer old) before after
 lines_broken answer None now lines rest before after n consumed ends broken = (each_line answer lines, (lines, tt, refl), (n, broken))
 lines_broken answer (Some x) None lines rest before after n consumed ends broken = absurd consumed
 lines_broken answer (Some x) (Some y) lines rest before after n consumed ends broken =
@@ -137,15 +137,15 @@ lines_broken answer (Some x) (Some y) lines rest before after n consumed ends br
 
 -- a write fails within the next text
 text_broken : (answer : Text → Text) (old later : Option Text) (lines text rest : Text) (more : Bool) (before after : Option Text) (n : ℕ) → ReadsText old later lines text rest more
-    → Appends before after (take n (each_line answer (lines ++ text))) → PrintsFront (AnswersAll answer old) before after
+    → Appends before after (take n (each_line answer (lines ++ text))) → PrintsFront (MapsAll answer old) before after
 text_broken answer old later lines text rest true before after n r broken = lines_broken answer old later (lines ++ text) rest before after n r.consumed (r.ends refl) broken
 text_broken answer old later lines text rest false before after n r broken = (each_line answer (lines ++ text), (lines ++ text, all_read old later lines text rest r, refl), (n, broken))
 
 -- memory runs out within the next text
-text_lost : (answer : Text → Text) (old later : Option Text) (lines text rest made left : Text) → EndsLine lines → Consumes old later ((lines ++ text) ++ rest) → AnswersFront answer text made left
-    → AnswersLines answer old later (each_line answer lines ++ made)
+text_lost : (answer : Text → Text) (old later : Option Text) (lines text rest made left : Text) → EndsLine lines → Consumes old later ((lines ++ text) ++ rest) → MapsFront answer text made left
+    → MapsLines answer old later (each_line answer lines ++ made)
 text_lost answer old later lines text rest made left ends consumed a =
-    let first = subst (λ l. AnswersFront answer l (each_line answer lines) []) (append-nil lines) (front-whole answer lines [] ends) in (
+    let first = subst (λ l. MapsFront answer l (each_line answer lines) []) (append-nil lines) (front-whole answer lines [] ends) in (
       (lines ++ text) ++ rest,
       left ++ rest,
       consumed,
@@ -163,7 +163,7 @@ not_of_input Output only of_input = of_input
 pub failed_printing : {T : Type 0} (answer : Text → Text) (old now later : Option Text) (held text rest : Text) (more : Bool) (before between after : Option Text) (e : Failure)
     → (h : HasAnswered answer old now held before between) → ReadsText old later h.lines text rest more → (e ≡ Memory) ⊎ (e ≡ Output)
     → (IsErrOf {T = T} {E = Failure} (Err e) Memory → Prints (SomeAnswered answer text) between after) → (IsErrOf {T = T} {E = Failure} (Err e) Output → (count : ℕ) × Appends between after (take count (each_line answer text)))
-    → LeavesAnswers {T = T} (AnswersAll answer old) (AnswersWholeLines answer old later) (Prints (AnswersLines answer old later) before after) later before after (Err e)
+    → LeavesAnswers {T = T} (MapsAll answer old) (MapsWholeLines answer old later) (Prints (MapsLines answer old later) before after) later before after (Err e)
 failed_printing answer old now later held text rest more before between after e h r only lost broken = record {
   prints = tt;
   reads_all = tt;
@@ -183,13 +183,13 @@ failed_printing answer old now later held text rest more before between after e 
 
 -- the input fails
 pub whole_lines_written : (answer : Text → Text) (old now : Option Text) (lines held : Text) (before after : Option Text) → HasRead old now lines held → Appends before after (each_line answer lines)
-    → Prints (AnswersWholeLines answer old now) before after
+    → Prints (MapsWholeLines answer old now) before after
 whole_lines_written answer old now lines held before after h w = (each_line answer lines, (lines ++ held, held, h.consumed, front-whole answer lines held h.ends, h.no_feed), w)
 
 -- any failure while the next text is read
 pub failed_reading : {T : Type 0} (answer : Text → Text) (old now later : Option Text) (held text rest : Text) (before after : Option Text) (e : Failure)
     → (h : HasAnswered answer old now held before after) → Reads old later h.lines text rest (Err e)
-    → LeavesAnswers {T = T} (AnswersAll answer old) (AnswersWholeLines answer old later) (Prints (AnswersLines answer old later) before after) later before after (Err e)
+    → LeavesAnswers {T = T} (MapsAll answer old) (MapsWholeLines answer old later) (Prints (MapsLines answer old later) before after) later before after (Err e)
 failed_reading answer old now later held text rest before after (File number cause) h r = absurd r
 failed_reading answer old now later held text rest before after (Input cause) h r = record {
   prints = tt;
@@ -208,5 +208,5 @@ failed_reading answer old now later held text rest before after Memory h r = rec
 failed_reading answer old now later held text rest before after Output h r = absurd r
 
 -- nothing was read or written
-pub nothing : (answer : Text → Text) (old before : Option Text) → Prints (AnswersLines answer old old) before before
+pub nothing : (answer : Text → Text) (old before : Option Text) → Prints (MapsLines answer old old) before before
 nothing answer old before = ([], ([], [], Consumes-nil old, front-none answer []), Appends-nil before)

@@ -9,7 +9,7 @@ use Rattle.mailmap_grammar.specs.Lines.{with_first}
 use Rattle.mailmap_snapshot.specs.Parts.{EndsLine}
 use Rattle.command_line.proofs.Reading.{ends_after}
 use Rattle.mailmap_findings.specs.Positions.{whole_lines}
-use Rattle.verify_command.specs.Explained.{AnswersFront, each_line}
+use Rattle.verify_command.specs.Explained.{MapsFront, each_line}
 
 -- ---- lines after whole lines
 
@@ -56,15 +56,15 @@ unfolding whole_lines
 none_answered answer = refl
 
 -- no line is answered
-pub front-none : (answer : Text → Text) (bytes : Text) → AnswersFront answer bytes [] bytes
+pub front-none : (answer : Text → Text) (bytes : Text) → MapsFront answer bytes [] bytes
 front-none answer bytes = record { whole = []; ends = inl refl; bytes_are = refl; text_is = none_answered answer }
 
 -- all lines are answered
-pub front-whole : (answer : Text → Text) (bytes rest : Text) → EndsLine bytes → AnswersFront answer (bytes ++ rest) (each_line answer bytes) rest
+pub front-whole : (answer : Text → Text) (bytes rest : Text) → EndsLine bytes → MapsFront answer (bytes ++ rest) (each_line answer bytes) rest
 front-whole answer bytes rest ends = record { whole = bytes; ends = ends; bytes_are = refl; text_is = refl }
 
 -- the start of some bytes is the start of more
-pub front-longer : (answer : Text → Text) (bytes text rest more : Text) → AnswersFront answer bytes text rest → AnswersFront answer (bytes ++ more) text (rest ++ more)
+pub front-longer : (answer : Text → Text) (bytes text rest more : Text) → MapsFront answer bytes text rest → MapsFront answer (bytes ++ more) text (rest ++ more)
 front-longer answer bytes text rest more a = record {
   whole = a.whole;
   ends = a.ends;
@@ -73,8 +73,8 @@ front-longer answer bytes text rest more a = record {
 }
 
 -- answering in two steps
-pub front-more : (answer : Text → Text) (bytes text rest more made left : Text) → AnswersFront answer bytes text rest → AnswersFront answer (rest ++ more) made left
-    → AnswersFront answer (bytes ++ more) (text ++ made) left
+pub front-more : (answer : Text → Text) (bytes text rest more made left : Text) → MapsFront answer bytes text rest → MapsFront answer (rest ++ more) made left
+    → MapsFront answer (bytes ++ more) (text ++ made) left
 front-more answer bytes text rest more made left a b = record {
   whole = a.whole ++ b.whole;
   ends = ends_after a.whole b.whole a.ends b.ends;
@@ -96,7 +96,7 @@ are_ended (t ∷ done) rest some are =
     ⊎_elim (λ w. ((inl w, more.0), ends_after t (joined done) (inr (w.0, w.2)) more.1)) (λ w. absurd (some (none_left done rest w.1))) are.0
 
 -- answers to the first lines, with others after them
-pub front-lines : (answer : Text → Text) (bytes : Text) (done rest : List Text) → rest ≢ [] → whole_lines bytes ≡ done ++ rest → AnswersFront answer bytes (flat_map answer done) (joined rest)
+pub front-lines : (answer : Text → Text) (bytes : Text) (done rest : List Text) → rest ≢ [] → whole_lines bytes ≡ done ++ rest → MapsFront answer bytes (flat_map answer done) (joined rest)
 front-lines answer bytes done rest some is =
     let ended = are_ended done rest some (subst AreWhole is (are_whole bytes)) in
     record {

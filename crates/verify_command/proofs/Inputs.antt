@@ -10,14 +10,14 @@ none_of : {X : Type 0} (f : X → Text) (xs : List X) → map f xs ≡ [] → xs
 none_of f [] is = refl
 none_of f (x ∷ xs) is = cc
 
-pub no_contacts : (mode : Mode) (contacts : Text) → mode ≢ Explain → mode ≢ Contacts → mode ≢ Suggest → reads_contacts mode contacts ≡ false
-no_contacts Help contacts no_explain no_file no_suggest = refl
-no_contacts Version contacts no_explain no_file no_suggest = refl
-no_contacts Verify contacts no_explain no_file no_suggest = refl
-no_contacts Prune contacts no_explain no_file no_suggest = refl
-no_contacts Explain contacts no_explain no_file no_suggest = absurd (no_explain refl)
-no_contacts Contacts contacts no_explain no_file no_suggest = absurd (no_file refl)
-no_contacts Suggest contacts no_explain no_file no_suggest = absurd (no_suggest refl)
+pub lines_without_contact : (mode : Mode) (contacts : Text) → mode ≢ Explain → mode ≢ Contacts → mode ≢ Suggest → reads_contacts mode contacts ≡ false
+lines_without_contact Help contacts no_explain no_file no_suggest = refl
+lines_without_contact Version contacts no_explain no_file no_suggest = refl
+lines_without_contact Verify contacts no_explain no_file no_suggest = refl
+lines_without_contact Prune contacts no_explain no_file no_suggest = refl
+lines_without_contact Explain contacts no_explain no_file no_suggest = absurd (no_explain refl)
+lines_without_contact Contacts contacts no_explain no_file no_suggest = absurd (no_file refl)
+lines_without_contact Suggest contacts no_explain no_file no_suggest = absurd (no_suggest refl)
 
 -- the input has the mailmap
 pub has_mailmap : {X : Type 0} (f : X → Text) (mode : Mode) (contacts : Text) (paths : List X) → ReadsInput mode contacts (map f paths) → reads_contacts mode contacts ≡ false → paths ≡ []

@@ -10,7 +10,7 @@ use Rattle.command_line.specs.declared.failure.Failure.TheVariants.{File, Input,
 use Rattle.command_line.specs.declared.outcome.Outcome.{Outcome}
 use Rattle.command_line.specs.declared.outcome.Outcome.TheVariants.{Clean}
 use Rattle.verify_command.specs.Settings.{Choices}
-use Rattle.verify_command.specs.Task.{FailsFor, FailsToSuggest, IsAnswer, IsOfAnyFile, IsSuggested, Leaves, LeavesExplained, LeavesSuggested, ReadsInput, is_dash}
+use Rattle.verify_command.specs.Task.{FailsFor, FailsToSuggest, IsOutputOf, IsOfAnyFile, IsSuggested, Leaves, LeavesExplained, LeavesSuggested, ReadsInput, is_dash}
 use Rattle.verify_command.specs.declared.asked.Mode.{Mode}
 use Rattle.verify_command.specs.declared.asked.Mode.TheVariants.{Contacts, Explain, Suggest, Verify}
 use Rattle.verify_command.specs.declared.failure.TaskFailure.{TaskFailure}
@@ -18,7 +18,7 @@ use Rattle.verify_command.specs.declared.failure.TaskFailure.TheVariants.{Run, C
 
 -- a prefix of an answer of this mode
 abbrev pub BeginsAnswer : {W : Type 0} → (Text → AtPath) → Option Text → Choices → Mode → Text → List Text → (W → Option Text) → W → W → Type 0
-BeginsAnswer at unread choices mode contacts paths contents old new = (outcome : Outcome) × PrintsFront (IsAnswer at unread choices mode contacts paths outcome) (contents old) (contents new)
+BeginsAnswer at unread choices mode contacts paths contents old new = (outcome : Outcome) × PrintsFront (IsOutputOf at unread choices mode contacts paths outcome) (contents old) (contents new)
 
 not_of_file : (e : Failure) → (e ≡ Memory) ⊎ (e ≡ Output) → IsOfFile e → ⊥
 not_of_file (File number cause) (inl is) of_file = cc

@@ -10,7 +10,7 @@ use Rattle.std.specs.Result.{IsErrOf}
 use Rattle.std.proofs.lemmas.List.Folds.{list_any-append}
 use Rattle.command_line.specs.declared.failure.Failure.{Failure}
 use Rattle.mailmap_contacts.specs.Answers.{finding_view}
-use Rattle.mailmap_contacts.specs.Comparisons.{ContactFinding, comparisons, git_answers, no_contact, no_contacts_from, place_cmp, place_of}
+use Rattle.mailmap_contacts.specs.Comparisons.{ContactFinding, comparisons, git_answers, no_contact, no_contacts_from, place_cmp, finding_place}
 use Rattle.mailmap_contacts.specs.Contacts.{AreTallies, Tally, answers_to, contacts_from, tallied}
 use Rattle.mailmap_contacts.specs.declared.comparisons.ContactFinding.{ContactFinding as TheFinding}
 use Rattle.mailmap_contacts.proofs.Steps.{mapped_more}
@@ -26,11 +26,11 @@ use Rattle.command_line.proofs.Printed.{Appends-both, Appends-longer}
 use Rattle.mailmap_redundancy.specs.declared.located.Position.{Position}
 use Rattle.mailmap_suggestions.specs.Counted.{other_git_answers}
 use Rattle.mailmap_suggestions.specs.Histories.{histories_of}
-use Rattle.mailmap_suggestions.specs.Lines.{Histories}
-use Rattle.verify_command.specs.Contacts.{AreFoundBeside, AreFoundWith, IsReportBeside, both_texts, contact_counts, outcome_of_both, remark_counts, reported_remark, reported_said, said_text}
+use Rattle.mailmap_suggestions.specs.Forms.{Histories}
+use Rattle.verify_command.specs.Contacts.{AreFoundBeside, AreFoundWith, IsReportBeside, both_texts, contact_counts, outcome_of_both, remark_counts, reported_remark, reported_contact_finding, contact_findings_text}
 use Rattle.verify_command.specs.Settings.{Choices, if_reported, is_reported, mailmap_names, outcome_if}
 use Rattle.verify_command.specs.declared.kinds.Kind.{Kind}
-use Rattle.verify_command.specs.Task.{AreContacts, AreMailmapsBeside, IsAnswer, contacts_name, is_dash}
+use Rattle.verify_command.specs.Task.{AreContacts, AreMailmapsBeside, IsOutputOf, contacts_name, is_dash}
 use Rattle.verify_command.specs.declared.asked.Mode.TheVariants.{Contacts as TheContacts}
 use Rattle.verify_command.proofs.TakingLines.{of_unread}
 
@@ -53,9 +53,9 @@ counts_more test done x o = either (list_any test done) (test x) ∙ ap (λ b. i
 
 -- ---- findings about contacts
 
-pub said_each : (choices : Choices) (file : Text) (findings : List TheFinding) → said_text choices file (map finding_view findings) ≡ flat_map (λ f. reported_said choices file (finding_view f)) findings
-said_each choices file [] = refl
-said_each choices file (f ∷ findings) = ap (λ t. reported_said choices file (finding_view f) ++ t) (said_each choices file findings)
+pub contact_findings_each : (choices : Choices) (file : Text) (findings : List TheFinding) → contact_findings_text choices file (map finding_view findings) ≡ flat_map (λ f. reported_contact_finding choices file (finding_view f)) findings
+contact_findings_each choices file [] = refl
+contact_findings_each choices file (f ∷ findings) = ap (λ t. reported_contact_finding choices file (finding_view f) ++ t) (contact_findings_each choices file findings)
 
 -- the outcome after one more
 pub contacts_count_more : (choices : Choices) (findings : List TheFinding) (k : ℕ) (d : TheFinding) (o : Outcome) → k < length findings
@@ -103,14 +103,14 @@ are_unneeded mailmaps taken begun needs found history effective all left is = re
 pub about_contacts : (h : Histories) (lines : List Text) (history : List LocatedMapping) (answers given gits : List Tally) (none : List ℕ) (found shown : List ContactFinding)
     → AreTallies (answers_to (entries history) lines) answers → entries history ≡ h.ours → none ≡ no_contacts_from 1 lines → given ≡ answers
     → gits ≡ other_git_answers h (tallied (contacts_from 1 lines)) → shown ≡ found
-    → IsPermutation (map no_contact none ++ comparisons given ++ map git_answers gits) found → IsSortedByKey place_of place_cmp found → AreFoundWith h lines shown
+    → IsPermutation (map no_contact none ++ comparisons given ++ map git_answers gits) found → IsSortedByKey finding_place place_cmp found → AreFoundWith h lines shown
 about_contacts h lines history answers given gits none found shown tallies ours none_is given_is gits_are shown_is whole in_order = record {
   answers = answers;
   tallies = subst (λ k. AreTallies (answers_to k lines) answers) ours tallies;
   whole =
       subst (IsPermutation (map no_contact (no_contacts_from 1 lines) ++ comparisons answers ++ map git_answers (other_git_answers h (tallied (contacts_from 1 lines))))) (sym shown_is)
       (subst (λ l. IsPermutation l found) (λ i. map no_contact (none_is i) ++ comparisons (given_is i) ++ map git_answers (gits_are i)) whole);
-  in_order = subst (IsSortedByKey place_of place_cmp) (sym shown_is) in_order;
+  in_order = subst (IsSortedByKey finding_place place_cmp) (sym shown_is) in_order;
 }
 
 pub is_report : (choices : Choices) (paths : List Text) (file : Text) (mailmaps : List Text) (taken : Text) (remarks : List Remark) (found : List ContactFinding) (outcome : Outcome)
@@ -121,12 +121,12 @@ is_report choices paths file mailmaps taken remarks found outcome are about is =
 -- both are written
 pub prints_both : (choices : Choices) (paths : List Text) (file : Text) (mailmaps : List Text) (taken : Text) (remarks : List Remark) (found : List ContactFinding) (outcome : Outcome) (before between after : Option Text)
     → AreRemarks mailmaps taken remarks → AreFoundWith (histories_of mailmaps) (whole_lines taken) found → outcome ≡ outcome_of_both choices remarks found
-    → Appends before between (flat_map (reported_remark choices paths) remarks) → Appends between after (said_text choices file found)
+    → Appends before between (flat_map (reported_remark choices paths) remarks) → Appends between after (contact_findings_text choices file found)
     → Prints (IsReportBeside choices paths file mailmaps taken outcome) before after
 prints_both choices paths file mailmaps taken remarks found outcome before between after are about is first second = (
   both_texts choices paths file remarks found,
   is_report choices paths file mailmaps taken remarks found outcome are about is,
-  Appends-trans before between after (flat_map (reported_remark choices paths) remarks) (said_text choices file found) first second,
+  Appends-trans before between after (flat_map (reported_remark choices paths) remarks) (contact_findings_text choices file found) first second,
 )
 
 -- a prefix of a report
@@ -153,15 +153,15 @@ pub begins_first : (choices : Choices) (paths : List Text) (file : Text) (mailma
     → Appends before after (take n (flat_map (reported_remark choices paths) remarks)) → BeginsReport choices paths file mailmaps taken before after
 begins_first choices paths file mailmaps taken remarks found before after n are about part =
     begins choices paths file mailmaps taken remarks found before after are about
-    (Appends-longer before after n (flat_map (reported_remark choices paths) remarks) (said_text choices file found) part)
+    (Appends-longer before after n (flat_map (reported_remark choices paths) remarks) (contact_findings_text choices file found) part)
 
 -- a write fails within the findings about contacts
 pub begins_second : (choices : Choices) (paths : List Text) (file : Text) (mailmaps : List Text) (taken : Text) (remarks : List Remark) (found : List ContactFinding) (before between after : Option Text) (n : ℕ)
     → AreRemarks mailmaps taken remarks → AreFoundWith (histories_of mailmaps) (whole_lines taken) found
-    → Appends before between (flat_map (reported_remark choices paths) remarks) → Appends between after (take n (said_text choices file found)) → BeginsReport choices paths file mailmaps taken before after
+    → Appends before between (flat_map (reported_remark choices paths) remarks) → Appends between after (take n (contact_findings_text choices file found)) → BeginsReport choices paths file mailmaps taken before after
 begins_second choices paths file mailmaps taken remarks found before between after n are about first part =
     begins choices paths file mailmaps taken remarks found before after are about
-    (Appends-both before between after (flat_map (reported_remark choices paths) remarks) (said_text choices file found) n first part)
+    (Appends-both before between after (flat_map (reported_remark choices paths) remarks) (contact_findings_text choices file found) n first part)
 
 -- a failure was an error in writing, or memory ran out
 pub broken_off : {T : Type 0} (r : Result T Failure) (e : Failure) (P : Type 0) → OnErr r P → IsErrOf r e → P
@@ -182,10 +182,10 @@ read_beside at contacts input left paths mailmaps others taken are same unread i
 
 pub prints_answer : (at : Text → AtPath) (input : Option Text) (choices : Choices) (contacts : Text) (paths mailmaps : List Text) (taken : Text) (outcome : Outcome) (before after : Option Text)
     → AreReadBeside at input contacts paths mailmaps taken → Prints (IsReportBeside choices (mailmap_names choices paths) (contacts_name choices contacts) mailmaps taken outcome) before after
-    → Prints (IsAnswer at input choices TheContacts contacts paths outcome) before after
+    → Prints (IsOutputOf at input choices TheContacts contacts paths outcome) before after
 prints_answer at input choices contacts paths mailmaps taken outcome before after are p = (p.0, (mailmaps, taken, are.0, are.1, p.1), p.2)
 
 pub begins_answer : (at : Text → AtPath) (input : Option Text) (choices : Choices) (contacts : Text) (paths mailmaps : List Text) (taken : Text) (before after : Option Text)
     → AreReadBeside at input contacts paths mailmaps taken → BeginsReport choices (mailmap_names choices paths) (contacts_name choices contacts) mailmaps taken before after
-    → (outcome : Outcome) × PrintsFront (IsAnswer at input choices TheContacts contacts paths outcome) before after
+    → (outcome : Outcome) × PrintsFront (IsOutputOf at input choices TheContacts contacts paths outcome) before after
 begins_answer at input choices contacts paths mailmaps taken before after are p = (p.0, (p.1.0, (mailmaps, taken, are.0, are.1, p.1.1), p.1.2))

@@ -156,14 +156,14 @@ names_input Explain = false
 names_input Contacts = true
 names_input Suggest = false
 
-abbrev pub is_empty : {X : Type 0} → List X → Bool
-is_empty xs = length xs == 0
+abbrev pub has_none : {X : Type 0} → List X → Bool
+has_none xs = length xs == 0
 
 -- the first option that the mode doesn't use
 abbrev pub unused_setting : Wanted → Option Setting
 unused_setting w =
     if is_some w.choices.severity && not (reports w.mode) then Some setting.Severity
-    else if not (is_empty w.choices.excluded) && not (reports w.mode) then Some setting.Exclude
+    else if not (has_none w.choices.excluded) && not (reports w.mode) then Some setting.Exclude
     else if is_some w.choices.format && not (reports w.mode) then Some setting.Format
     else if is_some w.choices.stdin_name && not (names_input w.mode) then Some setting.StdinName
     else None

@@ -2,7 +2,7 @@
 use Rattle.std.specs.Prelude.{◌≡◌, ◌||◌, ℕ, Bool, Option, Some, None, List, [], ◌∷◌, ◌++◌, codes, decimal}
 use Rattle.std.specs.List.{flat_map, list_any}
 use Rattle.mailmap_entries.specs.Folding.{Text}
-use Rattle.mailmap_contacts.specs.Comparisons.{AreContactFindings, ContactFinding, git_answers, no_contact, same_email, same_name}
+use Rattle.mailmap_contacts.specs.Comparisons.{AreContactFindings, ContactFinding, first_line_of, git_answers, no_contact, same_email, same_name}
 use Rattle.mailmap_contacts.specs.Contacts.{Tally, contacts_from, tallied}
 use Rattle.mailmap_findings.specs.Needs.{AreUnneeded}
 use Rattle.mailmap_findings.specs.Positions.{whole_lines}
@@ -10,7 +10,7 @@ use Rattle.mailmap_redundancy.specs.declared.located.Position.{Position}
 use Rattle.mailmap_findings.specs.Remarks.{AreRemarks, Remark, found as remark_found, unneeded as remark_unneeded}
 use Rattle.mailmap_suggestions.specs.Counted.{other_git_answers}
 use Rattle.mailmap_suggestions.specs.Histories.{histories_of}
-use Rattle.mailmap_suggestions.specs.Lines.{Histories}
+use Rattle.mailmap_suggestions.specs.Forms.{Histories}
 use Rattle.command_line.specs.declared.outcome.Outcome.{Outcome}
 use Rattle.verify_command.specs.Kinds.{contact_kind, remark_kind}
 use Rattle.verify_command.specs.Json.{FileLine, object_line}
@@ -30,19 +30,16 @@ place_text file line = file ++ 58 ∷ decimal line
 abbrev pub counted_contact : Tally → Text
 counted_contact a = short_contact a.contact.name a.contact.email ++ codes " (" ++ decimal a.seen.count ++ 41 ∷ []
 
--- an answer beside the proper one, with the words between them
-abbrev pub comparison_text : Kind → Text → Text → Tally → Tally → Text
-comparison_text kind words file a p =
-    place_text file a.seen.first_line ++ labelled kind (counted_contact a ++ words ++ counted_contact p)
+-- what a finding says, without its place, its level and its kind
+abbrev pub contact_words : ContactFinding → Text
+contact_words (no_contact line) = codes "no contact"
+contact_words (same_email a p) = counted_contact a ++ codes " has the email of " ++ counted_contact p
+contact_words (same_name a p) = counted_contact a ++ codes " has the name of " ++ counted_contact p
+contact_words (git_answers a) = codes "git answers " ++ short_contact a.contact.name a.contact.email
 
 -- a finding before escapes; `file` is the name of the file of contacts
-abbrev pub said : Text → ContactFinding → Text
-said file (no_contact line) = place_text file line ++ labelled kind.NoContact (codes "no contact")
-said file (same_email a p) = comparison_text kind.SameEmail (codes " has the email of ") file a p
-said file (same_name a p) = comparison_text kind.SameName (codes " has the name of ") file a p
-said file (git_answers a) =
-    place_text file a.seen.first_line
-    ++ labelled kind.GitAnswers (codes "git answers " ++ short_contact a.contact.name a.contact.email)
+abbrev pub contact_finding_text : Text → ContactFinding → Text
+contact_finding_text file f = place_text file (first_line_of f) ++ labelled (contact_kind f) (contact_words f)
 
 -- the findings about the contacts on lines, with the entries of mailmaps as this library reads them and as git does
 abbrev pub AreFoundWith : Histories → List Text → List ContactFinding → Type 0
@@ -50,43 +47,31 @@ AreFoundWith h lines found = AreContactFindings h.ours (other_git_answers h (tal
 
 -- ---- the same as JSON
 
-abbrev pub contact_words : ContactFinding → Text
-contact_words (no_contact line) = codes "no contact"
-contact_words (same_email a p) = counted_contact a ++ codes " has the email of " ++ counted_contact p
-contact_words (same_name a p) = counted_contact a ++ codes " has the name of " ++ counted_contact p
-contact_words (git_answers a) = codes "git answers " ++ short_contact a.contact.name a.contact.email
-
-abbrev pub contact_line : ContactFinding → ℕ
-contact_line (no_contact line) = line
-contact_line (same_email a p) = a.seen.first_line
-contact_line (same_name a p) = a.seen.first_line
-contact_line (git_answers a) = a.seen.first_line
-
 -- the first line with the answer that another is compared with
-abbrev pub compared : Text → ContactFinding → Option FileLine
-compared file (no_contact line) = None
-compared file (same_email a p) = Some (record { file = file; line = p.seen.first_line })
-compared file (same_name a p) = Some (record { file = file; line = p.seen.first_line })
-compared file (git_answers a) = None
+abbrev pub compared_line : Text → ContactFinding → Option FileLine
+compared_line file (no_contact line) = None
+compared_line file (same_email a p) = Some (record { file = file; line = p.seen.first_line })
+compared_line file (same_name a p) = Some (record { file = file; line = p.seen.first_line })
+compared_line file (git_answers a) = None
 
 abbrev pub contact_object : Text → ContactFinding → Text
 contact_object file f =
-    object_line (contact_kind f) (record { file = file; line = contact_line f }) (contact_words f) (compared file f)
+    object_line (contact_kind f) (record { file = file; line = first_line_of f }) (contact_words f) (compared_line file f)
 
 -- ---- the report as text
 
 -- a line of the report of contacts
-abbrev pub said_line : Text → ContactFinding → Text
-said_line file f = shown (said file f) ++ 10 ∷ []
+abbrev pub contact_finding_line : Text → ContactFinding → Text
+contact_finding_line file f = shown (contact_finding_text file f) ++ 10 ∷ []
 
-abbrev pub formatted_said : Choices → Text → ContactFinding → Text
-formatted_said c file f = formatted c (said_line file f) (contact_object file f)
+abbrev pub formatted_contact_finding : Choices → Text → ContactFinding → Text
+formatted_contact_finding c file f = formatted c (contact_finding_line file f) (contact_object file f)
 
-abbrev pub reported_said : Choices → Text → ContactFinding → Text
-reported_said c file f = if_reported c (contact_kind f) (formatted_said c file f)
+abbrev pub reported_contact_finding : Choices → Text → ContactFinding → Text
+reported_contact_finding c file f = if_reported c (contact_kind f) (formatted_contact_finding c file f)
 
-abbrev pub said_text : Choices → Text → List ContactFinding → Text
-said_text c file found = flat_map (reported_said c file) found
+abbrev pub contact_findings_text : Choices → Text → List ContactFinding → Text
+contact_findings_text c file found = flat_map (reported_contact_finding c file) found
 
 -- a line of the report of mailmaps
 abbrev pub remark_line : List Text → Remark → Text
@@ -107,7 +92,7 @@ reported_remark c paths r = if_reported c (remark_kind r) (formatted_remark c pa
 
 -- the remarks on the mailmaps, and after them the findings about the contacts
 abbrev pub both_texts : Choices → List Text → Text → List Remark → List ContactFinding → Text
-both_texts c paths file remarks found = flat_map (reported_remark c paths) remarks ++ said_text c file found
+both_texts c paths file remarks found = flat_map (reported_remark c paths) remarks ++ contact_findings_text c file found
 
 -- they count for the exit status
 abbrev pub remark_counts : Choices → Remark → Bool

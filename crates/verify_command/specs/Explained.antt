@@ -57,24 +57,24 @@ abbrev pub each_line : (Text → Text) → Text → Text
 each_line answer text = flat_map answer (whole_lines text)
 
 -- the text answers whole lines at the start of these bytes, and `rest` is the rest of them
-pub record AnswersFront (answer : Text → Text) (bytes text rest : Text) : Type 0 where
+pub record MapsFront (answer : Text → Text) (bytes text rest : Text) : Type 0 where
   pub whole : Text
   pub ends : EndsLine whole
   pub bytes_are : bytes ≡ whole ++ rest
   pub text_is : text ≡ each_line answer whole
 
 -- The text answers all lines of the input. If the input is unknown, it answers some lines.
-abbrev pub AnswersAll : (Text → Text) → Option Text → Text → Type 0
-AnswersAll answer input text = (lines : Text) × IfSome input (λ bytes. lines ≡ bytes) × (text ≡ each_line answer lines)
+abbrev pub MapsAll : (Text → Text) → Option Text → Text → Type 0
+MapsAll answer input text = (lines : Text) × IfSome input (λ bytes. lines ≡ bytes) × (text ≡ each_line answer lines)
 
 -- The text answers whole lines at the start of what was read from the input.
-abbrev pub AnswersLines : (Text → Text) → Option Text → Option Text → Text → Type 0
-AnswersLines answer old new text = (read rest : Text) × Consumes old new read × AnswersFront answer read text rest
+abbrev pub MapsLines : (Text → Text) → Option Text → Option Text → Text → Type 0
+MapsLines answer old new text = (read rest : Text) × Consumes old new read × MapsFront answer read text rest
 
 -- the same, and all whole lines that were read are answered
-abbrev pub AnswersWholeLines : (Text → Text) → Option Text → Option Text → Text → Type 0
-AnswersWholeLines answer old new text =
-    (read rest : Text) × Consumes old new read × AnswersFront answer read text rest × HoldsNo 10 rest
+abbrev pub MapsWholeLines : (Text → Text) → Option Text → Option Text → Text → Type 0
+MapsWholeLines answer old new text =
+    (read rest : Text) × Consumes old new read × MapsFront answer read text rest × HoldsNo 10 rest
 
 -- ---- explanations with mailmaps
 
@@ -86,11 +86,11 @@ Explains paths mailmaps IsText text =
 
 -- It explains all lines of the input; whole lines at the start of what was read; or all whole lines that were read.
 abbrev pub ExplainsAll : List Text → List Text → Option Text → Text → Type 0
-ExplainsAll paths mailmaps input text = Explains paths mailmaps (λ answer. AnswersAll answer input) text
+ExplainsAll paths mailmaps input text = Explains paths mailmaps (λ answer. MapsAll answer input) text
 
 abbrev pub ExplainsLines : List Text → List Text → Option Text → Option Text → Text → Type 0
-ExplainsLines paths mailmaps old new text = Explains paths mailmaps (λ answer. AnswersLines answer old new) text
+ExplainsLines paths mailmaps old new text = Explains paths mailmaps (λ answer. MapsLines answer old new) text
 
 abbrev pub ExplainsWholeLines : List Text → List Text → Option Text → Option Text → Text → Type 0
 ExplainsWholeLines paths mailmaps old new text =
-    Explains paths mailmaps (λ answer. AnswersWholeLines answer old new) text
+    Explains paths mailmaps (λ answer. MapsWholeLines answer old new) text

@@ -27,8 +27,8 @@ pub record FileLine : Type 0 where
   pub file : Text
   pub line : ℕ
 
-abbrev pub place_of : Place → FileLine
-place_of p = record { file = p.file.now; line = p.line }
+abbrev pub file_line_of : Place → FileLine
+file_line_of p = record { file = p.file.now; line = p.line }
 
 abbrev pub place_data : FileLine → Data
 place_data l =

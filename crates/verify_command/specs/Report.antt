@@ -6,7 +6,7 @@ use Rattle.mailmap_entries.specs.Folding.{Text}
 use Rattle.mailmap_grammar.specs.Lines.{FaultKind, is_comment, no_email, missing_closing_bracket, empty_email, nothing_to_map, unclosed_second}
 use Rattle.mailmap_grammar.specs.CanonicalText.{bracketed_email, email_part, name_part}
 use Rattle.mailmap_entries.specs.Entries.{Mapping}
-use Rattle.mailmap_findings.specs.Findings.{Contact, Finding, FindingKind, fault, ignored_text, git_reads, no_effect, itself_mapped}
+use Rattle.mailmap_findings.specs.Findings.{NewContact, Finding, FindingKind, fault, ignored_text, git_reads, no_effect, itself_mapped}
 use Rattle.mailmap_findings.specs.Git.{GitReading, Nothing, Entry, Lines}
 use Rattle.mailmap_redundancy.specs.declared.located.Position.{Position}
 pub use Rattle.command_line.specs.Shown.{shown}
@@ -40,7 +40,7 @@ fault_text nothing_to_map = codes "an email alone maps nothing"
 fault_text unclosed_second = codes "the second '<' has no '>'"
 
 -- NAME <EMAIL>, both shortened; an empty or missing name is left out, with the space after it
-abbrev pub contact_text : Contact → Text
+abbrev pub contact_text : NewContact → Text
 contact_text c = short_contact (unwrap_or c.name []) c.email
 
 -- an entry as a mailmap line, with its texts shortened
@@ -75,7 +75,7 @@ says_text false = codes " says something else"
 unfoldable pub by_text : List Text → Position → Option Position → Text
 by_text paths line second = codes " by " ++ positions_text paths (line ∷ option_to_list second)
 
-abbrev pub mapping_text : Contact → Contact → Text
+abbrev pub mapping_text : NewContact → NewContact → Text
 mapping_text c to = contact_text c ++ codes " is itself mapped, to " ++ contact_text to
 
 -- what a finding says
@@ -115,16 +115,16 @@ abbrev pub place_at : List Text → ℕ → ℕ → FileLine
 place_at paths buffer line = record { file = file_name paths buffer; line = line }
 
 -- the other line that a finding refers to, the first one if there are two
-abbrev pub referred : List Text → FindingKind → Option FileLine
-referred paths (fault f) = None
-referred paths (ignored_text text) = None
-referred paths (git_reads reading) = None
-referred paths (no_effect beside is_same) = Some (place_at paths beside.buffer beside.line)
-referred paths (itself_mapped c to line second) = Some (place_at paths line.buffer line.line)
+abbrev pub referred_line : List Text → FindingKind → Option FileLine
+referred_line paths (fault f) = None
+referred_line paths (ignored_text text) = None
+referred_line paths (git_reads reading) = None
+referred_line paths (no_effect beside is_same) = Some (place_at paths beside.buffer beside.line)
+referred_line paths (itself_mapped c to line second) = Some (place_at paths line.buffer line.line)
 
 abbrev pub finding_object : List Text → Finding → Text
 finding_object paths f = object_line (finding_kind f.kind) (place_at paths f.position.buffer f.position.line)
-    (reported_text paths f.kind) (referred paths f.kind)
+    (reported_text paths f.kind) (referred_line paths f.kind)
 
 -- ---- the report
 

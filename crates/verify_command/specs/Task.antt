@@ -97,22 +97,22 @@ pub record LeavesSuggested {W T : Type 0} (IsText : Text → Type 0) (contents :
   pub silent : IsErr result → ¬ IsErrOf result (Run Output) → ¬ IsErrOf result (Run Memory) → new ≡ old
 
 -- the output of each mode, and its outcome; a mailmap is pruned only if git reads each of its lines alike
-abbrev pub IsAnswer : (Text → AtPath) → Option Text → Choices → Mode → Text → List Text → Outcome
+abbrev pub IsOutputOf : (Text → AtPath) → Option Text → Choices → Mode → Text → List Text → Outcome
     → Text → Type 0
-IsAnswer at input c Help contacts paths outcome text = (text ≡ USAGE.now) × (outcome ≡ Clean)
-IsAnswer at input c Version contacts paths outcome text =
+IsOutputOf at input c Help contacts paths outcome text = (text ≡ USAGE.now) × (outcome ≡ Clean)
+IsOutputOf at input c Version contacts paths outcome text =
     (text ≡ codes "mailmap_verify " ++ VERSION.now ++ 10 ∷ []) × (outcome ≡ Clean)
-IsAnswer at input c Verify contacts paths outcome text = (mailmaps : List Text)
+IsOutputOf at input c Verify contacts paths outcome text = (mailmaps : List Text)
     × AreMailmaps at paths input mailmaps × IsReport c paths mailmaps outcome text
-IsAnswer at input c Prune contacts paths outcome text = (mailmap : Text)
+IsOutputOf at input c Prune contacts paths outcome text = (mailmap : Text)
     × AreMailmaps at paths input (mailmap ∷ [])
     × IsPruned mailmap text × (first_read_otherwise (mailmap ∷ []) ≡ None) × (outcome ≡ Clean)
-IsAnswer at input c Explain contacts paths outcome text =
+IsOutputOf at input c Explain contacts paths outcome text =
     OfFiles at paths (λ mailmaps. ExplainsAll paths mailmaps input) text × (outcome ≡ Clean)
-IsAnswer at input c Contacts contacts paths outcome text = (mailmaps : List Text) × (lines : Text)
+IsOutputOf at input c Contacts contacts paths outcome text = (mailmaps : List Text) × (lines : Text)
     × AreMailmapsBeside at contacts paths input mailmaps × AreContacts at contacts input lines
     × IsReportBeside c (mailmap_names c paths) (contacts_name c contacts) mailmaps lines outcome text
-IsAnswer at input c Suggest contacts paths outcome text =
+IsOutputOf at input c Suggest contacts paths outcome text =
     IsSuggested at input contacts paths text × (outcome ≡ Clean)
 
 -- a file of a mailmap can't be read
@@ -180,13 +180,13 @@ FailsFor at input mode contacts paths (ReadOtherwise position) = (mode ≡ Prune
 pub record Leaves {W : Type 0} (at : Text → AtPath)
     (unread left : Option Text) (choices : Choices) (mode : Mode) (contacts : Text) (paths : List Text)
     (contents : W → Option Text) (old new : W) (result : Result Outcome TaskFailure) : Type 0 where
-  pub prints : IfOk result (λ outcome. Prints (IsAnswer at unread choices mode contacts paths outcome)
+  pub prints : IfOk result (λ outcome. Prints (IsOutputOf at unread choices mode contacts paths outcome)
       (contents old) (contents new))
   pub breaks_off : IsErrOf result (Run Output) → (outcome : Outcome)
-      × PrintsFront (IsAnswer at unread choices mode contacts paths outcome) (contents old) (contents new)
+      × PrintsFront (IsOutputOf at unread choices mode contacts paths outcome) (contents old) (contents new)
   pub memory : mode ≢ Explain → IsErrOf result (Run Memory) → (new ≡ old)
       ⊎ (((mode ≡ Verify) ⊎ ((mode ≡ Contacts) ⊎ (mode ≡ Suggest))) × ((outcome : Outcome)
-      × PrintsFront (IsAnswer at unread choices mode contacts paths outcome) (contents old) (contents new)))
+      × PrintsFront (IsOutputOf at unread choices mode contacts paths outcome) (contents old) (contents new)))
   pub silent : mode ≢ Explain → IsErr result → ¬ IsErrOf result (Run Output) → ¬ IsErrOf result (Run Memory)
       → new ≡ old
   pub silent_at_files : IfErr result (λ e. IsOfAnyFile e → new ≡ old)

@@ -7,7 +7,7 @@ ghost use Rattle.command_line.specs.declared.outcome.Outcome.{Outcome as TheOutc
 ghost use Rattle.command_line.specs.Failures.{IsOfFile, IsOfInput};
 ghost use Rattle.command_line.specs.Files.{NamesFile, texts};
 ghost use Rattle.verify_command.specs.Settings.{choices_of};
-ghost use Rattle.verify_command.specs.Task.{AreMailmaps, FailsFor, IsAnswer, IsOfMailmap, IsReport};
+ghost use Rattle.verify_command.specs.Task.{AreMailmaps, FailsFor, IsOutputOf, IsOfMailmap, IsReport};
 
 use crate::asked::{Mode, Settings, Task, USAGE};
 use crate::failure::TaskFailure;
@@ -25,14 +25,14 @@ use std::io::{Read, Write};
 /// that have no effect. A mailmap is pruned only if git reads each of its lines as the library does.
 ///
 /// Standard input is read only if there is no path.
-pub fn answer_to<F: FileSystem, R: Read>(
+pub fn output_of<F: FileSystem, R: Read>(
     system: &F,
     alloc: Global,
     task: Task<'_>,
     input: &mut R,
 ) -> Result<Vec<u8>, TaskFailure>
     ensures ok { task.entry.mode ≢ Mode.Verify → task.entry.mode ≢ Mode.Explain → task.entry.mode ≢ Mode.Contacts
-        → task.entry.mode ≢ Mode.Suggest → IfOk result (λ text. IsAnswer (F.at system.now) (R.remaining input.old)
+        → task.entry.mode ≢ Mode.Suggest → IfOk result (λ text. IsOutputOf (F.at system.now) (R.remaining input.old)
         (choices_of task.entry.settings.now)
         task.entry.mode task.entry.contacts.now (texts task.entry.paths.now) Outcome.Clean text.items) }
     ensures reads_all { task.entry.mode ≢ Mode.Help → task.entry.mode ≢ Mode.Version → task.entry.paths.now ≡ []

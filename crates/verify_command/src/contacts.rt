@@ -13,9 +13,9 @@ ghost use Rattle.command_line.specs.declared.outcome.Outcome.{Outcome as TheOutc
 ghost use Rattle.mailmap_contacts.specs.Answers.{finding_view};
 ghost use Rattle.mailmap_contacts.specs.Counts.{AreContactsOf};
 ghost use Rattle.command_line.specs.declared.outcome.Outcome.TheVariants.{Found as TheFound};
-ghost use Rattle.verify_command.specs.Contacts.{AreFoundBeside, IsReportBeside, contact_counts, formatted_remark, formatted_said};
+ghost use Rattle.verify_command.specs.Contacts.{AreFoundBeside, IsReportBeside, contact_counts, formatted_remark, formatted_contact_finding};
 ghost use Rattle.verify_command.specs.Contacts.{outcome_of_both};
-ghost use Rattle.verify_command.specs.Contacts.{remark_line, reported_remark, reported_said, said_text};
+ghost use Rattle.verify_command.specs.Contacts.{remark_line, reported_remark, reported_contact_finding, contact_findings_text};
 ghost use Rattle.verify_command.specs.Settings.{choices_of, mailmap_names};
 ghost use Rattle.verify_command.specs.Taking.{Takes};
 ghost use Rattle.verify_command.specs.Task.{AreContacts, AreMailmapsBeside, FailsFor, FailsForContacts, IsOfMailmap};
@@ -205,7 +205,7 @@ fn report<'a, W: Write>(
     let answers = counted.answers(alloc, &needs)?;
     let findings = findings_of(
         alloc,
-        counted.no_contacts(),
+        counted.lines_without_contact(),
         answers.as_slice(),
         git_answers.as_slice(),
     )?;
@@ -370,10 +370,10 @@ fn print_contact_findings<W: Write>(
     output: &mut W,
 ) -> Result<(), Failure>
     ensures ok { OnOk result (Appends (W.contents output.old) (W.contents output.new)
-        (said_text (choices_of settings.now) (contacts_name (choices_of settings.now) contacts.now)
+        (contact_findings_text (choices_of settings.now) (contacts_name (choices_of settings.now) contacts.now)
         (map finding_view findings.now))) }
     ensures err { OnErr result ((count : ℕ) × Appends (W.contents output.old) (W.contents output.new)
-        (take count (said_text (choices_of settings.now) (contacts_name (choices_of settings.now) contacts.now)
+        (take count (contact_findings_text (choices_of settings.now) (contacts_name (choices_of settings.now) contacts.now)
         (map finding_view findings.now)))) }
     ensures only { IfErr result (λ e. (e ≡ Failure.Memory) ⊎ (e ≡ Failure.Output)) }
 {
@@ -393,11 +393,11 @@ fn print_contact_finding<W: Write>(
     printer: &mut Printer,
     output: &mut W,
 ) -> Result<(), Failure>
-    ensures ok { OnOk result (IsUnderway (printer.old ++ reported_said (choices_of settings.now)
+    ensures ok { OnOk result (IsUnderway (printer.old ++ reported_contact_finding (choices_of settings.now)
         (contacts_name (choices_of settings.now) contacts.now) (finding_view finding.now))
         (W.contents output.old) (W.contents output.new) printer.new) }
     ensures err { OnErr result ((count : ℕ) × Appends (W.contents output.old) (W.contents output.new)
-        (take count (printer.old ++ reported_said (choices_of settings.now)
+        (take count (printer.old ++ reported_contact_finding (choices_of settings.now)
         (contacts_name (choices_of settings.now) contacts.now) (finding_view finding.now)))) }
     ensures only { IfErr result (λ e. (e ≡ Failure.Memory) ⊎ (e ≡ Failure.Output)) }
 {
@@ -416,7 +416,7 @@ fn formatted_finding(
     finding: &ContactFinding<'_, '_>,
 ) -> Result<Vec<u8>, AllocError>
     ensures { IfOk result (λ line. line.items
-        ≡ formatted_said (choices_of settings.now) file.now (finding_view finding.now)) }
+        ≡ formatted_contact_finding (choices_of settings.now) file.now (finding_view finding.now)) }
 {
     if settings.is_json() {
         return contact_object(alloc, file, finding);

@@ -6,7 +6,7 @@ ghost use Rattle.command_line.specs.Failures.{IsOfFile, IsOfInput};
 ghost use Rattle.command_line.specs.Files.{NamesFile, texts};
 ghost use Rattle.command_line.specs.Leaving.{LeavesAnswers};
 ghost use Rattle.command_line.specs.Printing.{Prints};
-ghost use Rattle.verify_command.specs.Explained.{AnswersAll, AnswersFront, AnswersLines, AnswersWholeLines};
+ghost use Rattle.verify_command.specs.Explained.{MapsAll, MapsFront, MapsLines, MapsWholeLines};
 ghost use Rattle.verify_command.specs.Explained.{ExplainsAll, ExplainsLines, ExplainsWholeLines, each_line, explained_line};
 ghost use Rattle.verify_command.specs.Task.{LeavesExplained};
 
@@ -71,9 +71,9 @@ fn explain_input<R: Read, W: Write>(
     input: &mut R,
     output: &mut W,
 ) -> Result<(), Failure>
-    ensures leaves { LeavesAnswers (AnswersAll (explained_line explainer.old) (R.remaining input.old))
-        (AnswersWholeLines (explained_line explainer.old) (R.remaining input.old) (R.remaining input.new))
-        (Prints (AnswersLines (explained_line explainer.old) (R.remaining input.old) (R.remaining input.new))
+    ensures leaves { LeavesAnswers (MapsAll (explained_line explainer.old) (R.remaining input.old))
+        (MapsWholeLines (explained_line explainer.old) (R.remaining input.old) (R.remaining input.new))
+        (Prints (MapsLines (explained_line explainer.old) (R.remaining input.old) (R.remaining input.new))
         (W.contents output.old) (W.contents output.new))
         (R.remaining input.new) (W.contents output.old) (W.contents output.new) result }
     ensures only { IfErr result (λ e. IsOfInput e ⊎ (e ≡ Failure.Memory) ⊎ (e ≡ Failure.Output)) }
@@ -107,7 +107,7 @@ fn print_lines<W: Write>(
     ensures empty { OnOk result (printer.new ≡ []) }
     ensures same { explainer.new ≡ explainer.old }
     ensures memory_fails { IsErrOf result Failure.Memory → Prints
-        (λ made. (rest : Text) × AnswersFront (explained_line explainer.old) text.now made rest)
+        (λ made. (rest : Text) × MapsFront (explained_line explainer.old) text.now made rest)
         (W.contents output.old) (W.contents output.new) }
     ensures breaks_off { IsErrOf result Failure.Output → (count : ℕ) × Appends (W.contents output.old)
         (W.contents output.new) (take count (each_line (explained_line explainer.old) text.now)) }

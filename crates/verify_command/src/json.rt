@@ -9,11 +9,11 @@ ghost use Rattle.command_line.specs.Files.{texts};
 ghost use Rattle.mailmap_contacts.specs.Answers.{finding_view};
 ghost use Rattle.mailmap_findings.specs.Findings.{finding_of, kind_of};
 ghost use Rattle.mailmap_findings.specs.Remarks.{remark_of};
-ghost use Rattle.verify_command.specs.Contacts.{compared, contact_line, contact_object, remark_object};
-ghost use Rattle.verify_command.specs.Json.{object_data, object_line, place_data, place_of, text_data};
-ghost use Rattle.verify_command.specs.Report.{finding_object, place_at, referred};
+ghost use Rattle.verify_command.specs.Contacts.{compared_line, contact_object, remark_object};
+ghost use Rattle.verify_command.specs.Json.{object_data, object_line, place_data, file_line_of, text_data};
+ghost use Rattle.verify_command.specs.Report.{finding_object, place_at, referred_line};
 
-use crate::comparison::push_contact_words;
+use crate::comparison::{first_line, push_contact_words};
 use crate::kinds::Kind;
 use crate::report::{name_of, push_reported};
 use base64::engine::general_purpose::STANDARD;
@@ -53,7 +53,7 @@ pub(crate) fn finding_object(
         Kind::of_finding(&finding.kind),
         place_at(names, finding.position),
         message.as_slice(),
-        referred(names, &finding.kind),
+        referred_line(names, &finding.kind),
     )
 }
 
@@ -97,12 +97,12 @@ pub(crate) fn contact_object(
         kind,
         place,
         message.as_slice(),
-        compared(file, finding),
+        compared_line(file, finding),
     )
 }
 
 fn place_at(names: &[Vec<u8>], position: Position) -> Place<'_>
-    ensures { place_of result ≡ place_at (texts names.now) position.buffer position.line }
+    ensures { file_line_of result ≡ place_at (texts names.now) position.buffer position.line }
 {
     Place {
         file: name_of(names, position.buffer),
@@ -111,8 +111,8 @@ fn place_at(names: &[Vec<u8>], position: Position) -> Place<'_>
 }
 
 // The other line that a finding refers to, the first one if there are two.
-fn referred<'a>(names: &'a [Vec<u8>], kind: &FindingKind<'_>) -> Option<Place<'a>>
-    ensures { option_map place_of result ≡ referred (texts names.now) (kind_of kind.now) }
+fn referred_line<'a>(names: &'a [Vec<u8>], kind: &FindingKind<'_>) -> Option<Place<'a>>
+    ensures { option_map file_line_of result ≡ referred_line (texts names.now) (kind_of kind.now) }
 {
     match kind {
         FindingKind::NoEffect { beside, .. } => Some(place_at(names, *beside)),
@@ -121,20 +121,9 @@ fn referred<'a>(names: &'a [Vec<u8>], kind: &FindingKind<'_>) -> Option<Place<'a
     }
 }
 
-fn first_line(finding: &ContactFinding<'_, '_>) -> usize
-    ensures { result ≡ contact_line (finding_view finding.now) }
-{
-    match finding {
-        ContactFinding::NoContact(line) => *line,
-        ContactFinding::Shares(_, answer, _) | ContactFinding::GitAnswers(answer) => {
-            answer.seen.first_line
-        }
-    }
-}
-
 // The first line with the answer that another one is compared with.
-fn compared<'a>(file: &'a [u8], finding: &ContactFinding<'_, '_>) -> Option<Place<'a>>
-    ensures { option_map place_of result ≡ compared file.now (finding_view finding.now) }
+fn compared_line<'a>(file: &'a [u8], finding: &ContactFinding<'_, '_>) -> Option<Place<'a>>
+    ensures { option_map file_line_of result ≡ compared_line file.now (finding_view finding.now) }
 {
     match finding {
         ContactFinding::NoContact(_) | ContactFinding::GitAnswers(_) => None,
@@ -154,7 +143,7 @@ fn object_line(
     other: Option<Place<'_>>,
 ) -> Result<Vec<u8>, AllocError>
     ensures { IfOk result (λ line. line.items
-        ≡ object_line kind (place_of place.entry) message.now (option_map place_of other.entry)) }
+        ≡ object_line kind (file_line_of place.entry) message.now (option_map file_line_of other.entry)) }
 {
     let value = object_value(alloc, kind, place, message, other)?;
     let mut line = value.to_string(alloc)?.into_bytes();
@@ -170,7 +159,7 @@ fn object_value(
     other: Option<Place<'_>>,
 ) -> Result<Value, AllocError>
     ensures { IfOk result (λ value. view value
-        ≡ object_data kind (place_of place.entry) message.now (option_map place_of other.entry)) }
+        ≡ object_data kind (file_line_of place.entry) message.now (option_map file_line_of other.entry)) }
 {
     let file = text_value(alloc, place.file)?;
     let message = text_value(alloc, message)?;
@@ -191,7 +180,7 @@ fn object_value(
 }
 
 fn place_value(alloc: Global, place: Place<'_>) -> Result<Value, AllocError>
-    ensures { IfOk result (λ value. view value ≡ place_data (place_of place.entry)) }
+    ensures { IfOk result (λ value. view value ≡ place_data (file_line_of place.entry)) }
 {
     let file = text_value(alloc, place.file)?;
     json!(in alloc; {"file": file, "line": place.line as u64})

@@ -5,7 +5,7 @@ ghost use Rattle.command_line.specs.Files.{texts};
 ghost use Rattle.verify_command.specs.Settings.{choices_of};
 ghost use Rattle.verify_command.specs.Task.{FailsFor, IsOfMailmap, Leaves, ReadsInput, reads_contacts};
 
-use crate::answer::{answer_to, print_report, read_mailmaps};
+use crate::answer::{output_of, print_report, read_mailmaps};
 pub use crate::asked::{Format, Misuse, Mode, ParseError, Request, Setting, Settings, Task, USAGE};
 use crate::contacts::verify_contacts;
 use crate::explain::explain;
@@ -18,7 +18,7 @@ use command_line::streams::write_all;
 use std::alloc::Global;
 use std::io::{Read, Write};
 
-/// Runs a task, and returns whether there are findings that count.
+/// Runs a task, and returns the outcome, which makes the exit status.
 ///
 /// All input is read before anything is written, except with `Mode::Explain`, which answers contacts as they come. The
 /// first failure ends the run. Findings and suggestions are written as they are formatted, so memory can run out after a
@@ -31,7 +31,7 @@ pub fn perform<F: FileSystem, R: Read, W: Write>(
     input: &mut R,
     output: &mut W,
 ) -> Result<Outcome, TaskFailure>
-    // Exactly the answer is written; after a failure, a prefix of it or nothing.
+    // Exactly the output of the mode is written; after a failure, a prefix of it or nothing.
     ensures leaves { Leaves (F.at system.now) (R.remaining input.old)
         (R.remaining input.new) (choices_of task.entry.settings.now)
         task.entry.mode task.entry.contacts.now (texts task.entry.paths.now)
@@ -85,7 +85,7 @@ pub fn perform<F: FileSystem, R: Read, W: Write>(
         suggest_lines(system, alloc, task.contacts, task.paths, input, output)?;
         return Ok(Outcome::Clean);
     }
-    let answer = answer_to(system, alloc, task, input)?;
+    let answer = output_of(system, alloc, task, input)?;
     write_all(output, answer.as_slice())?;
     Ok(Outcome::Clean)
 }

@@ -1,6 +1,6 @@
 //! Buffers the answers to streamed contacts until they are read.
 ghost use Rattle.std.specs.Prelude.{◌≡◌, IfOk, OnErr, OnOk};
-ghost use Rattle.gix_mailmap_c.specs.Streamed.{AreRead, HasTakenOf, IsNew, ended};
+ghost use Rattle.gix_mailmap_c.specs.Streamed.{AreTaken, HasTakenOf, IsNew, ended};
 
 use crate::copies::copy;
 use mailmap_snapshot::check::ContactStream;
@@ -12,13 +12,13 @@ const MOST_ROOM: usize = 262144;
 
 /// A stream of contacts, and the answers that haven't been read yet.
 #[derive(Drop)]
-pub struct Contacts {
+pub struct ContactQueue {
     stream: ContactStream,
     answers: Vec<u8>,
     read: usize,
 }
 
-impl Model for Contacts {
+impl Model for ContactQueue {
     ghost use Rattle.gix_mailmap_c.specs.Streamed.{Pending};
 
     ghost Value = { Pending };
@@ -34,12 +34,12 @@ impl Model for Contacts {
     ghost invariant = { λ c. c.read ≤ length c.answers.items };
 }
 
-impl Contacts {
+impl ContactQueue {
     /// A stream whose contacts are answered using a mailmap.
-    pub fn new(alloc: Global, mailmap: &[u8]) -> Result<Contacts, AllocError>
+    pub fn new(alloc: Global, mailmap: &[u8]) -> Result<ContactQueue, AllocError>
         ensures { IfOk result (IsNew mailmap.now) }
     {
-        Ok(Contacts {
+        Ok(ContactQueue {
             stream: ContactStream::new(alloc, &[mailmap])?,
             answers: Vec::new(alloc),
             read: 0,
@@ -64,7 +64,7 @@ impl Contacts {
 
     /// Moves unread answers to the front of `out`, as many bytes as fit, and returns how many.
     pub fn read(&mut self, out: &mut [u8]) -> usize
-        ensures { AreRead self.old self.new out.old out.new result }
+        ensures { AreTaken self.old self.new out.old out.new result }
     {
         let unread = &self.answers[self.read..];
         let count = unread.len().min(out.len());

@@ -7,7 +7,7 @@ ghost use Rattle.gix_mailmap_c.specs.StreamOwnership.{owns_stream};
 pub(crate) mod lent;
 
 use crate::held::Parts;
-use crate::stream::contacts::Contacts;
+use crate::stream::contacts::ContactQueue;
 use std::alloc::Global;
 use std::marker::{Model, Send};
 
@@ -35,7 +35,7 @@ pub(crate) fn is_open(s: &mut Stream) -> bool
     s.is_open
 }
 
-pub(crate) fn opened(parts: Parts<Contacts, Global>) -> Stream
+pub(crate) fn opened(parts: Parts<ContactQueue, Global>) -> Stream
     ensures { (result.is_open ≡ true) × (result.pending ≡ parts.value) }
 {
     let Parts { ptr, alloc } = parts;
@@ -46,7 +46,7 @@ pub(crate) fn opened(parts: Parts<Contacts, Global>) -> Stream
     }
 }
 
-pub(crate) fn into_parts(s: Stream) -> Parts<Contacts, Global>
+pub(crate) fn into_parts(s: Stream) -> Parts<ContactQueue, Global>
     requires { s.is_open ≡ true }
     ensures { result.value ≡ s.pending }
 {
@@ -56,7 +56,7 @@ pub(crate) fn into_parts(s: Stream) -> Parts<Contacts, Global>
         alloc,
     } = s;
     Parts {
-        ptr: at as *mut Contacts,
+        ptr: at as *mut ContactQueue,
         alloc,
     }
 }

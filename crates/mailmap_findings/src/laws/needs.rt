@@ -8,7 +8,7 @@ ghost use Rattle.mailmap_findings.specs.Positions.{Line, located_lines, located,
 ghost use Rattle.mailmap_grammar.specs.Lines.{Closed, mappings_of};
 ghost use Rattle.mailmap_entries.specs.Semantics.{IsNormal, answer_of};
 ghost use Rattle.mailmap_grammar.specs.Lines.{contact_in};
-ghost use Rattle.mailmap_findings.specs.Needs.{AreUnneeded, is_reported};
+ghost use Rattle.mailmap_findings.specs.Needs.{AreUnneeded, is_deletable};
 ghost use Rattle.mailmap_findings.specs.Remarks.{remark_of};
 ghost use Rattle.mailmap_findings.specs.declared.remarks.Remark as the_remark;
 ghost use Rattle.mailmap_redundancy.specs.Redundancy.{entries};
@@ -26,7 +26,7 @@ pub fn law_contacts_stay()
         → AreFindings buffers found → AreUnneeded buffers contacts missing
         → Contains (whole_lines contacts) line → contact_in line ≡ Closed name email rest
         → answer_of
-        (entries (located (filter (λ l. not (is_reported found missing l)) (located_lines buffers)))) name email
+        (entries (located (filter (λ l. not (is_deletable found missing l)) (located_lines buffers)))) name email
         ≡ answer_of (flat_map mappings_of buffers) name email }
 {}
 
@@ -44,7 +44,7 @@ pub fn law_deleted_texts()
         (line name email rest : Text)
         → AreFindings buffers found → AreUnneeded buffers contacts missing
         → Contains (whole_lines contacts) line → contact_in line ≡ Closed name email rest
-        → answer_of (flat_map mappings_of (texts_left (λ l. not (is_reported found missing l)) buffers)) name email
+        → answer_of (flat_map mappings_of (texts_left (λ l. not (is_deletable found missing l)) buffers)) name email
         ≡ answer_of (flat_map mappings_of buffers) name email }
 {}
 

@@ -3,7 +3,7 @@ use Rattle.mailmap_entries.proofs.Results.{if_ok_map}
 use Rattle.mailmap_contacts.specs.Contacts.{contacts_from, tallied}
 use Rattle.mailmap_findings.specs.Positions.{whole_lines}
 use Rattle.mailmap_suggestions.specs.Histories.{histories_of}
-use Rattle.mailmap_suggestions.specs.Suggested.{suggestions}
+use Rattle.mailmap_suggestions.specs.Suggestions.{suggestions}
 use Rattle.mailmap_suggestions.specs.SuggestedText.{suggestions_text}
 use Rattle.mailmap_suggestions.specs.Views.{suggestion_of}
 use Rattle.mailmap_suggestions.proofs.Printed.{suggestions_said}

@@ -1,5 +1,5 @@
 use Rattle.std.proofs.Common.{◌≡◌, Some, option_map, refl, subst}
-use Rattle.mailmap_contacts.specs.Answers.{field_of, tally_at, tally_of}
+use Rattle.mailmap_contacts.specs.Answers.{shared_field, tally_at, tally_of}
 use Rattle.mailmap_contacts.specs.Proper.{better}
 use Rattle.mailmap_contacts.specs.declared.folded.Folded.{Folded}
 use Rattle.mailmap_contacts.proofs.Propers.{moves, stays}
@@ -10,11 +10,11 @@ returns-then-is_kept c = λ q.
     let t = tally_of c.args.answer.now in
     let key : Folded = record { text = c.text.result } in
     let kept = subst (λ o. Some (better (option_map tally_at o) t) ≡ option_map tally_at o) c.get.ensures.value (c.if-is_kept.ensures.kept refl) in
-    stays (field_of c.args.shared) t key c.text.ensures c.args.propers.now kept q
+    stays (shared_field c.args.shared) t key c.text.ensures c.args.propers.now kept q
 
 pub returns : goal.returns
 returns c = λ q.
     let t = tally_of c.args.answer.now in
     let key : Folded = record { text = c.text.result } in
     let best = subst (λ o. better (option_map tally_at o) t ≡ t) c.get.ensures.value (c.if-is_kept.ensures.not_kept refl) in
-    moves (field_of c.args.shared) t key c.text.ensures c.args.propers.now c.args.answer c.insert.new.self refl c.in_ok-insert.ensures.updates.0 best q
+    moves (shared_field c.args.shared) t key c.text.ensures c.args.propers.now c.args.answer c.insert.new.self refl c.in_ok-insert.ensures.updates.0 best q

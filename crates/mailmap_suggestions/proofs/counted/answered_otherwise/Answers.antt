@@ -1,7 +1,7 @@
 use Rattle.std.proofs.Common.{rules, ◌≡◌, ◌∙◌, Bor, IsPermutation, ap, filter, subst, sym, take_all}
 use Rattle.std.specs.Ordering.{is_lt}
 use Rattle.std.proofs.lemmas.List.Sorted.{IsPermutation-map, answers_always, ranks_by}
-use Rattle.mailmap_suggestions.specs.Answered.{AreAnswered, IsAnswered, tallies_behind, tally_behind}
+use Rattle.mailmap_suggestions.specs.Answered.{AreAnswered, IsRightFor, tallies_behind, tally_behind}
 use Rattle.mailmap_suggestions.specs.Counted.{frequency_cmp}
 use Rattle.mailmap_suggestions.specs.declared.answered.Answered.{Answered}
 use Rattle.mailmap_suggestions.proofs.OneEmail.{all_filtered}
@@ -15,7 +15,7 @@ returns-clause-answered c = λ h all.
     let us = c.loop-contact.others.items in
     let whole = take_all c.loop-contact.contact-index group c.loop-contact-test.false in
     let are : us ≡ filter differs group = c.loop-contact.invariant ∙ ap (filter differs) whole in
-    let P : Bor Answered → Type 0 = λ a. IsAnswered h a.now in
+    let P : Bor Answered → Type 0 = λ a. IsRightFor h a.now in
     permuted us c.sort_unstable_by.new.self.items c.sort_unstable_by.ensures.permutation P
     (subst (AreAnswered h) (sym are) (all_filtered differs P P (λ a is _. is) group all))
 

@@ -6,7 +6,7 @@ use Rattle.mailmap_contacts.specs.Answers.{tally_at}
 use Rattle.mailmap_contacts.specs.Contacts.{answered}
 use Rattle.mailmap_contacts.specs.Proper.{has_text}
 use Rattle.mailmap_contacts.specs.Contacts.{tallied}
-use Rattle.mailmap_suggestions.specs.Suggestions.{contact_of}
+use Rattle.mailmap_suggestions.specs.GroupEntries.{contact_or_nobody}
 use Rattle.mailmap_suggestions.proofs.Ordered.{answered_ascends}
 use Rattle.mailmap_suggestions.proofs.Preferred.{first_named, first_named_behind, none_if_empty, proper_by_frequency}
 use Rattle.mailmap_suggestions.proofs.Tallied.{tallied_ascends}
@@ -18,7 +18,7 @@ returns-clause-proper c = λ h g lines is.
     let ts = map (answered h.ours) g in
     let found : option_map (λ a. a.now) c.find.result ≡ find (λ a. has_text a.name.now) answers =
     find_from_yields_List (λ a. has_text a.name.now) _ _ c.find.result c.find.ensures.ran (YieldsList-from_slice answers cc) (λ x b q k. search rules) in
-    ap contact_of
+    ap contact_or_nobody
     (ap (option_map tally_at) c.or.ensures ∙ first_named_behind answers c.find.result c.first.result found c.first.ensures.value
     ∙ ap first_named is ∙ proper_by_frequency (tallied ts) (tallied_ascends ts (answered_ascends (answered h.ours) (λ t. refl) g lines)))
 

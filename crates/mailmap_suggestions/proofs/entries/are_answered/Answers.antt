@@ -1,7 +1,7 @@
 use Rattle.std.proofs.Common.{◌∙◌, refl, sym}
 use Rattle.std.proofs.lemmas.List.{at_drop_all}
 use Rattle.mailmap_contacts.specs.Answers.{tally_of}
-use Rattle.mailmap_suggestions.specs.Lines.{are_answered, plus}
+use Rattle.mailmap_suggestions.specs.Forms.{are_answered, plus}
 use Rattle.mailmap_suggestions.proofs.PlainOnes.{all_depends, plain_ones}
 use Rattle.mailmap_suggestions.proofs.entries.are_answered.Goals as goal
 

@@ -7,7 +7,7 @@ use Rattle.mailmap_contacts.specs.Answers.{tally_of}
 use Rattle.mailmap_contacts.proofs.Steps.{made_more}
 use Rattle.mailmap_suggestions.specs.Answered.{contact_behind}
 use Rattle.mailmap_suggestions.specs.Changes.{IsAnsweredFor}
-use Rattle.mailmap_suggestions.specs.Lines.{entries_for_email}
+use Rattle.mailmap_suggestions.specs.Forms.{entries_for_email}
 use Rattle.mailmap_suggestions.proofs.Parts.{IsPart, are_parts, part_entries, parts_whole}
 use Rattle.mailmap_suggestions.proofs.entries.group_entries.Goals as goal
 

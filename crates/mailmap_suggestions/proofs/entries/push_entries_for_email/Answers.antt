@@ -4,7 +4,7 @@ use Rattle.mailmap_entries.specs.Entries.{mapping_of}
 use Rattle.mailmap_contacts.specs.Answers.{tally_of}
 use Rattle.mailmap_suggestions.specs.Answered.{contact_behind}
 use Rattle.mailmap_suggestions.specs.Changes.{listed}
-use Rattle.mailmap_suggestions.specs.Lines.{named_entries, plus}
+use Rattle.mailmap_suggestions.specs.Forms.{named_entries, plus}
 use Rattle.mailmap_suggestions.proofs.entries.push_entries_for_email.Goals as goal
 
 pub returns : goal.returns

@@ -6,7 +6,7 @@ use Rattle.mailmap_entries.specs.Folding.{Text}
 use Rattle.mailmap_contacts.specs.Answers.{tally_of}
 use Rattle.mailmap_suggestions.specs.Answered.{contact_behind}
 use Rattle.mailmap_suggestions.specs.Changes.{AreChangesBy, IsAnsweredFor}
-use Rattle.mailmap_suggestions.specs.Lines.{Histories, named_entries, plus}
+use Rattle.mailmap_suggestions.specs.Forms.{Histories, named_entries, plus}
 use Rattle.mailmap_suggestions.proofs.entries.push_named_entries.Given as goal
 
 abbrev pub invariant-loop-contact : goal.invariant-loop-contact

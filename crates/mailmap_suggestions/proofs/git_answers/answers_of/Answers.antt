@@ -6,7 +6,7 @@ use Rattle.mailmap_contacts.specs.Contacts.{Tally}
 use Rattle.mailmap_contacts.proofs.Steps.{mapped_more}
 use Rattle.mailmap_suggestions.specs.Answered.{histories}
 use Rattle.mailmap_suggestions.specs.Counted.{answered_otherwise, git_answered, other_git_answers}
-use Rattle.mailmap_suggestions.specs.Lines.{Histories}
+use Rattle.mailmap_suggestions.specs.Forms.{Histories}
 use Rattle.mailmap_suggestions.proofs.Ordered.{is_other}
 use Rattle.mailmap_suggestions.proofs.git_answers.answers_of.Goals as goal
 

@@ -6,7 +6,7 @@ use Rattle.mailmap_redundancy.specs.Redundancy.{entries}
 use Rattle.mailmap_suggestions.specs.Answered.{histories}
 use Rattle.mailmap_suggestions.specs.Counted.{other_git_answers}
 use Rattle.mailmap_suggestions.specs.Histories.{histories_of}
-use Rattle.mailmap_suggestions.specs.Lines.{Histories}
+use Rattle.mailmap_suggestions.specs.Forms.{Histories}
 use Rattle.mailmap_suggestions.proofs.git_answers.other_git_answers.Goals as goal
 
 pub returns : goal.returns

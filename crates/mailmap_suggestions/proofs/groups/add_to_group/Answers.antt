@@ -2,7 +2,7 @@ use Rattle.std.proofs.Common.{◌≡◌, ◌∙◌, ◌++◌, ◌∷◌, [], Non
 use Rattle.std.specs.BTreeMap.{get}
 use Rattle.mailmap_contacts.specs.Answers.{folded_cmp}
 use Rattle.mailmap_contacts.specs.declared.folded.Folded.{Folded}
-use Rattle.mailmap_suggestions.specs.Grouping.{AreGroups, text_by}
+use Rattle.mailmap_suggestions.specs.Grouping.{AreContactGroups, criterion_text}
 use Rattle.mailmap_suggestions.proofs.Grouping.{begins, joins, within}
 use Rattle.mailmap_suggestions.proofs.groups.add_to_group.Goals as goal
 
@@ -11,7 +11,7 @@ index_mut-requires c =
     let key : Folded = record { text = c.text.result } in
     let groups = c.args.groups.now in
     let got : get folded_cmp c.args.places.now key ≡ Some c.in-Some.place.now = sym c.get.ensures.value ∙ ap option_copied c.in-Some.is in
-    let below = within (text_by c.args.criterion) c.requires.0 c.args.places.now groups.items c.requires.1 c.args.contact key c.text.ensures c.in-Some.place.now got in
+    let below = within (criterion_text c.args.criterion) c.requires.0 c.args.places.now groups.items c.requires.1 c.args.contact key c.text.ensures c.in-Some.place.now got in
     let len = groups.ok.0 in
     omega (arith, below, len)
 
@@ -19,17 +19,17 @@ pub returns-in_ok-push-in-Some : goal.returns-in_ok-push-in-Some
 returns-in_ok-push-in-Some c = λ members are.
     let key : Folded = record { text = c.text.result } in
     let got : get folded_cmp c.args.places.now key ≡ Some c.in-Some.place.now = sym c.get.ensures.value ∙ ap option_copied c.in-Some.is in
-    joins (text_by c.args.criterion) members c.args.places.now c.args.groups.now.items are c.args.contact key c.text.ensures
+    joins (criterion_text c.args.criterion) members c.args.places.now c.args.groups.now.items are c.args.contact key c.text.ensures
     c.in-Some.place.now c.index_mut.result.now c.push.new.self got c.index_mut.ensures.value c.in_ok-push-in-Some.ensures.items
 
 pub returns-in_ok-push-in-None-2 : goal.returns-in_ok-push-in-None-2
 returns-in_ok-push-in-None-2 c = λ members are.
     let key : Folded = record { text = c.text.result } in
-    let text = text_by c.args.criterion in
+    let text = criterion_text c.args.criterion in
     let groups = c.args.groups.now in
     let none : get folded_cmp c.args.places.now key ≡ None = sym c.get.ensures.value ∙ ap option_copied c.in-None.is in
     let len : c.len.result ≡ length groups.items = c.len.ensures ∙ groups.ok.0 in
     let alone = c.in_ok-push-in-None.ensures.items ∙ ap (λ l. l ++ c.args.contact ∷ []) c.new-group.ensures.items in
-    subst (AreGroups text (members ++ c.args.contact.now ∷ []) c.insert.new.self) (sym c.in_ok-push-in-None-2.ensures.items)
+    subst (AreContactGroups text (members ++ c.args.contact.now ∷ []) c.insert.new.self) (sym c.in_ok-push-in-None-2.ensures.items)
     (begins text members c.args.places.now groups.items are c.args.contact key c.text.ensures
     c.insert.new.self c.len.result c.push-in-None.new.self none len c.in_ok-insert-in-None.ensures.updates.0 alone)

@@ -1,7 +1,7 @@
 use Rattle.std.proofs.Common.{◌∙◌, ap}
 use Rattle.std.proofs.lemmas.List.Elements.{recursion_from_All}
-use Rattle.mailmap_suggestions.specs.Answered.{IsAnswered}
-use Rattle.mailmap_suggestions.specs.Grouping.{grouped_by, text_by, behind}
+use Rattle.mailmap_suggestions.specs.Answered.{IsRightFor}
+use Rattle.mailmap_suggestions.specs.Grouping.{grouped_by, criterion_text, behind}
 use Rattle.mailmap_suggestions.specs.declared.groups.Criterion.TheVariants.{Answer}
 use Rattle.mailmap_suggestions.proofs.Sharers.{found_answered, found_groups}
 use Rattle.mailmap_suggestions.proofs.groups.groups_of.Goals as goal
@@ -9,11 +9,11 @@ use Rattle.mailmap_suggestions.proofs.groups.groups_of.Goals as goal
 pub returns-clause-groups : goal.returns-clause-groups
 returns-clause-groups c = λ h all.
     let contacts = c.args.answered.now in
-    let is = c.in_ok-groups.ensures ∙ ap (grouped_by (text_by (Answer c.args.shared))) (ap behind c.as_slice.ensures.value ∙ c.in_ok-sharing.ensures) in
-    found_groups c.args.shared h contacts (recursion_from_All (IsAnswered h) contacts all) c.in_ok-groups.groups.items c.drop_alike.new.groups.items is c.drop_alike.ensures
+    let is = c.in_ok-groups.ensures ∙ ap (grouped_by (criterion_text (Answer c.args.shared))) (ap behind c.as_slice.ensures.value ∙ c.in_ok-sharing.ensures) in
+    found_groups c.args.shared h contacts (recursion_from_All (IsRightFor h) contacts all) c.in_ok-groups.groups.items c.drop_alike.new.groups.items is c.drop_alike.ensures
 
 pub returns-clause-answered : goal.returns-clause-answered
 returns-clause-answered c = λ h all.
     let contacts = c.args.answered.now in
-    let is = c.in_ok-groups.ensures ∙ ap (grouped_by (text_by (Answer c.args.shared))) (ap behind c.as_slice.ensures.value ∙ c.in_ok-sharing.ensures) in
-    found_answered c.args.shared h contacts (recursion_from_All (IsAnswered h) contacts all) c.in_ok-groups.groups.items c.drop_alike.new.groups.items is c.drop_alike.ensures
+    let is = c.in_ok-groups.ensures ∙ ap (grouped_by (criterion_text (Answer c.args.shared))) (ap behind c.as_slice.ensures.value ∙ c.in_ok-sharing.ensures) in
+    found_answered c.args.shared h contacts (recursion_from_All (IsRightFor h) contacts all) c.in_ok-groups.groups.items c.drop_alike.new.groups.items is c.drop_alike.ensures

@@ -4,8 +4,8 @@ use Rattle.std.proofs.lemmas.Grind.{flat_map-append}
 use Rattle.mailmap_contacts.proofs.Steps.{mapped_more}
 use Rattle.mailmap_entries.specs.Entries.{mapping_of}
 use Rattle.mailmap_entries.specs.Semantics.{accepted}
-use Rattle.mailmap_suggestions.specs.Lines.{plus}
-use Rattle.mailmap_suggestions.specs.Suggested.{Suggestion}
+use Rattle.mailmap_suggestions.specs.Forms.{plus}
+use Rattle.mailmap_suggestions.specs.Suggestions.{Suggestion}
 use Rattle.mailmap_suggestions.specs.Views.{suggestion_of}
 use Rattle.mailmap_suggestions.proofs.Suggesting.{plus_accepted}
 use Rattle.mailmap_suggestions.proofs.suggestions.add_entries.Goals as goal

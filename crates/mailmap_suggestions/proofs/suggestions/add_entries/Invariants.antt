@@ -2,7 +2,7 @@
 use Rattle.std.proofs.Common.{◌≡◌, map, take}
 use Rattle.std.specs.List.{flat_map}
 use Rattle.mailmap_entries.specs.Semantics.{accepted}
-use Rattle.mailmap_suggestions.specs.Lines.{plus}
+use Rattle.mailmap_suggestions.specs.Forms.{plus}
 use Rattle.mailmap_suggestions.specs.Views.{suggestion_of}
 use Rattle.mailmap_suggestions.proofs.suggestions.add_entries.Given as goal
 

@@ -6,9 +6,9 @@ use Rattle.mailmap_entries.specs.Semantics.{accepted}
 use Rattle.mailmap_suggestions.specs.Answered.{HaveAscendingLines, HaveDistinctContacts}
 use Rattle.mailmap_suggestions.specs.Groups.{email_shared, name_shared}
 use Rattle.mailmap_suggestions.specs.Histories.{histories_of}
-use Rattle.mailmap_suggestions.specs.Lines.{plus}
-use Rattle.mailmap_suggestions.specs.Suggested.{Suggestion, suggestion}
-use Rattle.mailmap_suggestions.specs.Suggestions.{email_entries, groups}
+use Rattle.mailmap_suggestions.specs.Forms.{plus}
+use Rattle.mailmap_suggestions.specs.Suggestions.{Suggestion, suggestion}
+use Rattle.mailmap_suggestions.specs.GroupEntries.{email_entries, groups}
 use Rattle.mailmap_suggestions.specs.Views.{suggestion_of}
 use Rattle.mailmap_suggestions.proofs.Suggesting.{distinct_tallied, groups_accepted, history_ascends, suggested_entries}
 use Rattle.mailmap_suggestions.proofs.suggestions.suggest.Goals as goal

@@ -3,10 +3,10 @@ use Rattle.std.specs.Option.{option_map}
 use Rattle.std.proofs.lemmas.List.Elements.{All-from_recursion}
 use Rattle.mailmap_contacts.specs.Answers.{tally_at, tally_of}
 use Rattle.mailmap_entries.specs.Entries.{mapping_of}
-use Rattle.mailmap_suggestions.specs.Answered.{IsAnswered, contact_behind, tallies_behind}
+use Rattle.mailmap_suggestions.specs.Answered.{IsRightFor, contact_behind, tallies_behind}
 use Rattle.mailmap_suggestions.specs.Changes.{AreParts}
-use Rattle.mailmap_suggestions.specs.Lines.{entries_to}
-use Rattle.mailmap_suggestions.specs.Suggestions.{contact_of, group_entries}
+use Rattle.mailmap_suggestions.specs.Forms.{entries_to}
+use Rattle.mailmap_suggestions.specs.GroupEntries.{contact_or_nobody, group_entries}
 use Rattle.mailmap_suggestions.proofs.Ordered.{none_counted}
 use Rattle.mailmap_suggestions.proofs.Suggesting.{contacts_of_group}
 use Rattle.mailmap_suggestions.proofs.suggestions.suggest_for.Goals.{in-Some+in_ok-by_old_email-in-Some+in_ok-entries-in-Some, in-None}
@@ -20,10 +20,10 @@ returns c = λ h are up once.
     let gits = c.in_ok-counted_git_answers.ensures h are up once in
     let entries : map mapping_of c.match-proper_of.entries.items ≡ group_entries h g = elim c.match-proper_of.branch [
       | in-Some+in_ok-by_old_email-in-Some+in_ok-entries-in-Some w ↦
-          let proper = sym (ap (λ o. contact_of (option_map tally_at o)) w.in-Some.is)
+          let proper = sym (ap (λ o. contact_or_nobody (option_map tally_at o)) w.in-Some.is)
           ∙ c.proper_of.ensures.proper h g up (ap (map tally_of) c.deref.ensures.value ∙ answers) in
           let parts = subst (AreParts h (map contact_behind group)) (sym w.deref-in-Some.ensures.value) (record {
-            answered = w.in_ok-by_old_email-in-Some.ensures.answered h (All-from_recursion (λ a. IsAnswered h a.now) group are);
+            answered = w.in_ok-by_old_email-in-Some.ensures.answered h (All-from_recursion (λ a. IsRightFor h a.now) group are);
             emails = w.in_ok-by_old_email-in-Some.ensures.parts;
           }) in
           ap (λ v. map mapping_of v.items) w.entries-is
@@ -35,4 +35,4 @@ returns c = λ h are up once.
           ∙ ap (map mapping_of) w.new-entries.ensures.items
           ∙ sym (ap (group_entries h) none)
     ] in
-    λ i. record { answers = answers i; git_answers = gits i; entries = entries i; is_to_judge = c.args.is_to_judge }
+    λ i. record { answers = answers i; git_answers = gits i; entries = entries i; needs_review = c.args.needs_review }

@@ -26,7 +26,7 @@ loop-entry-preserved-in-Continue-1 g c =
       can = search rules;
       finite = search rules;
       kept =
-          subst (λ h. IsCollected c.args.old_tables.now h c.push.new.self.joined
+          subst (λ h. IsCollected c.args.existing_tables.now h c.push.new.self.joined
           (map mapping_of c.push.new.self.batch.items)) (sym (map_push mapping_of xs x)) kept;
     }
 
@@ -51,7 +51,7 @@ pub loop-entry-preserved : goal.loop-entry-preserved
 loop-entry-preserved g c =
     let x = c.in-Some.entry in
     let xs = c.loop-entry.yielded in
-    let same = collected_same c.args.old_tables.now (map mapping_of xs) c.loop-entry.collected.joined
+    let same = collected_same c.args.existing_tables.now (map mapping_of xs) c.loop-entry.collected.joined
     (map mapping_of c.loop-entry.collected.batch.items) c.loop-entry.invariant.kept (mapping_of x)
     (accepted-ignored (map mapping_of xs) (mapping_of x) (sym c.has_new_name_or_email.ensures
     ∙ c.if-has_new_name_or_email.false)) in
@@ -59,6 +59,6 @@ loop-entry-preserved g c =
       can = search rules;
       finite = search rules;
       kept =
-          subst (λ h. IsCollected c.args.old_tables.now h c.loop-entry.collected.joined
+          subst (λ h. IsCollected c.args.existing_tables.now h c.loop-entry.collected.joined
           (map mapping_of c.loop-entry.collected.batch.items)) (sym (map_push mapping_of xs x)) same;
     }

@@ -8,6 +8,6 @@ invariant-loop-entry g l =
     record {
       can : (goal.iterator-loop-entry g).can_next l.entry-iterator;
       finite : (goal.iterator-loop-entry g).is_finite l.entry-iterator;
-      kept : IsCollected l.old_tables (map mapping_of l.yielded) l.collected.joined
+      kept : IsCollected l.existing_tables (map mapping_of l.yielded) l.collected.joined
           (map mapping_of l.collected.batch.items);
     }

@@ -64,7 +64,7 @@ returns-in-Ok-clause-len c =
     let ng = name_group v.pool in
     let found = c.in-Ok.ensures.found in
     let lt : i < length names = omega (arith, found.within, length-map names ng) in
-    let lies = all_at (NameInPool (length v.pool)) names i none c.email.ensures.lie.names_lie lt in
+    let lies = all_at (NameInPool (length v.pool)) names i none c.email.ensures.in_pool.names_lie lt in
     let same : folded (spelled v.pool (old_span row)) ≡ folded c.args.name.now =
     found_key name_key (folded c.args.name.now) 0 (map ng names) i (ng row) found
     (sym (get_or-map ng names i none (ng row) lt)) in

@@ -26,9 +26,9 @@ row_read i a v t ns is read lt d =
 pub email-requires : goal.email-requires
 email-requires c = omega (arith, c.requires.within, ap (λ (v : Contents). length v.groups) c.view.ensures)
 
-pub email_row-own-requires-clause-lies : goal.email_row-own-requires-clause-lies
-email_row-own-requires-clause-lies c =
-    subst (λ (v : Contents). TextsInPool (length v.pool) c.email.result.0) c.view.ensures c.email.ensures.lie.email_lies
+pub email_row-own-requires-clause-in_pool : goal.email_row-own-requires-clause-in_pool
+email_row-own-requires-clause-in_pool c =
+    subst (λ (v : Contents). TextsInPool (length v.pool) c.email.result.0) c.view.ensures c.email.ensures.in_pool.email_lies
 
 pub email_row-own-requires-clause-reserved : goal.email_row-own-requires-clause-reserved
 email_row-own-requires-clause-reserved c =

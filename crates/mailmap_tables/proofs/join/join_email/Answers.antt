@@ -20,46 +20,46 @@ use Rattle.mailmap_entries.proofs.Parts.{all_mapped, all_head}
 use Rattle.mailmap_tables.proofs.Given.{fold-give}
 use Rattle.mailmap_tables.proofs.NameLookups.{extends_through, name_groups_on, names_lie_on}
 use Rattle.mailmap_tables.proofs.OwnTexts.{own_spells_on}
-use Rattle.mailmap_tables.proofs.Passing.{texts_lie_on}
+use Rattle.mailmap_tables.proofs.Copying.{texts_lie_on}
 use Rattle.mailmap_tables.proofs.join.join_email.Goals as goal
 
 pub join_names-requires-clause-named : goal.join_names-requires-clause-named
 join_names-requires-clause-named c =
     subst (λ (l : List IndexedEntry). AllByRecursion (λ p. IsNamed (mapping_at p)) l)
-    (sym (take_rest c.args.batch.now c.unnamed_len-len.result)) (named_after c.args.batch.now c.unnamed_len-len.result
+    (sym (take_rest c.args.group.now c.unnamed_len-len.result)) (named_after c.args.group.now c.unnamed_len-len.result
     c.requires.group.ascending c.unnamed_len-len.ensures.other)
 
 pub join_names-requires-clause-named_ascend : goal.join_names-requires-clause-named_ascend
 join_names-requires-clause-named_ascend c =
-    let xs = c.args.batch.now in
+    let xs = c.args.group.now in
     let len = c.unnamed_len-len.result in
     let named = named_after xs len c.requires.group.ascending c.unnamed_len-len.ensures.other in
     let up = subst (λ l. IsAscending (option_cmp text_cmp) (map name_of l)) (drop-map mapping_at len xs)
     (ascending_rest (option_cmp text_cmp) name_of len (map mapping_at xs) c.requires.group.ascending) in
     subst (λ (l : List IndexedEntry). IsAscending text_cmp (map name_text (map mapping_at l)))
-    (sym (take_rest c.args.batch.now c.unnamed_len-len.result)) (names_ascend (map mapping_at (drop len xs))
+    (sym (take_rest c.args.group.now c.unnamed_len-len.result)) (names_ascend (map mapping_at (drop len xs))
     (all_mapped mapping_at IsNamed (drop len xs) named) up)
 
-pub join_names-requires-clause-lie : goal.join_names-requires-clause-lie
-join_names-requires-clause-lie c =
+pub join_names-requires-clause-in_pool : goal.join_names-requires-clause-in_pool
+join_names-requires-clause-in_pool c =
     let grown = c.in_ok-own.ensures.grown in
-    names_lie_on _ _ (grown.0, ap (λ (v : Contents). v.pool) grown.1) _ c.requires.lie.names_lie
+    names_lie_on _ _ (grown.0, ap (λ (v : Contents). v.pool) grown.1) _ c.requires.in_pool.names_lie
 
-pub join_names-requires-clause-old_names_ascend : goal.join_names-requires-clause-old_names_ascend
-join_names-requires-clause-old_names_ascend c =
+pub join_names-requires-clause-existing_names_ascend : goal.join_names-requires-clause-existing_names_ascend
+join_names-requires-clause-existing_names_ascend c =
     let grown = c.in_ok-own.ensures.grown in
     subst (λ (ns : List NameGroup). IsStrictlySortedBy text_cmp (map name_key ns)) (name_groups_on _ _ (
       grown.0,
       ap (λ (v : Contents). v.pool) grown.1,
-    ) _ c.requires.lie.names_lie) c.requires.ascending
+    ) _ c.requires.in_pool.names_lie) c.requires.ascending
 
 pub push_email-requires : goal.push_email-requires
-push_email-requires c = texts_lie_on _ _ c.in_ok-join_names.ensures.pool _ c.in_ok-own.ensures.lies
+push_email-requires c = texts_lie_on _ _ c.in_ok-join_names.ensures.pool _ c.in_ok-own.ensures.in_pool
 
 pub returns : goal.returns
 returns c =
     let old = c.args.out.now in
-    let xs = c.args.batch.now in
+    let xs = c.args.group.now in
     let len = c.unnamed_len-len.result in
     let g = group_of old.pool c.args.texts c.args.names.now in
     let put = c.in_ok-join_names.ensures in
@@ -76,7 +76,7 @@ returns c =
     let good = all_head (λ m. is_accepted m ≡ true) us js (subst (AllByRecursion (λ m. is_accepted m ≡ true)) whole
     c.requires.group.accepted) in
     let existing : map (name_group two.pool) c.args.names.now ≡ g.names =
-    sym (name_groups_on old.pool two.pool to_two c.args.names.now c.requires.lie.names_lie) in
+    sym (name_groups_on old.pool two.pool to_two c.args.names.now c.requires.in_pool.names_lie) in
     let named : NamesJoined g.names js put.names = subst (λ (ns : List NameGroup). NamesJoined ns js put.names) existing
     (subst (λ (l : List IndexedEntry). NamesJoined (map (name_group two.pool) c.args.names.now) (map mapping_at l)
     put.names) (take_rest xs len) put.joined) in
@@ -84,7 +84,7 @@ returns c =
     c.unnamed_len-len.ensures.none) good named in
     let given : fields_given c.last_given.result ≡ fold give no_fields us = c.last_given.ensures in
     let made = own_spells_on old.pool two.pool three.pool c.args.texts c.in_ok-own.own
-    (fields_given c.last_given.result) put.pool c.in_ok-own.ensures.lies c.in_ok-own.ensures.spells in
+    (fields_given c.last_given.result) put.pool c.in_ok-own.ensures.in_pool c.in_ok-own.ensures.spells in
     let own : fields_of three.pool c.in_ok-own.own ≡ fold give g.own us = made.fields
     ∙ ap (λ (f : Fields). given_or f g.own) given ∙ sym (fold-give g.own no_fields us) in
     let unassigned_names : three.unassigned_names ≡ put.names = put.unassigned_names

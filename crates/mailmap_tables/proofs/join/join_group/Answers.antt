@@ -9,7 +9,7 @@ use Rattle.mailmap_tables.specs.KeySearch.{IsFound, IsMissing}
 use Rattle.mailmap_tables.specs.Pool.{group_of}
 use Rattle.mailmap_tables.proofs.Edited.{bare_group}
 use Rattle.mailmap_tables.proofs.NameLookups.{name_groups_on}
-use Rattle.mailmap_tables.proofs.Passing.{group_on}
+use Rattle.mailmap_tables.proofs.Copying.{group_on}
 use Rattle.mailmap_tables.proofs.PrefixGroups.{none_sorted}
 use Rattle.mailmap_batches.proofs.LeadingNames.{first_email_at}
 use Rattle.mailmap_tables.proofs.GroupsAppended.{names_of_index, group_put_known, group_put_unknown}
@@ -17,37 +17,37 @@ use Rattle.mailmap_tables.proofs.join.join_group.Goals as goal
 
 pub join_email-requires-clause-ascending : goal.join_email-requires-clause-ascending
 join_email-requires-clause-ascending c =
-    let old_tables = c.args.old_tables.now in
+    let existing_tables = c.args.existing_tables.now in
     let names = c.email.result.1.now in
-    let on : Extends old_tables.pool c.copy_emails.new.out.pool = subst (Extends old_tables.pool)
+    let on : Extends existing_tables.pool c.copy_emails.new.out.pool = subst (Extends existing_tables.pool)
     (sym (ap (λ (v : Contents). v.pool) c.in_ok-copy_emails-in-Ok.ensures)) c.requires.pool in
-    subst (λ (ns : List NameGroup). IsStrictlySortedBy text_cmp (map name_key ns)) (name_groups_on old_tables.pool
-    c.copy_emails.new.out.pool on names c.email.ensures.lie.names_lie)
-    (names_of_index old_tables.groups c.in-Ok.index (group_of old_tables.pool c.email.result.0 names)
-    c.requires.old_tables c.email.ensures.group)
+    subst (λ (ns : List NameGroup). IsStrictlySortedBy text_cmp (map name_key ns)) (name_groups_on existing_tables.pool
+    c.copy_emails.new.out.pool on names c.email.ensures.in_pool.names_lie)
+    (names_of_index existing_tables.groups c.in-Ok.index (group_of existing_tables.pool c.email.result.0 names)
+    c.requires.existing_tables c.email.ensures.group)
 
 pub join_email-requires-in-Err-clause-ascending : goal.join_email-requires-in-Err-clause-ascending
 join_email-requires-in-Err-clause-ascending c = none_sorted
 
 pub returns-in_ok-join_email-in-Ok-clause-put : goal.returns-in_ok-join_email-in-Ok-clause-put
 returns-in_ok-join_email-in-Ok-clause-put c =
-    let old_tables = c.args.old_tables.now in
+    let existing_tables = c.args.existing_tables.now in
     let mid = c.copy_emails.new.out in
-    let on : Extends old_tables.pool mid.pool = subst (Extends old_tables.pool)
+    let on : Extends existing_tables.pool mid.pool = subst (Extends existing_tables.pool)
     (sym (ap (λ (v : Contents). v.pool) c.in_ok-copy_emails-in-Ok.ensures)) c.requires.pool in
-    let same = group_on old_tables.pool mid.pool on c.email.result.0 c.email.result.1.now c.email.ensures.lie in
+    let same = group_on existing_tables.pool mid.pool on c.email.result.0 c.email.result.1.now c.email.ensures.in_pool in
     let email : folded c.old_email.result.now ≡ first_email (map mapping_at c.args.group.now) =
     ap folded c.old_email.ensures ∙ first_email_at c.args.group.now _ c.requires.some in
-    group_put_known old_tables.groups c.args.from c.in-Ok.index c.args.group.now c.args.out.now mid c.join_email.new.out
-    c.in_ok-copy_emails-in-Ok.ensures (group_of old_tables.pool c.email.result.0 c.email.result.1.now)
-    (subst (λ (t : Text). IsFound email_key t c.args.from old_tables.groups c.in-Ok.index) email c.in-Ok.ensures.found)
+    group_put_known existing_tables.groups c.args.from c.in-Ok.index c.args.group.now c.args.out.now mid c.join_email.new.out
+    c.in_ok-copy_emails-in-Ok.ensures (group_of existing_tables.pool c.email.result.0 c.email.result.1.now)
+    (subst (λ (t : Text). IsFound email_key t c.args.from existing_tables.groups c.in-Ok.index) email c.in-Ok.ensures.found)
     c.email.ensures.group
     (subst (λ (g : EmailGroup). EmailAppended g (map mapping_at c.args.group.now) mid c.join_email.new.out) same
     c.in_ok-join_email-in-Ok.ensures)
 
 pub returns-in_ok-join_email-in-Err-clause-put : goal.returns-in_ok-join_email-in-Err-clause-put
 returns-in_ok-join_email-in-Err-clause-put c =
-    let old_tables = c.args.old_tables.now in
+    let existing_tables = c.args.existing_tables.now in
     let mid = c.copy_emails-in-Err.new.out in
     let texted = c.push_text.new.self in
     let out = c.join_email-in-Err.new.out in
@@ -60,9 +60,9 @@ returns-in_ok-join_email-in-Err-clause-put c =
     let put : EmailAppended (bare text) (map mapping_at c.args.group.now) texted out =
     subst (λ (g : EmailGroup). EmailAppended g (map mapping_at c.args.group.now) texted out) same
     c.in_ok-join_email-in-Err.ensures in
-    group_put_unknown old_tables.groups c.args.from c.in-Err.index c.args.group.now c.args.out.now mid out
+    group_put_unknown existing_tables.groups c.args.from c.in-Err.index c.args.group.now c.args.out.now mid out
     c.in_ok-copy_emails-in-Err.ensures c.earliest.result text (mid.pool ++ text)
-    (subst (λ (t : Text). IsMissing email_key t c.args.from old_tables.groups c.in-Err.index) email
+    (subst (λ (t : Text). IsMissing email_key t c.args.from existing_tables.groups c.in-Err.index) email
     c.in-Err.ensures.missing)
     c.earliest.ensures
     c.old_email-in-Err.ensures

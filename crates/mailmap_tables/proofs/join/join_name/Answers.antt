@@ -22,7 +22,7 @@ IsLeft old out rows n left =
 pub returns-in_ok-push_named-in-Ok : goal.returns-in_ok-push_named-in-Ok
 returns-in_ok-push_named-in-Ok c =
     let old = c.args.out.now in
-    let rows = c.args.old_names.now in
+    let rows = c.args.existing_names.now in
     let index = c.in-Ok.index in
     let name = c.args.named.old_name.now in
     let n = named_group c.args.named in
@@ -40,14 +40,14 @@ returns-in_ok-push_named-in-Ok c =
       old_name = spelled (step i).pool
           (old_span row);
     } ∷ []))
-    (all_drop _ _ _ c.requires.lie) (lookup_found old.pool rows name index _ found) in
+    (all_drop _ _ _ c.requires.in_pool) (lookup_found old.pool rows name index _ found) in
     let left = subst (IsLeft old out rows n) (sym (take_rest rows (index + 1))) put in
-    record { lie = left.0; put = left.1 }
+    record { in_pool = left.0; put = left.1 }
 
 pub returns-in_ok-push_named-in-Err : goal.returns-in_ok-push_named-in-Err
 returns-in_ok-push_named-in-Err c =
     let old = c.args.out.now in
-    let rows = c.args.old_names.now in
+    let rows = c.args.existing_names.now in
     let index = c.in-Err.index in
     let name = c.args.named.old_name.now in
     let n = named_group c.args.named in
@@ -68,6 +68,6 @@ returns-in_ok-push_named-in-Err c =
       old_name =
           (ap (spelled mid.pool) c.bare.ensures.old ∙ text.spells) i;
     } ∷ []))
-    (all_drop _ _ _ c.requires.lie) (lookup_new old.pool rows name index name missing refl) in
+    (all_drop _ _ _ c.requires.in_pool) (lookup_new old.pool rows name index name missing refl) in
     let left = subst (IsLeft old out rows n) (sym (take_rest rows index)) put in
-    record { lie = left.0; put = left.1 }
+    record { in_pool = left.0; put = left.1 }

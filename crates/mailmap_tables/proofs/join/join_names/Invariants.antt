@@ -8,9 +8,9 @@ use Rattle.mailmap_tables.proofs.join.join_names.Given as goal
 
 abbrev pub invariant-loop-left : goal.invariant-loop-left
 invariant-loop-left l =
-    NamesState (map (name_group l.fn.out.pool) l.fn.old_names) (map mapping_at l.fn.named) l.fn.out
-    (map (name_group l.out.pool) l.old_names) (map mapping_at l.left) l.out
-    × AllByRecursion (NameInPool (length l.out.pool)) l.old_names
+    NamesState (map (name_group l.fn.out.pool) l.fn.existing_names) (map mapping_at l.fn.named) l.fn.out
+    (map (name_group l.out.pool) l.existing_names) (map mapping_at l.left) l.out
+    × AllByRecursion (NameInPool (length l.out.pool)) l.existing_names
     × AllByRecursion (λ p. IsNamed (mapping_at p)) l.left
 
 abbrev pub decreases-loop-left : goal.decreases-loop-left

@@ -16,8 +16,8 @@ loop-left-init c =
       ascending =
           c.requires.ascending;
     } in (
-      emails_start c.args.old_tables.now.groups (map indexed_mapping c.args.batch.now) c.args.out
-          c.args.old_tables.now.pool c.requires.old_tables (batch_emails c.args.batch.now batch) c.requires.out,
+      emails_start c.args.existing_tables.now.groups (map indexed_mapping c.args.batch.now) c.args.out
+          c.args.existing_tables.now.pool c.requires.existing_tables (batch_emails c.args.batch.now batch) c.requires.out,
       omega arith,
       batch,
     )
@@ -29,17 +29,17 @@ join_group-requires-clause-group c =
 
 pub loop-left-preserved : goal.loop-left-preserved
 loop-left-preserved c =
-    let old_tables = c.args.old_tables.now in
+    let existing_tables = c.args.existing_tables.now in
     let left = c.loop-left.left.now in
     let len = c.email_group_len-len.result in
     let group = c.email_group_len-len.ensures in
     let good = good_items c.args.batch.now c.requires.accepted in
-    subst (λ (l : List IndexedEntry). EmailsState old_tables.groups (map indexed_mapping c.args.batch.now)
-    old_tables.pool (drop c.in_ok-from.from old_tables.groups) (map indexed_mapping l) c.join_group.new.out
-    × (c.in_ok-from.from ≤ length old_tables.groups) × IsBatch l)
+    subst (λ (l : List IndexedEntry). EmailsState existing_tables.groups (map indexed_mapping c.args.batch.now)
+    existing_tables.pool (drop c.in_ok-from.from existing_tables.groups) (map indexed_mapping l) c.join_group.new.out
+    × (c.in_ok-from.from ≤ length existing_tables.groups) × IsBatch l)
     (sym (take_rest left len)) (
-      step_at old_tables.groups (map indexed_mapping c.args.batch.now) old_tables.pool c.requires.old_tables good
-          (drop c.loop-left.from old_tables.groups) (drop c.in_ok-from.from old_tables.groups) left len c.loop-left.out
+      step_at existing_tables.groups (map indexed_mapping c.args.batch.now) existing_tables.pool c.requires.existing_tables good
+          (drop c.loop-left.from existing_tables.groups) (drop c.in_ok-from.from existing_tables.groups) left len c.loop-left.out
           c.join_group.new.out c.loop-left.invariant.0 group.some group.within group.same group.other
           c.in_ok-from.ensures.put,
       c.in_ok-from.ensures.within,
@@ -60,17 +60,17 @@ loop-left-smaller c =
 
 pub returns-clause-joined : goal.returns-clause-joined
 returns-clause-joined c =
-    let old_tables = c.args.old_tables.now in
+    let existing_tables = c.args.existing_tables.now in
     let left = c.loop-left.left.now in
     let from = c.loop-left.from in
-    let state = subst (λ (l : List IndexedEntry). EmailsState old_tables.groups (map indexed_mapping c.args.batch.now)
-    old_tables.pool (drop from old_tables.groups) (map indexed_mapping l) c.loop-left.out)
+    let state = subst (λ (l : List IndexedEntry). EmailsState existing_tables.groups (map indexed_mapping c.args.batch.now)
+    existing_tables.pool (drop from existing_tables.groups) (map indexed_mapping l) c.loop-left.out)
     (none_left left c.loop-left-test.ensures) c.loop-left.invariant.0 in
-    let all : take (c.email_count.result - from) (drop from old_tables.groups) ≡ drop from old_tables.groups =
-    take_all (c.email_count.result - from) (drop from old_tables.groups)
-    (omega (arith, length-drop from old_tables.groups, c.email_count.ensures)) in
-    emails_end old_tables.groups (map indexed_mapping c.args.batch.now) old_tables.pool c.requires.old_tables
-    (drop from old_tables.groups) c.loop-left.out c.copy_emails.new.out state
+    let all : take (c.email_count.result - from) (drop from existing_tables.groups) ≡ drop from existing_tables.groups =
+    take_all (c.email_count.result - from) (drop from existing_tables.groups)
+    (omega (arith, length-drop from existing_tables.groups, c.email_count.ensures)) in
+    emails_end existing_tables.groups (map indexed_mapping c.args.batch.now) existing_tables.pool c.requires.existing_tables
+    (drop from existing_tables.groups) c.loop-left.out c.copy_emails.new.out state
     (c.in_ok-copy_emails.ensures ∙ (λ i. record {
       pool = c.loop-left.out.pool;
       groups = c.loop-left.out.groups ++ all i;

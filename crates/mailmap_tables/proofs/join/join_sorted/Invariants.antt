@@ -6,9 +6,9 @@ use Rattle.mailmap_tables.proofs.join.join_sorted.Given as goal
 
 abbrev pub invariant-loop-left : goal.invariant-loop-left
 invariant-loop-left l =
-    EmailsState l.old_tables.groups (map indexed_mapping l.fn.batch) l.old_tables.pool (drop l.from l.old_tables.groups)
+    EmailsState l.existing_tables.groups (map indexed_mapping l.fn.batch) l.existing_tables.pool (drop l.from l.existing_tables.groups)
     (map indexed_mapping l.left) l.out
-    × (l.from ≤ length l.old_tables.groups)
+    × (l.from ≤ length l.existing_tables.groups)
     × IsBatch l.left
 
 abbrev pub decreases-loop-left : goal.decreases-loop-left

@@ -30,20 +30,20 @@ pub returns : goal.returns
 returns c =
     let items = c.in_ok-batch.batch.items in
     let gs = c.view.result.groups in
-    let same_groups : gs ≡ c.args.old_tables.now.groups = ap (λ (v : Contents). v.groups) c.view.ensures in
+    let same_groups : gs ≡ c.args.existing_tables.now.groups = ap (λ (v : Contents). v.groups) c.view.ensures in
     let xs = map mapping_of c.args.entries.now in
     if_ok_then c.join_sorted.result _ _ _ (λ (made : Contents) j none. (
       record { groups = j.groups; none_unassigned = none },
       subst (λ g. IsNormal (listing g ++ xs) (listing made.groups)) same_groups
-          (joined_normal gs (subst AreGroups (sym same_groups) c.requires.old_tables) xs c.requires.accepted
+          (joined_normal gs (subst AreGroups (sym same_groups) c.requires.existing_tables) xs c.requires.accepted
           (map indexed_mapping items) c.in_ok-batch.ensures made.groups
           (subst (λ (l : List IndexedEntry). AllJoined gs (map indexed_mapping l) made.groups) c.deref.ensures.value
           j)),
     )) c.join_sorted.ensures.joined c.join_sorted.ensures.none_unassigned
 
-pub join_sorted-requires-clause-old_tables : goal.join_sorted-requires-clause-old_tables
-join_sorted-requires-clause-old_tables c =
-    subst (λ (v : Contents). AreGroups v.groups) (sym c.view.ensures) c.requires.old_tables
+pub join_sorted-requires-clause-existing_tables : goal.join_sorted-requires-clause-existing_tables
+join_sorted-requires-clause-existing_tables c =
+    subst (λ (v : Contents). AreGroups v.groups) (sym c.view.ensures) c.requires.existing_tables
 
 pub join_sorted-requires-clause-out : goal.join_sorted-requires-clause-out
 join_sorted-requires-clause-out c =

@@ -5,8 +5,8 @@ use Rattle.mailmap_tables.specs.declared.texts.TheConstants.{NO_TEXT}
 use Rattle.mailmap_tables.proofs.TextsOfRows.{copied_so, copies_lie, copies_spell, lies_there, spells_there}
 use Rattle.mailmap_tables.proofs.texts.together.Goals as goal
 
-pub returns-then-are_together-clause-lies : goal.returns-then-are_together-clause-lies
-returns-then-are_together-clause-lies c =
+pub returns-then-are_together-clause-in_pool : goal.returns-then-are_together-clause-in_pool
+returns-then-are_together-clause-in_pool c =
     let pool = c.args.pool.now.items in
     let few : length pool < NO_TEXT = omega (arith, c.args.pool.now.ok.0, c.args.pool.now.small) in
     let at = c.are_together.ensures (c.if-are_together.true) in
@@ -22,8 +22,8 @@ returns-then-are_together-clause-spells c =
     (spells_there (length pool) few c.args.old c.args.new_name c.args.new_email c.requires.new_name
     c.requires.new_email at pool)
 
-pub returns-clause-lies : goal.returns-clause-lies
-returns-clause-lies c =
+pub returns-clause-in_pool : goal.returns-clause-in_pool
+returns-clause-in_pool c =
     let pool = c.args.pool.now.items in
     let few : length pool < NO_TEXT = omega (arith, c.args.pool.now.ok.0, c.args.pool.now.small) in
     let start : c.len-len.result ≡ length pool = c.len-len.ensures ∙ c.args.pool.now.ok.0 in

@@ -6,18 +6,18 @@ use Rattle.mailmap_entries.proofs.Results.{on_err}
 use Rattle.mailmap_contacts.specs.Answers.{finding_view}
 use Rattle.mailmap_contacts.specs.declared.comparisons.ContactFinding.{ContactFinding as TheFinding}
 use Rattle.mailmap_contacts.specs.declared.comparisons.ContactFinding.TheVariants.{NoContact}
-use Rattle.verify_command.specs.Contacts.{reported_said}
+use Rattle.verify_command.specs.Contacts.{reported_contact_finding}
 use Rattle.verify_command.specs.Settings.{choices_of}
 use Rattle.verify_command.specs.Task.{contacts_name}
 use Rattle.verify_command.proofs.Explaining.{printed_all, printed_broken, printed_first_broken, printed_more}
-use Rattle.verify_command.proofs.Reporting.{said_each}
+use Rattle.verify_command.proofs.Reporting.{contact_findings_each}
 use Rattle.verify_command.proofs.contacts.print_contact_findings.Goals as goal
 
 pub loop-finding-preserved : goal.loop-finding-preserved
 loop-finding-preserved g c =
     let choices = choices_of c.args.settings.now in
     let file = contacts_name choices c.args.contacts.now in
-    let lines : TheFinding → List ℕ = λ f. reported_said choices file (finding_view f) in
+    let lines : TheFinding → List ℕ = λ f. reported_contact_finding choices file (finding_view f) in
     let findings = c.args.findings.now in
     let k = c.loop-finding.finding-index in
     let finding = get_or findings k (NoContact 0) in
@@ -29,7 +29,7 @@ pub returns-in_err-print_contact_finding-clause-err : goal.returns-in_err-print_
 returns-in_err-print_contact_finding-clause-err g c =
     let choices = choices_of c.args.settings.now in
     let file = contacts_name choices c.args.contacts.now in
-    let lines : TheFinding → List ℕ = λ f. reported_said choices file (finding_view f) in
+    let lines : TheFinding → List ℕ = λ f. reported_contact_finding choices file (finding_view f) in
     let findings = c.args.findings.now in
     let k = c.loop-finding.finding-index in
     let finding = get_or findings k (NoContact 0) in
@@ -39,27 +39,27 @@ returns-in_err-print_contact_finding-clause-err g c =
     let broken = c.in_err-print_contact_finding.ensures.err in
     let cut = printed_broken lines findings (drop k findings) (drop (k + 1) findings) finding (lines finding) before (g.W.Write.contents c.loop-finding.output) after c.loop-finding.printer broken.0
     c.loop-finding.invariant step refl broken.1 in
-    on_err c.from_residual-in_err-print_contact_finding.result _ (cut.0, subst (λ t. Appends before after (take cut.0 t)) (sym (said_each choices file findings)) cut.1)
+    on_err c.from_residual-in_err-print_contact_finding.result _ (cut.0, subst (λ t. Appends before after (take cut.0 t)) (sym (contact_findings_each choices file findings)) cut.1)
 
 pub returns-clause-ok : goal.returns-clause-ok
 returns-clause-ok g c =
     let choices = choices_of c.args.settings.now in
     let file = contacts_name choices c.args.contacts.now in
-    let lines : TheFinding → List ℕ = λ f. reported_said choices file (finding_view f) in
+    let lines : TheFinding → List ℕ = λ f. reported_contact_finding choices file (finding_view f) in
     let findings = c.args.findings.now in
     let k = c.loop-finding.finding-index in
     let before = g.W.Write.contents c.args.output.now in
     let after = g.W.Write.contents c.flush.new.output in
     let none : drop k findings ≡ [] = drop_all k findings c.loop-finding-test.false in
     on_ok_weaker c.flush.result
-    (λ w. subst (λ t. Appends before after t) (sym (said_each choices file findings))
+    (λ w. subst (λ t. Appends before after t) (sym (contact_findings_each choices file findings))
     (printed_all lines findings (drop k findings) before (g.W.Write.contents c.loop-finding.output) after c.loop-finding.printer c.loop-finding.invariant none w)) c.flush.ensures.ok
 
 pub returns-clause-err : goal.returns-clause-err
 returns-clause-err g c =
     let choices = choices_of c.args.settings.now in
     let file = contacts_name choices c.args.contacts.now in
-    let lines : TheFinding → List ℕ = λ f. reported_said choices file (finding_view f) in
+    let lines : TheFinding → List ℕ = λ f. reported_contact_finding choices file (finding_view f) in
     let findings = c.args.findings.now in
     let k = c.loop-finding.finding-index in
     let before = g.W.Write.contents c.args.output.now in
@@ -67,4 +67,4 @@ returns-clause-err g c =
     on_err_weaker c.flush.result
     (λ broken.
     let cut = printed_first_broken lines findings (drop k findings) before (g.W.Write.contents c.loop-finding.output) after c.loop-finding.printer broken.0 c.loop-finding.invariant broken.1 in
-    (cut.0, subst (λ t. Appends before after (take cut.0 t)) (sym (said_each choices file findings)) cut.1)) c.flush.ensures.err
+    (cut.0, subst (λ t. Appends before after (take cut.0 t)) (sym (contact_findings_each choices file findings)) cut.1)) c.flush.ensures.err

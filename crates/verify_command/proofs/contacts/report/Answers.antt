@@ -33,8 +33,8 @@ returns-clause-ok g c = λ taken are.
     let gits = ap (map tally_of) c.as_slice-2.ensures.value ∙ c.in_ok-git_answers.ensures lines are
     ∙ ap (λ ms. other_git_answers (histories_of ms) (tallied (contacts_from 1 lines))) (sym same) in
     let about = about_contacts (histories_of mailmaps) lines c.add_to_needs.new.needs.history (map tally_of c.in_ok-answers.answers.items)
-    (map tally_of c.as_slice.result.now) (map tally_of c.as_slice-2.result.now) c.no_contacts.result.now (map finding_view c.in_ok-findings.findings.items) (map finding_view c.as_slice-4.result.now)
-    (c.in_ok-answers.ensures lines are) (ap entries (crossed.history ∙ begun.history) ∙ mappings_of-located_lines 0 mailmaps) (c.no_contacts.ensures ∙ are.no_contacts) (ap (map tally_of) c.as_slice.ensures.value)
+    (map tally_of c.as_slice.result.now) (map tally_of c.as_slice-2.result.now) c.lines_without_contact.result.now (map finding_view c.in_ok-findings.findings.items) (map finding_view c.as_slice-4.result.now)
+    (c.in_ok-answers.ensures lines are) (ap entries (crossed.history ∙ begun.history) ∙ mappings_of-located_lines 0 mailmaps) (c.lines_without_contact.ensures ∙ are.lines_without_contact) (ap (map tally_of) c.as_slice.ensures.value)
     gits (ap (map finding_view) c.as_slice-4.ensures.value) c.in_ok-findings.ensures.whole c.in_ok-findings.ensures.in_order in
     let found : AreFoundBeside mailmaps taken c.as_slice-3.result.now (map finding_view c.as_slice-4.result.now) = record { unneeded = missing; findings = about } in
     subst (λ ms. IfOk c.print_both.result (λ outcome. Prints (IsReportBeside choices names file ms taken outcome) before after)) same (c.print_both.ensures.ok taken found)
@@ -57,8 +57,8 @@ returns-clause-breaks_off g c = λ taken are of.
     let gits = ap (map tally_of) c.as_slice-2.ensures.value ∙ c.in_ok-git_answers.ensures lines are
     ∙ ap (λ ms. other_git_answers (histories_of ms) (tallied (contacts_from 1 lines))) (sym same) in
     let about = about_contacts (histories_of mailmaps) lines c.add_to_needs.new.needs.history (map tally_of c.in_ok-answers.answers.items)
-    (map tally_of c.as_slice.result.now) (map tally_of c.as_slice-2.result.now) c.no_contacts.result.now (map finding_view c.in_ok-findings.findings.items) (map finding_view c.as_slice-4.result.now)
-    (c.in_ok-answers.ensures lines are) (ap entries (crossed.history ∙ begun.history) ∙ mappings_of-located_lines 0 mailmaps) (c.no_contacts.ensures ∙ are.no_contacts) (ap (map tally_of) c.as_slice.ensures.value)
+    (map tally_of c.as_slice.result.now) (map tally_of c.as_slice-2.result.now) c.lines_without_contact.result.now (map finding_view c.in_ok-findings.findings.items) (map finding_view c.as_slice-4.result.now)
+    (c.in_ok-answers.ensures lines are) (ap entries (crossed.history ∙ begun.history) ∙ mappings_of-located_lines 0 mailmaps) (c.lines_without_contact.ensures ∙ are.lines_without_contact) (ap (map tally_of) c.as_slice.ensures.value)
     gits (ap (map finding_view) c.as_slice-4.ensures.value) c.in_ok-findings.ensures.whole c.in_ok-findings.ensures.in_order in
     let found : AreFoundBeside mailmaps taken c.as_slice-3.result.now (map finding_view c.as_slice-4.result.now) = record { unneeded = missing; findings = about } in
     subst (λ ms. BeginsReport choices names file ms taken before after) same (broken_off c.print_both.result Output _ (c.print_both.ensures.err taken found) of)
@@ -81,8 +81,8 @@ returns-clause-memory g c = λ taken are of.
     let gits = ap (map tally_of) c.as_slice-2.ensures.value ∙ c.in_ok-git_answers.ensures lines are
     ∙ ap (λ ms. other_git_answers (histories_of ms) (tallied (contacts_from 1 lines))) (sym same) in
     let about = about_contacts (histories_of mailmaps) lines c.add_to_needs.new.needs.history (map tally_of c.in_ok-answers.answers.items)
-    (map tally_of c.as_slice.result.now) (map tally_of c.as_slice-2.result.now) c.no_contacts.result.now (map finding_view c.in_ok-findings.findings.items) (map finding_view c.as_slice-4.result.now)
-    (c.in_ok-answers.ensures lines are) (ap entries (crossed.history ∙ begun.history) ∙ mappings_of-located_lines 0 mailmaps) (c.no_contacts.ensures ∙ are.no_contacts) (ap (map tally_of) c.as_slice.ensures.value)
+    (map tally_of c.as_slice.result.now) (map tally_of c.as_slice-2.result.now) c.lines_without_contact.result.now (map finding_view c.in_ok-findings.findings.items) (map finding_view c.as_slice-4.result.now)
+    (c.in_ok-answers.ensures lines are) (ap entries (crossed.history ∙ begun.history) ∙ mappings_of-located_lines 0 mailmaps) (c.lines_without_contact.ensures ∙ are.lines_without_contact) (ap (map tally_of) c.as_slice.ensures.value)
     gits (ap (map finding_view) c.as_slice-4.ensures.value) c.in_ok-findings.ensures.whole c.in_ok-findings.ensures.in_order in
     let found : AreFoundBeside mailmaps taken c.as_slice-3.result.now (map finding_view c.as_slice-4.result.now) = record { unneeded = missing; findings = about } in
     inr (subst (λ ms. BeginsReport choices names file ms taken before after) same (broken_off c.print_both.result Memory _ (c.print_both.ensures.err taken found) of))

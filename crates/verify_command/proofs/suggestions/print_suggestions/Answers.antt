@@ -12,10 +12,10 @@ use Rattle.verify_command.proofs.Explaining.{printed_all, printed_broken, printe
 use Rattle.verify_command.proofs.suggestions.print_suggestions.Goals as goal
 
 abbrev one_text : TheSuggestion → List ℕ
-one_text s = suggestion_text s.is_to_judge (suggestion_of s)
+one_text s = suggestion_text s.needs_review (suggestion_of s)
 
 each_text : (found : List TheSuggestion) → flat_map one_text found ≡ suggestions_text (map suggestion_of found)
-each_text found = sym (flat_map-map (λ s. suggestion_text s.is_to_judge s) suggestion_of found)
+each_text found = sym (flat_map-map (λ s. suggestion_text s.needs_review s) suggestion_of found)
 
 pub loop-suggestion-preserved : goal.loop-suggestion-preserved
 loop-suggestion-preserved g c =

@@ -7,4 +7,4 @@ use Rattle.verify_command.proofs.suggestions.print_suggestions.Given as goal
 
 abbrev pub invariant-loop-suggestion : goal.invariant-loop-suggestion
 invariant-loop-suggestion g l =
-    HasPrinted (λ s. suggestion_text s.is_to_judge (suggestion_of s)) l.suggestions (drop l.suggestion-index l.suggestions) (g.W.Write.contents l.fn.output) (g.W.Write.contents l.output) l.printer
+    HasPrinted (λ s. suggestion_text s.needs_review (suggestion_of s)) l.suggestions (drop l.suggestion-index l.suggestions) (g.W.Write.contents l.fn.output) (g.W.Write.contents l.output) l.printer

@@ -2,10 +2,10 @@ use Rattle.std.proofs.Common.{rules, ◌≡◌, ◌≢◌, ⊎_elim, Err, List, 
 use Rattle.command_line.specs.Files.{AtPath}
 use Rattle.command_line.specs.declared.outcome.Outcome.{Outcome}
 use Rattle.verify_command.specs.Settings.{Choices, choices_of}
-use Rattle.verify_command.specs.Task.{AreMailmaps, FailsFor, IsAnswer, IsReport, Leaves, ReadsInput, reads_contacts}
+use Rattle.verify_command.specs.Task.{AreMailmaps, FailsFor, IsOutputOf, IsReport, Leaves, ReadsInput, reads_contacts}
 use Rattle.verify_command.specs.declared.failure.TaskFailure.TheVariants.{Run}
 use Rattle.verify_command.proofs.Grounded.{fails_reading}
-use Rattle.verify_command.proofs.Inputs.{has_mailmap, no_contacts}
+use Rattle.verify_command.proofs.Inputs.{has_mailmap, lines_without_contact}
 use Rattle.verify_command.proofs.Leaving.{all_explained, all_suggested, fails_suggesting, left_explained, left_front, left_suggested, suggests_for_input}
 use Rattle.verify_command.specs.declared.asked.Mode.{Mode}
 use Rattle.verify_command.specs.declared.asked.Mode.TheVariants.{Contacts, Explain, Help, Suggest, Verify, Version}
@@ -13,12 +13,12 @@ use Rattle.verify_command.proofs.task.perform.Goals as goal
 
 -- an answer in the mode that the task has
 of_mode : (at : List ℕ → AtPath) (input : Option (List ℕ)) (choices : Choices) (mode other : Mode) (contacts : List ℕ) (paths : List (List ℕ)) (outcome : Outcome) (text : List ℕ)
-    → mode ≡ other → IsAnswer at input choices other contacts paths outcome text → IsAnswer at input choices mode contacts paths outcome text
-of_mode at input choices mode other contacts paths outcome text is answer = subst (λ m. IsAnswer at input choices m contacts paths outcome text) (sym is) answer
+    → mode ≡ other → IsOutputOf at input choices other contacts paths outcome text → IsOutputOf at input choices mode contacts paths outcome text
+of_mode at input choices mode other contacts paths outcome text is answer = subst (λ m. IsOutputOf at input choices m contacts paths outcome text) (sym is) answer
 
 -- what the report on the mailmaps is to the task
 to_answer : (at : List ℕ → AtPath) (input : Option (List ℕ)) (choices : Choices) (mode : Mode) (contacts : List ℕ) (paths mailmaps : List (List ℕ)) (outcome : Outcome) (text : List ℕ)
-    → mode ≡ Verify → AreMailmaps at paths input mailmaps → IsReport choices paths mailmaps outcome text → IsAnswer at input choices mode contacts paths outcome text
+    → mode ≡ Verify → AreMailmaps at paths input mailmaps → IsReport choices paths mailmaps outcome text → IsOutputOf at input choices mode contacts paths outcome text
 to_answer at input choices mode contacts paths mailmaps outcome text is are report = of_mode at input choices mode Verify contacts paths outcome text is (mailmaps, are, report)
 
 pub returns-in_err-explain-clause-leaves : goal.returns-in_err-explain-clause-leaves
@@ -152,4 +152,4 @@ returns-clause-reads_all g c =
     let no_explain : mode ≢ Explain = search rules in
     let no_file : mode ≢ Contacts = search rules in
     let no_suggest : mode ≢ Suggest = search rules in
-    λ reads. c.in_ok-answer.ensures.reads_all reads.0 reads.1 (has_mailmap items mode contacts c.args.task.paths.now reads (no_contacts mode contacts no_explain no_file no_suggest))
+    λ reads. c.in_ok-answer.ensures.reads_all reads.0 reads.1 (has_mailmap items mode contacts c.args.task.paths.now reads (lines_without_contact mode contacts no_explain no_file no_suggest))

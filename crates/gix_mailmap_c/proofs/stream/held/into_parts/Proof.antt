@@ -34,7 +34,7 @@ use Rattle.core.proofs.alloc.Calls.{α, handle_tells}
 use mir.Val.{has_ty}
 use Rattle.gix_mailmap_c.proofs.AsStreamBox.{E}
 use Rattle.std_heap.specs.contracts.GlobalAllocator.TheImpl.{ghosts}
-use Rattle.gix_mailmap_c.specs.contracts.stream.contacts.Contacts as Contacts
+use Rattle.gix_mailmap_c.specs.contracts.stream.contacts.ContactQueue as ContactQueue
 use Rattle.gix_mailmap_c.specs.contracts.stream.held.Stream as Stream
 use Rattle.gix_mailmap_c.specs.contracts.stream.held.into_parts as F
 use Rattle.gix_mailmap_c.specs.contracts.stream.held.into_parts.Key.{name as #self}
@@ -62,7 +62,7 @@ module _ {M : Type 1} {𝓤 : Ura M} (𝓛 : Logic 𝓤) (at_mem : Memory → SP
       fsplit ! $ fpick ! (λ vss. fsplit ! $ feq_l ! (λ ev. fsplit ! $ feq_l ! (λ ep. fsplit ! $ feq_l ! (λ eb. fsplit ! $ handle_tells E.al ! m.alloc vss.1.1.0 (λ hv ea fa.
       -- [the allocator; nothing; what is held; nothing]
       move ! (2 ∷ []) $ rewrite ! 0 (λ t. ‵ (owns_stream m.alloc t m.at m.pending)) opn refl $
-      in_a_block ! m.at (λ p. box_owns (ghosts.dealloc_token m.alloc) Contacts.the_row p m.pending) (fst∗ 𝓤 (never 𝓤) (sem 𝓛 (ghosts.dealloc_token m.alloc (bare (τ E)) null_ptr))) (λ b o e.
+      in_a_block ! m.at (λ p. box_owns (ghosts.dealloc_token m.alloc) ContactQueue.the_row p m.pending) (fst∗ 𝓤 (never 𝓤) (sem 𝓛 (ghosts.dealloc_token m.alloc (bare (τ E)) null_ptr))) (λ b o e.
       fsplit ! $ box_in E ! v b o v.value e refl $
       let w = word E hv b o in let w' = vstruct (vcons (vptr b o) (vcons (vbool true) (vcons hv vnil))) in
       use1 𝓛 (‵ (To.own_val made (w ∷ []))) (id⊢ 𝓤 _) $ keep ! (0 ∷ []) $

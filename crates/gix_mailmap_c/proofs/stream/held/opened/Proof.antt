@@ -36,7 +36,7 @@ use mir.Val.{has_ty}
 use Rattle.gix_mailmap_c.proofs.AsStreamBox.{E}
 use Rattle.std_heap.specs.contracts.Global as Heap
 use Rattle.std_heap.specs.contracts.GlobalAllocator.TheImpl.{ghosts}
-use Rattle.gix_mailmap_c.specs.contracts.stream.contacts.Contacts as Contacts
+use Rattle.gix_mailmap_c.specs.contracts.stream.contacts.ContactQueue as ContactQueue
 use Rattle.gix_mailmap_c.specs.contracts.held.parts.Parts as Parts
 use Rattle.gix_mailmap_c.specs.contracts.stream.held.Stream as Stream
 use Rattle.gix_mailmap_c.specs.contracts.stream.held.opened as F
@@ -45,7 +45,7 @@ use Rattle.gix_mailmap_c.proofs.stream.held.opened.Statement as stated
 use Rattle.gix_mailmap_c.proofs.stream.held.opened.Code as code
 
 abbrev From : Slot 0
-From = plain (λ _. Parts.the_row Contacts.the_row Heap.the_row ghosts)
+From = plain (λ _. Parts.the_row ContactQueue.the_row Heap.the_row ghosts)
 
 abbrev stayed : Stays (F.ended).signature.params (F.ended).kept
 stayed = (stay_dropped From yes, tt)

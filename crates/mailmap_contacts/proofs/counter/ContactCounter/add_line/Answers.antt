@@ -26,8 +26,8 @@ returns-then-count_again c =
     (λ test.
     same test ∙ ap (λ s. seen_where test (s.tallies ++ line_tally c.in-Some.number line)) c.self.view_is
     ∙ ap (λ k. seen_where test (c.args.self.now.tallies ++ line_tally k line)) (number ∙ ap (λ s. s.lines + 1) c.self.view_is))
-    (ap (λ s. s.no_contacts) c.self.view_is ∙ sym (append-nil c.args.self.now.no_contacts)
-    ∙ ap (λ l. c.args.self.now.no_contacts ++ l) (sym (known_line slots i slot within there c.self.invariant.0 line (c.args.self.now.lines + 1) (c.if-count_again.ensures.own refl))))
+    (ap (λ s. s.lines_without_contact) c.self.view_is ∙ sym (append-nil c.args.self.now.lines_without_contact)
+    ∙ ap (λ l. c.args.self.now.lines_without_contact ++ l) (sym (known_line slots i slot within there c.self.invariant.0 line (c.args.self.now.lines + 1) (c.if-count_again.ensures.own refl))))
 
 pub returns : goal.returns
 returns c =
@@ -51,4 +51,4 @@ returns c =
     (λ test.
     same test ∙ ap (λ s. seen_where test (s.tallies ++ line_tally c.in-Some.number line)) c.self.view_is
     ∙ ap (λ k. seen_where test (c.args.self.now.tallies ++ line_tally k line)) is)
-    (added.no_contacts ∙ (λ i. (c.self.view_is i).no_contacts ++ unless_contact (is i) line))
+    (added.lines_without_contact ∙ (λ i. (c.self.view_is i).lines_without_contact ++ unless_contact (is i) line))

@@ -19,7 +19,7 @@ loop-slot-preserved c =
           ∙ same_more c.loop-slot.contacts.tallies (begun ++ flat_map slot_tally done) (slot_tally slot) (slot_tally slot) c.loop-slot.invariant.0 (λ other. refl) test
           ∙ ap (seen_where test) (append_assoc begun (flat_map slot_tally done) (slot_tally slot))
           ∙ ap (λ l. seen_where test (begun ++ l)) (sym (flat_map-append slot_tally done (slot ∷ []) ∙ ap (λ l. flat_map slot_tally done ++ l) (append-nil (slot_tally slot)))),
-      added.no_contacts ∙ c.loop-slot.invariant.1,
+      added.lines_without_contact ∙ c.loop-slot.invariant.1,
     )
 
 pub returns : goal.returns
@@ -34,5 +34,5 @@ returns c = λ lines counted.
       tallies = λ test.
           c.loop-slot.invariant.0 test ∙ ap (λ l. seen_where test (c.self.inside.contacts.tallies ++ flat_map slot_tally l)) all
           ∙ ap (λ s. seen_where test s.tallies) c.self.view_is ∙ counted.tallies test;
-      no_contacts = c.loop-slot.invariant.1 ∙ ap (λ s. s.no_contacts) c.self.view_is ∙ counted.no_contacts;
+      lines_without_contact = c.loop-slot.invariant.1 ∙ ap (λ s. s.lines_without_contact) c.self.view_is ∙ counted.lines_without_contact;
     }

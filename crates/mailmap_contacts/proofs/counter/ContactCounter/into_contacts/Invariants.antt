@@ -7,4 +7,4 @@ use Rattle.mailmap_contacts.proofs.counter.ContactCounter.into_contacts.Given as
 abbrev pub invariant-loop-slot : goal.invariant-loop-slot
 invariant-loop-slot l =
     SameTallies l.contacts.tallies (l.initial.contacts.tallies ++ flat_map slot_tally l.yielded)
-    × (l.contacts.no_contacts ≡ l.initial.contacts.no_contacts)
+    × (l.contacts.lines_without_contact ≡ l.initial.contacts.lines_without_contact)

@@ -28,7 +28,7 @@ returns-in_ok-line-in-Closed-2-clause-tallies c =
     (slot_tally c.replace-before.new.dest) (line_tally c.args.number line) old new same)
     c.add_slot.ensures.tallies
 
-pub returns-in_ok-push-in-Unclosed-clause-no_contacts : goal.returns-in_ok-push-in-Unclosed-clause-no_contacts
-returns-in_ok-push-in-Unclosed-clause-no_contacts c =
+pub returns-in_ok-push-in-Unclosed-clause-lines_without_contact : goal.returns-in_ok-push-in-Unclosed-clause-lines_without_contact
+returns-in_ok-push-in-Unclosed-clause-lines_without_contact c =
     c.in_ok-push-in-Unclosed.ensures.items
-    ∙ (λ i. (c.self-in-Unclosed.view_is i).no_contacts ++ sym (unclosed_line c.args.number c.args.line.now (sym c.in-Unclosed.ensures)) i)
+    ∙ (λ i. (c.self-in-Unclosed.view_is i).lines_without_contact ++ sym (unclosed_line c.args.number c.args.line.now (sym c.in-Unclosed.ensures)) i)

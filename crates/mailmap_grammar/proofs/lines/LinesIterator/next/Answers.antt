@@ -7,10 +7,10 @@ pub loop-text-preserved : goal.loop-text-preserved
 loop-text-preserved c =
     let read = reading_by (line_reader c.loop-text.self-inside.strictness) in
     let before = c.loop-text.self-inside.line_number in
-    let after : before + 1 + 1 + c.skip_silent-in-Some.result ≡ before + 1 + c.skip_silent-in-Some.result + 1 = omega arith in (
-      omega (arith, ap length c.in-Some.ensures.steps, c.skip_silent-in-Some.ensures.counted),
-      ap (λ n. readings_from read n c.skip_silent-in-Some.new.lines) (sym after)
-          ∙ sym (c.skip_silent-in-Some.ensures.silent (line_reader c.loop-text.self-inside.strictness) (before + 1 + 1))
+    let after : before + 1 + 1 + c.skip_comments_and_blanks-in-Some.result ≡ before + 1 + c.skip_comments_and_blanks-in-Some.result + 1 = omega arith in (
+      omega (arith, ap length c.in-Some.ensures.steps, c.skip_comments_and_blanks-in-Some.ensures.counted),
+      ap (λ n. readings_from read n c.skip_comments_and_blanks-in-Some.new.lines) (sym after)
+          ∙ sym (c.skip_comments_and_blanks-in-Some.ensures.none_read (line_reader c.loop-text.self-inside.strictness) (before + 1 + 1))
           ∙ readings_from-none _ _ _ _ _ _ c.loop-text.invariant.1 c.in-Some.ensures.steps c.in_default-read_line.ensures,
     )
 

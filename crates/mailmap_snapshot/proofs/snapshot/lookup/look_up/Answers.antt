@@ -25,7 +25,7 @@ returns-in-Ok-find_name_counted-clause-fields c =
     c.answer.ensures.fields
     ∙ (λ k. fields_with_spelling c.args.email.now (record { name = option_map (spelled pool) (given.new_name k); email = option_map (spelled pool) (given.new_email k) }) (Some (spelled pool (c.old.ensures k))))
     ∙ sym (scan_at_name c.args.tables.now.groups c.requires.groups c.args.email.now c.in-Ok.index c.in-Ok.ensures.found
-    c.args.tables.now.pool c.email.result.0 c.email.result.1.now c.email.ensures.group c.args.name.now c.in-Ok-find_name_counted.i _ c.email.ensures.lie.names_lie c.in-Ok-find_name_counted.ensures.found)
+    c.args.tables.now.pool c.email.result.0 c.email.result.1.now c.email.ensures.group c.args.name.now c.in-Ok-find_name_counted.i _ c.email.ensures.in_pool.names_lie c.in-Ok-find_name_counted.ensures.found)
 
 pub returns-in-Ok-find_name_counted-clause-at_most : goal.returns-in-Ok-find_name_counted-clause-at_most
 returns-in-Ok-find_name_counted-clause-at_most c =

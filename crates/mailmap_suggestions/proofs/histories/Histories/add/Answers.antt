@@ -2,7 +2,7 @@ use Rattle.std.proofs.Common.{◌∙◌, ◌++◌, ◌∷◌, [], ap, append-nil
 use Rattle.mailmap_contacts.proofs.Steps.{mapped_more}
 use Rattle.mailmap_entries.specs.Entries.{mapping_of}
 use Rattle.mailmap_entries.specs.Semantics.{accepted}
-use Rattle.mailmap_suggestions.specs.Lines.{plus}
+use Rattle.mailmap_suggestions.specs.Forms.{plus}
 use Rattle.mailmap_suggestions.proofs.Suggesting.{plus_accepted}
 use Rattle.mailmap_suggestions.proofs.histories.Histories.add.Goals as goal
 

@@ -2,7 +2,7 @@
 use Rattle.std.proofs.Common.{◌≡◌, map, take}
 use Rattle.mailmap_entries.specs.Entries.{mapping_of}
 use Rattle.mailmap_entries.specs.Semantics.{accepted}
-use Rattle.mailmap_suggestions.specs.Lines.{plus}
+use Rattle.mailmap_suggestions.specs.Forms.{plus}
 use Rattle.mailmap_suggestions.proofs.histories.Histories.add.Given as goal
 
 abbrev pub invariant-loop-entry : goal.invariant-loop-entry

@@ -6,5 +6,5 @@ use Rattle.mailmap_tables.proofs.chunks.Collected.none.Goals as goal
 
 pub returns : goal.returns
 returns c =
-    subst (IsCollected c.args.old_tables.now [] None) (ap (map mapping_of) (sym c.new.ensures.items))
-    (collected_none c.args.old_tables.now c.requires)
+    subst (IsCollected c.args.existing_tables.now [] None) (ap (map mapping_of) (sym c.new.ensures.items))
+    (collected_none c.args.existing_tables.now c.requires)

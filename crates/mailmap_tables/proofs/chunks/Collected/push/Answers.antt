@@ -14,8 +14,8 @@ end_chunk-requires c =
     ap (map mapping_of) c.in_ok-push.ensures.items ∙ map_push mapping_of old.batch.items c.args.entry in
     let h = c.requires.collected.0 in (
       h ++ m ∷ [],
-      subst (IsCollected c.args.old_tables.now (h ++ m ∷ []) old.joined) (sym pushed)
-          (collected_push c.args.old_tables.now h old.joined (map mapping_of old.batch.items) c.requires.collected.1 m
+      subst (IsCollected c.args.existing_tables.now (h ++ m ∷ []) old.joined) (sym pushed)
+          (collected_push c.args.existing_tables.now h old.joined (map mapping_of old.batch.items) c.requires.collected.1 m
           c.requires.accepted),
     )
 
@@ -26,6 +26,6 @@ returns c =
     let pushed : map mapping_of c.push.new.self.items ≡ map mapping_of old.batch.items ++ m ∷ [] =
     ap (map mapping_of) c.in_ok-push.ensures.items ∙ map_push mapping_of old.batch.items c.args.entry in
     on_ok_then c.end_chunk.result _ _ (λ joins. λ h is.
-    joins (h ++ m ∷ []) (subst (IsCollected c.args.old_tables.now (h ++ m ∷ []) old.joined) (sym pushed)
-    (collected_push c.args.old_tables.now h old.joined (map mapping_of old.batch.items) is m c.requires.accepted)))
+    joins (h ++ m ∷ []) (subst (IsCollected c.args.existing_tables.now (h ++ m ∷ []) old.joined) (sym pushed)
+    (collected_push c.args.existing_tables.now h old.joined (map mapping_of old.batch.items) is m c.requires.accepted)))
     c.end_chunk.ensures

@@ -8,8 +8,8 @@ use Rattle.mailmap_entries.proofs.Results.{if_ok_map}
 use Rattle.mailmap_tables.proofs.Joining.{collected_good, collected_joined}
 use Rattle.mailmap_tables.proofs.chunks.Collected.tables.Goals as goal
 
-pub joined-requires-clause-old_tables : goal.joined-requires-clause-old_tables
-joined-requires-clause-old_tables c =
+pub joined-requires-clause-existing_tables : goal.joined-requires-clause-existing_tables
+joined-requires-clause-existing_tables c =
     subst (λ (t : Contents). AreGroups t.groups) (sym c.base.ensures) c.requires.1.complete.groups
 
 pub joined-requires-clause-accepted : goal.joined-requires-clause-accepted
@@ -19,7 +19,7 @@ joined-requires-clause-accepted c =
 
 pub returns : goal.returns
 returns c =
-    let base = unwrap_or c.args.self.now.joined c.args.old_tables.now in
+    let base = unwrap_or c.args.self.now.joined c.args.existing_tables.now in
     let entries = map mapping_of c.args.self.now.batch.items in
     let joined = c.in_ok-joined.ensures in
     let put : IsNormal (listing base.groups ++ entries) (listing c.in_ok-joined.field-0.groups) =
@@ -27,6 +27,6 @@ returns c =
     c.base.ensures
     (subst (λ (l : List Item). IsNormal (listing c.base.result.now.groups ++ map mapping_of l)
     (listing c.in_ok-joined.field-0.groups)) c.deref.ensures.value joined.1) in
-    if_ok_map c.rewritten_if_half_unused.result _ _ (λ (t : Contents) d. λ h is. collected_joined c.args.old_tables.now
+    if_ok_map c.rebuilt_if_half_unused.result _ _ (λ (t : Contents) d. λ h is. collected_joined c.args.existing_tables.now
     h c.args.self.now.joined entries is t d.0 (subst (IsNormal (listing base.groups ++ entries)) (sym d.1) put))
-    c.rewritten_if_half_unused.ensures
+    c.rebuilt_if_half_unused.ensures

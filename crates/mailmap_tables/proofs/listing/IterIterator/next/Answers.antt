@@ -31,7 +31,7 @@ loop-self-preserved c =
     let rest = c.email.result.1.now in
     let none = empty c.loop-self.self-inside.names.now (sym c.is_empty.ensures ∙ c.loop-self-test.true) in
     record {
-      lie = c.email.ensures.lie.names_lie;
+      in_pool = c.email.ensures.in_pool.names_lie;
       left =
           ap (λ email. left_to_list t email rest (i + 1)) (c.text-self-inside.ensures
           ∙ ap (spelled t.pool) c.old.ensures)

@@ -6,7 +6,7 @@ use Rattle.mailmap_tables.proofs.listing.IterIterator.next.Given as goal
 
 abbrev pub invariant-loop-self : goal.invariant-loop-self
 invariant-loop-self l = record {
-  lie : AllByRecursion (NameInPool (length l.self-inside.tables.pool)) l.self-inside.names.now;
+  in_pool : AllByRecursion (NameInPool (length l.self-inside.tables.pool)) l.self-inside.names.now;
   left : left_to_list l.self-inside.tables l.self-inside.old_email.now l.self-inside.names.now l.self-inside.reached
       ≡ l.fn.self;
 }

@@ -11,7 +11,7 @@ returns-clause-spells c =
     let email = c.in_ok-new_email.ensures in
     let had = c.fields-existing_name.ensures in
     if_ok_map c.replace_row.result _ _ (λ own made. own_spells _ _ _ _ c.args.texts own (fields_given c.args.given) _ _
-    _ _ _ c.requires name.grown email.grown refl had.new_name had.new_email name.lies name.spells email.spells made)
+    _ _ _ c.requires name.grown email.grown refl had.new_name had.new_email name.in_pool name.spells email.spells made)
     c.replace_row.ensures.spells
 
 pub returns-clause-growth : goal.returns-clause-growth
@@ -21,7 +21,7 @@ returns-clause-growth c =
     let had = c.fields-existing_name.ensures in
     let row = c.replace_row.ensures.growth in
     let copied = own_copied _ _ _ c.args.texts (fields_given c.args.given) _ _ _ _ _ c.requires name.grown refl
-    had.new_name had.new_email name.lies name.spells email.lies email.spells in
+    had.new_name had.new_email name.in_pool name.spells email.in_pool email.spells in
     record {
       bytes = omega (arith, copied, name.growth.bytes, email.growth.bytes, row.bytes);
       capacity = omega (arith, name.growth.capacity, email.growth.capacity, row.capacity);

@@ -47,7 +47,7 @@ invariant_of-self c =
     ∙ ap (λ s. key_prefix 16 (folded (spelled pool s))) (sym c.bare.ensures.old) in
     subst₂ (λ rs fs. AreTables pool names rs fs) (sym made) (sym prefixes)
     (tables-insert_email pool names es c.self.invariant index at c.bare.result c.args.old_email c.bare.ensures le there
-    (subst (λ (v : Contents). LiesIn (length v.pool) c.args.old_email) (sym held) c.requires.lies)
+    (subst (λ (v : Contents). LiesIn (length v.pool) c.args.old_email) (sym held) c.requires.in_pool)
     c.key_prefix-prefix.result prefix)
 
 pub returns-clause-held : goal.returns-clause-held

@@ -78,7 +78,7 @@ invariant_of-self c =
     ∙ get_or_any es email r longer lt)) c.raise_ranges.ensures in
     subst₂ (λ ns rs. AreTables pool ns rs old.prefixes.items) (sym made) (sym emails)
     (tables-insert_name pool names es c.self.invariant email e lt c.index.ensures c.args.index p c.args.row refl within
-    (subst (λ (v : Contents). NameInPool (length v.pool) c.args.row) (sym held) c.requires.lies))
+    (subst (λ (v : Contents). NameInPool (length v.pool) c.args.row) (sym held) c.requires.in_pool))
 
 pub returns-clause-held : goal.returns-clause-held
 returns-clause-held c =

@@ -23,7 +23,7 @@ invariant_of-self c =
     let same : spelled pool (old_span t) ≡ spelled pool (old_span row.texts) =
     ap (λ (v : Contents). spelled v.pool (old_span t)) held ∙ here in
     tables-texts pool names es c.self.invariant c.args.email row lt c.index_mut.ensures.value t same
-    (subst (λ (v : Contents). TextsInPool (length v.pool) t) (sym held) c.requires.lies)
+    (subst (λ (v : Contents). TextsInPool (length v.pool) t) (sym held) c.requires.in_pool)
 
 pub returns-clause-held : goal.returns-clause-held
 returns-clause-held c =

@@ -14,7 +14,7 @@ invariant_of-self-2 c =
     let emails = c.self.inside.emails.items in
     let row = c.args.texts in
     let lies : TextsInPool (length c.self.inside.pool.bytes.items) row =
-    subst (λ (v : Contents). TextsInPool (length v.pool) row) (sym c.self.view_is) c.requires.lies in
+    subst (λ (v : Contents). TextsInPool (length v.pool) row) (sym c.self.view_is) c.requires.in_pool in
     let from : c.last_end-names_start.result ≡ end_of 0 emails = c.last_end-names_start.ensures
     ∙ ap (end_of 0) c.deref.ensures.value in
     let to : c.last_end-names_start.result + c.args.count ≤ length names = omega (

@@ -42,8 +42,8 @@ returns-clause-group c =
     (sym ns)
     ∙ ap (λ (v : Contents). Some (group_of v.pool row.texts c.part.result.now)) c.self.view_is
 
-pub returns-clause-lie : goal.returns-clause-lie
-returns-clause-lie c =
+pub returns-clause-in_pool : goal.returns-clause-in_pool
+returns-clause-in_pool c =
     let pool = c.self.inside.pool.now in
     let emails = c.self.inside.emails.now in
     let names = c.self.inside.names.now in

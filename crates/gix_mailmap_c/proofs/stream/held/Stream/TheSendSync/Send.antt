@@ -11,13 +11,13 @@ use Rattle.std_alloc.proofs.SendSync.{quiet, lies}
 use Rattle.std_heap.proofs.Global.TheSendSync as handle
 use Rattle.std_heap.specs.contracts.Global as Heap
 use Rattle.gix_mailmap_c.specs.Streamed.{Pending}
-use Rattle.gix_mailmap_c.specs.contracts.stream.contacts.Contacts as Contacts
-use Rattle.gix_mailmap_c.proofs.stream.contacts.Contacts.TheSendSync.{the_send as contacts}
+use Rattle.gix_mailmap_c.specs.contracts.stream.contacts.ContactQueue as ContactQueue
+use Rattle.gix_mailmap_c.proofs.stream.contacts.ContactQueue.TheSendSync.{the_send as contacts}
 use Rattle.gix_mailmap_c.specs.StreamOwnership.{owns_stream}
 use Rattle.gix_mailmap_c.specs.contracts.stream.held.Stream.{the_row, the_type}
 
 keyless : (alloc : Heap.the_row.Denot) (is_open : Bool) (at : Ptr) (pending : Pending) → Keyless (owns_stream alloc is_open at pending)
-keyless alloc true at pending = (lies Contacts.the_row contacts at pending, heap.frees.frees alloc (raw (lone Contacts.the_row.mir)) at)
+keyless alloc true at pending = (lies ContactQueue.the_row contacts at pending, heap.frees.frees alloc (raw (lone ContactQueue.the_row.mir)) at)
 keyless alloc false at pending = tt
 
 pub send : IsSend the_row

@@ -42,7 +42,7 @@ use Rattle.core.proofs.alloc.Calls.{handle_tells}
 use Rattle.std_heap.specs.contracts.Global as Heap
 use Rattle.std_heap.specs.contracts.GlobalAllocator.TheImpl.{ghosts}
 use Rattle.gix_mailmap_c.specs.Streamed.{Pending}
-use Rattle.gix_mailmap_c.specs.contracts.stream.contacts.Contacts as Contacts
+use Rattle.gix_mailmap_c.specs.contracts.stream.contacts.ContactQueue as ContactQueue
 use Rattle.gix_mailmap_c.specs.StreamOwnership.{owns_stream}
 use Rattle.gix_mailmap_c.specs.StreamBorrowing.{with_pending}
 use Rattle.gix_mailmap_c.specs.declared.stream.held.Stream.{Stream}
@@ -74,13 +74,13 @@ module _ {M : Type 1} {𝓤 : Ura M} (𝓛 : Logic 𝓤) (at_mem : Memory → SP
     abbrev Rest : Fml
     Rest = fsep (fsep (ghosts.dealloc_token h.alloc (bare (τ E)) (block_ptr b o)) (Heap.the_row.own_val h.alloc (hv ∷ []))) (cell_at full_share Handle.the_row.mir (word hv b o ∷ []) rb ro)
 
-    back : h.at ≡ block_ptr b o → h.is_open ≡ true → (w : Pending) → ent 𝓤 (sep 𝓤 (sem 𝓛 ((mem Contacts.the_row).own_at w b o)) (sem 𝓛 Rest)) (sem 𝓛 ((mem Handle.the_row).own_at (with_pending h w) rb ro))
+    back : h.at ≡ block_ptr b o → h.is_open ≡ true → (w : Pending) → ent 𝓤 (sep 𝓤 (sem 𝓛 ((mem ContactQueue.the_row).own_at w b o)) (sem 𝓛 Rest)) (sem 𝓛 ((mem Handle.the_row).own_at (with_pending h w) rb ro))
     unfolding part_of
     back at_b opn w =
-        qed 𝓛 (‵ (part_at Contacts.the_row full_share w b o) ∷ ‵ Rest ∷ []) ∵ move ! (1 ∷ []) $ fsplit ! $ fsplit ! $
+        qed 𝓛 (‵ (part_at ContactQueue.the_row full_share w b o) ∷ ‵ Rest ∷ []) ∵ move ! (1 ∷ []) $ fsplit ! $ fsplit ! $
         -- [the token; the allocator; the word; the contacts]
         move ! (3 ∷ 0 ∷ []) $ fjoin ! $
-        rewrite ! 0 (λ p. ‵ (box_owns (ghosts.dealloc_token h.alloc) Contacts.the_row p w)) (sym at_b) refl $
+        rewrite ! 0 (λ p. ‵ (box_owns (ghosts.dealloc_token h.alloc) ContactQueue.the_row p w)) (sym at_b) refl $
         rewrite ! 0 (λ t. ‵ (owns_stream h.alloc t h.at w)) (sym opn) refl $
         nothing ! $ move ! (2 ∷ 0 ∷ []) $ fjoin ! $
         feq_i ! (List Val) (vbool true ∷ []) (vbool h.is_open ∷ []) (ap (λ t. vbool t ∷ []) (sym opn)) $ fjoin ! $
@@ -91,9 +91,9 @@ module _ {M : Type 1} {𝓤 : Ura M} (𝓛 : Logic 𝓤) (at_mem : Memory → SP
         fpack ! (List Val) (λ us. fsep (cell_at full_share Handle.the_row.mir us rb ro) (Handle.the_row.own_val (with_pending h w) us)) (word hv b o ∷ []) $ done !
 
     exits : (γ' : GName)
-        → ent 𝓤 (sep 𝓤 (sem 𝓛 ((MutRef (named 0) κ Contacts.the_row).own_val (record { ref_ptr = (b, o); ghost_name = γ'; now = h.pending }) (vptr b o ∷ []))) (sep 𝓤 (A.lft κ q) (sem 𝓛 (follows Handle.the_row Contacts.the_row γ γ' (with_pending h))))) (Post (vptr b o))
+        → ent 𝓤 (sep 𝓤 (sem 𝓛 ((MutRef (named 0) κ ContactQueue.the_row).own_val (record { ref_ptr = (b, o); ghost_name = γ'; now = h.pending }) (vptr b o ∷ []))) (sep 𝓤 (A.lft κ q) (sem 𝓛 (follows Handle.the_row ContactQueue.the_row γ γ' (with_pending h))))) (Post (vptr b o))
     exits γ' =
-        qed 𝓛 (‵ ((MutRef (named 0) κ Contacts.the_row).own_val (record { ref_ptr = (b, o); ghost_name = γ'; now = h.pending }) (vptr b o ∷ [])) ∷ ‵ (flft κ q) ∷ ‵ (follows Handle.the_row Contacts.the_row γ γ' (with_pending h)) ∷ []) ∵
+        qed 𝓛 (‵ ((MutRef (named 0) κ ContactQueue.the_row).own_val (record { ref_ptr = (b, o); ghost_name = γ'; now = h.pending }) (vptr b o ∷ [])) ∷ ‵ (flft κ q) ∷ ‵ (follows Handle.the_row ContactQueue.the_row γ γ' (with_pending h)) ∷ []) ∵
         suffices ! _ (ends_at 𝓛 F.ended stayed (F.clauses 𝓛 at_mem run) bound (vptr b o) (record { ref_ptr = (b, o); ghost_name = γ'; now = h.pending }) (tt, tt) (tt, tt)) $
         nothing ! $ nothing ! $ fjoin ! $ join ! $ nothing ! $ move ! (2 ∷ 0 ∷ []) $ join ! $ join ! $ frame ! $ says ! refl $ done !
 
@@ -108,7 +108,7 @@ module _ {M : Type 1} {𝓤 : Ura M} (𝓛 : Logic 𝓤) (at_mem : Memory → SP
         fsplit ! $ fpick ! (λ vss. fsplit ! $ feq_l ! (λ ev. fsplit ! $ feq_l ! (λ ep. fsplit ! $ feq_l ! (λ eb. fsplit ! $ handle_tells E.al ! h.alloc vss.1.1.0 (λ hv ea fa.
         -- [the allocator; nothing; what is held; the word; the borrow]
         move ! (2 ∷ []) $ rewrite ! 0 (λ t. ‵ (owns_stream h.alloc t h.at h.pending)) opn refl $
-        in_a_block ! h.at (λ p. box_owns (ghosts.dealloc_token h.alloc) Contacts.the_row p h.pending) (fst∗ 𝓤 (never 𝓤) (sem 𝓛 (ghosts.dealloc_token h.alloc (bare (τ E)) null_ptr))) (λ b o e.
+        in_a_block ! h.at (λ p. box_owns (ghosts.dealloc_token h.alloc) ContactQueue.the_row p h.pending) (fst∗ 𝓤 (never 𝓤) (sem 𝓛 (ghosts.dealloc_token h.alloc (bare (τ E)) null_ptr))) (λ b o e.
         fsplit ! $
         let is : us ≡ word hv b o ∷ [] = ev ∙ (λ j. vstruct (of_list ((ep ∙ ap (λ (p : Ptr). ptr_val p ∷ []) e) j ++ ((eb ∙ ap (λ t. vbool t ∷ []) opn) j ++ (ea j ++ [])))) ∷ []) in
         rewrite ! 4 (λ (ws : List Val). ‵ (cell_at full_share Handle.the_row.mir ws rb ro)) is refl $
@@ -120,8 +120,8 @@ module _ {M : Type 1} {𝓤 : Ura M} (𝓛 : Logic 𝓤) (at_mem : Memory → SP
         exec ! 𝓣.C 𝓣.Λ En (after 1 code.function.body) (at_ret En Post) $
         sets ! (of_opd ! (get ! refl)) refl (tt, tt) $
         move ! (1 ∷ 2 ∷ []) $ fjoin ! $ move ! (3 ∷ 4 ∷ 5 ∷ 1 ∷ 0 ∷ []) $ group ! 5 $
-        use1 𝓛 (later (some (λ (γ' : GName). raw (Part 𝓛 Handle.the_row Contacts.the_row (with_pending h) (named 0) κ q rb ro b o γ (sem 𝓛 (Rest b o hv)) (back b o hv e opn) h.pending γ'))))
-        (lends_Part 𝓛 Handle.the_row Contacts.the_row (with_pending h) (named 0) κ q rb ro b o γ (sem 𝓛 (Rest b o hv)) (back b o hv e opn) (Handle.the_row.coded.code h) (Handle.the_row.coded.code h) h.pending) $ await ! tt $ pick ! (λ γ'.
+        use1 𝓛 (later (some (λ (γ' : GName). raw (Part 𝓛 Handle.the_row ContactQueue.the_row (with_pending h) (named 0) κ q rb ro b o γ (sem 𝓛 (Rest b o hv)) (back b o hv e opn) h.pending γ'))))
+        (lends_Part 𝓛 Handle.the_row ContactQueue.the_row (with_pending h) (named 0) κ q rb ro b o γ (sem 𝓛 (Rest b o hv)) (back b o hv e opn) (Handle.the_row.coded.code h) (Handle.the_row.coded.code h) h.pending) $ await ! tt $ pick ! (λ γ'.
         returns ! (look_at ! 0 refl) $ free_all ! refl $
         keep ! (0 ∷ []) $ by ! (exits b o hv γ')))))))))))
 

@@ -1,4 +1,4 @@
--- Old emails that are copied.
+-- Existing emails that are copied. The names of what still holds in a pool that has grown end in `_on`.
 use Rattle.std.proofs.Common.{◌≡◌, ◌+◌, ◌-◌, ◌≤◌, ◌<◌, ℕ, suc, List, [], ◌∷◌, ◌++◌, take, drop, get_or, length, map}
 use Rattle.std.proofs.Common.{Some, unwrap_or, length-drop, sym, ap, subst, ◌∙◌, arith}
 use Rattle.std.specs.List.{slice_get, flat_map}

@@ -1,5 +1,5 @@
 use Rattle.std.proofs.Common.{rules}
-use Rattle.verify_command.proofs.answer.answer_to.Goals as goal
+use Rattle.verify_command.proofs.answer.output_of.Goals as goal
 
 pub returns-in_err-mailmap-clause-fails : goal.returns-in_err-mailmap-clause-fails
 returns-in_err-mailmap-clause-fails g c =

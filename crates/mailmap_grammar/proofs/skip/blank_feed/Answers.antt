@@ -1,6 +1,6 @@
 use Rattle.std.proofs.Common.{refl}
 use Rattle.mailmap_grammar.proofs.Skipped.{no_blanks, one_blank}
-use Rattle.mailmap_grammar.proofs.silent.blank_feed.Goals as goal
+use Rattle.mailmap_grammar.proofs.skip.blank_feed.Goals as goal
 
 pub loop-end-init : goal.loop-end-init
 loop-end-init c = no_blanks c.args.bytes.now

@@ -7,10 +7,10 @@ use Rattle.mailmap_entries.proofs.Unique.{normal_unique}
 use Rattle.mailmap_entries.proofs.Results.{if_ok_map}
 use Rattle.mailmap_tables.proofs.Complete.{no_groups}
 use Rattle.mailmap_tables.proofs.Grouped.{groups_accepted, groups_normal}
-use Rattle.mailmap_tables.proofs.join.rewritten.Goals as goal
+use Rattle.mailmap_tables.proofs.join.rebuilt.Goals as goal
 
-pub joined-requires-clause-old_tables : goal.joined-requires-clause-old_tables
-joined-requires-clause-old_tables c = subst (λ (t : Contents). AreGroups t.groups) (sym c.new.ensures) no_groups
+pub joined-requires-clause-existing_tables : goal.joined-requires-clause-existing_tables
+joined-requires-clause-existing_tables c = subst (λ (t : Contents). AreGroups t.groups) (sym c.new.ensures) no_groups
 
 pub joined-requires-clause-accepted : goal.joined-requires-clause-accepted
 joined-requires-clause-accepted c =

@@ -5,7 +5,7 @@ use Rattle.mailmap_entries.specs.Folding.{Text}
 use Rattle.mailmap_grammar.specs.Lines.{HoldsNo}
 use Rattle.mailmap_snapshot.specs.Streams.{AnswersFront, Stream}
 use Rattle.gix_mailmap_c.specs.Streamed.{HasTakenOf, Pending}
-use Rattle.gix_mailmap_c.proofs.stream.contacts.Contacts.push.Goals as goal
+use Rattle.gix_mailmap_c.proofs.stream.contacts.ContactQueue.push.Goals as goal
 
 -- a stream with its answers, of which so many bytes have been read
 abbrev state : Stream → ℕ → Text → Pending

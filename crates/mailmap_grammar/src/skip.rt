@@ -15,9 +15,9 @@ const MOST_BLANKS: usize = 16;
 
 /// Skips comments and blank lines up to a line that may be neither, and returns how many.
 #[inline(always)]
-pub(crate) fn skip_silent(lines: &mut Lines<'_>) -> usize
+pub(crate) fn skip_comments_and_blanks(lines: &mut Lines<'_>) -> usize
     ensures counted { result + length lines.new ≡ length lines.old }
-    ensures silent { (says : ℕ → Text → Reading) (n : ℕ) → readings_from (reading_by says) n lines.old
+    ensures none_read { (says : ℕ → Text → Reading) (n : ℕ) → readings_from (reading_by says) n lines.old
         ≡ readings_from (reading_by says) (n + result) lines.new }
 {
     // Most lines begin with a letter or `<`.
@@ -29,19 +29,19 @@ pub(crate) fn skip_silent(lines: &mut Lines<'_>) -> usize
 
 fn skip_each(lines: &mut Lines<'_>) -> usize
     ensures counted { result + length lines.new ≡ length lines.old }
-    ensures silent { (says : ℕ → Text → Reading) (n : ℕ) → readings_from (reading_by says) n lines.old
+    ensures none_read { (says : ℕ → Text → Reading) (n : ℕ) → readings_from (reading_by says) n lines.old
         ≡ readings_from (reading_by says) (n + result) lines.new }
 {
-    let (rest, count) = after_silent(lines.as_bytes());
+    let (rest, count) = after_skipped(lines.as_bytes());
     *lines = rest.lines();
     count
 }
 
 // What comes after the comments and blank lines, and how many these are.
-fn after_silent(bytes: &[u8]) -> (&[u8], usize)
+fn after_skipped(bytes: &[u8]) -> (&[u8], usize)
     ensures counted { result.1 + length (map without_terminator (lines_of result.0.now))
         ≡ length (map without_terminator (lines_of bytes.now)) }
-    ensures silent { (says : ℕ → Text → Reading) (n : ℕ)
+    ensures none_read { (says : ℕ → Text → Reading) (n : ℕ)
         → readings_from (reading_by says) n (map without_terminator (lines_of bytes.now))
         ≡ readings_from (reading_by says) (n + result.1) (map without_terminator (lines_of result.0.now)) }
 {
@@ -58,7 +58,7 @@ fn after_silent(bytes: &[u8]) -> (&[u8], usize)
 #[inline(always)]
 fn silent_feed(bytes: &[u8]) -> Option<usize>
     ensures first { IfSome result (λ feed. IsFirstByte (is_byte 10) bytes.now (Some feed)) }
-    ensures silent { IfSome result (λ feed. (says : ℕ → Text → Reading) (n : ℕ)
+    ensures none_read { IfSome result (λ feed. (says : ℕ → Text → Reading) (n : ℕ)
         → reading_by says n (take feed bytes.now) ≡ None) }
 {
     if bytes.first() == Some(&b'#') {

@@ -1,6 +1,6 @@
 use Rattle.std.proofs.Common.{◌-◌, length}
 use Rattle.mailmap_grammar.proofs.Skipped.{AreBlank}
-use Rattle.mailmap_grammar.proofs.silent.blank_feed.Given as goal
+use Rattle.mailmap_grammar.proofs.skip.blank_feed.Given as goal
 
 abbrev pub invariant-loop-end : goal.invariant-loop-end
 invariant-loop-end l = AreBlank l.bytes l.end

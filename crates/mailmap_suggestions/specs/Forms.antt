@@ -5,8 +5,8 @@ use Rattle.std.specs.List.{flat_map, list_all}
 use Rattle.mailmap_entries.specs.Entries.{Mapping, mapping}
 use Rattle.mailmap_entries.specs.Folding.{Text, folded}
 use Rattle.mailmap_entries.specs.Semantics.{last_fields}
-use Rattle.mailmap_contacts.specs.Contacts.{Contact, answer, same_contact}
-use Rattle.mailmap_suggestions.specs.Contacts.{git_answer, own_key}
+use Rattle.mailmap_contacts.specs.Contacts.{Contact, answer_to, same_contact}
+use Rattle.mailmap_suggestions.specs.Contacts.{git_answer_to, own_key}
 
 -- the entries of mailmaps as this library reads them, and as git does
 pub record Histories : Type 0 where
@@ -23,7 +23,7 @@ plus h added = record { ours = h.ours ++ added; gits = h.gits ++ added }
 
 -- whether this library and git both answer a contact by `to`
 abbrev pub is_answered : Histories → Contact → Contact → Bool
-is_answered h to c = same_contact (answer h.ours c) to && same_contact (git_answer h.gits c) to
+is_answered h to c = same_contact (answer_to h.ours c) to && same_contact (git_answer_to h.gits c) to
 
 -- whether some entry has the contact's name as its old name, and its email, ASCII case aside
 abbrev pub has_own_entry : Histories → Contact → Bool
@@ -33,25 +33,25 @@ has_own_entry h c = is_some (last_fields h.ours (own_key c))
 -- ---- the entries for one old email
 
 -- an empty name is not written
-abbrev pub name_of : Contact → Option Text
-name_of to = if bytes_eq to.name [] then None else Some to.name
+abbrev pub name_unless_empty : Contact → Option Text
+name_unless_empty to = if bytes_eq to.name [] then None else Some to.name
 
 -- the forms `Name <email>`, `Name <email> <old email>` and `Name <email> Old Name <old email>`
 abbrev pub short_form : Contact → Mapping
-short_form to = mapping (name_of to) None None to.email
+short_form to = mapping (name_unless_empty to) None None to.email
 
 abbrev pub long_form : Contact → Contact → Mapping
-long_form to c = mapping (name_of to) (Some to.email) None c.email
+long_form to c = mapping (name_unless_empty to) (Some to.email) None c.email
 
 abbrev pub named_form : Contact → Contact → Mapping
-named_form to c = mapping (name_of to) (Some to.email) (Some c.name) c.email
+named_form to c = mapping (name_unless_empty to) (Some to.email) (Some c.name) c.email
 
 abbrev pub are_answered : Histories → Contact → List Contact → Bool
 are_answered h to cs = list_all (is_answered h to) cs
 
 -- whether the short form is enough for these contacts with the first one's email
 abbrev pub is_short_enough : Histories → Contact → Contact → List Contact → Bool
-is_short_enough h to c cs = is_some (name_of to) && bytes_eq (folded to.email) (folded c.email)
+is_short_enough h to c cs = is_some (name_unless_empty to) && bytes_eq (folded to.email) (folded c.email)
     && are_answered (plus h (short_form to ∷ [])) to (c ∷ cs)
 
 -- for contacts without entries of their own: none, or the entry that makes all their answers `to`

@@ -1,0 +1,85 @@
+-- The entries that mailmaps lack for contacts: those by which no two answers share an email and differ, and those by
+-- which then no two share a name.
+use Rattle.std.specs.Prelude.{◌≡◌, ◌≢◌, ◌&&◌, Bool, false, not, Option, None, Some, List, [], map, filter}
+use Rattle.std.specs.Prelude.{bytes_eq}
+use Rattle.std.specs.List.{AllByRecursion, flat_map}
+use Rattle.mailmap_contacts.specs.Contacts.{Contact, Tally, answer_to, answered, tallied}
+use Rattle.mailmap_contacts.specs.Proper.{proper}
+use Rattle.mailmap_entries.specs.Entries.{Mapping}
+use Rattle.mailmap_entries.specs.Folding.{Text}
+use Rattle.mailmap_grammar.specs.CanonicalText.{IsWritableEmail, IsWritableName}
+use Rattle.mailmap_suggestions.specs.Contacts.{git_answer_to}
+use Rattle.mailmap_suggestions.specs.Groups.{are_alike, email_shared, name_shared, shared_texts}
+use Rattle.mailmap_suggestions.specs.Forms.{Histories, alike, entries_to, plus}
+
+abbrev pub contacts : List Tally → List Contact
+contacts ts = map (λ t. t.contact) ts
+
+-- ---- groups
+
+-- those whose answers share a text
+abbrev pub sharers : (Contact → Text) → Histories → List Tally → Text → List Tally
+sharers shared h ts text = filter (λ t. bytes_eq text (shared (answer_to h.ours t.contact))) ts
+
+-- those that share something and aren't all answered alike
+abbrev pub groups : (Contact → Text) → Histories → List Tally → List (List Tally)
+groups shared h ts = filter (λ g. not (are_alike h (contacts g)))
+    (map (sharers shared h ts) (shared_texts shared h (contacts ts)))
+
+-- whether a contact is in such a group
+abbrev pub is_grouped : (Contact → Text) → Histories → List Tally → Contact → Bool
+is_grouped shared h ts c =
+    let text = shared (answer_to h.ours c) in
+    not (bytes_eq text []) && not (are_alike h (contacts (sharers shared h ts text)))
+
+-- ---- the proper answer of a group
+
+abbrev pub nobody : Contact
+nobody = record { name = []; email = [] }
+
+abbrev pub contact_or_nobody : Option Tally → Contact
+contact_or_nobody None = nobody
+contact_or_nobody (Some t) = t.contact
+
+abbrev pub proper_answer : Histories → List Tally → Contact
+proper_answer h g = contact_or_nobody (proper (tallied (map (answered h.ours) g)))
+
+-- ---- entries
+
+-- by which all contacts of a group get its proper answer
+abbrev pub group_entries : Histories → List Tally → List Mapping
+group_entries h g = entries_to h (proper_answer h g) (contacts g)
+
+abbrev pub all_entries : (Contact → Text) → Histories → List Tally → List Mapping
+all_entries shared h ts = flat_map (group_entries h) (groups shared h ts)
+
+-- for answers that share an email
+abbrev pub email_entries : Histories → List Tally → List Mapping
+email_entries h ts = all_entries email_shared h ts
+
+-- for answers that share a name then; two people may share one, so these are for somebody to judge
+abbrev pub name_entries : Histories → List Tally → List Mapping
+name_entries h ts = all_entries name_shared (plus h (email_entries h ts)) ts
+
+-- ---- what they do
+
+-- as in each entry that is read from a line
+abbrev pub HasNoEmptyName : Mapping → Type 0
+HasNoEmptyName e = e.new_name ≢ Some []
+
+-- The mappings g answer the contacts as h does, but those of each group by its proper answer. So no two answers share
+-- an email, or a name, and differ.
+pub record Unites (shared : Contact → Text) (h : List Mapping) (ts : List Tally) (g : List Mapping) : Type 0 where
+  pub groups : AllByRecursion (λ group. AllByRecursion (λ c. answer_to g c ≡ proper_answer (alike h) group)
+      (contacts group)) (groups shared (alike h) ts)
+  pub others : AllByRecursion (λ c. is_grouped shared (alike h) ts c ≡ false
+      → (answer_to g c ≡ answer_to h c) × (git_answer_to g c ≡ git_answer_to h c)) (contacts ts)
+  pub distinct : AllByRecursion (λ b. AllByRecursion (λ c. shared (answer_to g b) ≡ shared (answer_to g c)
+      → shared (answer_to g c) ≢ [] → answer_to g b ≡ answer_to g c) (contacts ts)) (contacts ts)
+  -- git's answers are the same
+  pub git : AllByRecursion (λ c. git_answer_to g c ≡ answer_to g c) (contacts ts)
+
+-- as in each contact that is read from a line
+pub record IsWritableContact (c : Contact) : Type 0 where
+  pub name : c.name ≢ [] → IsWritableName c.name
+  pub email : IsWritableEmail c.email
