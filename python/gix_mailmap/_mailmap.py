@@ -10,7 +10,7 @@ from pathlib import Path
 from typing import TYPE_CHECKING, Any, AnyStr, Iterable, Iterator, NoReturn, Self, Union, overload
 
 from . import _native
-from ._results import Closed, Entry, Finding, Position, encoded
+from ._results import Entry, Finding, Position, encoded
 
 if TYPE_CHECKING:
     from ._native import AnyText, Buffer, BytesText, StrText, Text, of_contacts, of_mailmap, of_mailmaps, of_named
@@ -99,7 +99,6 @@ class Mailmap(_native.Mailmap[AnyStr], Sequence[Entry[AnyStr]]):
         return iter(self.entries())
 
     def __reversed__(self) -> Iterator[Entry[AnyStr]]:
-        """The entries from the last to the first. Unlike Sequence's own method, this doesn't get them one by one."""
         return reversed(self.entries())
 
     def index(self, entry: Any, start: int = 0, stop: int = sys.maxsize) -> int:
@@ -110,8 +109,7 @@ class Mailmap(_native.Mailmap[AnyStr], Sequence[Entry[AnyStr]]):
         raise TypeError("a Mailmap can't be copied or pickled: make a new one of its write()")
 
     def __enter__(self) -> Self:
-        if self.closed:
-            raise Closed("the mailmap is closed")
+        len(self)  # raises Closed
         return self
 
     def __exit__(self, *error: object) -> None:

@@ -17,9 +17,8 @@ static PyModuleDef definition;
 static PyObject *find(int name)
 {
     PyObject *module = PyState_FindModule(&definition);
-    if (module == NULL)
-        return PyErr_Format(PyExc_RuntimeError, "gix_mailmap is no longer loaded");
-    return PyList_GetItem(*(PyObject **)PyModule_GetState(module), name);
+    return module != NULL ? PyList_GetItem(*(PyObject **)PyModule_GetState(module), name)
+                          : PyErr_Format(PyExc_RuntimeError, "gix_mailmap is no longer loaded");
 }
 
 /* Raises an error, and returns NULL. */
@@ -116,18 +115,19 @@ static PyObject *new_text(bool is_str, const char *at, size_t len)
 static PyObject *same_or_new(const Text *text, PyObject *from, const char *at, size_t len)
 {
     bool is_final = PyUnicode_CheckExact(from) || PyBytes_CheckExact(from);
-    if (is_final && len == text->len && memcmp(at, text->at, len) == 0)
-        return Py_NewRef(from);
-    return new_text(text->is_str, at, len);
+    bool is_same = is_final && len == text->len && memcmp(at, text->at, len) == 0;
+    return is_same ? Py_NewRef(from) : new_text(text->is_str, at, len);
 }
 
-/* A named tuple of four items, whose references it takes over. After an error some of them are NULL. From 3.14 on a
- * tuple has a field for its hash, which only tuple's own `__new__` initializes, and that takes longer. */
-static PyObject *new_named_tuple(PyObject *class, PyObject *const items[4])
+/* A named tuple of four items, whose references it takes over. After an error some of them are NULL. If nothing else
+ * refers to an earlier one, `*last`, it is used again, as `zip` does. From 3.14 on a tuple has a field for its hash,
+ * which only tuple's own `__new__` initializes, and that takes longer. */
+static PyObject *new_named_tuple(PyObject *class, PyObject *const items[4], PyObject **last)
 {
     PyTypeObject *type = (PyTypeObject *)class;
     bool is_plain = Py_Version < 0x030E0000, is_complete = type && items[0] && items[1] && items[2] && items[3];
-    PyObject *made = !is_complete ? NULL : is_plain ? PyType_GenericAlloc(type, 4) : PyTuple_New(4);
+    bool is_old = is_complete && last != NULL && *last != NULL && Py_REFCNT(*last) == 1;
+    PyObject *made = !is_complete ? NULL : is_old ? *last : is_plain ? PyType_GenericAlloc(type, 4) : PyTuple_New(4);
     for (Py_ssize_t i = 0; i < 4; i++)
         made != NULL ? (void)PyTuple_SetItem(made, i, items[i]) : Py_XDECREF(items[i]);
     if (made != NULL && !is_plain) {
@@ -135,8 +135,11 @@ static PyObject *new_named_tuple(PyObject *class, PyObject *const items[4])
         PyObject *tuple = made, *arguments = PyTuple_Pack(1, tuple);
         made = arguments != NULL ? new(type, arguments, NULL) : NULL;
         Py_XDECREF(arguments), Py_DECREF(tuple);
+    } else if (made != NULL && last != NULL && !is_old) {
+        Py_XDECREF(*last);
+        *last = made;
     }
-    return made != NULL ? made : raise_no_memory();
+    return made == NULL ? raise_no_memory() : is_plain && last != NULL ? Py_NewRef(made) : made;
 }
 
 /* The functions of the library that write into a buffer. */
@@ -256,10 +259,10 @@ FUNCTIONS(DEFINED)
 /* An object of the type of mailmaps. */
 typedef struct Mailmap {
     PyObject_HEAD
-    gix_mailmap *map; /* NULL if it is closed */
-    size_t changes;   /* how often it was changed */
-    bool is_str;
-    PyObject *answer; /* the type of its answers */
+    gix_mailmap *map;           /* NULL if it is closed */
+    size_t changes;             /* how often it was changed */
+    bool is_str, turn;          /* `turn` is the place of the last answer */
+    PyObject *answer, *last[2]; /* the type of its answers, and the last two of them */
 } Mailmap;
 
 static bool is_open(const Mailmap *mailmap)
@@ -291,7 +294,8 @@ static PyObject *mailmap_new(PyTypeObject *type, PyObject *Py_UNUSED(args), PyOb
 static void mailmap_dealloc(PyObject *self)
 {
     PyTypeObject *type = Py_TYPE(self);
-    Py_XDECREF(((Mailmap *)self)->answer), gix_mailmap_close(((Mailmap *)self)->map);
+    Mailmap *map = (Mailmap *)self;
+    Py_XDECREF(map->answer), Py_XDECREF(map->last[0]), Py_XDECREF(map->last[1]), gix_mailmap_close(map->map);
     ((freefunc)PyType_GetSlot(type, Py_tp_free))(self);
     Py_DECREF(type);
 }
@@ -356,7 +360,7 @@ static PyObject *mailmap_add_entry(PyObject *self, PyObject *entry)
 }
 
 /* Looks a contact up, given as two objects and their texts. */
-static PyObject *look_up(const Mailmap *mailmap, const Text texts[2], PyObject *const from[2])
+static PyObject *look_up(Mailmap *mailmap, const Text texts[2], PyObject *const from[2])
 {
     char usual[512], *more = NULL, *at = usual, *email_at = usual + sizeof usual / 2;
     gix_mailmap_field name = {.len = sizeof usual / 2}, email = name;
@@ -370,9 +374,10 @@ static PyObject *look_up(const Mailmap *mailmap, const Text texts[2], PyObject *
     }
     PyObject *new_name = is_ok(status) ? same_or_new(&texts[0], from[0], at, name.len) : NULL;
     PyObject *new_email = new_name != NULL ? same_or_new(&texts[1], from[1], email_at, email.len) : NULL;
+    PyObject **last = more == NULL ? &mailmap->last[mailmap->turn ^= true] : NULL; /* which holds no long texts */
     PyMem_Free(more);
     return new_named_tuple(mailmap->answer, (PyObject *const[]){
-        new_name, new_email, PyBool_FromLong(name.is_given), PyBool_FromLong(email.is_given)});
+        new_name, new_email, PyBool_FromLong(name.is_given), PyBool_FromLong(email.is_given)}, last);
 }
 
 /* The name and the email may be keyword arguments. These follow the positional ones, in the caller's order. */
@@ -426,7 +431,7 @@ static PyObject *new_entry(bool is_str, const gix_mailmap_listed *listed, const 
     const char *at = texts + listed->start;
     for (int i = 0; i < 4 && (i == 0 || items[i - 1] != NULL); at += fields[i++].len)
         items[i] = fields[i].is_given || i == 3 ? new_text(is_str, at, fields[i].len) : Py_NewRef(Py_None);
-    return new_named_tuple(find(ENTRY), items);
+    return new_named_tuple(find(ENTRY), items, NULL);
 }
 
 /* A list of all entries, or of the one at an index. */
@@ -497,9 +502,8 @@ static PyType_Slot mailmap_slots[] = {
 static PyType_Spec mailmap_spec = {
     "gix_mailmap._native.Mailmap", sizeof(Mailmap), 0, Py_TPFLAGS_DEFAULT | Py_TPFLAGS_BASETYPE, mailmap_slots};
 
-/* The cache holds this number of answers, each with its line, if both together are no longer than CACHED_LEN. When it
- * is full, it is emptied; and if fewer lines than it holds were found in it, it isn't used any more, since calling the
- * library takes less time. */
+/* The cache holds this number of answers that are, with their lines, no longer than CACHED_LEN. When full, it is
+ * emptied; if fewer lines than it holds were found in it, it isn't used any more, since the library takes less time. */
 enum { CACHED = 65536, CACHED_LEN = 250 };
 
 /* An iterator that answers one line after another. */
@@ -591,8 +595,7 @@ static bool read_answers(Stream *stream, size_t *len)
     return true;
 }
 
-/* The answer to a line that isn't in the cache. A carriage return counts as part of a line's end only before a line
- * feed. So a line that ends in one without a line feed gets a second one before the line feed. */
+/* The answer to a line that isn't in the cache. A carriage return that a line ends in is doubled, so that it stays. */
 static PyObject *ask_stream(Stream *stream, const Text *text, PyObject *line)
 {
     bool is_ended = text->len > 0 && text->at[text->len - 1] == '\n';

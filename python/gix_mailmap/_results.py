@@ -8,7 +8,7 @@ from typing import AnyStr, Generic, NamedTuple, Optional
 
 class Answer(NamedTuple, Generic[AnyStr]):
     """The new name and email of a contact, and whether the mailmap gives them. What it doesn't give is that of the
-    contact, except that an email is spelled as in the first entry for it. A changed spelling counts as given."""
+    contact, except that an email is spelled as in the first entry added for it. A changed spelling counts as given."""
 
     name: AnyStr
     email: AnyStr
@@ -82,7 +82,7 @@ class Finding(NamedTuple):
             text = words.rpartition(" [")[0].partition("git reads ")[2]
         elif kind == Kind.ITSELF_MAPPED:
             said, by, lines = words.rpartition(" by ")
-            text = said.partition(" is itself mapped, to ")[2]
+            text = said.partition("> is itself mapped, to ")[2]
             words = said + by + lines.replace(":", "line ")
         return cls(line, kind, other or None, text, words)
 
@@ -91,8 +91,7 @@ class Finding(NamedTuple):
 
 
 class Position(NamedTuple):
-    """A line of one of several mailmaps: the index of the mailmap, counted from 0, and the line's number there, counted
-    from 1."""
+    """A line of one of several mailmaps: the mailmap's index, counted from 0, and the line's number, from 1."""
 
     mailmap: int
     line: int

@@ -67,6 +67,11 @@ class Texts(unittest.TestCase):
                 (1, Kind.ITSELF_MAPPED, None, "Eve <eve@e>",
                  "warning: Eve <eve@w> is itself mapped, to Eve <eve@e> by line 2 [itself-mapped]"),
             ]),
+            (b"J is itself mapped, to J <a@x> <b@x>\n<c@x> <a@x>", [
+                (1, Kind.ITSELF_MAPPED, None, "J is itself mapped, to J <c@x>",
+                 "warning: J is itself mapped, to J <a@x> is itself mapped, to J is itself mapped, to J <c@x> by line 2 "
+                 "[itself-mapped]"),
+            ]),
             (b"by :1 <a@w> <a@o>\nZ <z@x> z <A@w>\nE by :9 <A@w>", [
                 (1, Kind.ITSELF_MAPPED, None, "E by :9 <A@w>",
                  "warning: by :1 <a@w> is itself mapped, to E by :9 <A@w> by line 2, line 3 [itself-mapped]"),
@@ -287,6 +292,17 @@ class Handles(unittest.TestCase):
             self.assertEqual(mailmap.lookup(b"", b""), Answer(b"", b"", False, False))
             long, nul = b"n" * 100_000, b"a\0b"
             self.assertEqual(mailmap.lookup(long, nul), Answer(long, nul, False, False))
+
+    def test_an_answer_that_is_kept_stays_as_it_is(self):
+        """A lookup uses the object of an earlier answer again, but only if nothing else refers to it."""
+        with Mailmap(MAP) as mailmap:
+            mailmap.lookup(b"jd", b"JD@y")
+            jane, joe = mailmap.lookup(b"jd", b"jd@y"), mailmap.lookup(b"Joseph", b"JOE@x")
+            name, *others = mailmap.lookup(b"al", b"al@x")
+            mailmap.lookup(b"jd", b"jd@y")
+        self.assertEqual(jane, Answer(b"Jane Doe", b"jane@x", True, True))
+        self.assertEqual(joe, Answer(b"Joe", b"joe@x", True, True))
+        self.assertEqual([name, *others], [b"al", b"al@x", False, False])
 
     def test_later_texts_count(self):
         with Mailmap(MAP, b"JD <jd@y>\nnot an entry\n") as mailmap:
