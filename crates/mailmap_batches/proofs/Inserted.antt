@@ -14,12 +14,9 @@ use Rattle.mailmap_entries.specs.Semantics.{Key, accepted, is_accepted, key, key
 use Rattle.mailmap_entries.proofs.Alike.{picked-append}
 use Rattle.mailmap_entries.proofs.Keys.{keys_exact, keys_total}
 use Rattle.mailmap_entries.proofs.Parts.{all_mapped}
-use Rattle.mailmap_batches.specs.Batches.{IsAscending, IsSorted, KeepsKeys, mapping_at, indexed_mapping}
+use Rattle.mailmap_batches.specs.Batches.{IsAscending, IsSorted, KeepsKeys, indexed_mapping, key_at, mapping_at}
 use Rattle.mailmap_batches.specs.declared.indexed.IndexedEntry.{IndexedEntry}
 use Rattle.mailmap_batches.proofs.Numbered.{enumerate_from-push, mapped_twice}
-
-abbrev pub key_at : IndexedEntry → Key
-key_at p = key (mapping_at p)
 
 abbrev pub IsBelow : IndexedEntry → IndexedEntry → Type 0
 IsBelow p q = key_cmp (key_at p) (key_at q) ≡ Less

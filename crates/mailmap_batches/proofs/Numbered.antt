@@ -13,6 +13,10 @@ enumerate_from-push n k [] x e i = (omega-is i, x) ∷ []
     omega-is = omega (arith, e)
 enumerate_from-push n k (y ∷ xs) x e i = (n, y) ∷ enumerate_from-push (n + 1) k xs x (omega (arith, e)) i
 
+pub numbered : {X : Type 0} (n : ℕ) (xs : List X) → map (λ p. p.1) (enumerate_from n xs) ≡ xs
+numbered n [] = refl
+numbered n (x ∷ xs) = ap (λ l. x ∷ l) (numbered (n + 1) xs)
+
 pub mapped_twice : {X Y Z : Type 0} (f : X → Y) (g : Y → Z) (xs : List X) → map g (map f xs) ≡ map (λ x. g (f x)) xs
 mapped_twice f g [] = refl
 mapped_twice f g (x ∷ xs) = ap (λ l. g (f x) ∷ l) (mapped_twice f g xs)

@@ -22,7 +22,7 @@ filter-map p f (x ∷ xs) =
     ]
 
 -- neither below nor above means equal
-neither : (o : Ordering) → (not (is_lt o) && not (is_lt (ordering_reverse o))) ≡ is_eq o
+pub neither : (o : Ordering) → (not (is_lt o) && not (is_lt (ordering_reverse o))) ≡ is_eq o
 neither Less = refl
 neither Equal = refl
 neither Greater = refl

@@ -6,17 +6,25 @@ use Rattle.std.specs.Ordering.{is_lt}
 use Rattle.std.specs.declared.cmp.Ordering.{Ordering}
 use Rattle.mailmap_entries.specs.Entries.{Mapping, mapping_of}
 use Rattle.mailmap_entries.specs.Folding.{Text, folded}
+use Rattle.mailmap_entries.specs.Prefixes.{key_prefix}
 use Rattle.mailmap_entries.specs.Semantics.{Key, key, key_cmp, of_key}
 use Rattle.mailmap_batches.specs.declared.indexed.IndexedEntry.{IndexedEntry}
 
 abbrev pub mapping_at : IndexedEntry → Mapping
 mapping_at p = mapping_of p.entry.now
 
+abbrev pub key_at : IndexedEntry → Key
+key_at p = key (mapping_at p)
+
 abbrev pub indexed_mapping : IndexedEntry → ℕ × Mapping
 indexed_mapping p = (p.index, mapping_at p)
 
 abbrev pub email_text : Mapping → Text
 email_text m = folded m.old_email
+
+-- the first sixteen bytes of the folded old email as a number
+abbrev pub email_prefix : IndexedEntry → ℕ
+email_prefix p = key_prefix 16 (email_text (mapping_at p))
 
 -- the folded old email of the first entry
 abbrev pub first_email : List Mapping → Text
@@ -40,3 +48,9 @@ pub record KeepsKeys (xs : List Mapping) (ps : List (ℕ × Mapping)) : Type 0 w
 pub record IsSorted (xs : List Mapping) (ps : List (ℕ × Mapping)) : Type 0 where
   pub keeps : KeepsKeys xs ps
   pub ascending : IsAscending key_cmp (map (λ p. key p.1) ps)
+
+-- the same entries in ascending order of their keys; those with equal keys keep their order
+pub record IsSortedFrom (old new : List IndexedEntry) : Type 0 where
+  pub moved : IsPermutation old new
+  pub keyed : (k : Key) → of_key (map mapping_at old) k ≡ of_key (map mapping_at new) k
+  pub ascending : IsAscending key_cmp (map key_at new)

@@ -19,8 +19,8 @@ pub fn cmp_ignore_ascii_case(a: &[u8], b: &[u8]) -> Ordering
     ensures less { (result ≡ Ordering.Less) ↔ IsBelow a.now b.now }
     ensures equal { (result ≡ Ordering.Equal) ↔ (folded a.now ≡ folded b.now) }
 {
-    // Equal keys mostly have the same spelling, too.
-    if a == b {
+    // Equal keys mostly have the same spelling, too, and others mostly begin otherwise.
+    if a.first() == b.first() && a == b {
         return Ordering::Equal;
     }
     // Only bytes that differ need folding.

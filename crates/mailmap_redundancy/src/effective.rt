@@ -104,9 +104,8 @@ impl<'p, 'a> Effective<'p, 'a> {
 /// Drops the redundant entries. Each pass goes over the entries from first to last and drops an entry if the normal
 /// list is the same without it. Passes are repeated until one drops nothing.
 ///
-/// Given the line `Jane <jd@x>` twice, the second is dropped; given `Jane <jd@x>` and then `Ann <jd@x>`, the first is.
-/// The first entry of an email is kept if the entries after it spell the email in another way, because its spelling
-/// counts.
+/// Given the line `Jane <jd@x>` twice, or `Ann <jd@x>` and then `Jane <jd@x>`, the first is dropped. The first entry of an
+/// email is kept if the entries after it spell the email in another way, because its spelling counts.
 pub fn without_redundant<'p, 'a>(
     alloc: Global,
     entries: &'p [LocatedEntry<'a>],

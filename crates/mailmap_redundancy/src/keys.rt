@@ -1,4 +1,5 @@
-//! The keys of entries. A key's number is its index in a sorted list of distinct keys.
+//! The keys of entries. A key's number is its index in a sorted list of distinct keys. The key of each email without a
+//! name is among them, even if no entry has it, so that an email has a number, too.
 ghost use Rattle.std.specs.Prelude.{◌≡◌, Contains, IfNone, IfSome};
 ghost use Rattle.std.specs.List.Sorted.{IsStrictlySortedBy};
 ghost use Rattle.std.specs.Option.{option_cmp, option_copied, option_map};

@@ -70,7 +70,8 @@ pub(crate) struct Summary<'p, 'a> {
     pub(crate) of_email: EmailSummary<'p, 'a>,
 }
 
-/// A summary for each key and one for each email, indexed by their numbers.
+/// A summary for each key and one for each email, both indexed by the numbers of keys: that of an email is the number of
+/// the key without a name.
 #[derive(Drop)]
 pub(crate) struct Table<'p, 'a> {
     pub(crate) keys: Vec<KeySummary<'p, 'a>>,

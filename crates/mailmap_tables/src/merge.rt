@@ -17,8 +17,8 @@ use std::alloc::AllocError;
 
 impl Tables {
     /// Appends the accepted entries of an iterator to those that the tables represent. A few entries are merged in
-    /// place, after all memory for them is reserved. For more, new tables are built and then replace these. Either way
-    /// the tables stay as they were if memory runs out.
+    /// place, after all memory for them is reserved. For more, new tables are built and then replace these; very many
+    /// are joined with them in chunks. Whichever it is, the tables stay as they were if memory runs out.
     pub fn merge<'a, I: Iterator<Item = Entry<'a>> + Drop>(
         &mut self,
         entries: I,
@@ -37,10 +37,12 @@ impl Tables {
     {
         let alloc = self.allocator();
         let collected = accepted_of(alloc, self, entries)?;
+        // There was no entry, or the last one ended a chunk.
         if collected.batch.is_empty() {
             collected.replace_tables(self);
             return Ok(());
         }
+        // After a chunk there are new tables already, and these stay as they are until the end.
         if collected.joined.is_none() {
             if let Some(bytes) = bytes_in_place(self, &collected.batch) {
                 return merge_in_place(alloc, self, &collected.batch, bytes);

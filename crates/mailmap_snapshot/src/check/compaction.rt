@@ -10,7 +10,7 @@ use std::alloc::{AllocError, Global};
 ///
 /// Comments and lines with a fault are left out. `Err` if memory runs out.
 ///
-/// The buffers `N <a@x>` and `M <A@x>` give ` M <a@x>`.
+/// The buffers `N <a@x>` and `M <A@x>` give ` M <a@x>` and a line feed.
 pub fn compact(alloc: Global, buffers: &[&[u8]]) -> Result<Vec<u8>, AllocError>
     // the text of the normal list of what the buffers say
     ensures { IfOk result (λ v. IsCompacted (map (λ b. b.now) buffers.now) v.items) }

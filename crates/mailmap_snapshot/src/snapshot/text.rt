@@ -69,7 +69,8 @@ impl Snapshot {
     ///
     /// `Err` if memory runs out.
     ///
-    /// After a merge of `parse_ignore_errors(b"N <a@x>")` into an empty snapshot, this returns ` N <a@x>`.
+    /// After a merge of `parse_ignore_errors(b"N <a@x>")` into an empty snapshot, this returns ` N <a@x>` and a line
+    /// feed.
     pub fn write_lines(&self, alloc: Global) -> Result<Vec<u8>, AllocError>
         requires { All IsWritable self.now }
         ensures { IfOk result (λ v. v.items ≡ canonical_text self.now) }

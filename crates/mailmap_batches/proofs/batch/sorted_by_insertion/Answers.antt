@@ -5,9 +5,9 @@ use Rattle.std.specs.Ordering.{is_lt}
 use Rattle.std.proofs.lemmas.List.{map_more, length-map, length-take-le}
 use Rattle.std.proofs.lemmas.List.Sorted.{IsPermutation-refl}
 use Rattle.mailmap_entries.specs.Semantics.{key_cmp}
-use Rattle.mailmap_batches.specs.Batches.{IsSorted, mapping_at, indexed_mapping}
+use Rattle.mailmap_batches.specs.Batches.{IsSorted, mapping_at, indexed_mapping, key_at}
 use Rattle.mailmap_batches.specs.declared.indexed.IndexedEntry.{IndexedEntry}
-use Rattle.mailmap_batches.proofs.Inserted.{IsBelow, key_at, sorted_more}
+use Rattle.mailmap_batches.proofs.Inserted.{IsBelow, sorted_more}
 use Rattle.mailmap_batches.proofs.batch.sorted_by_insertion.Goals as goal
 
 pub loop-index-init : goal.loop-index-init

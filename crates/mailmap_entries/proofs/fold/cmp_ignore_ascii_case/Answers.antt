@@ -24,13 +24,13 @@ returns-clause-less c = less-below _ _ _ (returns-clause-value c)
 pub returns-clause-equal : goal.returns-clause-equal
 returns-clause-equal c = equal-folded _ _ _ (returns-clause-value c)
 
-pub returns-then-eq-clause-value : goal.returns-then-eq-clause-value
-returns-then-eq-clause-value c =
-    let same : c.args.a.now ≡ c.args.b.now = (bytes_eq-Decides c.args.a.now c.args.b.now).0 (sym c.eq.ensures ∙ c.if-eq.true) in
+pub returns-then-eq-2-clause-value : goal.returns-then-eq-2-clause-value
+returns-then-eq-2-clause-value c =
+    let same : c.args.a.now ≡ c.args.b.now = (bytes_eq-Decides c.args.a.now c.args.b.now).0 (sym c.eq-then-eq.ensures ∙ c.if-eq-2.true) in
     sym (same-equal (folded c.args.a.now)) ∙ ap (λ t. text_cmp (folded c.args.a.now) (folded t)) same
 
-pub returns-then-eq-clause-less : goal.returns-then-eq-clause-less
-returns-then-eq-clause-less c = less-below _ _ _ (returns-then-eq-clause-value c)
+pub returns-then-eq-2-clause-less : goal.returns-then-eq-2-clause-less
+returns-then-eq-2-clause-less c = less-below _ _ _ (returns-then-eq-2-clause-value c)
 
-pub returns-then-eq-clause-equal : goal.returns-then-eq-clause-equal
-returns-then-eq-clause-equal c = equal-folded _ _ _ (returns-then-eq-clause-value c)
+pub returns-then-eq-2-clause-equal : goal.returns-then-eq-2-clause-equal
+returns-then-eq-2-clause-equal c = equal-folded _ _ _ (returns-then-eq-2-clause-value c)
