@@ -12,7 +12,7 @@ use Rattle.gix_mailmap.specs.Semantics.{IsNormal, accepted, of_email}
 use Rattle.gix_mailmap.specs.Sources.{merged_mappings, source_mappings}
 use Rattle.mailmap_entries.specs.declared.entry.Entry.{Entry}
 use Rattle.mailmap_snapshot.specs.declared.snapshot.sources.Source.{Source}
-use Rattle.mailmap_snapshot.proofs.Sources.{YieldsMappings, out_of_memory_some}
+use Rattle.mailmap_snapshot.proofs.Sources.{YieldsMappings}
 use Rattle.caller_promises.specs.declared.batches.Batch.{Batch}
 use Rattle.caller_promises.specs.Batches.{AreMarked, AreMarks, batch_mappings}
 
@@ -104,12 +104,6 @@ module _ (reorder : (h g n : List Mapping) → ((email : Text) → of_email h em
       empty : (n : List Mapping) → length n ≤ 0 → n ≡ []
       empty [] short = refl
       empty (x ∷ n) short = absurd (omega arith)
-
--- if memory runs out before all entries are there, one of them is accepted
-pub out_of_memory_made : {S T E : Type 0} {steps : S → Option Entry → S → Type 0} {s : S} {said : List Mapping} (gives : YieldsMappings steps s said) (r : Result T E)
-    → OnErr r ((xs : List Entry) × (rest : S) × Yields steps s xs rest × (accepted (map mapping_of xs) ≢ [])) → OnErr r (accepted said ≢ [])
-out_of_memory_made gives (Ok x) m = tt
-out_of_memory_made {E = E} gives (Err e) m = out_of_memory_some {E = E} gives (Err e) m
 
 -- marks for one more batch
 module _ (bs : List Batch) (k : ℕ) (b : Batch) (here : b ≡ get_or bs k b) (within : k < length bs) where

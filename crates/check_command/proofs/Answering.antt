@@ -43,8 +43,8 @@ pub record HasWritten (old : Stream) (part : Text) (taken : ℕ) (new : Stream) 
   pub written : Appends before after made
 
 -- before the first call of `push`
-pub first : (old : Stream) (part : Text) (before : Option Text) → HasWritten old part 0 old before before
-first old part before = record {
+pub first : {old : Stream} {part : Text} {before : Option Text} → HasWritten old part 0 old before before
+first {old = old} {before = before} = record {
   within = omega arith;
   made = [];
   front = subst (λ b. AnswersFront old.mappings b [] old.kept) (sym (append-nil old.kept)) (front-none old.mappings old.kept);
@@ -71,10 +71,10 @@ next-front old part taken mid made count new empty text front same w =
 made_is : (empty text shown made : Text) → empty ≡ [] → text ≡ empty ++ made → shown ≡ text → shown ≡ made
 made_is empty text shown made none is shown_is = shown_is ∙ is ∙ ap (λ l. l ++ made) none
 
-pub next : (old : Stream) (part : Text) (taken : ℕ) (mid : Stream) (before between after : Option Text) (count : ℕ) (new : Stream) (empty text shown : Text) → HasWritten old part taken mid before between
+pub next : {old : Stream} {part : Text} {taken : ℕ} {mid : Stream} {before between after : Option Text} (count : ℕ) {new : Stream} {empty text shown : Text} → HasWritten old part taken mid before between
     → taken < length part → count ≤ length (take (length part - taken) (drop taken part)) → empty ≡ [] → Answered mid part taken count new empty text
     → (HoldsNo 10 mid.kept → HoldsNo 10 new.kept) × (new.mappings ≡ mid.mappings) → shown ≡ text → Appends between after shown → HasWritten old part (taken + count) new before after
-next old part taken mid before between after count new empty text shown h more fits none w keeps is written =
+next {old = old} {part = part} {taken = taken} {mid = mid} {before = before} {between = between} {after = after} count {new = new} {empty = empty} {text = text} {shown = shown} h more fits none w keeps is written =
     let size : length (take (length part - taken) (drop taken part)) ≡ length part - taken = ap length (take_all (length part - taken) (drop taken part) (omega (arith, length-drop taken part))) ∙ length-drop taken part in
     record {
       within = omega arith;
@@ -97,13 +97,13 @@ of_part old part taken made rest a = (
 )
 
 -- memory runs out within a part
-pub some_written : (old : Stream) (part : Text) (taken : ℕ) (new : Stream) (before after : Option Text) → HasWritten old part taken new before after → Prints (Some_answered old part) before after
-some_written old part taken new before after h = (h.made, of_part old part taken h.made new.kept h.front, h.written)
+pub some_written : {old : Stream} {part : Text} {taken : ℕ} {new : Stream} {before after : Option Text} → HasWritten old part taken new before after → Prints (Some_answered old part) before after
+some_written {old = old} {part = part} {taken = taken} {new = new} h = (h.made, of_part old part taken h.made new.kept h.front, h.written)
 
 -- a write fails within a part
-pub some_broken : (old : Stream) (part : Text) (taken : ℕ) (mid : Stream) (before between after : Option Text) (count : ℕ) (new : Stream) (empty text shown : Text) (n : ℕ)
-    → HasWritten old part taken mid before between → empty ≡ [] → Answered mid part taken count new empty text → shown ≡ text → Appends between after (take n shown) → PrintsFront (Some_answered old part) before after
-some_broken old part taken mid before between after count new empty text shown n h none w is broken = (
+pub some_broken : {old : Stream} {part : Text} {taken : ℕ} {mid : Stream} {before between : Option Text} (after : Option Text) (count : ℕ) (new : Stream) {empty text shown : Text} → HasWritten old part taken mid before between → empty ≡ [] → Answered mid part taken count new empty text → shown ≡ text
+    → (n : ℕ) × Appends between after (take n shown) → PrintsFront (Some_answered old part) before after
+some_broken {old = old} {part = part} {taken = taken} {mid = mid} {before = before} {between = between} after count new {empty = empty} {text = text} {shown = shown} h none w is (n, broken) = (
   h.made ++ w.0,
   of_part old part (taken + count) (h.made ++ w.0) new.kept (next-front old part taken mid h.made count new empty text h.front h.same w),
   Appends-both before between after h.made w.0 n h.written (subst (λ t. Appends between after (take n t)) (made_is empty text shown w.0 none w.1 is) broken),
@@ -122,8 +122,8 @@ pub record HasAnswered (buffers : List Text) (old now : Option Text) (s : Stream
   pub same : (t : Text) → answers s.mappings t ≡ answers_by buffers t
 
 -- before the first read
-pub begun : (buffers : List Text) (old : Option Text) (s : Stream) (before : Option Text) → (s.kept ≡ []) × ((t : Text) → answers s.mappings t ≡ answers_by buffers t) → HasAnswered buffers old old s before before
-begun buffers old s before new = record {
+pub begun : {buffers : List Text} {old : Option Text} {s : Stream} {before : Option Text} → (s.kept ≡ []) × ((t : Text) → answers s.mappings t ≡ answers_by buffers t) → HasAnswered buffers old old s before before
+begun {buffers = buffers} {old = old} {before = before} new = record {
   read = [];
   made = [];
   consumed = Consumes-nil old;
@@ -139,9 +139,9 @@ part-front : (buffers : List Text) (old now : Option Text) (s : Stream) (before 
 part-front buffers old now s before after part made rest h a =
     front-more (flat_map mappings_of buffers) h.read h.made s.kept part made rest h.front (front-alike s.mappings (flat_map mappings_of buffers) (s.kept ++ part) made rest h.same a)
 
-pub one_more : (buffers : List Text) (old now later : Option Text) (s t : Stream) (before between after : Option Text) (part : Text) → HasAnswered buffers old now s before between → Consumes now later part
+pub one_more : {buffers : List Text} {old now later : Option Text} {s t : Stream} {before between after : Option Text} (part : Text) → HasAnswered buffers old now s before between → Consumes now later part
     → Prints (λ made. AnswersFront s.mappings (s.kept ++ part) made t.kept) between after → (HoldsNo 10 s.kept → HoldsNo 10 t.kept) × (t.mappings ≡ s.mappings) → HasAnswered buffers old later t before after
-one_more buffers old now later s t before between after part h more prints keeps = record {
+one_more {buffers = buffers} {old = old} {now = now} {later = later} {s = s} {t = t} {before = before} {between = between} {after = after} part h more prints keeps = record {
   read = h.read ++ part;
   made = h.made ++ prints.0;
   consumed = Consumes-trans old now later h.read part h.consumed more;
@@ -168,14 +168,14 @@ ended_text buffers old now later s before after h none end =
     answered_all buffers old later (h.read ++ []) (h.made ++ answers s.mappings s.kept) (Consumes-trans old now later h.read [] h.consumed none) end
     (rest_is buffers old now s before after h ∙ ap (answers_by buffers) (sym (append-nil h.read)))
 
-pub ended : (buffers : List Text) (old now later : Option Text) (s : Stream) (before between after : Option Text) → HasAnswered buffers old now s before between → Consumes now later [] → IsAtEnd later
+pub ended : {buffers : List Text} {old now : Option Text} (later : Option Text) {s : Stream} {before between : Option Text} (after : Option Text) → HasAnswered buffers old now s before between → Consumes now later [] → IsAtEnd later
     → Appends between after (answers s.mappings s.kept) → Prints (AnswersContacts (Some buffers) old) before after
-ended buffers old now later s before between after h none end written =
+ended {buffers = buffers} {old = old} {now = now} later {s = s} {before = before} {between = between} after h none end written =
     (h.made ++ answers s.mappings s.kept, ended_text buffers old now later s before between h none end, Appends-trans before between after h.made (answers s.mappings s.kept) h.written written)
 
-pub ended_broken : (buffers : List Text) (old now later : Option Text) (s : Stream) (before between after : Option Text) (n : ℕ) → HasAnswered buffers old now s before between → Consumes now later [] → IsAtEnd later
-    → Appends between after (take n (answers s.mappings s.kept)) → PrintsFront (AnswersContacts (Some buffers) old) before after
-ended_broken buffers old now later s before between after n h none end broken =
+pub ended_broken : {buffers : List Text} {old now : Option Text} (later : Option Text) {s : Stream} {before between : Option Text} (after : Option Text) → HasAnswered buffers old now s before between → Consumes now later [] → IsAtEnd later
+    → (n : ℕ) × Appends between after (take n (answers s.mappings s.kept)) → PrintsFront (AnswersContacts (Some buffers) old) before after
+ended_broken {buffers = buffers} {old = old} {now = now} later {s = s} {before = before} {between = between} after h none end (n, broken) =
     (h.made ++ answers s.mappings s.kept, ended_text buffers old now later s before between h none end, Appends-both before between after h.made (answers s.mappings s.kept) n h.written broken)
 
 -- a prefix of the answers to the first lines is a prefix of all answers
@@ -190,23 +190,23 @@ front_broken buffers (Some x) (Some y) read made rest before after n consumed a 
       Appends-longer before after n made (answers m (rest ++ y)) broken,
     )
 
-pub part_broken : (buffers : List Text) (old now later : Option Text) (s : Stream) (before between after : Option Text) (part : Text) → HasAnswered buffers old now s before between → Consumes now later part
+pub part_broken : {buffers : List Text} {old now : Option Text} (later : Option Text) {s : Stream} {before between : Option Text} (after : Option Text) (part : Text) → HasAnswered buffers old now s before between → Consumes now later part
     → PrintsFront (Some_answered s part) between after → PrintsFront (AnswersContacts (Some buffers) old) before after
-part_broken buffers old now later s before between after part h more broken =
+part_broken {buffers = buffers} {old = old} {now = now} later {s = s} {before = before} {between = between} after part h more broken =
     let both = Appends-both before between after h.made broken.0 broken.2.0 h.written broken.2.1 in
     front_broken buffers old later (h.read ++ part) (h.made ++ broken.0) broken.1.0 before after both.0 (Consumes-trans old now later h.read part h.consumed more)
     (part-front buffers old now s before between part broken.0 broken.1.0 h broken.1.1) both.1
 
 -- memory runs out after a read
-pub lines_written : (buffers : List Text) (old now later : Option Text) (s : Stream) (before after : Option Text) (part : Text) → HasAnswered buffers old now s before after → Consumes now later part
+pub lines_written : {buffers : List Text} {old now : Option Text} (later : Option Text) {s : Stream} {before after : Option Text} (part : Text) → HasAnswered buffers old now s before after → Consumes now later part
     → Prints (AnswersLines (Some buffers) old later) before after
-lines_written buffers old now later s before after part h more =
+lines_written {buffers = buffers} {old = old} {now = now} later {s = s} part h more =
     (h.made, (h.read ++ part, s.kept ++ part, Consumes-trans old now later h.read part h.consumed more, front-longer (flat_map mappings_of buffers) h.read h.made s.kept part h.front), h.written)
 
 -- memory runs out within a part
-pub part_lines : (buffers : List Text) (old now later : Option Text) (s : Stream) (before between after : Option Text) (part : Text) → HasAnswered buffers old now s before between → Consumes now later part
+pub part_lines : {buffers : List Text} {old now : Option Text} (later : Option Text) {s : Stream} {before between : Option Text} (after : Option Text) (part : Text) → HasAnswered buffers old now s before between → Consumes now later part
     → Prints (Some_answered s part) between after → Prints (AnswersLines (Some buffers) old later) before after
-part_lines buffers old now later s before between after part h more prints = (
+part_lines {buffers = buffers} {old = old} {now = now} later {s = s} {before = before} {between = between} after part h more prints = (
   h.made ++ prints.0,
   (h.read ++ part, prints.1.0, Consumes-trans old now later h.read part h.consumed more, part-front buffers old now s before between part prints.0 prints.1.0 h prints.1.1),
   Appends-trans before between after h.made prints.0 h.written prints.2,

@@ -52,6 +52,11 @@ module _ {X : Type 0} where
         rest = drop-set-lt (index + 1) xs index x (omega arith);
       }
 
+  -- one more element
+  pub copied_next : {left rest all : List X} {x : X} {index : ℕ} {now old : List X} → left ≡ x ∷ rest → index < length now → Copied left all index now old → Copied rest all (index + 1) (set now index x) old
+  copied_next {rest = rest} {all = all} {x = x} {index = index} {now = now} {old = old} is lt c =
+      copied_more (x ∷ []) rest all index (index + 1) now (set now index x) old (subst (λ l. Copied l all index now old) is c) (after_set now index x lt)
+
   -- past the end, there is no element
   pub nothing_at : (n k : ℕ) (xs : List X) → drop n xs ≡ [] → n ≤ k → slice_get xs k ≡ None
   nothing_at n k [] e le = refl

@@ -1,5 +1,6 @@
 -- The entries at the start of a batch that belong together.
-use Rattle.std.proofs.Common.{◌≡◌, ◌≢◌, ◌+◌, ◌-◌, ◌<◌, ◌≤◌, ℕ, zero, suc, List, [], ◌∷◌, ◌++◌, map, take, drop, get_or}
+use Rattle.std.proofs.lemmas.Grind.{common_steps}
+use Rattle.std.proofs.Common.{◌≡◌, ◌≢◌, ◌+◌, ◌-◌, ◌<◌, ◌≤◌, ℕ, zero, suc, List, [], ◌∷◌, map, take, drop, get_or}
 use Rattle.std.proofs.Common.{length, Some, Contains, HoldsAt, subst, unwrap_or, refl, sym, ap, ◌∙◌, arith}
 use Rattle.std.proofs.Common.{take-append-drop, length-append}
 use Rattle.std.specs.List.{AllByRecursion}
@@ -64,16 +65,7 @@ leading_entries (x ∷ xs) (suc k) n d e some le named same other name email =
 -- the rest of a batch after a group is shorter than the batch
 pub group_shortens : (xs : List IndexedEntry) (len : ℕ) (n : NameGroup) → NameEntries (map mapping_at xs) n
     (map mapping_at (drop len xs)) → length (drop len xs) < length xs
-group_shortens xs len n group =
-    let whole : length (map mapping_at xs) ≡ suc (length (group.more ++ map mapping_at (drop len xs))) =
-    ap length group.whole in
-    omega (
-      arith,
-      whole,
-      length-append group.more (map mapping_at (drop len xs)),
-      length-map xs mapping_at,
-      length-map (drop len xs) mapping_at,
-    )
+group_shortens xs len n group = grind (arith, common_steps, length-append, length-map)
 
 -- an element of the list, at some index
 pub record IsAt (xs : List IndexedEntry) (p : IndexedEntry) : Type 0 where

@@ -1,23 +1,60 @@
--- Adding to the occurrences of a key in a map.
-use Rattle.std.proofs.Common.{◌≡◌, ◌∙◌, Bool, true, false, cond, Option, None, Some, List, [], ◌∷◌, ◌++◌, Ordering, Less, Equal, Greater, ap, append_assoc, map, refl, sym}
-use Rattle.std.specs.BTreeMap.{insert_entry, is_at}
+-- Maps of occurrences: their keys, adding to the occurrences of a key, and going over the entries.
+use Rattle.std.proofs.Common.{◌≡◌, ℕ, Ordering, Less, Equal, Greater, refl, rules, ◌∙◌, Bool, cond, Option, Some, List, [], ◌∷◌, ◌++◌, ap, map, sym, Bor}
 use Rattle.std.specs.Cmp.{IsTotalOrder}
-use Rattle.std.specs.List.{AllByRecursion}
-use Rattle.std.specs.List.Sorted.{IsStrictlySortedBy}
-use Rattle.std.specs.Map.{keys_of, lookup}
-use Rattle.std.specs.Ordering.{is_eq, match_ordering}
-use Rattle.std.proofs.lemmas.List.{map-append}
-use Rattle.std.proofs.lemmas.Map.{lookup-none}
-use Rattle.std.proofs.lemmas.Map.Entries.{none_below_head}
+use Rattle.std.specs.Cmp.Lexicographic.{slice_cmp}
+use Rattle.std.specs.Global.{Vec}
+use Rattle.std.specs.Ordering.{nat_cmp, ordering_then, is_eq, match_ordering}
+use Rattle.std.proofs.lemmas.Cmp.{nat_cmp_total, nat_list_cmp_total, on_total, then_total}
+use Rattle.mailmap_entries.proofs.Folding.{equal-same}
 use Rattle.std.specs.Borrow.{Bor}
 use Rattle.mailmap_entries.specs.Folding.{Text}
 use Rattle.mailmap_contacts.specs.Answers.{answer_key, answer_key_tally, tally_of}
-use Rattle.mailmap_contacts.specs.Contacts.{Contact, Tally, both_seen, contact_cmp, seen_where, sum_of}
-use Rattle.mailmap_contacts.specs.Counts.{HasMore, SameTallies, with_more}
+use Rattle.mailmap_contacts.specs.Counts.{key_contact, HasMore, SameTallies, with_more, key_tally}
+use Rattle.std.specs.BTreeMap.{insert_entry, is_at}
+use Rattle.std.specs.List.{AllByRecursion}
+use Rattle.std.specs.List.Sorted.{IsStrictlySortedBy}
+use Rattle.std.specs.Map.{keys_of, lookup}
+use Rattle.std.proofs.lemmas.Map.{lookup-none}
+use Rattle.std.proofs.lemmas.Map.Entries.{none_below_head}
+use Rattle.std.proofs.lemmas.Simd.{map-map}
+use Rattle.mailmap_contacts.specs.Contacts.{Contact, Tally, both_seen, contact_cmp, seen_where}
 use Rattle.mailmap_contacts.specs.declared.answers.Tally.{Tally as TheTally}
 use Rattle.mailmap_contacts.specs.declared.occurrences.Occurrences.{Occurrences}
-use Rattle.mailmap_contacts.proofs.Keys.{answer_cmp}
-use Rattle.mailmap_contacts.proofs.Sums.{both_assoc, both_comm, both_swap, passing, seen-push}
+use Rattle.mailmap_contacts.proofs.Sums.{both_swap, passing, seen-push, same_more}
+use Rattle.std.specs.Map.Iter.{deref_pair}
+
+abbrev pub key_cmp : ℕ × Vec ℕ → ℕ × Vec ℕ → Ordering
+key_cmp a b = ordering_then (nat_cmp a.0 b.0) (slice_cmp nat_cmp a.1.items b.1.items)
+
+pub key_total : IsTotalOrder key_cmp
+key_total = then_total (on_total (λ (k : ℕ × Vec ℕ). k.0) nat_cmp_total) (on_total (λ (k : ℕ × Vec ℕ). k.1.items) nat_list_cmp_total)
+
+-- both parts of two keys are equal if they compare so
+pub then_Equal : (r s : Ordering) → ordering_then r s ≡ Equal → (r ≡ Equal) × (s ≡ Equal)
+then_Equal Less s e = cc
+then_Equal Equal s e = (refl, e)
+then_Equal Greater s e = cc
+
+-- keys that compare equal show the same contact
+pub key_alike : (a b : ℕ × Vec ℕ) → key_cmp a b ≡ Equal → key_contact a ≡ key_contact b
+key_alike a b e = search (rules, equal-same)
+
+-- ---- keys of answers
+
+abbrev pub answer_cmp : Bor Text × Bor Text → Bor Text × Bor Text → Ordering
+answer_cmp a b = ordering_then (slice_cmp nat_cmp a.0.now b.0.now) (slice_cmp nat_cmp a.1.now b.1.now)
+
+pub answer_total : IsTotalOrder answer_cmp
+answer_total = then_total (on_total (λ (k : Bor Text × Bor Text). k.0.now) nat_list_cmp_total) (on_total (λ (k : Bor Text × Bor Text). k.1.now) nat_list_cmp_total)
+
+pub answer_alike : (a b : Bor Text × Bor Text) → answer_cmp a b ≡ Equal → answer_key a ≡ answer_key b
+answer_alike a b e =
+    let parts = then_Equal (slice_cmp nat_cmp a.0.now b.0.now) (slice_cmp nat_cmp a.1.now b.1.now) e in
+    let names = equal-same a.0.now b.0.now parts.0 in
+    let emails = equal-same a.1.now b.1.now parts.1 in
+    λ i. record { name = names i; email = emails i }
+
+-- ==== adding to the occurrences of a key in a map
 
 -- entries whose keys show a contact; keys that compare equal show the same one
 module _ {K : Type 0} (cmp : K → K → Ordering) (total : IsTotalOrder cmp) (shown : K → Contact) (alike : (a b : K) → cmp a b ≡ Equal → shown a ≡ shown b) where
@@ -29,9 +66,6 @@ module _ {K : Type 0} (cmp : K → K → Ordering) (total : IsTotalOrder cmp) (s
 
   abbrev of_one : (Contact → Bool) → Contact → Occurrences → Option Occurrences
   of_one test c seen = passing test (record { contact = c; seen = seen })
-
-  of_sum : (test : Contact → Bool) (c : Contact) (a b : Occurrences) → of_one test c (sum_of a b) ≡ both_seen (of_one test c a) (of_one test c b)
-  of_sum test c a b = elim (test c) as (λ x. cond x (Some (sum_of a b)) None ≡ both_seen (cond x (Some a) None) (cond x (Some b) None)) [ true ↦ refl | false ↦ refl ]
 
   module _ (test : Contact → Bool) (k : K) (seen : Occurrences) where
     abbrev known : List (K × Occurrences) → Option Occurrences
@@ -46,12 +80,7 @@ module _ {K : Type 0} (cmp : K → K → Ordering) (total : IsTotalOrder cmp) (s
     added_first e es up rest Less is =
         let none = lookup-none (is_at (cmp k)) es (none_below_head total k e es up is).1 in
         ap (λ o. both_seen (of_one test (shown k) (with_more o seen)) (seen_in test (e ∷ es))) none
-    added_first e es up rest Equal is =
-        let same : shown e.0 ≡ shown k = sym (alike k e.0 is) in
-        ap (λ o. both_seen o (seen_in test es)) (of_sum test (shown e.0) e.1 seen)
-        ∙ ap (λ o. both_seen o (seen_in test es)) (both_comm (of_one test (shown e.0) e.1) (of_one test (shown e.0) seen))
-        ∙ both_assoc (of_one test (shown e.0) seen) (of_one test (shown e.0) e.1) (seen_in test es)
-        ∙ ap (λ c. both_seen (of_one test c seen) (seen_in test (e ∷ es))) same
+    added_first e es up rest Equal is = search rules
     added_first e es up rest Greater is =
         ap (both_seen (of_one test (shown e.0) e.1)) rest ∙ both_swap (of_one test (shown e.0) e.1) (of_one test (shown k) seen) (seen_in test es)
 
@@ -64,29 +93,24 @@ module _ {K : Type 0} (cmp : K → K → Ordering) (total : IsTotalOrder cmp) (s
   -- adding to the occurrences of a key
   pub tallies_more : (es new : List (K × Occurrences)) (k : K) (seen : Occurrences) → HasMore cmp es k seen new
       → SameTallies (map entry_tally new) (map entry_tally es ++ record { contact = shown k; seen = seen } ∷ [])
-  tallies_more es new k seen more = λ test.
-      ap (seen_in test) more.inserted ∙ added test k seen es more.ordered ∙ both_comm (of_one test (shown k) seen) (seen_in test es)
-      ∙ sym (seen-push test (map entry_tally es) (record { contact = shown k; seen = seen }))
+  tallies_more es new k seen more = search (rules, added, seen-push)
 
 -- ---- answers in a map
+
+-- one more of them
+pub answers_more : (es new : List ((Bor Text × Bor Text) × Occurrences)) (k : Bor Text × Bor Text) (seen : Occurrences) (ts more : List Tally) (t : Tally)
+    → HasMore answer_cmp es k seen new → SameTallies (map answer_key_tally es) ts → answer_key_tally (k, seen) ≡ t → more ≡ ts ++ t ∷ [] → SameTallies (map answer_key_tally new) more
+answers_more es new k seen ts more t has same is more_is = λ test.
+    tallies_more answer_cmp answer_total answer_key answer_alike es new k seen has test
+    ∙ same_more (map answer_key_tally es) ts (answer_key_tally (k, seen) ∷ []) (t ∷ []) same (λ other. ap (λ u. seen_where other (u ∷ [])) is) test
+    ∙ ap (seen_where test) (sym more_is)
 
 -- an answer as an entry of a map
 abbrev pub entry_of : TheTally → (Bor Text × Bor Text) × Occurrences
 entry_of a = ((a.name, a.email), a.seen)
 
 pub shown_entries : (answers : List TheTally) (es : List ((Bor Text × Bor Text) × Occurrences)) → map entry_of answers ≡ es → map tally_of answers ≡ map answer_key_tally es
-shown_entries answers es is = each answers ∙ ap (map answer_key_tally) is
-  where
-    each : (xs : List TheTally) → map tally_of xs ≡ map answer_key_tally (map entry_of xs)
-    each [] = refl
-    each (x ∷ xs) = ap (λ l. tally_of x ∷ l) (each xs)
-
--- one step of moving a map's entries into answers
-pub moved_more : (old new : List TheTally) (a : TheTally) (left rest all : List ((Bor Text × Bor Text) × Occurrences)) → new ≡ old ++ a ∷ []
-    → left ≡ entry_of a ∷ rest → map entry_of old ++ left ≡ all → map entry_of new ++ rest ≡ all
-moved_more old new a left rest all new_is left_is before =
-    ap (λ l. map entry_of l ++ rest) new_is ∙ ap (λ l. l ++ rest) (map-append entry_of old (a ∷ []))
-    ∙ append_assoc (map entry_of old) (entry_of a ∷ []) rest ∙ ap (λ l. map entry_of old ++ l) (sym left_is) ∙ before
+shown_entries answers es is = sym (map-map answer_key_tally entry_of answers) ∙ ap (map answer_key_tally) is
 
 -- the answers of a map are distinct
 pub answers_once : (es : List ((Bor Text × Bor Text) × Occurrences)) → IsStrictlySortedBy answer_cmp (keys_of es)
@@ -99,3 +123,11 @@ answers_once (e ∷ es) up = (all_keys e.0 es up.0, answers_once es up.1)
         → AllByRecursion (λ c. contact_cmp (answer_key k) c ≡ Less) (map (λ (a : Tally). a.contact) (map answer_key_tally es))
     all_keys k [] all = tt
     all_keys k (e ∷ es) all = (all.0, all_keys k es all.1)
+
+-- ==== going over the contacts in a map
+
+abbrev pub item_tally : Bor (ℕ × Vec ℕ) × Bor Occurrences → Tally
+item_tally p = key_tally (deref_pair p)
+
+pub items_are : (ps : List (Bor (ℕ × Vec ℕ) × Bor Occurrences)) (es : List ((ℕ × Vec ℕ) × Occurrences)) → map deref_pair ps ≡ es → map item_tally ps ≡ map key_tally es
+items_are ps es is = sym (map-map key_tally deref_pair ps) ∙ ap (map key_tally) is

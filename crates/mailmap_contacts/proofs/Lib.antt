@@ -1,8 +1,5 @@
 pub mod Counting
-pub mod Distinct
 pub mod Entries
-pub mod Iterating
-pub mod Keys
 pub mod Needing
 pub mod Propers
 pub mod Steps

@@ -1,23 +1,20 @@
 -- Finding proper answers.
-use Rattle.std.proofs.Common.{◌≡◌, ◌∙◌, Bool, true, false, cond, Option, None, Some, List, [], ◌∷◌, ◌++◌, Bor, Equal, ap, append-nil, append_assoc, bytes_eq, filter, flat_map, option_map, option_to_list, refl, sym, ⊎_elim}
+use Rattle.std.proofs.Common.{◌≡◌, ◌∙◌, Bool, true, false, cond, Option, None, Some, List, [], ◌∷◌, ◌++◌, Bor, ap, append-nil, bytes_eq, filter, flat_map, option_map, option_to_list, refl, arith, rules}
 use Rattle.std.specs.Prelude.{if◌then◌else◌, is_none, is_some, not}
 use Rattle.std.specs.BTreeMap.{BTreeMap, get, is_at}
-use Rattle.std.specs.Cmp.{Equal-is, IsTotalOrder}
-use Rattle.std.specs.Map.{lookup}
-use Rattle.std.specs.Ordering.{is_eq}
-use Rattle.std.proofs.lemmas.Bool.{cases_Bool}
+use Rattle.std.specs.Cmp.{IsTotalOrder}
 use Rattle.std.proofs.lemmas.Cmp.{nat_list_cmp_total, on_total}
 use Rattle.std.proofs.lemmas.Map.Text.{is_eq-slice_cmp}
+use Rattle.std.proofs.lemmas.Grind.{common_steps}
 use Rattle.mailmap_entries.specs.Folding.{Text, folded}
 use Rattle.mailmap_contacts.specs.Answers.{ArePropers, shared_field, finding_by, folded_cmp, tally_at}
-use Rattle.mailmap_contacts.specs.Comparisons.{ContactFinding, and_other, other_proper, shares}
+use Rattle.mailmap_contacts.specs.Comparisons.{ContactFinding, other_proper, shares}
 use Rattle.mailmap_contacts.specs.Contacts.{Tally}
 use Rattle.mailmap_contacts.specs.Folded.{folded_text}
 use Rattle.mailmap_contacts.specs.Proper.{better, preferred, preferred_of, proper}
 use Rattle.mailmap_contacts.specs.declared.answers.Tally.{Tally as TheTally}
 use Rattle.mailmap_contacts.specs.declared.folded.Folded.{Folded}
 use Rattle.mailmap_contacts.specs.declared.proper.Shared.{Shared}
-use Rattle.mailmap_contacts.proofs.Steps.{filtered_more, made_more}
 
 -- ---- one more answer
 
@@ -37,10 +34,7 @@ pub propers_more : (shared : Shared) (ts all : List Tally) (m n : BTreeMap Folde
     → ((key : Folded) → option_map tally_at (get folded_cmp n key)
     ≡ (if shares (shared_field shared) key.text.now t then Some (better (option_map tally_at (get folded_cmp m key)) t) else option_map tally_at (get folded_cmp m key)))
     → all ≡ ts ++ t ∷ [] → ArePropers shared all n
-propers_more shared ts all m n t are added is = λ key.
-    let p = shares (shared_field shared) key.text.now in
-    added key ∙ ap (λ o. cond (p t) (Some (better o t)) o) (are key)
-    ∙ sym (ap proper (filtered_more p ts all t is) ∙ proper_if (p t) (filter p ts) t)
+propers_more shared ts all m n t are added is = grind (arith, common_steps, proper_if)
 
 -- ---- the place of a key in the map
 
@@ -55,41 +49,15 @@ module _ (field : Tally → Text) (t : Tally) (k : Folded) (is : k.text.now ≡ 
   at_is q = is_eq-slice_cmp (folded_text k) (folded_text q) ∙ ap (λ s. bytes_eq (folded s) (folded_text q)) is
 
   same_place : (q : Folded) → is_at (folded_cmp k) q ≡ true → at k ≡ at q
-  same_place q there =
-      let equal : folded_cmp k q ≡ Equal = (Equal-is (folded_cmp k q)).0 there in
-      λ i. option_map tally_at (lookup (λ (z : Folded). is_eq (folded_total.congr k q z equal i)) m.entries)
-
-  -- the proper one so far stays
-  pub stays : Some (better (at k) t) ≡ at k → (q : Folded) → at q ≡ (if shares field q.text.now t then Some (better (at q) t) else at q)
-  stays kept q = ⊎_elim
-      (λ yes.
-      let same = same_place q yes in
-      sym same ∙ sym kept ∙ ap (λ o. Some (better o t)) same ∙ sym (ap (λ b. cond b (Some (better (at q) t)) (at q)) (sym (at_is q) ∙ yes)))
-      (λ no. sym (ap (λ b. cond b (Some (better (at q) t)) (at q)) (sym (at_is q) ∙ no)))
-      (cases_Bool (is_at (folded_cmp k) q))
+  same_place q there = search (rules, folded_total)
 
   -- another one takes its place
   pub moves : (a : Bor TheTally) (n : BTreeMap Folded (Bor TheTally)) → tally_at a ≡ t
       → ((q : Folded) → get folded_cmp n q ≡ cond (is_at (folded_cmp k) q) (Some a) (get folded_cmp m q)) → better (at k) t ≡ t
       → (q : Folded) → option_map tally_at (get folded_cmp n q) ≡ (if shares field q.text.now t then Some (better (at q) t) else at q)
-  moves a n shown put best q = ap (option_map tally_at) (put q) ∙ ⊎_elim
-      (λ yes.
-      ap (λ b. option_map tally_at (cond b (Some a) (get folded_cmp m q))) yes ∙ ap Some (shown ∙ sym best ∙ ap (λ o. better o t) (same_place q yes))
-      ∙ sym (ap (λ b. cond b (Some (better (at q) t)) (at q)) (sym (at_is q) ∙ yes)))
-      (λ no.
-      ap (λ b. option_map tally_at (cond b (Some a) (get folded_cmp m q))) no
-      ∙ sym (ap (λ b. cond b (Some (better (at q) t)) (at q)) (sym (at_is q) ∙ no)))
-      (cases_Bool (is_at (folded_cmp k) q))
+  moves a n shown put best q = search (rules, same_place, at_is)
 
 -- ---- another proper one
-
-pub other_is : (field : Tally → Text) (answers : List Tally) (a : Tally) (text : Text) (o : Option Tally) → text ≡ field a → o ≡ proper (filter (shares field text) answers)
-    → and_other a o ≡ other_proper field answers a
-other_is field answers a text o is proper_is = ap (and_other a) (proper_is ∙ ap (λ t. proper (filter (shares field t) answers)) is)
-
-none_shown : (o : Option (Bor TheTally)) → is_none o ≡ is_none (option_map tally_at o)
-none_shown None = refl
-none_shown (Some a) = refl
 
 pub none_by_some : (o : Option (Bor TheTally)) (b : Bool) → is_some o ≡ not b → b ≡ is_none o
 none_by_some None true e = refl
@@ -108,9 +76,4 @@ pub compared_more : (shared : Shared) (all ts more : List Tally) (a : Tally) (o 
     → (new ≡ begun ++ flat_map (λ t. option_to_list (option_map (finding_by shared t) (other_proper (shared_field shared) all t))) more)
     × (proper' ≡ filter (λ t. is_none (other_proper (shared_field shared) all t)) more)
 compared_more shared all ts more a o none begun old new proper proper' other none_is new_is proper_is more_is found left =
-    let make : Tally → List ContactFinding = λ t. option_to_list (option_map (finding_by shared t) (other_proper (shared_field shared) all t)) in
-    let stays : Tally → Bool = λ t. is_none (other_proper (shared_field shared) all t) in (
-      new_is ∙ (λ i. found i ++ option_to_list (option_map (finding_by shared a) (other i))) ∙ append_assoc begun (flat_map make ts) (make a)
-          ∙ ap (λ l. begun ++ l) (sym (made_more make ts more a more_is)),
-      proper_is ∙ (λ i. left i ++ (if (none_is ∙ none_shown o ∙ ap is_none other) i then a ∷ [] else [])) ∙ sym (filtered_more stays ts more a more_is),
-    )
+    grind (arith, common_steps)

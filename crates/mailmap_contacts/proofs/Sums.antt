@@ -1,5 +1,5 @@
 -- Adding up occurrences.
-use Rattle.std.proofs.Common.{◌≡◌, ◌∙◌, ◌+◌, ℕ, Bool, Option, None, Some, List, [], ◌∷◌, ◌++◌, ap, arith, map, min, refl, sym}
+use Rattle.std.proofs.Common.{◌≡◌, ◌∙◌, ◌+◌, ℕ, Bool, Option, None, Some, List, [], ◌∷◌, ◌++◌, ap, arith, map, min, refl, sym, rules}
 use Rattle.std.specs.Prelude.{if◌then◌else◌}
 use Rattle.mailmap_entries.specs.Entries.{Mapping}
 use Rattle.mailmap_contacts.specs.Contacts.{Contact, Tally, answer_to, answered, both_seen, seen_where, sum_of}
@@ -10,9 +10,7 @@ seen_is : (a b c d : ℕ) → a ≡ b → c ≡ d → ◌≡◌ {A = Occurrences
 seen_is a b c d e f = λ i. record { count = e i; first_line = f i }
 
 pub sum_assoc : (a b c : Occurrences) → sum_of (sum_of a b) c ≡ sum_of a (sum_of b c)
-sum_assoc a b c =
-    seen_is ((a.count + b.count) + c.count) (a.count + (b.count + c.count)) (min (min a.first_line b.first_line) c.first_line) (min a.first_line (min b.first_line c.first_line))
-    (omega arith) (omega arith)
+sum_assoc a b c = search rules
 
 pub sum_comm : (a b : Occurrences) → sum_of a b ≡ sum_of b a
 sum_comm a b = seen_is (a.count + b.count) (b.count + a.count) (min a.first_line b.first_line) (min b.first_line a.first_line) (omega arith) (omega arith)
@@ -52,9 +50,6 @@ seen-push test ts t = seen-append test ts (t ∷ []) ∙ ap (both_seen (seen_whe
 pub same_more : (ts us more others : List Tally) → SameTallies ts us → SameTallies more others → SameTallies (ts ++ more) (us ++ others)
 same_more ts us more others same also = λ test.
     seen-append test ts more ∙ (λ i. both_seen (same test i) (also test i)) ∙ sym (seen-append test us others)
-
-pub same_turned : (ts us : List Tally) → SameTallies (ts ++ us) (us ++ ts)
-same_turned ts us = λ test. seen-append test ts us ∙ both_comm (seen_where test ts) (seen_where test us) ∙ sym (seen-append test us ts)
 
 -- the answers to tallies
 pub seen-answered : (h : List Mapping) (test : Contact → Bool) (ts : List Tally) → seen_where test (map (answered h) ts) ≡ seen_where (λ c. test (answer_to h c)) ts

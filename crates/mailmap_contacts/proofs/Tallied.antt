@@ -1,263 +1,248 @@
--- Each distinct contact of a history once, in the order of the first lines.
-use Rattle.std.proofs.Common.{◌≡◌, ◌∙◌, ◌+◌, ◌≤◌, ℕ, suc, Bool, true, false, true≢false, cond, Option, None, Some, List, [], ◌∷◌, ◌++◌, ap, arith, filter, map, refl, subst, sym, unwrap_or}
-use Rattle.std.specs.Prelude.{⊤, IfSome, not}
-use Rattle.std.specs.List.{AllByRecursion, Contains, count_by}
-use Rattle.std.specs.List.Sorted.{IsNonDecreasingBy, IsPermutation, IsStrictlySortedBy}
-use Rattle.std.specs.declared.cmp.Ordering.TheVariants.{Less}
-use Rattle.std.proofs.lemmas.List.Elements.{All-contains, All-contains_itself, All-from_recursion, All-weaker, recursion_from_All}
-use Rattle.std.proofs.lemmas.List.Sorted.{All-permutation, IsPermutation-sym, sum_by-IsPermutation}
-use Rattle.std.proofs.lemmas.List.Sums.{sum_by-cons}
+-- Each distinct contact of a history once, with all its occurrences.
+use Rattle.std.proofs.Common.{◌≡◌, ◌∙◌, ◌+◌, ◌<◌, ℕ, Bool, true, false, cond, Option, None, Some, List, [], ◌∷◌, ◌++◌, Ordering, Less, Equal, Greater, ap, arith, filter, map, refl, subst, sym, unwrap_or, ⊎_elim, rules}
+use Rattle.std.specs.Prelude.{IfSome, ◌&&◌, is_some, not}
+use Rattle.std.specs.Cmp.{IsTotalOrder}
+use Rattle.std.specs.Cmp.Lexicographic.{slice_cmp}
+use Rattle.std.specs.List.{AllByRecursion, Contains, IsDistinct}
+use Rattle.std.specs.List.Sorted.{IsPermutation, IsStrictlySortedBy}
+use Rattle.std.specs.Ordering.{is_eq, nat_cmp, on, ordering_then}
+use Rattle.std.proofs.lemmas.Bool.{cases_Bool, not-true}
+use Rattle.std.proofs.lemmas.Bool.Decides.{nat_tests}
+use Rattle.std.proofs.lemmas.Cmp.{eq_by_cmp_equiv, nat_cmp_total, nat_list_cmp_total, nat_list_eq_equiv, on_total, then_total}
+use Rattle.std.proofs.lemmas.List.Elements.{All-contains, All-contains_itself, All-from_recursion, All-weaker, filter_passes, recursion_from_All}
+use Rattle.std.proofs.lemmas.List.Kept.{IsStrictlySortedBy-filter}
+use Rattle.std.proofs.lemmas.Map.Keys.{IsDistinct-IsPermutation}
+use Rattle.std.proofs.lemmas.Map.Text.{is_eq-slice_cmp}
+use Rattle.std.proofs.lemmas.Grind.{common_steps}
 use Rattle.mailmap_entries.specs.Folding.{Text}
-use Rattle.mailmap_entries.proofs.Parts.{all_apply, all_mapped, all_weaker}
+use Rattle.mailmap_entries.proofs.Parts.{all_apply, all_map, all_mapped, all_weaker, filter_all}
 use Rattle.mailmap_grammar.specs.Lines.{contact_in}
 use Rattle.mailmap_contacts.specs.Contacts.{AreTallies, Contact, Tally, both_seen, contact_cmp, contact_on, contacts_from, once, same_contact, seen_where, tallied, tally_on}
+use Rattle.mailmap_contacts.specs.Counts.{SameTallies}
 use Rattle.mailmap_contacts.specs.declared.occurrences.Occurrences.{Occurrences}
-use Rattle.mailmap_contacts.proofs.Distinct.{after, itself, same_is}
-use Rattle.mailmap_contacts.proofs.Steps.{all_filtered, all_unfiltered}
+use Rattle.mailmap_contacts.proofs.Steps.{HasOnly, NoneBefore, all_filtered, all_unfiltered, distinct_filter, one_order, permuted, permuted_back}
 
-abbrev pub line : Tally → ℕ
-line t = t.seen.first_line
+abbrev contact_of : Tally → Contact
+contact_of t = t.contact
 
-abbrev contacts : List Tally → List Contact
-contacts ts = map (λ (t : Tally). t.contact) ts
+abbrev of : Contact → List Tally → Option Occurrences
+of c ts = seen_where (same_contact c) ts
 
--- ---- first lines ascend
+abbrev tally : Contact → Occurrences → Tally
+tally c s = record { contact = c; seen = s }
 
--- from this line on
-abbrev pub Ascends : ℕ → List Tally → Type 0
-Ascends n [] = ⊤
-Ascends n (t ∷ ts) = (n ≤ line t) × Ascends (line t + 1) ts
+-- ---- contacts that are the same
 
-ascends_from : (m n : ℕ) (ts : List Tally) → m ≤ n → Ascends n ts → Ascends m ts
-ascends_from m n [] le up = tt
-ascends_from m n (t ∷ ts) le up = (omega (arith, le, up.0), up.1)
+then_eq : (a b : Ordering) → is_eq (ordering_then a b) ≡ (is_eq a && is_eq b)
+then_eq Less b = refl
+then_eq Equal b = refl
+then_eq Greater b = refl
 
-ascends_filtered : (p : Tally → Bool) (n : ℕ) (ts : List Tally) → Ascends n ts → Ascends n (filter p ts)
-ascends_filtered p n [] up = tt
-ascends_filtered p n (t ∷ ts) up =
-    elim (p t) as (λ b. Ascends n (cond b (t ∷ filter p ts) (filter p ts))) [
-      | true ↦ (up.0, ascends_filtered p (line t + 1) ts up.1)
-      | false ↦ ascends_from n (line t + 1) (filter p ts) (omega (arith, up.0)) (ascends_filtered p (line t + 1) ts up.1)
-    ]
+-- they compare so
+same_by_cmp : (a b : Contact) → is_eq (contact_cmp a b) ≡ same_contact a b
+same_by_cmp a b = then_eq (slice_cmp nat_cmp a.name b.name) (slice_cmp nat_cmp a.email b.email) ∙ (λ i. is_eq-slice_cmp a.name b.name i && is_eq-slice_cmp a.email b.email i)
 
-pub later : (n : ℕ) (ts : List Tally) → Ascends n ts → AllByRecursion (λ t. n ≤ line t) ts
-later n [] up = tt
-later n (t ∷ ts) up = (up.0, later n ts (ascends_from n (line t + 1) ts (omega (arith, up.0)) up.1))
+contact_total : IsTotalOrder contact_cmp
+contact_total = then_total (on_total (λ (c : Contact). c.name) nat_list_cmp_total) (on_total (λ (c : Contact). c.email) nat_list_cmp_total)
 
-abbrev IsFrom : ℕ → Option Occurrences → Type 0
-IsFrom n o = IfSome o (λ seen. n ≤ seen.first_line)
+abbrev pub same : Tally → Tally → Bool
+same a b = same_contact a.contact b.contact
 
-seen_from : (test : Contact → Bool) (n : ℕ) (ts : List Tally) → AllByRecursion (λ t. n ≤ line t) ts → IsFrom n (seen_where test ts)
-seen_from test n [] all = tt
-seen_from test n (t ∷ ts) all =
-    both (cond (test t.contact) (Some t.seen) None) (seen_where test ts)
-    (elim (test t.contact) as (λ b. IsFrom n (cond b (Some t.seen) None)) [ true ↦ all.0 | false ↦ tt ])
-    (seen_from test n ts all.1)
-  where
-    both : (a b : Option Occurrences) → IsFrom n a → IsFrom n b → IsFrom n (both_seen a b)
-    both None b p q = q
-    both (Some a) None p q = p
-    both (Some a) (Some b) p q = omega (arith, p, q)
+pub turned : (a b : Tally) → same a b ≡ same b a
+turned a b = sym (same_by_cmp a.contact b.contact) ∙ (eq_by_cmp_equiv contact_total).symm a.contact b.contact ∙ same_by_cmp b.contact a.contact
 
-first_line : (t : Tally) (ts : List Tally) → Ascends (line t + 1) ts → (unwrap_or (seen_where (same_contact t.contact) (t ∷ ts)) t.seen).first_line ≡ line t
-first_line t ts up =
-    let rest = seen_where (same_contact t.contact) ts in
-    ap (λ b. (unwrap_or (both_seen (cond b (Some t.seen) None) rest) t.seen).first_line) (itself t.contact)
-    ∙ by rest (seen_from (same_contact t.contact) (line t + 1) ts (later (line t + 1) ts up))
-  where
-    by : (o : Option Occurrences) → IsFrom (line t + 1) o → (unwrap_or (both_seen (Some t.seen) o) t.seen).first_line ≡ line t
-    by None _ = refl
-    by (Some seen) le = omega (arith, le)
+pub itself : (c : Contact) → same_contact c c ≡ true
+itself c = λ i. nat_list_eq_equiv.refl c.name i && nat_list_eq_equiv.refl c.email i
 
-pub ascends_tallied : (n : ℕ) (ts : List Tally) → Ascends n ts → Ascends n (tallied ts)
-ascends_tallied n [] up = tt
-ascends_tallied n (t ∷ ts) up =
-    let is = first_line t ts up.1 in
-    let others = λ (u : Tally). not (same_contact t.contact u.contact) in (
-      subst (λ k. n ≤ k) (sym is) up.0,
-      subst (λ k. Ascends (k + 1) (filter others (tallied ts))) (sym is) (ascends_filtered others (line t + 1) (tallied ts) (ascends_tallied (line t + 1) ts up.1)),
+same_is : (a b : Contact) → same_contact a b ≡ true → a ≡ b
+same_is a b same = search rules
+
+-- ---- the occurrences of one contact
+
+pub own_first : (t : Tally) (ts : List Tally) → of t.contact (t ∷ ts) ≡ both_seen (Some t.seen) (of t.contact ts)
+own_first t ts = ap (λ b. both_seen (cond b (Some t.seen) None) (of t.contact ts)) (itself t.contact)
+
+not_first : (c : Contact) (t : Tally) (ts : List Tally) → same_contact c t.contact ≡ false → of c (t ∷ ts) ≡ of c ts
+not_first c t ts other = ap (λ b. both_seen (cond b (Some t.seen) None) (of c ts)) other
+
+none_of : (c : Contact) (ts : List Tally) → AllByRecursion (λ t. same_contact c t.contact ≡ false) ts → of c ts ≡ None
+none_of c [] all = refl
+none_of c (t ∷ ts) all = not_first c t ts all.0 ∙ none_of c ts all.1
+
+-- what holds of each contact of a list holds of one that comes there
+at_seen : (P : Contact → Type 0) (c : Contact) (ts : List Tally) → AllByRecursion (λ t. P t.contact) ts → is_some (of c ts) ≡ true → P c
+at_seen P c [] all some = absurd (cc)
+at_seen P c (t ∷ ts) all some = search (rules, at_seen P c ts all.1)
+
+-- each contact of a list comes there
+each_comes : (ts : List Tally) → AllByRecursion (λ t. is_some (of t.contact ts) ≡ true) ts
+each_comes [] = tt
+each_comes (t ∷ ts) = search (rules, each_comes ts, all_weaker)
+
+-- ---- distinct contacts
+
+abbrev AreDistinct : List Tally → Type 0
+AreDistinct ts = IsDistinct same ts
+
+sorted_distinct : (ts : List Tally) → IsStrictlySortedBy contact_cmp (map contact_of ts) → AreDistinct ts
+unfolding IsDistinct IsStrictlySortedBy
+sorted_distinct [] up = tt
+sorted_distinct (t ∷ ts) up = (
+  all_map contact_of (λ c. same_contact t.contact c ≡ false) ts (all_weaker (map contact_of ts) (λ c less. sym (same_by_cmp t.contact c) ∙ ap is_eq less) up.0),
+  sorted_distinct ts up.1,
+)
+
+-- each has only its own occurrences
+own : (ts : List Tally) → AreDistinct ts → AllByRecursion (λ u. of u.contact ts ≡ Some u.seen) ts
+unfolding IsDistinct
+own [] once = tt
+own (t ∷ ts) once = search (rules, own ts once.1, none_of, all_apply)
+
+-- ---- tallies
+
+abbrev IsAmong : List Tally → Contact → Type 0
+IsAmong us c = Contains (map contact_of us) c
+
+among_itself : (us : List Tally) → AllByRecursion (λ u. IsAmong us u.contact) us
+among_itself us = all_map contact_of (IsAmong us) us (recursion_from_All (IsAmong us) (map contact_of us) (All-contains_itself (map contact_of us)))
+
+-- distinct contacts with the occurrences of a list are its tallies
+pub are_tallies : (ts us : List Tally) → SameTallies us ts → IsStrictlySortedBy contact_cmp (map contact_of us) → AreTallies ts us
+are_tallies ts us same up = record {
+  every = λ t among. at_seen (IsAmong us) t.contact us (among_itself us)
+      (ap is_some (same (same_contact t.contact)) ∙ All-contains (λ t. is_some (of t.contact ts) ≡ true) ts t (All-from_recursion (λ t. is_some (of t.contact ts) ≡ true) ts (each_comes ts)) among);
+  each = all_weaker us (λ u is. sym (same (same_contact u.contact)) ∙ is) (own us (sorted_distinct us up));
+  distinct = up;
+}
+
+-- `us` has all occurrences of each contact of `ts`
+record HasTallies (ts us : List Tally) : Type 1 where
+  each : AllByRecursion (λ u. of u.contact ts ≡ Some u.seen) us
+  has : (P : Contact → Type 0) → AllByRecursion (λ u. P u.contact) us → AllByRecursion (λ t. P t.contact) ts
+
+-- what holds of each contact there, with its occurrences, holds of all others that have them
+same_tallies : (ts us vs : List Tally) → HasTallies ts us → HasTallies ts vs → HasOnly us vs
+same_tallies ts us vs all others P each =
+    let Q : Contact → Type 0 = λ c. (s : Occurrences) → of c ts ≡ Some s → P (tally c s) in
+    let known : AllByRecursion (λ u. Q u.contact) us =
+    all_apply (λ u. of u.contact ts ≡ Some u.seen) P (λ u. Q u.contact)
+    (λ u is p s also. subst (λ o. P (tally u.contact (unwrap_or o s))) (sym is ∙ also) p) us all.each each in
+    all_weaker vs (λ v is. at_seen Q v.contact ts (all.has Q known) (ap is_some is) v.seen is) others.each
+
+of_tallies : (ts us : List Tally) → AreTallies ts us → HasTallies ts us
+of_tallies ts us are = record {
+  each = are.each;
+  has = λ P all.
+      let each = All-from_recursion P (map contact_of us) (all_mapped contact_of P us all) in
+      recursion_from_All (λ t. P t.contact) ts
+      (All-weaker (Contains ts) (λ t. P t.contact) (λ t among. All-contains P (map contact_of us) t.contact each (are.every t among)) ts (All-contains_itself ts));
+}
+
+-- ---- the definition
+
+-- what holds of contacts holds of their tallies
+pub each_tallied : (P : Contact → Type 0) (ts : List Tally) → AllByRecursion (λ t. P t.contact) ts → AllByRecursion (λ t. P t.contact) (tallied ts)
+each_tallied P [] all = tt
+each_tallied P (t ∷ ts) all = (all.0, all_filtered (λ u. not (same t u)) (λ u. P u.contact) (λ u. P u.contact) (λ u p _. p) (tallied ts) (each_tallied P ts all.1))
+
+-- and the other way round
+pub each_untallied : (P : Contact → Type 0) (ts : List Tally) → AllByRecursion (λ t. P t.contact) (tallied ts) → AllByRecursion (λ t. P t.contact) ts
+each_untallied P [] all = tt
+each_untallied P (t ∷ ts) all = (
+  all.0,
+  each_untallied P ts (all_weaker (tallied ts) (λ u p. ⊎_elim (λ yes. subst P (same_is t.contact u.contact yes) all.0) (λ no. p (ap not no)) (cases_Bool (same t u)))
+      (all_unfiltered (λ u. not (same t u)) (λ u. P u.contact) (tallied ts) all.1)),
+)
+
+-- what the head has there
+head_is : (t : Tally) (ts : List Tally) → of t.contact (t ∷ ts) ≡ Some (unwrap_or (of t.contact (t ∷ ts)) t.seen)
+head_is t ts = search rules
+
+tallied_each : (ts : List Tally) → AllByRecursion (λ u. of u.contact ts ≡ Some u.seen) (tallied ts)
+tallied_each [] = tt
+tallied_each (t ∷ ts) = (
+  head_is t ts,
+  all_filtered (λ u. not (same t u)) (λ u. of u.contact ts ≡ Some u.seen) (λ u. of u.contact (t ∷ ts) ≡ Some u.seen)
+      (λ u is other. not_first u.contact t ts (turned u t ∙ not-true (same t u) other) ∙ is) (tallied ts) (tallied_each ts),
+)
+
+of_tallied : (ts : List Tally) → HasTallies ts (tallied ts)
+of_tallied ts = record { each = tallied_each ts; has = λ P. each_untallied P ts }
+
+pub distinct_tallied : (ts : List Tally) → AreDistinct (tallied ts)
+unfolding IsDistinct
+distinct_tallied [] = tt
+distinct_tallied (t ∷ ts) = search (rules, distinct_tallied ts, recursion_from_All, filter_passes, distinct_filter)
+
+-- distinct contacts are their tallies
+pub tallied_once : (ts : List Tally) → AreDistinct ts → tallied ts ≡ ts
+unfolding IsDistinct
+tallied_once [] once = refl
+tallied_once (t ∷ ts) once = λ i.
+    tally t.contact (unwrap_or ((own (t ∷ ts) once).0 i) t.seen)
+    ∷ (ap (filter (λ u. not (same t u))) (tallied_once ts once.1) ∙ filter_all (λ u. not (same t u)) ts (all_weaker ts (λ u other. ap not other) once.0)) i
+
+-- tallies in an order, as a list with the same ones has them
+pub one_list : (cmp : Tally → Tally → Ordering) → IsTotalOrder cmp → (ts us vs ws : List Tally) → AreTallies ts us → IsPermutation us vs → NoneBefore cmp vs
+    → IsStrictlySortedBy cmp ws → HasOnly (tallied ts) ws → HasOnly ws (tallied ts) → vs ≡ ws
+one_list cmp total ts us vs ws are moved up strict to from =
+    one_order cmp total same (λ t. itself t.contact) vs ws up (IsDistinct-IsPermutation same turned us vs moved (sorted_distinct us are.distinct)) strict
+    (λ P all. to P (same_tallies ts us (tallied ts) (of_tallies ts us are) (of_tallied ts) P (permuted_back us vs moved P all)))
+    (λ P all. permuted us vs moved P (same_tallies ts (tallied ts) us (of_tallied ts) (of_tallies ts us are) P (from P all)))
+
+-- ---- first lines
+
+abbrev pub line_cmp : Tally → Tally → Ordering
+line_cmp = on (λ t. t.seen.first_line) nat_cmp
+
+abbrev pub Ascend : List Tally → Type 0
+Ascend ts = IsStrictlySortedBy line_cmp ts
+
+abbrev Later : ℕ → Tally → Type 0
+Later n t = nat_cmp n t.seen.first_line ≡ Less
+
+pub compared : (m n : ℕ) → m < n → nat_cmp m n ≡ Less
+compared m n lt = grind (arith, nat_tests)
+
+of_later : (n : ℕ) (c : Contact) (ts : List Tally) → AllByRecursion (Later n) ts → IfSome (of c ts) (λ s. n < s.first_line)
+of_later n c [] all = tt
+of_later n c (t ∷ ts) all = grind (arith, common_steps, of_later n c ts all.1)
+
+tallied_later : (n : ℕ) (ts : List Tally) → AllByRecursion (Later n) ts → AllByRecursion (Later n) (tallied ts)
+tallied_later n ts all = all_weaker (tallied ts) (λ u is. compared n u.seen.first_line (subst (λ o. IfSome o (λ s. n < s.first_line)) is (of_later n u.contact ts all))) (tallied_each ts)
+
+-- the first line of all occurrences of the first contact is its own
+first_stays : (t : Tally) (o : Option Occurrences) → IfSome o (λ s. t.seen.first_line < s.first_line) → (unwrap_or (both_seen (Some t.seen) o) t.seen).first_line ≡ t.seen.first_line
+first_stays t None later = refl
+first_stays t (Some s) later = omega (arith, later)
+
+pub tallied_ascend : (ts : List Tally) → Ascend ts → Ascend (tallied ts)
+unfolding IsStrictlySortedBy
+tallied_ascend [] up = tt
+tallied_ascend (t ∷ ts) up =
+    let line : (unwrap_or (of t.contact (t ∷ ts)) t.seen).first_line ≡ t.seen.first_line =
+    ap (λ o. (unwrap_or o t.seen).first_line) (own_first t ts) ∙ first_stays t (of t.contact ts) (of_later t.seen.first_line t.contact ts up.0) in (
+      subst (λ n. AllByRecursion (Later n) (filter (λ u. not (same t u)) (tallied ts))) (sym line)
+          (all_filtered (λ u. not (same t u)) (Later t.seen.first_line) (Later t.seen.first_line) (λ u later _. later) (tallied ts) (tallied_later t.seen.first_line ts up.0)),
+      IsStrictlySortedBy-filter line_cmp (λ u. not (same t u)) (tallied ts) (tallied_ascend ts up.1),
     )
 
-pub contacts_ascend : (n : ℕ) (lines : List Text) → Ascends n (contacts_from n lines)
+contacts_later : (m n : ℕ) (lines : List Text) → m < n → AllByRecursion (Later m) (contacts_from n lines)
+contacts_later m n [] lt = tt
+contacts_later m n (l ∷ ls) lt = search (rules, contacts_later m (n + 1) ls)
+
+pub contacts_ascend : (n : ℕ) (lines : List Text) → Ascend (contacts_from n lines)
+unfolding IsStrictlySortedBy
 contacts_ascend n [] = tt
 contacts_ascend n (l ∷ ls) = by (contact_on (contact_in l)) (contacts_ascend (n + 1) ls)
   where
-    by : (o : Option Contact) → Ascends (n + 1) (contacts_from (n + 1) ls) → Ascends n (tally_on o (once n) ++ contacts_from (n + 1) ls)
-    by None up = ascends_from n (n + 1) (contacts_from (n + 1) ls) (omega arith) up
-    by (Some c) up = (omega arith, up)
+    by : (o : Option Contact) → Ascend (contacts_from (n + 1) ls) → Ascend (tally_on o (once n) ++ contacts_from (n + 1) ls)
+    by None rest = rest
+    by (Some c) rest = (contacts_later n (n + 1) ls (omega arith), rest)
 
--- ---- each distinct contact, with all its occurrences
+-- the contacts on lines, each once
+pub history_ascends : (lines : List Text) → Ascend (tallied (contacts_from 1 lines))
+history_ascends lines = tallied_ascend (contacts_from 1 lines) (contacts_ascend 1 lines)
 
-pub each_tallied : (P : Contact → Type 0) (ts : List Tally) → AllByRecursion (λ t. P t.contact) ts → AllByRecursion (λ t. P t.contact) (tallied ts)
-each_tallied P [] all = tt
-each_tallied P (t ∷ ts) all = (all.0, all_filtered (λ u. not (same_contact t.contact u.contact)) (λ u. P u.contact) (λ u. P u.contact) (λ u p _. p) (tallied ts) (each_tallied P ts all.1))
-
-other : (a b : Contact) → same_contact a b ≡ false → same_contact b a ≡ false
-other a b apart =
-    elim (same_contact b a) as (λ x. same_contact b a ≡ x → x ≡ false) [
-      | true ↦ λ yes. absurd (true≢false (sym (subst (λ c. same_contact a c ≡ true) (sym (same_is b a yes)) (itself a)) ∙ apart))
-      | false ↦ λ _. refl
-    ] refl
-
-not_true : (b : Bool) → not b ≡ true → b ≡ false
-not_true true e = absurd (true≢false (sym e))
-not_true false e = refl
-
-tallied_once : (ts : List Tally) → AllByRecursion (λ u. seen_where (same_contact u.contact) ts ≡ Some u.seen) (tallied ts)
-tallied_once [] = tt
-tallied_once (t ∷ ts) = (
-  subst (λ b. let o = both_seen (cond b (Some t.seen) None) (seen_where (same_contact t.contact) ts) in o ≡ Some (unwrap_or o t.seen)) (sym (itself t.contact)) (whole (seen_where (same_contact t.contact) ts)),
-  all_filtered (λ u. not (same_contact t.contact u.contact)) (λ u. seen_where (same_contact u.contact) ts ≡ Some u.seen) (λ u. seen_where (same_contact u.contact) (t ∷ ts) ≡ Some u.seen)
-      (λ u is apart. ap (λ b. both_seen (cond b (Some t.seen) None) (seen_where (same_contact u.contact) ts)) (other t.contact u.contact (not_true (same_contact t.contact u.contact) apart)) ∙ is)
-      (tallied ts) (tallied_once ts),
-)
-  where
-    whole : (o : Option Occurrences) → both_seen (Some t.seen) o ≡ Some (unwrap_or (both_seen (Some t.seen) o) t.seen)
-    whole None = refl
-    whole (Some seen) = refl
-
-tallied_at : (P : Tally → Type 0) (c : Contact) (seen : Occurrences) (ts : List Tally) → seen_where (same_contact c) ts ≡ Some seen → AllByRecursion P (tallied ts) → P (record { contact = c; seen = seen })
-tallied_at P c seen [] is all = absurd (cc)
-tallied_at P c seen (t ∷ ts) is all =
-    elim (same_contact c t.contact) as (λ b. same_contact c t.contact ≡ b → both_seen (cond b (Some t.seen) None) (seen_where (same_contact c) ts) ≡ Some seen → P (record { contact = c; seen = seen })) [
-      | true ↦ λ same _.
-          let e : t.contact ≡ c = sym (same_is c t.contact same) in
-          let all_seen = ap (λ d. unwrap_or (seen_where (same_contact d) (t ∷ ts)) t.seen) e ∙ ap (λ o. unwrap_or o t.seen) is in
-          subst P (λ i. record { contact = e i; seen = all_seen i }) all.0
-      | false ↦ λ apart rest.
-          tallied_at (λ u. not (same_contact t.contact u.contact) ≡ true → P u) c seen ts rest
-          (all_unfiltered (λ u. not (same_contact t.contact u.contact)) P (tallied ts) all.1) (ap not (other c t.contact apart))
-    ] refl is
-
--- tallies have nothing else
-pub tallies_among : (P : Tally → Type 0) (ts us : List Tally) → AreTallies ts us → AllByRecursion P (tallied ts) → AllByRecursion P us
-tallies_among P ts us are all = all_weaker us (λ u is. tallied_at P u.contact u.seen ts is all) are.each
-
--- and they have all of it
-pub tallied_among : (P : Tally → Type 0) (ts us : List Tally) → AreTallies ts us → AllByRecursion P us → AllByRecursion P (tallied ts)
-tallied_among P ts us are all =
-    let there : AllByRecursion (λ t. Contains (contacts us) t.contact) ts =
-    recursion_from_All (λ t. Contains (contacts us) t.contact) ts (All-weaker (Contains ts) (λ t. Contains (contacts us) t.contact) are.every ts (All-contains_itself ts)) in
-    all_apply (λ z. seen_where (same_contact z.contact) ts ≡ Some z.seen) (λ z. Contains (contacts us) z.contact) P at (tallied ts) (tallied_once ts) (each_tallied (Contains (contacts us)) ts there)
-  where
-    at : (z : Tally) → seen_where (same_contact z.contact) ts ≡ Some z.seen → Contains (contacts us) z.contact → P z
-    at z own among =
-        All-contains (λ c. c ≡ z.contact → P z) (contacts us) z.contact
-        (All-from_recursion (λ c. c ≡ z.contact → P z) (contacts us)
-        (all_mapped (λ (t : Tally). t.contact) (λ c. c ≡ z.contact → P z) us
-        (all_apply (λ u. seen_where (same_contact u.contact) ts ≡ Some u.seen) P (λ u. u.contact ≡ z.contact → P z) same us are.each all)))
-        among refl
-      where
-        same : (u : Tally) → seen_where (same_contact u.contact) ts ≡ Some u.seen → P u → u.contact ≡ z.contact → P z
-        same u is p e =
-            let seen : u.seen ≡ z.seen = ap (λ o. unwrap_or o u.seen) (sym is ∙ ap (λ c. seen_where (same_contact c) ts) e ∙ own) in
-            subst P (λ i. record { contact = e i; seen = seen i }) p
-
--- ---- no contact is there twice
-
-abbrev times : Contact → List Tally → ℕ
-times c ts = count_by (λ t. same_contact c t.contact) ts
-
-abbrev pub AreApart : List Tally → Type 0
-AreApart ts = (c : Contact) → times c ts ≤ 1
-
-module _ (c : Contact) (t : Tally) (ts : List Tally) where
-  times_more : times c (t ∷ ts) ≡ cond (same_contact c t.contact) 1 0 + times c ts
-  times_more = sum_by-cons (λ (u : Tally). cond (same_contact c u.contact) 1 0) t ts
-
-  times_same : same_contact c t.contact ≡ true → times c (t ∷ ts) ≡ 1 + times c ts
-  times_same same = times_more ∙ ap (λ b. cond b 1 0 + times c ts) same
-
-  times_other : same_contact c t.contact ≡ false → times c (t ∷ ts) ≡ times c ts
-  times_other apart =
-      let more : times c (t ∷ ts) ≡ 0 + times c ts = times_more ∙ ap (λ b. cond b 1 0 + times c ts) apart in
-      omega (arith, more)
-
-never : (c : Contact) (ts : List Tally) → AllByRecursion (λ d. contact_cmp c d ≡ Less) (contacts ts) → times c ts ≡ 0
-never c [] up = refl
-never c (t ∷ ts) up = times_other c t ts (after c t.contact up.0) ∙ never c ts up.1
-
-pub sorted_apart : (ts : List Tally) → IsStrictlySortedBy contact_cmp (contacts ts) → AreApart ts
-unfolding IsStrictlySortedBy
-sorted_apart [] up = λ c. omega arith
-sorted_apart (t ∷ ts) up = λ c.
-    elim (same_contact c t.contact) as (λ b. same_contact c t.contact ≡ b → times c (t ∷ ts) ≤ 1) [
-      | true ↦ λ same.
-          let one = times_same c t ts same in
-          let none : times c ts ≡ 0 = ap (λ d. times d ts) (same_is c t.contact same) ∙ never t.contact ts up.0 in
-          omega (arith, one, none)
-      | false ↦ λ apart.
-          let few : times c ts ≤ 1 = sorted_apart ts up.1 c in
-          subst (λ n. n ≤ 1) (sym (times_other c t ts apart)) few
-    ] refl
-
-pub permuted_apart : (ts us : List Tally) → IsPermutation ts us → AreApart ts → AreApart us
-permuted_apart ts us moved few = λ c. subst (λ n. n ≤ 1) (sym (sum_by-IsPermutation (λ (u : Tally). cond (same_contact c u.contact) 1 0) ts us moved)) (few c)
-
-apart_rest : (t : Tally) (ts : List Tally) → AreApart (t ∷ ts) → AreApart ts
-apart_rest t ts few = λ c.
-    let more = times_more c t ts in
-    let all : times c (t ∷ ts) ≤ 1 = few c in
-    omega (arith, more, all)
-
-apart_others : (t : Tally) (ts : List Tally) → AreApart (t ∷ ts) → AllByRecursion (λ u. same_contact t.contact u.contact ≡ false) ts
-apart_others t ts few =
-    let one = times_same t.contact t ts (itself t.contact) in
-    let all : times t.contact (t ∷ ts) ≤ 1 = few t.contact in
-    none ts (omega (arith, one, all))
-  where
-    none : (us : List Tally) → times t.contact us ≡ 0 → AllByRecursion (λ u. same_contact t.contact u.contact ≡ false) us
-    none [] e = tt
-    none (u ∷ us) e =
-        elim (same_contact t.contact u.contact) as (λ b. same_contact t.contact u.contact ≡ b → (b ≡ false) × AllByRecursion (λ u. same_contact t.contact u.contact ≡ false) us) [
-          | true ↦ λ yes.
-              let some = times_same t.contact u us yes in
-              absurd (omega (arith, some, e))
-          | false ↦ λ apart. (refl, none us (sym (times_other t.contact u us apart) ∙ e))
-        ] refl
-
--- ---- sorted lists of the same contacts
-
-abbrev pub Climbs : {X : Type 0} → (X → ℕ) → List X → Type 0
-Climbs n [] = ⊤
-Climbs n (x ∷ xs) = AllByRecursion (λ y. n x ≤ n y) xs × Climbs n xs
-
-pub climbs : {X : Type 0} (n : X → ℕ) (xs : List X) → IsNonDecreasingBy n xs → Climbs n xs
-climbs n [] up = tt
-climbs n (x ∷ xs) up = (
-  recursion_from_All (λ y. n x ≤ n y) xs (λ k d lt. up 0 (suc k) d (omega arith) (omega (arith, lt))),
-  climbs n xs (λ i j d le lt. up (suc i) (suc j) d (omega (arith, le)) (omega (arith, lt))),
-)
-
-pub climbs_mapped : {X Y : Type 0} (f : X → Y) (n : Y → ℕ) (xs : List X) → Climbs (λ x. n (f x)) xs → Climbs n (map f xs)
-climbs_mapped f n [] up = tt
-climbs_mapped f n (x ∷ xs) up = (all_mapped f (λ y. n (f x) ≤ n y) xs up.0, climbs_mapped f n xs up.1)
-
-pub same_order : (n : ℕ) (xs ys : List Tally) → Ascends n xs → Climbs line ys → AreApart ys
-    → ((P : Tally → Type 0) → AllByRecursion P xs → AllByRecursion P ys) → ((P : Tally → Type 0) → AllByRecursion P ys → AllByRecursion P xs) → ys ≡ xs
-same_order n [] [] _ _ _ _ _ = refl
-same_order n [] (y ∷ ys) _ _ _ all_ys _ = absurd ((all_ys (λ _. ⊥) tt).0)
-same_order n (x ∷ xs) [] _ _ _ _ all_xs = absurd ((all_xs (λ _. ⊥) tt).0)
-same_order n (x ∷ xs) (y ∷ ys) up climb apart all_ys all_xs =
-    let above : AllByRecursion (λ z. line x + 1 ≤ line z) xs = later (line x + 1) xs up.1 in
-    let le : line x ≤ line y = (all_ys (λ z. line x ≤ line z) (omega arith, all_weaker xs (λ z lt. omega (arith, lt)) above)).0 in
-    let ge : line y ≤ line x = (all_xs (λ z. line y ≤ line z) (omega arith, climb.0)).0 in
-    let same : y ≡ x = (all_ys (λ z. line z ≤ line x → z ≡ x) (λ _. refl, all_weaker xs (λ z lt le. absurd (omega (arith, lt, le))) above)).0 ge in
-    let rest : ys ≡ xs =
-    same_order (line x + 1) xs ys up.1 climb.1 (apart_rest y ys apart)
-    (λ P all.
-    all_apply (λ z. same_contact y.contact z.contact ≡ false) (λ z. same_contact y.contact z.contact ≡ false → P z) P (λ z apart p. p apart) ys (apart_others y ys apart)
-    (all_ys (λ z. same_contact y.contact z.contact ≡ false → P z) (λ apart. absurd (true≢false (sym (itself y.contact) ∙ ap (λ (z : Tally). same_contact y.contact z.contact) same ∙ apart)), all_weaker xs (λ z p _. p) all)).1)
-    (λ P all.
-    all_apply (λ z. line x + 1 ≤ line z) (λ z. line x + 1 ≤ line z → P z) P (λ z lt p. p lt) xs above
-    (all_xs (λ z. line x + 1 ≤ line z → P z) (λ lt. absurd (omega (arith, lt, ge)), all_weaker ys (λ z p _. p) all)).1) in
-    λ i. same i ∷ rest i
-
--- the tallies of contacts on lines, sorted by their lines
-pub sorted_tallies : (lines : List Text) (us vs : List Tally) → AreTallies (contacts_from 1 lines) us → IsPermutation us vs → Climbs line vs → vs ≡ tallied (contacts_from 1 lines)
-sorted_tallies lines us vs are moved climb =
-    let ts = contacts_from 1 lines in
-    same_order 1 (tallied ts) vs (ascends_tallied 1 ts (contacts_ascend 1 lines)) climb
-    (permuted_apart us vs moved (sorted_apart us are.distinct))
-    (λ P all. recursion_from_All P vs (All-permutation P us vs moved (All-from_recursion P us (tallies_among P ts us are all))))
-    (λ P all. tallied_among P ts us are (recursion_from_All P us (All-permutation P vs us (IsPermutation-sym us vs moved) (All-from_recursion P vs all))))
+pub sorted_tallies : (lines : List Text) (us vs : List Tally) → AreTallies (contacts_from 1 lines) us → IsPermutation us vs → NoneBefore line_cmp vs → vs ≡ tallied (contacts_from 1 lines)
+sorted_tallies lines us vs are moved up = search (rules, one_list, on_total, nat_cmp_total, history_ascends)

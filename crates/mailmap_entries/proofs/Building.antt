@@ -1,6 +1,7 @@
 -- What merges build, and what the merged entries can be replaced by.
-use Rattle.std.proofs.Common.{◌≡◌, ◌≢◌, ◌||◌, Bool, true, false, true≢false, List, [], ◌∷◌, ◌++◌, Option, Some, None, IsSome, if◌then◌else◌, unwrap_or, option_map, append-nil, refl, sym, ap, subst, ◌∙◌}
-use Rattle.std.specs.Cmp.{Equal-is, tied_itself}
+use Rattle.std.proofs.Common.{arith, ◌≡◌, ◌≢◌, ◌||◌, Bool, true, true≢false, List, [], ◌∷◌, ◌++◌, Option, Some, None, IsSome, if◌then◌else◌, unwrap_or, option_map, append-nil, refl, sym, ap, subst, ◌∙◌}
+use Rattle.std.specs.Prelude.{◌↔◌}
+use Rattle.std.proofs.lemmas.Bool.{false_from_ne_true}
 use Rattle.std.specs.Cmp.Lexicographic.{nat_list_cmp_total}
 use Rattle.std.specs.List.{AllByRecursion}
 use Rattle.std.specs.Option.{option_or}
@@ -14,7 +15,7 @@ use Rattle.mailmap_entries.specs.Semantics.{Key, Fields, has_key, key, key_cmp, 
 use Rattle.mailmap_entries.proofs.Alike.{Alike, first_name, same_normal, alike_accepted, alike_back, alike_itself, alike_joined, first_parts, last_parts, given_parts, key_parts}
 use Rattle.mailmap_entries.proofs.Exists.{normal, is_normal}
 use Rattle.mailmap_entries.proofs.Joined.{IsApart, alike_trans, alike_swapped}
-use Rattle.mailmap_entries.proofs.Keys.{keys_total, keys_exact}
+use Rattle.mailmap_entries.proofs.Keys.{exactly_tied, keys_total, keys_exact}
 use Rattle.mailmap_entries.proofs.Normal.{alike_normal, normal_nothing, normal_then}
 use Rattle.mailmap_entries.proofs.Parts.{filter_all}
 use Rattle.mailmap_entries.proofs.Reorder.{by_email, of_name}
@@ -66,12 +67,10 @@ normal_condensed h n a b c m d parts is =
 -- ---- mappings that are merged twice
 
 or_itself : (b : Bool) → (b || b) ≡ b
-or_itself true = refl
-or_itself false = refl
+or_itself b = grind arith
 
 option_or_itself : {X : Type 0} (o : Option X) → option_or o o ≡ o
-option_or_itself None = refl
-option_or_itself (Some x) = refl
+option_or_itself o = grind arith
 
 -- a list followed by itself is alike the list
 pub alike_repeated : (h : List Mapping) → Alike (h ++ h) h
@@ -91,23 +90,21 @@ pub normal_repeated : (h n : List Mapping) → IsNormal h n → IsNormal (h ++ n
 normal_repeated h n d =
     same_normal h (h ++ n) n (alike_trans h (h ++ h) (h ++ n) (alike_back (h ++ h) h (alike_repeated h)) (alike_joined h h h n (alike_itself h) (alike_normal h n d))) d
 
+-- ---- texts and keys that compare as equal
+
+pub same_text : (a b : Text) → (eq_by_cmp text_cmp a b ≡ true) ↔ (a ≡ b)
+same_text = exactly_tied nat_list_cmp_total exact_bytes
+
+pub same_key : (j k : Key) → (eq_by_cmp key_cmp j k ≡ true) ↔ (j ≡ k)
+same_key = exactly_tied keys_total keys_exact
+
 -- ---- neighbours with different emails
-
-equal_texts : (a b : Text) → eq_by_cmp text_cmp a b ≡ true → a ≡ b
-equal_texts a b e = exact_bytes a b ((Equal-is (text_cmp a b)).0 e)
-
-equal_keys : (j k : Key) → eq_by_cmp key_cmp j k ≡ true → j ≡ k
-equal_keys j k e = keys_exact j k ((Equal-is (key_cmp j k)).0 e)
-
-refuted : (b : Bool) → (b ≡ true → ⊥) → b ≡ false
-refuted true never = absurd (never refl)
-refuted false never = refl
 
 pub alike_neighbours : (a b : List Mapping) (x y : Mapping) → folded x.old_email ≢ folded y.old_email → Alike (a ++ x ∷ y ∷ b) (a ++ y ∷ x ∷ b)
 alike_neighbours a b x y differ =
     let apart : IsApart x y = (
-      refuted _ (λ e. differ (ap (λ k. k.0) (equal_keys (key x) (key y) e))),
-      λ e. absurd (differ (equal_texts (folded x.old_email) (folded y.old_email) e)),
+      false_from_ne_true _ (λ e. differ (ap (λ k. k.0) ((same_key (key x) (key y)).0 e))),
+      λ e. absurd (differ ((same_text (folded x.old_email) (folded y.old_email)).0 e)),
     ) in
     alike_joined a (x ∷ y ∷ b) a (y ∷ x ∷ b) (alike_itself a) (alike_joined (x ∷ y ∷ []) b (y ∷ x ∷ []) b (alike_swapped (x ∷ []) (y ∷ []) ((apart, tt), tt)) (alike_itself b))
 
@@ -128,18 +125,13 @@ scan_by_email h g name email same =
 -- without a new email, the email after resolving is the stored spelling, whether or not the signature has exactly that
 one_email : (name new : Option Text) (kept email : Text) (same : Bool) → (same ≡ true → kept ≡ email)
     → unwrap_or (unwrap_or (unless_empty (record { name = name; email = option_or new (if same then None else Some kept) })) no_fields).email email ≡ unwrap_or new kept
-one_email None (Some e) kept email same is = refl
-one_email (Some n) (Some e) kept email same is = refl
-one_email None None kept email true is = sym (is refl)
-one_email (Some n) None kept email true is = sym (is refl)
-one_email None None kept email false is = refl
-one_email (Some n) None kept email false is = refl
+one_email name new kept email same is = grind arith
 
 one_of : (f : Fields) (spelled : Option Text) (email other : Text) → IsSome spelled
     → unwrap_or (unwrap_or (fields_with_spelling email f spelled) no_fields).email email ≡ unwrap_or (unwrap_or (fields_with_spelling other f spelled) no_fields).email other
 one_of f None email other is = absurd (true≢false (sym is))
 one_of f (Some kept) email other is =
-    one_email f.name f.email kept email _ (equal_texts kept email) ∙ sym (one_email f.name f.email kept other _ (equal_texts kept other))
+    one_email f.name f.email kept email _ (same_text kept email).0 ∙ sym (one_email f.name f.email kept other _ (same_text kept other).0)
 
 -- signatures that differ only in the case of letters have one email, if there is an entry for that email
 pub one_resolved : (h : List Mapping) (name other_name email other_email : Text) → folded name ≡ folded other_name → folded email ≡ folded other_email → IsSome (spelling h (folded email))
@@ -147,11 +139,3 @@ pub one_resolved : (h : List Mapping) (name other_name email other_email : Text)
 one_resolved h name other_name email other_email names emails some =
     one_of (unwrap_or (last_fields h (folded email, Some (folded name))) (given_fields h (folded email))) (spelling h (folded email)) email other_email some
     ∙ (λ i. unwrap_or (unwrap_or (fields_with_spelling other_email (unwrap_or (last_fields h (emails i, Some (names i))) (given_fields h (emails i))) (spelling h (emails i))) no_fields).email other_email)
-
--- ---- texts and keys that compare as equal
-
-pub same_text : (a b : Text) → (eq_by_cmp text_cmp a b ≡ true → a ≡ b) × (a ≡ b → eq_by_cmp text_cmp a b ≡ true)
-same_text a b = (equal_texts a b, λ e. subst (λ t. eq_by_cmp text_cmp a t ≡ true) e ((Equal-is (text_cmp a a)).1 (tied_itself nat_list_cmp_total a)))
-
-pub same_key : (j k : Key) → (eq_by_cmp key_cmp j k ≡ true → j ≡ k) × (j ≡ k → eq_by_cmp key_cmp j k ≡ true)
-same_key j k = (equal_keys j k, λ e. subst (λ l. eq_by_cmp key_cmp j l ≡ true) e ((Equal-is (key_cmp j j)).1 (tied_itself keys_total j)))

@@ -1,7 +1,7 @@
 -- Listings that compare as equal are the same. The laws about their equality and their hash follow from that.
-use Rattle.std.proofs.Common.{◌≡◌, ◌&&◌, Bool, true, false, true≢false, List, Option, Some, None, refl, sym, ap, ap₂, subst}
+use Rattle.std.proofs.Common.{◌≡◌, ◌&&◌, true, true≢false, List, Option, Some, None, refl, sym, ap, ap₂, subst}
 use Rattle.std.specs.Bool.{Decides, IsTrue}
-use Rattle.std.specs.Cmp.{IsEquivalence, IsPartialEquivalence, partial_equiv_from_equiv, first_so, second_so}
+use Rattle.std.specs.Cmp.{IsEquivalence, IsPartialEquivalence, both_ways, partial_equiv_from_equiv, first_so, second_so}
 use Rattle.std.specs.Prelude.{nat_eq}
 use lib.Pointwise.{pointwise, pointwise_decides, bytes_decides}
 use Rattle.mailmap_entries.specs.Entries.{Mapping}
@@ -41,11 +41,6 @@ pub entries_decide : (xs ys : List Mapping) → Decides (same_entries xs ys) (xs
 entries_decide = pointwise_decides entry_decides
 
 -- ---- the laws about equality and hash
-
-both_ways : (a b : Bool) → (a ≡ true → b ≡ true) → (b ≡ true → a ≡ true) → a ≡ b
-both_ways true b f g = sym (f refl)
-both_ways false true f g = g refl
-both_ways false false f g = refl
 
 pub equal_entries : IsEquivalence same_entries
 equal_entries = record {

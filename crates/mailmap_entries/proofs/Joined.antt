@@ -1,18 +1,17 @@
 -- Joined lists of mappings: which entries can be swapped, and which two can be combined into one.
-use Rattle.std.proofs.Common.{◌≡◌, Bool, true, false, true≢false, cond, ◌&&◌, ◌||◌, List, [], ◌∷◌, ◌++◌, map, filter, filter_map, append-nil, append_assoc, Option, Some, None, Ordering, Less, Equal, Greater, is_eq, is_some, option_map, unwrap_or, refl, sym, ap, subst, ◌∙◌}
+use Rattle.std.proofs.Common.{arith, ◌≡◌, Bool, true, false, true≢false, cond, ◌||◌, List, [], ◌∷◌, ◌++◌, map, filter, filter_map, append-nil, append_assoc, Option, Some, None, Ordering, Less, Greater, is_eq, is_some, option_map, refl, sym, ap, subst, ◌∙◌}
 use Rattle.std.specs.Cmp.{eq_by_cmp_equiv}
 use Rattle.std.specs.Cmp.Lexicographic.{nat_list_cmp_total}
 use Rattle.std.specs.Option.{option_or}
 use Rattle.std.specs.List.{AllByRecursion, cons_option}
 use Rattle.std.specs.Ordering.{eq_by_cmp, ordering_then}
-use Rattle.std.proofs.lemmas.Bool.{and_parts}
 use Rattle.mailmap_entries.specs.Entries.{Mapping}
 use Rattle.mailmap_entries.specs.Folding.{Text, folded, text_cmp}
 use Rattle.mailmap_entries.specs.Semantics.{Fields, Key, key, key_cmp, first, last, last_given, is_accepted, accepted, mapping_with, new_fields, of_key, spelling}
 use Rattle.mailmap_entries.proofs.Alike.{Alike, alike_itself, alike_joined}
 use Rattle.mailmap_entries.proofs.Keys.{keys_total}
 use Rattle.mailmap_entries.proofs.Normal.{known}
-use Rattle.mailmap_entries.proofs.Parts.{filter-filter, filter_all, is_some-option_map, last_of_one}
+use Rattle.mailmap_entries.proofs.Parts.{filter_all, is_some-option_map, last_of_one}
 
 -- being alike is transitive
 pub alike_trans : (a b c : List Mapping) → Alike a b → Alike b c → Alike a c
@@ -28,22 +27,18 @@ alike_trans a b c p q =
 -- ---- what counts among the entries of a key
 
 first-map : {X Y : Type 0} (f : X → Y) (xs : List X) → first (map f xs) ≡ option_map f (first xs)
-first-map f [] = refl
-first-map f (x ∷ xs) = refl
+first-map f xs = grind arith
 
 last-map : {X Y : Type 0} (f : X → Y) (xs : List X) → last (map f xs) ≡ option_map f (last xs)
 last-map f [] = refl
-last-map f (x ∷ xs) =
-    ap (λ o. Some (unwrap_or o (f x))) (last-map f xs)
-    ∙ (elim (last xs) as (λ o. Some (unwrap_or (option_map f o) (f x)) ≡ Some (f (unwrap_or o x))) [ None ↦ refl | Some y ↦ refl ])
+last-map f (x ∷ xs) = grind (arith, last-map f xs)
 
 filter_map-map : {X Y Z : Type 0} (f : Y → Option Z) (g : X → Y) (xs : List X) → filter_map f (map g xs) ≡ filter_map (λ x. f (g x)) xs
 filter_map-map f g [] = refl
 filter_map-map f g (x ∷ xs) = ap (cons_option (f (g x))) (filter_map-map f g xs)
 
 option_map-map : {X Y Z : Type 0} (f : Y → Z) (g : X → Y) (o : Option X) → option_map f (option_map g o) ≡ option_map (λ x. f (g x)) o
-option_map-map f g None = refl
-option_map-map f g (Some x) = refl
+option_map-map f g o = grind arith
 
 abbrev Stripped : Type 0
 Stripped = Fields × Option Text
@@ -80,45 +75,21 @@ alike_by_keys b u keyed spelled =
 abbrev pub IsApart : Mapping → Mapping → Type 0
 IsApart x y = (eq_by_cmp key_cmp (key x) (key y) ≡ false) × (eq_by_cmp text_cmp (folded x.old_email) (folded y.old_email) ≡ true → x.old_email ≡ y.old_email)
 
--- unless both pass, a filter gives the same in either order
-filter_swapped : {X : Type 0} (p : X → Bool) (x y : X) → (p x ≡ true → p y ≡ true → ⊥) → filter p (x ∷ y ∷ []) ≡ filter p (y ∷ x ∷ [])
-filter_swapped p x y never = by (p x) (p y) never
-  where
-    by : (a b : Bool) → (a ≡ true → b ≡ true → ⊥) → cond a (x ∷ cond b (y ∷ []) []) (cond b (y ∷ []) []) ≡ cond b (y ∷ cond a (x ∷ []) []) (cond a (x ∷ []) [])
-    by true true h = absurd (h refl refl)
-    by true false h = refl
-    by false true h = refl
-    by false false h = refl
+-- unless both pass, filters give the same in either order
+filter_swapped : {X : Type 0} (p q : X → Bool) (x y : X) → (p x ≡ true → p y ≡ true → ⊥) → filter p (filter q (x ∷ y ∷ [])) ≡ filter p (filter q (y ∷ x ∷ []))
+filter_swapped p q x y never = grind arith
 
 -- if both give the same value, so does the first that passes, in either order
-first_swapped : {X Y : Type 0} (f : X → Y) (p : X → Bool) (x y : X) → (p x ≡ true → p y ≡ true → f x ≡ f y) → option_map f (first (filter p (x ∷ y ∷ []))) ≡ option_map f (first (filter p (y ∷ x ∷ [])))
-first_swapped f p x y same = by (p x) (p y) same
-  where
-    by : (a b : Bool) → (a ≡ true → b ≡ true → f x ≡ f y)
-        → option_map f (first (cond a (x ∷ cond b (y ∷ []) []) (cond b (y ∷ []) []))) ≡ option_map f (first (cond b (y ∷ cond a (x ∷ []) []) (cond a (x ∷ []) [])))
-    by true true h = ap (λ z. Some z) (h refl refl)
-    by true false h = refl
-    by false true h = refl
-    by false false h = refl
+first_swapped : {X Y : Type 0} (f : X → Y) (p q : X → Bool) (x y : X) → (p x ≡ true → p y ≡ true → f x ≡ f y) → option_map f (first (filter p (filter q (x ∷ y ∷ [])))) ≡ option_map f (first (filter p (filter q (y ∷ x ∷ []))))
+first_swapped f p q x y same = grind arith
 
 pair_swapped : (x y : Mapping) → IsApart x y → Alike (x ∷ y ∷ []) (y ∷ x ∷ [])
-pair_swapped x y apart = alike_by_keys (x ∷ y ∷ []) (y ∷ x ∷ []) (λ k. ap (map stripped) (keyed k)) spelled
-  where
-    keyed : (k : Key) → of_key (x ∷ y ∷ []) k ≡ of_key (y ∷ x ∷ []) k
-    keyed k =
-        let t : Mapping → Bool = λ e. eq_by_cmp key_cmp k (key e) in
-        filter-filter t is_accepted (x ∷ y ∷ [])
-        ∙ filter_swapped (λ e. is_accepted e && t e) x y
-        (λ p q. true≢false (sym (and_parts (is_accepted y) (t y) q).1 ∙ (eq_by_cmp_equiv keys_total).congr k (key x) (key y) ((and_parts (is_accepted x) (t x) p).1) ∙ apart.0))
-        ∙ sym (filter-filter t is_accepted (y ∷ x ∷ []))
-
-    spelled : (email : Text) → spelling (x ∷ y ∷ []) email ≡ spelling (y ∷ x ∷ []) email
-    spelled email =
-        let t : Mapping → Bool = λ e. eq_by_cmp text_cmp email (folded e.old_email) in
-        ap (λ l. option_map (λ e. e.old_email) (first l)) (filter-filter t is_accepted (x ∷ y ∷ []))
-        ∙ first_swapped (λ e. e.old_email) (λ e. is_accepted e && t e) x y
-        (λ p q. apart.1 (sym ((eq_by_cmp_equiv nat_list_cmp_total).congr email (folded x.old_email) (folded y.old_email) ((and_parts (is_accepted x) (t x) p).1)) ∙ (and_parts (is_accepted y) (t y) q).1))
-        ∙ ap (λ l. option_map (λ e. e.old_email) (first l)) (sym (filter-filter t is_accepted (y ∷ x ∷ [])))
+pair_swapped x y apart =
+    alike_by_keys (x ∷ y ∷ []) (y ∷ x ∷ [])
+    (λ k. ap (map stripped) (filter_swapped (λ e. eq_by_cmp key_cmp k (key e)) is_accepted x y
+    (λ p q. true≢false (sym q ∙ (eq_by_cmp_equiv keys_total).congr k (key x) (key y) p ∙ apart.0))))
+    (λ email. first_swapped (λ e. e.old_email) (λ e. eq_by_cmp text_cmp email (folded e.old_email)) is_accepted x y
+    (λ p q. apart.1 (sym ((eq_by_cmp_equiv nat_list_cmp_total).congr email (folded x.old_email) (folded y.old_email) p) ∙ q)))
 
 -- an entry can move behind entries that are apart from it
 moved_behind : (x : Mapping) (ys : List Mapping) → AllByRecursion (IsApart x) ys → Alike (x ∷ ys) (ys ++ x ∷ [])
@@ -147,17 +118,9 @@ filter_none p (x ∷ xs) a = λ i. cond (a.0 i) (x ∷ filter p xs) (filter_none
 module _ (x y c : Mapping) (good_x : is_accepted x ≡ true) (good_y : is_accepted y ≡ true) (good_c : is_accepted c ≡ true) where
   asked_both : {Y : Type 0} (ask : List Mapping → Y) (p : Mapping → Bool) → p x ≡ p c → p y ≡ p c → (p c ≡ true → ask (x ∷ y ∷ []) ≡ ask (c ∷ [])) → ask (filter p (accepted (x ∷ y ∷ []))) ≡ ask (filter p (accepted (c ∷ [])))
   asked_both ask p px py same =
-      ap (λ l. ask (filter p l)) (filter_all is_accepted (x ∷ y ∷ []) (good_x, (good_y, tt)))
-      ∙ by (p x) (p y) (p c) px py same
-      ∙ ap (λ l. ask (filter p l)) (sym (filter_all is_accepted (c ∷ []) (good_c, tt)))
-    where
-      by : (a b d : Bool) → a ≡ d → b ≡ d → (d ≡ true → ask (x ∷ y ∷ []) ≡ ask (c ∷ [])) → ask (cond a (x ∷ cond b (y ∷ []) []) (cond b (y ∷ []) [])) ≡ ask (cond d (c ∷ []) [])
-      by true true true e f h = h refl
-      by false false false e f h = refl
-      by true b false e f h = absurd (true≢false e)
-      by false b true e f h = absurd (true≢false (sym e))
-      by a true false e f h = absurd (true≢false f)
-      by a false true e f h = absurd (true≢false (sym f))
+      let xy = filter_all is_accepted (x ∷ y ∷ []) (good_x, (good_y, tt)) in
+      let alone = filter_all is_accepted (c ∷ []) (good_c, tt) in
+      grind arith
 
   stands_for_both : key x ≡ key c → key y ≡ key c → x.old_email ≡ c.old_email → x.old_name ≡ c.old_name
       → ((email : Text) → eq_by_cmp key_cmp (email, None) (key c) ≡ true → (last_given (λ e. e.new_name) (x ∷ y ∷ []) ≡ last_given (λ e. e.new_name) (c ∷ [])) × (last_given (λ e. e.new_email) (x ∷ y ∷ []) ≡ last_given (λ e. e.new_email) (c ∷ [])))
@@ -180,25 +143,14 @@ module _ (x y c : Mapping) (good_x : is_accepted x ≡ true) (good_y : is_accept
 
 -- what the second of two orders distinguishes, both together distinguish
 pub never : (o r : Ordering) → is_eq r ≡ false → is_eq (ordering_then o r) ≡ false
-never Less r e = refl
-never Equal r e = e
-never Greater r e = refl
+never o r e = grind arith
 
 last_of_two : (f : Mapping → Option Text) (x y : Mapping) → last_given f (x ∷ y ∷ []) ≡ option_or (f y) (f x)
-last_of_two f x y = two (f x) (f y)
-  where
-    two : (a b : Option Text) → last (cons_option a (cons_option b [])) ≡ option_or b a
-    two None None = refl
-    two None (Some z) = refl
-    two (Some z) None = refl
-    two (Some z) (Some w) = refl
+last_of_two f x y = grind arith
 
 -- with fallbacks added, there is still a field
 pub either_given : (a b c d : Option Text) → (is_some a || is_some b) ≡ true → (is_some (option_or a c) || is_some (option_or b d)) ≡ true
-either_given (Some z) b c d e = refl
-either_given None (Some z) None d e = refl
-either_given None (Some z) (Some w) d e = refl
-either_given None None c d e = absurd (true≢false (sym e))
+either_given a b c d e = grind arith
 
 abbrev combined_at : Option Text → Mapping → Mapping → Mapping
 combined_at None x y = mapping_with (record { name = option_or y.new_name x.new_name; email = option_or y.new_email x.new_email }) None x.old_email

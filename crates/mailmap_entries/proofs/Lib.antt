@@ -1,5 +1,4 @@
 pub mod Folding
-pub mod Ordered
 pub mod Prefixes
 pub mod Lowercase
 pub mod Search
@@ -16,4 +15,3 @@ pub mod Reorder
 pub mod Unique
 pub mod EqualListings
 pub mod Building
-pub mod Shortest

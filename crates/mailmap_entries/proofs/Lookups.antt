@@ -1,11 +1,9 @@
 -- Results of a binary search by key, in a table whose keys strictly ascend.
-use Rattle.std.proofs.Common.{◌≡◌, ◌≢◌, ℕ, ◌<◌, ◌≤◌, List, [], ◌∷◌, length, map, get_or, All, Some, Ordering, Less, Equal, Greater, refl, sym, ap, ◌∙◌, arith, ⊎_elim}
+use Rattle.std.proofs.Common.{◌≡◌, ◌≢◌, ℕ, ◌<◌, ◌≤◌, List, [], ◌∷◌, length, map, Some, Ordering, Less, Equal, Greater, refl, sym, ap, ◌∙◌, arith}
 use Rattle.std.specs.List.{slice_get, AllByRecursion, AllWithin, HoldsAt}
 use Rattle.std.specs.List.Sorted.{IsStrictlySortedBy, IsPartitionPoint}
 use Rattle.std.specs.Ordering.{ordering_reverse}
 use Rattle.std.specs.Cmp.{IsTotalOrder}
-use Rattle.std.specs.FinMap.{IsAntisymmetric}
-use Rattle.std.proofs.lemmas.Bool.{cases_lt}
 use Rattle.std.proofs.lemmas.List.{get_or-map, length-map}
 use Rattle.std.proofs.lemmas.Option.{slice_get_within, get_or_from_slice_get}
 use Rattle.mailmap_entries.specs.Search.{IsPartitioned}
@@ -17,9 +15,7 @@ module _ {K : Type 0} {R : K → K → Ordering} (o : IsTotalOrder R) where
 
   -- if k is not below q and y is above k, y is above q
   above_other : (k y q : K) (a : Ordering) → R k q ≡ a → a ≢ Less → R k y ≡ Less → R y q ≡ Greater
-  above_other k y q Less is other up = absurd (other refl)
-  above_other k y q Equal is other up = above y q (sym (o.congr k q y is) ∙ up)
-  above_other k y q Greater is other up = above y q (o.trans q k y (o.antisymm q k ∙ ap ordering_reverse is) up)
+  above_other k y q a is other up = grind (arith, o.congr k q y, o.trans q k y, o.antisymm q k, o.antisymm y q)
 
   module _ {X : Type 0} (key : X → K) (q : K) where
     -- after a key that is not below q, all keys are above q
@@ -49,10 +45,6 @@ module _ {X K : Type 0} (R : K → K → Ordering) (key : X → K) (q : K) where
       let inside : i < length xs = omega (arith, length-map xs compare) in
       (inside, λ d. sym (get_or-map compare xs i d Equal inside) ∙ get_or_from_slice_get (map compare xs) i Equal Equal found)
 
-  -- if only equal keys compare as equal, it is the key that was searched for
-  pub found-key : IsAntisymmetric R → (xs : List X) (i : ℕ) → slice_get (map (λ x. R (key x) q) xs) i ≡ Some Equal → (i < length xs) × HoldsAt (λ x. key x ≡ q) xs i
-  found-key same xs i found = let at = found-at xs i found in (at.0, λ d. same (key (get_or xs i d)) q (at.1 d))
-
   -- all keys before the insertion index are lower
   pub missing-below : (xs : List X) (i : ℕ) → i ≤ length xs → IsPartitionPoint (λ a. a ≡ Less) (λ a. a ≡ Greater) (map (λ x. R (key x) q) xs) i → AllWithin (λ x. R (key x) q ≡ Less) xs 0 i
   missing-below xs i le missing = λ k d low high.
@@ -62,10 +54,3 @@ module _ {X K : Type 0} (R : K → K → Ordering) (key : X → K) (q : K) where
   pub missing-above : (xs : List X) (i : ℕ) → IsPartitionPoint (λ a. a ≡ Less) (λ a. a ≡ Greater) (map (λ x. R (key x) q) xs) i → AllWithin (λ x. R (key x) q ≡ Greater) xs i (length xs)
   missing-above xs i missing = λ k d low high.
       sym (get_or-map (λ x. R (key x) q) xs k d Less high) ∙ missing.1 k Less low (omega (arith, length-map xs (λ x. R (key x) q)))
-
-  -- if the search fails, no key of the table compares as equal
-  pub missing-all : (xs : List X) (i : ℕ) → i ≤ length xs → IsPartitionPoint (λ a. a ≡ Less) (λ a. a ≡ Greater) (map (λ x. R (key x) q) xs) i → All (λ x. R (key x) q ≢ Equal) xs
-  missing-all xs i le missing = λ k d high e. ⊎_elim
-      (λ low. let is = missing-below xs i le missing k d (omega arith) low in absurd (cc))
-      (λ from. let is = missing-above xs i missing k d from high in absurd (cc))
-      (cases_lt k i)

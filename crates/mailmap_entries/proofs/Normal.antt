@@ -1,6 +1,6 @@
 -- A normal list is alike the list that it was made from.
-use Rattle.std.proofs.Common.{◌≡◌, Bool, true, cond, ◌||◌, List, [], ◌∷◌, ◌++◌, map, filter, Option, Some, None, is_some, unwrap_or, option_map, All, subst, true≢false, refl, sym, ap, ◌∙◌}
-use Rattle.std.specs.Cmp.{Equal-is}
+use Rattle.std.proofs.Common.{◌≡◌, Bool, true, cond, ◌||◌, List, [], ◌∷◌, ◌++◌, map, filter, Option, Some, None, is_some, unwrap_or, option_map, All, subst, true≢false, refl, sym, ap, ◌∙◌, arith}
+use Rattle.std.proofs.lemmas.Map.Views.{tells_apart}
 use Rattle.std.specs.List.{AllByRecursion, list_any}
 use Rattle.std.specs.Option.{option_and_then}
 use Rattle.std.specs.Ordering.{eq_by_cmp}
@@ -12,7 +12,7 @@ use Rattle.mailmap_entries.specs.Semantics.{Key, key, key_cmp, first, last, is_a
 use Rattle.mailmap_entries.proofs.Ascending.{has_itself, one_at, each_key, same_any}
 use Rattle.mailmap_entries.proofs.Alike.{Alike, same_normal, alike_joined, alike_back, alike_itself}
 use Rattle.mailmap_entries.proofs.Keys.{keys_total, keys_exact}
-use Rattle.mailmap_entries.proofs.Parts.{list_any-map, first_found, last_of_one, some_given, any_either, all_last, filter_all, first_alike, some_again, is_some-option_map}
+use Rattle.mailmap_entries.proofs.Parts.{all_apply, all_weaker, list_any-map, first_found, last_of_one, some_given, any_either, all_last, filter_all, first_alike, some_again, is_some-option_map}
 
 -- ---- one entry v that represents the entries l of a key
 
@@ -20,16 +20,13 @@ abbrev only : Mapping → List Mapping → List Mapping
 only v l = cond (is_some (first l)) (v ∷ []) []
 
 given_stands : (f : Mapping → Option Text) (v : Mapping) (l : List Mapping) → f v ≡ last_given f l → last_given f l ≡ last_given f (only v l)
-given_stands f v [] e = refl
-given_stands f v (x ∷ l) e = sym e ∙ sym (last_of_one f v)
+given_stands f v l e = grind (arith, last_of_one f v)
 
 last_stands : (v : Mapping) (l : List Mapping) → new_fields v ≡ unwrap_or (option_map new_fields (last l)) no_fields → option_map new_fields (last l) ≡ option_map new_fields (last (only v l))
-last_stands v [] e = refl
-last_stands v (x ∷ l) e = ap (λ f. Some f) (sym e)
+last_stands v l e = grind arith
 
 name_stands : (v : Mapping) (l : List Mapping) → v.old_name ≡ option_and_then (λ e. e.old_name) (first l) → option_map (λ e. e.old_name) (first l) ≡ option_map (λ e. e.old_name) (first (only v l))
-name_stands v [] e = refl
-name_stands v (x ∷ l) e = ap (λ o. Some o) (sym e)
+name_stands v l e = grind arith
 
 -- ---- the value of a key is accepted
 
@@ -63,11 +60,9 @@ module _ (h n : List Mapping) (d : IsNormal h n) where
   values = recursion_from_All _ n d.values
 
   pub accepted_self : accepted n ≡ n
-  accepted_self = filter_all is_accepted n (both n values (each_key keys_total keys_exact key (value h) (λ k. is_accepted (value h k) ≡ true) n (λ k e. accepted_value h k (sym (d.keys k ∙ known h k) ∙ e))))
-    where
-      both : (es : List Mapping) → AllByRecursion (λ e. e ≡ value h (key e)) es → AllByRecursion (λ e. is_accepted (value h (key e)) ≡ true) es → AllByRecursion (λ e. is_accepted e ≡ true) es
-      both [] a b = tt
-      both (e ∷ es) a b = (ap is_accepted a.0 ∙ b.0, both es a.1 b.1)
+  accepted_self =
+      let accepted_values = each_key keys_total keys_exact key (value h) (λ k. is_accepted (value h k) ≡ true) n (λ k e. accepted_value h k (sym (d.keys k ∙ known h k) ∙ e)) in
+      filter_all is_accepted n (all_apply _ _ _ (λ e is good. ap is_accepted is ∙ good) n values accepted_values)
 
   pub of_key_normal : (k : Key) → of_key n k ≡ only (value h k) (of_key h k)
   of_key_normal k =
@@ -83,7 +78,7 @@ module _ (h n : List Mapping) (d : IsNormal h n) where
   same_spelling email =
       let p : Key → Bool = λ k. eq_by_cmp text_cmp email k.0 in
       let s : Text = unwrap_or (spelling h email) [] in
-      let all_s : AllByRecursion (λ e. p (key e) ≡ true → e.old_email ≡ s) n = spelled n values in
+      let all_s = all_weaker n (λ e is same. ap (λ e. e.old_email) is ∙ old_email_is (key e) ∙ ap (λ t. unwrap_or (spelling h t) []) (sym (tells_apart exact_bytes email (folded e.old_email) same))) values in
       let any : list_any (λ e. p (key e)) n ≡ is_some (spelling h email) =
       sym (list_any-map p key n) ∙ same_any keys_total keys_exact p (map key n) (map key (accepted h)) d.keys ∙ list_any-map p key (accepted h)
       ∙ first_found (λ e. p (key e)) (accepted h) ∙ is_some-option_map (λ e. e.old_email) (first (of_email h email)) in
@@ -91,13 +86,6 @@ module _ (h n : List Mapping) (d : IsNormal h n) where
       ∙ first_alike (λ e. e.old_email) (λ e. p (key e)) s n all_s
       ∙ ap (λ b. cond b (Some s) None) any
       ∙ some_again (spelling h email) [])
-    where
-      spelled : (es : List Mapping) → AllByRecursion (λ e. e ≡ value h (key e)) es → AllByRecursion (λ e. eq_by_cmp text_cmp email (key e).0 ≡ true → e.old_email ≡ unwrap_or (spelling h email) []) es
-      spelled [] a = tt
-      spelled (e ∷ es) a = (
-        λ same. ap (λ e. e.old_email) a.0 ∙ old_email_is (key e) ∙ ap (λ t. unwrap_or (spelling h t) []) (sym (exact_bytes email (folded e.old_email) ((Equal-is (text_cmp email (folded e.old_email))).0 same))),
-        spelled es a.1,
-      )
 
   pub alike_normal : Alike h n
   alike_normal =

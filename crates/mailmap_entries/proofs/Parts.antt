@@ -1,12 +1,13 @@
 -- First, last and filter of joined lists.
-use Rattle.std.proofs.Common.{◌≡◌, Bool, true, false, cond, ◌&&◌, ◌||◌, List, [], ◌∷◌, ◌++◌, map, take, filter, filter_map, Option, Some, None, is_some, unwrap_or, option_map, refl, ap, ◌∙◌}
+use Rattle.std.proofs.Common.{⊎_elim, arith, ◌≡◌, Bool, true, false, cond, ◌&&◌, ◌||◌, List, [], ◌∷◌, ◌++◌, map, take, filter, filter_map, Option, Some, None, is_some, unwrap_or, option_map, refl, ap}
+use Rattle.std.proofs.lemmas.Bool.{cases_Bool}
 use Rattle.std.specs.Option.{option_or, option_flatten, option_and_then}
 use Rattle.std.specs.List.{AllByRecursion, HoldsAt, list_any, cons_option}
+pub use Rattle.std.proofs.lemmas.List.Folds.{list_any-append}
 use Rattle.mailmap_entries.specs.Semantics.{first, last}
 
 pub or-None : {X : Type 0} (o : Option X) → o ≡ option_or o None
-or-None None = refl
-or-None (Some x) = refl
+or-None o = grind arith
 
 pub first-append : {X : Type 0} (xs ys : List X) → first (xs ++ ys) ≡ option_or (first xs) (first ys)
 first-append [] ys = refl
@@ -14,29 +15,17 @@ first-append (x ∷ xs) ys = refl
 
 pub last-append : {X : Type 0} (xs ys : List X) → last (xs ++ ys) ≡ option_or (last ys) (last xs)
 last-append [] ys = or-None (last ys)
-last-append (x ∷ xs) ys =
-    ap (λ o. Some (unwrap_or o x)) (last-append xs ys)
-    ∙ (elim (last ys) as (λ o. Some (unwrap_or (option_or o (last xs)) x) ≡ option_or o (Some (unwrap_or (last xs) x))) [ None ↦ refl | Some y ↦ refl ])
+last-append (x ∷ xs) ys = grind (arith, last-append xs ys)
 
 pub option_map-or : {X Y : Type 0} (f : X → Y) (o p : Option X) → option_map f (option_or o p) ≡ option_or (option_map f o) (option_map f p)
-option_map-or f None p = refl
-option_map-or f (Some x) p = refl
-
-pub list_any-append : {X : Type 0} (p : X → Bool) (xs ys : List X) → list_any p (xs ++ ys) ≡ (list_any p xs || list_any p ys)
-list_any-append p [] ys = refl
-list_any-append p (x ∷ xs) ys = elim (p x) as (λ b. (b || list_any p (xs ++ ys)) ≡ ((b || list_any p xs) || list_any p ys)) [ true ↦ refl | false ↦ list_any-append p xs ys ]
+option_map-or f o p = grind arith
 
 pub filter-filter : {X : Type 0} (p q : X → Bool) (xs : List X) → filter p (filter q xs) ≡ filter (λ x. q x && p x) xs
 filter-filter p q [] = refl
-filter-filter p q (x ∷ xs) =
-    elim (q x) as (λ b. filter p (cond b (x ∷ filter q xs) (filter q xs)) ≡ cond (b && p x) (x ∷ filter (λ x. q x && p x) xs) (filter (λ x. q x && p x) xs)) [
-      | true ↦ ap (λ l. cond (p x) (x ∷ l) l) (filter-filter p q xs)
-      | false ↦ filter-filter p q xs
-    ]
+filter-filter p q (x ∷ xs) = grind (arith, filter-filter p q xs)
 
 pub and_then-flatten : {X Y : Type 0} (f : X → Option Y) (o : Option X) → option_and_then f o ≡ option_flatten (option_map f o)
-and_then-flatten f None = refl
-and_then-flatten f (Some x) = refl
+and_then-flatten f o = grind arith
 
 pub first_found : {X : Type 0} (p : X → Bool) (xs : List X) → list_any p xs ≡ is_some (first (filter p xs))
 first_found p [] = refl
@@ -57,15 +46,7 @@ some_given f (x ∷ xs) = elim (f x) as (λ o. is_some (last (cons_option o (fil
 
 pub any_either : {X : Type 0} (p q : X → Bool) (xs : List X) → (list_any p xs || list_any q xs) ≡ list_any (λ x. p x || q x) xs
 any_either p q [] = refl
-any_either p q (x ∷ xs) =
-    elim (p x) as (λ b. ((b || list_any p xs) || (q x || list_any q xs)) ≡ ((b || q x) || list_any (λ x. p x || q x) xs)) [
-      | true ↦ refl
-      | false ↦ elim (q x) as (λ b. (list_any p xs || (b || list_any q xs)) ≡ (b || list_any (λ x. p x || q x) xs)) [ true ↦ or-true (list_any p xs) | false ↦ any_either p q xs ]
-    ]
-  where
-    or-true : (b : Bool) → (b || true) ≡ true
-    or-true true = refl
-    or-true false = refl
+any_either p q (x ∷ xs) = grind (arith, any_either p q xs)
 
 -- ---- predicates that hold for all elements
 
@@ -80,27 +61,20 @@ filter_all p (x ∷ xs) a = λ i. cond (a.0 i) (x ∷ filter_all p xs a.1 i) (fi
 -- if all that pass have the same field, so does the first
 pub first_alike : {X Y : Type 0} (f : X → Y) (p : X → Bool) (y : Y) (xs : List X) → AllByRecursion (λ x. p x ≡ true → f x ≡ y) xs → option_map f (first (filter p xs)) ≡ cond (list_any p xs) (Some y) None
 first_alike f p y [] a = refl
-first_alike f p y (x ∷ xs) a =
-    elim (p x) as (λ b. p x ≡ b → option_map f (first (cond b (x ∷ filter p xs) (filter p xs))) ≡ cond (b || list_any p xs) (Some y) None) [
-      | true ↦ λ passes. ap (λ z. Some z) (a.0 passes)
-      | false ↦ λ _. first_alike f p y xs a.1
-    ] refl
+first_alike f p y (x ∷ xs) a = grind (arith, a.0, first_alike f p y xs a.1)
 
 pub some_again : {X : Type 0} (o : Option X) (d : X) → cond (is_some o) (Some (unwrap_or o d)) None ≡ o
-some_again None d = refl
-some_again (Some x) d = refl
+some_again o d = grind arith
 
 pub is_some-option_map : {X Y : Type 0} (f : X → Y) (o : Option X) → is_some o ≡ is_some (option_map f o)
-is_some-option_map f None = refl
-is_some-option_map f (Some x) = refl
+is_some-option_map f o = grind arith
 
 pub first_passes : {X : Type 0} (p : X → Bool) (xs : List X) → list_any p xs ≡ true → (x : X) × (first (filter p xs) ≡ Some x) × (p x ≡ true)
 first_passes p [] e = cc
-first_passes p (x ∷ xs) e =
-    elim (p x) as (λ b. p x ≡ b → (b || list_any p xs) ≡ true → (y : _) × (first (cond b (x ∷ filter p xs) (filter p xs)) ≡ Some y) × (p y ≡ true)) [
-      | true ↦ λ passes _. (x, refl, passes)
-      | false ↦ λ _ e. first_passes p xs e
-    ] refl e
+first_passes p (x ∷ xs) e = ⊎_elim
+    (λ yes. (x, rw yes refl, yes))
+    (λ no. let w = first_passes p xs (rw no at e) in (w.0, rw no w.1, w.2))
+    (cases_Bool (p x))
 
 pub map_back : {X Y : Type 0} (f : X → Y) (g : Y → X) (xs : List X) → AllByRecursion (λ x. g (f x) ≡ x) xs → map g (map f xs) ≡ xs
 map_back f g [] a = refl

@@ -1,11 +1,10 @@
 -- Texts whose prefixes differ are in the order of their prefixes.
-use Rattle.std.proofs.Common.{◌≡◌, ◌≢◌, ◌<◌, ◌≤◌, ◌+◌, ◌-◌, ◌*◌, ◌^◌, ℕ, zero, suc, [], ◌∷◌, drop, take, map, length, get_or, Ordering, Less, Equal, Greater, refl, sym, ap, ◌∙◌, arith, true, false, cond}
-use Rattle.std.specs.Cmp.Lexicographic.{slice_cmp, nat_list_cmp_total}
+use Rattle.std.proofs.Common.{◌≡◌, ◌≢◌, ◌<◌, ◌≤◌, ◌+◌, ◌-◌, ◌*◌, ◌^◌, ℕ, zero, suc, [], ◌∷◌, drop, take, map, length, get_or, Ordering, Less, Equal, Greater, refl, sym, ap, ◌∙◌, arith}
+use Rattle.std.specs.Cmp.Lexicographic.{nat_list_cmp_total}
 use Rattle.std.specs.Ordering.{nat_cmp, ordering_then, ordering_reverse}
 use Rattle.std.proofs.Math.Nat.{pow-succ', suc-mul, add-mul, mul_assoc, mul-le-mul_right, le-mul_of_pos_right}
 use Rattle.std.proofs.lemmas.Cmp.{ranked}
-use Rattle.std.proofs.Math.Dec.{ltb}
-use Rattle.std.proofs.lemmas.Bool.{ltb-true}
+use Rattle.std.proofs.lemmas.Bool.Decides.{nat_tests}
 use Rattle.std.specs.Char.{to_ascii_lowercase}
 use Rattle.std.specs.Int.{from_be_bytes, w128}
 use Rattle.mailmap_entries.specs.Folding.{Text, folded, text_cmp}
@@ -31,15 +30,7 @@ prefix_less zero xs ys ps qs lt = absurd (omega arith)
 prefix_less (suc n) xs [] ps qs lt = absurd (omega arith)
 prefix_less (suc n) [] (y ∷ ys) ps qs lt = refl
 prefix_less (suc n) (x ∷ xs) (y ∷ ys) ps qs lt =
-    elim (nat_cmp x y) as (λ r. nat_cmp x y ≡ r → ordering_then r (slice_cmp nat_cmp xs ys) ≡ Less) [
-      | Less ↦ λ e. refl
-      | Equal ↦ λ e.
-          let same : x ≡ y = ranked x y Equal (sym e) in
-          prefix_less n xs ys ps.1 qs.1 (omega (arith, lt, ap (λ z. z * 256 ^ n) same))
-      | Greater ↦ λ e.
-          let above : y < x = ranked x y Greater (sym e) in
-          absurd (omega (arith, lt, outweighed n y x ys xs qs.1 above))
-    ] refl
+    grind (arith, prefix_less n xs ys ps.1 qs.1, outweighed n x y xs ys ps.1, outweighed n y x ys xs qs.1)
 
 -- texts whose prefixes differ are in the order of these
 pub prefix_decides : (n : ℕ) (xs ys : Text) → AreBytes xs → AreBytes ys → (r : Ordering) → r ≡ nat_cmp (key_prefix n xs) (key_prefix n ys) → r ≢ Equal → text_cmp xs ys ≡ r
@@ -53,18 +44,10 @@ prefix_alike zero xs ys ps qs lx ly e = refl
 prefix_alike (suc n) [] ys ps qs lx ly e = absurd (omega arith)
 prefix_alike (suc n) (x ∷ xs) [] ps qs lx ly e = absurd (omega arith)
 prefix_alike (suc n) (x ∷ xs) (y ∷ ys) ps qs lx ly e =
-    elim (nat_cmp x y) as (λ r. nat_cmp x y ≡ r → ordering_then r (slice_cmp nat_cmp xs ys) ≡ text_cmp (drop n xs) (drop n ys)) [
-      | Less ↦ λ c. let below : x < y = ranked x y Less (sym c) in absurd (omega (arith, e, outweighed n x y xs ys ps.1 below))
-      | Equal ↦ λ c.
-          let same : x ≡ y = ranked x y Equal (sym c) in
-          prefix_alike n xs ys ps.1 qs.1 (omega arith) (omega arith) (omega (arith, e, ap (λ z. z * 256 ^ n) same))
-      | Greater ↦ λ c. let above : y < x = ranked x y Greater (sym c) in absurd (omega (arith, e, outweighed n y x ys xs qs.1 above))
-    ] refl
+    grind (arith, prefix_alike n xs ys ps.1 qs.1 (omega arith) (omega arith), outweighed n x y xs ys ps.1, outweighed n y x ys xs qs.1)
 
 pub then_settled : (r o : Ordering) → r ≢ Equal → ordering_then r o ≡ r
-then_settled Less o other = refl
-then_settled Equal o other = absurd (other refl)
-then_settled Greater o other = refl
+then_settled r o other = grind arith
 
 -- ---- the number, digit by digit
 
@@ -131,14 +114,7 @@ prefix_take f (suc n) [] = refl
 prefix_take f (suc n) (x ∷ xs) = ap (λ k. f x * 256 ^ n + k) (prefix_take f n xs)
 
 folded_below : (x : ℕ) → x < 256 → to_ascii_lowercase x < 256
-folded_below x lt =
-    elim (ltb x 65) as (λ b. cond b x (cond (ltb x 91) (x + 32) x) < 256) [
-      | true ↦ lt
-      | false ↦ elim (ltb x 91) as (λ b. ltb x 91 ≡ b → cond b (x + 32) x < 256) [
-        | true ↦ λ e. omega (arith, ltb-true x 91 e)
-        | false ↦ λ e. lt
-      ] refl
-    ]
+folded_below x lt = grind (arith, nat_tests)
 
 pub folded_bytes : (xs : Text) → ((i : ℕ) → get_or xs i 0 < 256) → AreBytes (folded xs)
 folded_bytes [] all = tt

@@ -1,5 +1,5 @@
 -- Lists with the same entries for each email are alike.
-use Rattle.std.proofs.Common.{◌≡◌, ◌&&◌, List, filter, Option, is_some, Ordering, Less, Equal, Greater, is_eq, refl, sym, ap, ◌∙◌}
+use Rattle.std.proofs.Common.{arith, ◌≡◌, ◌&&◌, List, filter, Option, is_some, Ordering, is_eq, sym, ap, ◌∙◌}
 use Rattle.std.specs.Ordering.{eq_by_cmp, ordering_then}
 use Rattle.std.specs.Option.{option_cmp}
 use Rattle.std.proofs.lemmas.List.Elements.{filter_agree}
@@ -11,9 +11,7 @@ use Rattle.mailmap_entries.proofs.Normal.{known}
 use Rattle.mailmap_entries.proofs.Parts.{filter-filter}
 
 both_equal : (a b : Ordering) → is_eq (ordering_then a b) ≡ (is_eq a && is_eq b)
-both_equal Less b = refl
-both_equal Equal b = refl
-both_equal Greater b = refl
+both_equal a b = grind arith
 
 -- the entries of a key are those of its email that have its name
 pub of_name : Option Text → List Mapping → List Mapping

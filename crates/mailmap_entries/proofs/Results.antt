@@ -1,5 +1,6 @@
 -- Weaker statements about a result, from stronger ones.
 use Rattle.std.proofs.Common.{Result, Ok, Err}
+pub use Rattle.std.proofs.lemmas.Result.{IfOk-weaker as if_ok_map}
 use Rattle.std.specs.Result.{IfOk, IsOk, OnErr, OnOk}
 
 pub on_err : {T E : Type 0} (r : Result T E) (P : Type 0) → P → OnErr r P
@@ -13,10 +14,6 @@ on_ok_then (Err x) P Q f p = tt
 pub on_ok_at : {T E : Type 0} (r : Result T E) (P : Type 0) → OnOk r P → IsOk r → P
 on_ok_at (Ok x) P p is = p
 on_ok_at (Err x) P p is = absurd (cc)
-
-pub if_ok_map : {T E : Type 0} (r : Result T E) (P Q : T → Type 0) → ((x : T) → P x → Q x) → IfOk r P → IfOk r Q
-if_ok_map (Ok x) P Q f p = f x p
-if_ok_map (Err e) P Q f p = tt
 
 pub if_ok_then : {T E : Type 0} (r : Result T E) (P Q R : T → Type 0) → ((x : T) → P x → Q x → R x) → IfOk r P → IfOk r Q → IfOk r R
 if_ok_then (Ok x) P Q R f p q = f x p q

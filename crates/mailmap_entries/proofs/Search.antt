@@ -1,8 +1,10 @@
 -- Answers of a partitioned list, and the number of binary digits of a half.
-use Rattle.std.proofs.Common.{◌≡◌, ℕ, zero, suc, ◌+◌, ◌/◌, ◌^◌, ◌<◌, ◌≤◌, List, [], ◌∷◌, length, get_or, Some, Ordering, Less, Equal, Greater, refl, subst, arith}
+use Rattle.std.proofs.Common.{◌≡◌, ℕ, zero, suc, ◌+◌, ◌/◌, ◌^◌, ◌<◌, ◌≤◌, List, [], ◌∷◌, length, get_or, Some, Ordering, Less, Equal, Greater, refl, subst, sym, ◌∙◌, arith}
 use Rattle.std.specs.List.{slice_get, AllByRecursion}
 use Rattle.std.specs.Int.Digits.{digits_of}
 use Rattle.std.proofs.lemmas.Int.Digits.{length-digits_of_step, length-digits_of-le, number_lt, number_digits_of, all_below_base_digits_of}
+use Rattle.std.proofs.lemmas.List.Elements.{All-from_recursion}
+use Rattle.std.proofs.lemmas.Option.{get_or_from_slice_get, slice_get_within}
 use Rattle.mailmap_entries.specs.Search.{IsPartitioned, digits}
 
 -- ---- digits
@@ -40,14 +42,7 @@ abbrev AreGreater : List Ordering → Type 0
 AreGreater = AllByRecursion (λ a. a ≡ Greater)
 
 greater_at : (xs : List Ordering) (k : ℕ) (a : Ordering) → AreGreater xs → slice_get xs k ≡ Some a → a ≡ Greater
-greater_at [] k a all e = absurd (cc)
-greater_at (x ∷ xs) zero a all e = cc
-greater_at (x ∷ xs) (suc k) a all e = greater_at xs k a all.1 e
-
-greater_or : (xs : List Ordering) (k : ℕ) (d : Ordering) → AreGreater xs → k < length xs → get_or xs k d ≡ Greater
-greater_or [] k d all h = absurd (omega arith)
-greater_or (x ∷ xs) zero d all h = all.0
-greater_or (x ∷ xs) (suc k) d all h = greater_or xs k d all.1 (omega arith)
+greater_at xs k a all e = sym (get_or_from_slice_get xs k a a e) ∙ All-from_recursion _ xs all k a (slice_get_within xs k a e)
 
 -- before a `Less`, all are `Less`
 pub less_before : (xs : List Ordering) (k j : ℕ) (d : Ordering) → IsPartitioned xs → slice_get xs k ≡ Some Less → j ≤ k → get_or xs j d ≡ Less
@@ -56,20 +51,16 @@ less_before [] k j d parted e le = absurd (cc)
 less_before (Less ∷ xs) k zero d parted e le = refl
 less_before (Less ∷ xs) zero (suc j) d parted e le = absurd (omega arith)
 less_before (Less ∷ xs) (suc k) (suc j) d parted e le = less_before xs k j d parted e (omega arith)
-less_before (Equal ∷ xs) zero j d parted e le = absurd (cc)
-less_before (Equal ∷ xs) (suc k) j d parted e le = let wrong = greater_at xs k Less parted e in absurd (cc)
-less_before (Greater ∷ xs) zero j d parted e le = absurd (cc)
-less_before (Greater ∷ xs) (suc k) j d parted e le = let wrong = greater_at xs k Less parted e in absurd (cc)
+less_before (x ∷ xs) zero j d parted e le = absurd (cc)
+less_before (x ∷ xs) (suc k) j d parted e le = let wrong = greater_at xs k Less parted e in absurd (cc)
 
 -- from a `Greater` on, all are `Greater`
 pub greater_from : (xs : List Ordering) (k j : ℕ) (d : Ordering) → IsPartitioned xs → slice_get xs k ≡ Some Greater → k ≤ j → j < length xs → get_or xs j d ≡ Greater
 unfolding IsPartitioned
 greater_from [] k j d parted e le h = absurd (cc)
 greater_from (Less ∷ xs) zero j d parted e le h = absurd (cc)
-greater_from (Less ∷ xs) (suc k) zero d parted e le h = absurd (omega arith)
 greater_from (Less ∷ xs) (suc k) (suc j) d parted e le h = greater_from xs k j d parted e (omega arith) (omega arith)
 greater_from (Equal ∷ xs) zero j d parted e le h = absurd (cc)
-greater_from (Equal ∷ xs) (suc k) zero d parted e le h = absurd (omega arith)
-greater_from (Equal ∷ xs) (suc k) (suc j) d parted e le h = greater_or xs j d parted (omega arith)
 greater_from (Greater ∷ xs) k zero d parted e le h = refl
-greater_from (Greater ∷ xs) k (suc j) d parted e le h = greater_or xs j d parted (omega arith)
+greater_from (x ∷ xs) (suc k) zero d parted e le h = absurd (omega arith)
+greater_from (x ∷ xs) k (suc j) d parted e le h = All-from_recursion _ xs parted j d (omega arith)

@@ -39,6 +39,7 @@ pub fn law_exists()
 {}
 
 /// The normal list of a list is never longer than the list.
+#[tactic(auto, using(crate::proofs::Unique::no_shorter))]
 pub fn law_shortest()
     ensures { (l n : List Mapping) → IsNormal l n → length n ≤ length l }
 {}
@@ -68,6 +69,7 @@ pub fn law_neighbours()
 {}
 
 /// An answer depends only on the accepted entries for its email.
+#[tactic(auto, using(crate::proofs::Building::scan_by_email))]
 pub fn law_of_email()
     ensures { (h g : List Mapping) (name email : Text) → of_email h (folded email) ≡ of_email g (folded email)
         → answer_of h name email ≡ answer_of g name email }
@@ -75,6 +77,7 @@ pub fn law_of_email()
 
 /// Signatures whose names and emails differ only in the case of letters resolve to one email, byte for byte, if there
 /// is an entry for that email.
+#[tactic(auto, using(crate::proofs::Building::one_resolved))]
 pub fn law_one_email()
     ensures { (h : List Mapping) (name other_name email other_email : Text)
         → folded name ≡ folded other_name → folded email ≡ folded other_email → IsSome (spelling h (folded email))

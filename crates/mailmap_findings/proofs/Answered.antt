@@ -1,32 +1,33 @@
 -- Without the lines that have no effect and those that no contact needs, the answer to each contact is the same.
-use Rattle.std.proofs.Common.{◌≡◌, Bool, true, false, cond, List, [], ◌∷◌, ◌++◌, append-nil, Option, Some, None, filter, map, not, option_to_list, Less, Equal, Greater, refl, sym, ap, subst, ◌∙◌}
-use Rattle.std.specs.Prelude.{Contains}
+use Rattle.std.proofs.Common.{◌≡◌, Bool, true, false, cond, List, [], ◌∷◌, ◌++◌, Option, Some, None, filter, map, not, option_to_list, refl, sym, ap, subst, ◌∙◌, ◌+◌, ℕ, arith, rules}
+use Rattle.std.specs.Prelude.{Contains, ◌↔◌}
 use Rattle.std.specs.List.{AllByRecursion, cons_option, flat_map, list_any}
 use Rattle.std.specs.Option.{option_map}
-use Rattle.std.specs.Ordering.{match_ordering}
 use Rattle.std.proofs.lemmas.Bool.{both_ways, false_from_ne_true, or_left, or_right}
-use Rattle.std.proofs.lemmas.List.Elements.{All-weaker, filter_passes}
+use Rattle.std.proofs.lemmas.List.Elements.{All-weaker, filter_passes, filter-append}
 use Rattle.std.proofs.lemmas.List.Folds.{list_any-from_Any, list_any_none}
 use Rattle.mailmap_entries.specs.Entries.{Mapping}
 use Rattle.mailmap_entries.specs.Folding.{Text}
-use Rattle.mailmap_grammar.specs.Lines.{Closed, mappings_of}
-use Rattle.mailmap_entries.specs.Semantics.{answer_of}
+use Rattle.mailmap_grammar.specs.Lines.{Closed, mappings_of, contact_in}
+use Rattle.mailmap_entries.specs.Semantics.{answer_of, IsNormal}
 use Rattle.mailmap_entries.proofs.Parts.{all_weaker}
 use Rattle.mailmap_redundancy.specs.Origins.{origins, needed, with_spelling}
-use Rattle.mailmap_redundancy.specs.Redundancy.{LocatedMapping, entries, position_cmp}
+use Rattle.mailmap_redundancy.specs.Redundancy.{LocatedMapping, entries}
 use Rattle.mailmap_redundancy.specs.declared.located.Position.{Position}
 use Rattle.mailmap_redundancy.proofs.Giving.{needed_answer}
 use Rattle.mailmap_redundancy.proofs.Kept.{one_reduced, some_reduced}
 use Rattle.mailmap_redundancy.proofs.Positions.{positions_exact}
 use Rattle.mailmap_findings.specs.Explanations.{in_order, needed_positions, two_in_order}
 use Rattle.mailmap_findings.specs.Findings.{AreFindings, Finding, is_reported_redundant}
-use Rattle.mailmap_findings.specs.Positions.{Line, entry, located_lines, located, same_position, whole_lines}
-use Rattle.mailmap_findings.proofs.Deleted.{left_entries}
-use Rattle.mailmap_findings.proofs.Read.{mappings_of-located_lines}
+use Rattle.mailmap_findings.specs.Positions.{Line, located_lines, located, same_position, whole_lines, buffer_lines, lines_from, located_from, texts_from, texts_left}
+use Rattle.mailmap_findings.proofs.Deleted.{left_entries, same_listing}
+use Rattle.mailmap_findings.proofs.Read.{mappings_of-located_lines, entries-append}
 use Rattle.mailmap_findings.proofs.Walking.{same_is, same_itself}
-use Rattle.mailmap_grammar.specs.Lines.{contact_in}
-use Rattle.mailmap_findings.specs.Needs.{AreUnneeded, any_needs, contact_needs, is_deletable, needs, unneeded}
+use Rattle.mailmap_findings.specs.Needs.{AreUnneeded, any_needs, is_deletable, needs, unneeded}
 use Rattle.mailmap_findings.proofs.ContactNeeds.{filter_both}
+use Rattle.mailmap_findings.proofs.Pruned.{joined-texts, mappings_of-one, one_buffer}
+use Rattle.mailmap_findings.proofs.Readings.{entries-renumbered, texts-located}
+use Rattle.mailmap_findings.proofs.Concatenated.{AreWhole, are_whole, some_whole, texts, whole_lines-joined}
 
 -- ---- the positions that an answer needs are those of the entries it needs
 
@@ -40,12 +41,7 @@ second_among : (p q : Position) (ps : List Position) → IsAmong (p ∷ q ∷ ps
 second_among p q ps = or_right _ _ (first_among q ps)
 
 two_among : (a b : Position) → IsAmong (two_in_order a b) a × IsAmong (two_in_order a b) b
-two_among a b =
-    elim (position_cmp a b) as (λ o. position_cmp a b ≡ o → IsAmong (match_ordering o (a ∷ b ∷ []) (a ∷ []) (b ∷ a ∷ [])) a × IsAmong (match_ordering o (a ∷ b ∷ []) (a ∷ []) (b ∷ a ∷ [])) b) [
-      | Less ↦ λ _. (first_among a (b ∷ []), second_among a b [])
-      | Equal ↦ λ same. (first_among a [], or_left _ _ (subst (λ p. same_position p a ≡ true) (positions_exact a b same) (same_itself a)))
-      | Greater ↦ λ _. (second_among b a [], first_among b (a ∷ []))
-    ] refl
+two_among a b = grind (arith, first_among, second_among, or_left, positions_exact, same_itself)
 
 both_among : (a b : Option LocatedMapping) → AllByRecursion (λ x. IsAmong (in_order a b) x.position) (option_to_list a ++ option_to_list b)
 both_among None None = tt
@@ -54,10 +50,8 @@ both_among None (Some y) = (first_among y.position [], tt)
 both_among (Some x) (Some y) = let two = two_among x.position y.position in (two.0, (two.1, tt))
 
 all_among : (name email first : Option LocatedMapping) → AllByRecursion (λ x. IsAmong (needed_positions (with_spelling name email first)) x.position) (needed (with_spelling name email first))
-all_among name None first =
-    subst (λ xs. AllByRecursion (λ x. IsAmong (in_order name first) x.position) (xs ++ option_to_list first)) (sym (append-nil (option_to_list name))) (both_among name first)
-all_among name (Some y) first =
-    subst (AllByRecursion (λ x. IsAmong (in_order name (Some y)) x.position)) (sym (append-nil (option_to_list name ++ y ∷ []))) (both_among name (Some y))
+all_among name None first = search (rules, both_among)
+all_among name (Some y) first = search (rules, both_among)
 
 -- ---- lines that are needed are not reported
 
@@ -74,8 +68,7 @@ module _ (kept : List LocatedMapping) (contacts : List Text) where
       (filter is_unneeded ps) (filter_passes is_unneeded ps))
 
   contact_among : (line name email rest : Text) (p : Position) → Contains contacts line → contact_in line ≡ Closed name email rest → needs kept name email p ≡ true → any_needs kept contacts p ≡ true
-  contact_among line name email rest p there is need =
-      list_any-from_Any (λ l. contact_needs kept (contact_in l) p) contacts (there.0, line, there.1, there.2, ap (λ c. contact_needs kept c p) is ∙ need)
+  contact_among line name email rest p there is need = grind (arith, list_any-from_Any)
 
 -- ---- the entries of the lines that are not reported
 
@@ -87,16 +80,11 @@ module _ (p : Position → Bool) where
       → cond b (cons_option (option_map (λ e. record { position = l.position; entry = e }) o) ys) ys ≡ filter at (cons_option (option_map (λ e. record { position = l.position; entry = e }) o) xs)
   one_located l None true xs ys test rest = rest
   one_located l None false xs ys test rest = rest
-  one_located l (Some e) b xs ys test rest =
-      let x : LocatedMapping = record { position = l.position; entry = e } in
-      λ i. cond (test i) (x ∷ rest i) (rest i)
+  one_located l (Some e) b xs ys test rest = grind arith
 
   located_filter : (ls : List Line) → located (filter (λ l. p l.position) ls) ≡ filter at (located ls)
   located_filter [] = refl
-  located_filter (l ∷ ls) =
-      let some = filter (λ (m : Line). p m.position) ls in
-      (elim (p l.position) as (λ b. located (cond b (l ∷ some) some) ≡ cond b (cons_option (option_map (λ e. record { position = l.position; entry = e }) (entry l)) (located some)) (located some)) [ true ↦ refl | false ↦ refl ])
-      ∙ one_located l (entry l) (p l.position) (located ls) (located some) refl (located_filter ls)
+  located_filter (l ∷ ls) = grind (arith, one_located, (located_filter ls))
 
 pub answered : (buffers : List Text) (contacts : Text) (found : List Finding) (missing : List Position) (line name email rest : Text) → AreFindings buffers found → AreUnneeded buffers contacts missing
     → Contains (whole_lines contacts) line → contact_in line ≡ Closed name email rest
@@ -126,5 +114,42 @@ some_unneeded buffers contacts =
     (unneeded effective.0 (whole_lines contacts), record { kept = effective.0; effective = effective.1; whole = refl })
 
 pub one_unneeded : (buffers : List Text) (contacts : Text) (missing other : List Position) → AreUnneeded buffers contacts missing → AreUnneeded buffers contacts other → missing ≡ other
-one_unneeded buffers contacts missing other a b =
-    a.whole ∙ ap (λ kept. unneeded kept (whole_lines contacts)) (one_reduced (located (located_lines buffers)) a.kept b.kept a.effective b.effective) ∙ sym b.whole
+one_unneeded buffers contacts missing other a b = grind (arith, one_reduced)
+
+-- ---- texts without these lines
+
+module _ (is_left : Line → Bool) where
+  -- the text of some lines of a buffer has their entries
+  text_entries : (buffer : ℕ) (s : Text) → mappings_of (flat_map (λ l. l.text) (filter is_left (buffer_lines buffer s))) ≡ entries (located (filter is_left (buffer_lines buffer s)))
+  text_entries buffer s =
+      let all = buffer_lines buffer s in
+      let some = filter is_left all in
+      let text = flat_map (λ (l : Line). l.text) some in
+      let are : AreWhole (texts some) = some_whole is_left all (subst AreWhole (sym (texts-located buffer 1 (whole_lines s))) (are_whole s)) in
+      sym (mappings_of-one text)
+      ∙ ap (λ ls. entries (located ls)) (one_buffer text ∙ ap (located_from 0 1) (ap whole_lines (joined-texts some) ∙ whole_lines-joined (texts some) are))
+      ∙ entries-renumbered 0 1 some
+
+  entries_from : (buffer : ℕ) (ss : List Text) → flat_map mappings_of (texts_from is_left buffer ss) ≡ entries (located (filter is_left (lines_from buffer ss)))
+  unfolding lines_from
+  entries_from buffer [] = refl
+  entries_from buffer (s ∷ ss) =
+      let first = buffer_lines buffer s in
+      let rest = lines_from (buffer + 1) ss in
+      (λ i. text_entries buffer s i ++ entries_from (buffer + 1) ss i)
+      ∙ sym (entries-append (filter is_left first) (filter is_left rest))
+      ∙ ap (λ ls. entries (located ls)) (sym (filter-append is_left first rest))
+
+  pub entries_left : (buffers : List Text) → flat_map mappings_of (texts_left is_left buffers) ≡ entries (located (filter is_left (located_lines buffers)))
+  entries_left buffers = entries_from 0 buffers
+
+pub listing_left : (buffers : List Text) (found : List Finding) (n : List Mapping) → AreFindings buffers found
+    → IsNormal (flat_map mappings_of buffers) n ↔ IsNormal (flat_map mappings_of (texts_left (λ l. not (is_reported_redundant found l)) buffers)) n
+listing_left buffers found n are =
+    subst (λ h. IsNormal (flat_map mappings_of buffers) n ↔ IsNormal h n) (sym (entries_left (λ l. not (is_reported_redundant found l)) buffers)) (same_listing buffers found n are)
+
+pub answered_left : (buffers : List Text) (contacts : Text) (found : List Finding) (missing : List Position) (line name email rest : Text) → AreFindings buffers found → AreUnneeded buffers contacts missing
+    → Contains (whole_lines contacts) line → contact_in line ≡ Closed name email rest
+    → answer_of (flat_map mappings_of (texts_left (λ l. not (is_deletable found missing l)) buffers)) name email ≡ answer_of (flat_map mappings_of buffers) name email
+answered_left buffers contacts found missing line name email rest are un there is =
+    ap (λ h. answer_of h name email) (entries_left (λ l. not (is_deletable found missing l)) buffers) ∙ answered buffers contacts found missing line name email rest are un there is

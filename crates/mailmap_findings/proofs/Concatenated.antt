@@ -1,5 +1,5 @@
 -- The lines of a buffer concatenate to it, and concatenating some of them gives a text with exactly these lines.
-use Rattle.std.proofs.Common.{◌≡◌, ◌≢◌, ◌⊎◌, ◌==◌, ℕ, Bool, true, false, if◌then◌else◌, List, [], ◌∷◌, ◌++◌, map, filter, inl, inr, ⊎_elim, append-nil, refl, sym, ap, ◌∙◌}
+use Rattle.std.proofs.Common.{◌≡◌, ◌≢◌, ◌⊎◌, ℕ, Bool, true, false, if◌then◌else◌, List, [], ◌∷◌, ◌++◌, map, filter, inl, inr, ⊎_elim, refl, ap, ◌∙◌, arith, rules}
 use Rattle.std.specs.List.{flat_map}
 use Rattle.std.proofs.lemmas.Bool.{cond-false, cond_both, ne_eqb, eqb-false, eqb-true}
 use Rattle.mailmap_entries.specs.Folding.{Text}
@@ -18,9 +18,7 @@ joined-with_first b (t ∷ ts) = refl
 pub joined-whole_lines : (s : Text) → joined (whole_lines s) ≡ s
 unfolding whole_lines
 joined-whole_lines [] = refl
-joined-whole_lines (b ∷ s) =
-    cond_both (b == 10) _ _ (λ ts. joined ts ≡ b ∷ s) (λ feed. ap (λ t. b ∷ t) (joined-whole_lines s))
-    (λ other. joined-with_first b (whole_lines s) ∙ ap (λ t. b ∷ t) (joined-whole_lines s))
+joined-whole_lines (b ∷ s) = grind (arith, cond_both, joined-with_first, (joined-whole_lines s), (joined-whole_lines s))
 
 -- ---- when texts are the lines of their concatenation
 
@@ -47,9 +45,7 @@ first_byte b (t ∷ ts) other are = (
 pub are_whole : (s : Text) → AreWhole (whole_lines s)
 unfolding whole_lines
 are_whole [] = tt
-are_whole (b ∷ s) =
-    cond_both (b == 10) _ _ AreWhole (λ feed. (inl ([], tt, ap (λ x. x ∷ []) (eqb-true b 10 feed)), are_whole s))
-    (λ other. first_byte b (whole_lines s) (eqb-false b 10 other) (are_whole s))
+are_whole (b ∷ s) = grind (arith, cond_both, eqb-true, first_byte, eqb-false, (are_whole s))
 
 lines-ended : (front rest : Text) → HoldsNo 10 front → whole_lines ((front ++ 10 ∷ []) ++ rest) ≡ (front ++ 10 ∷ []) ∷ whole_lines rest
 unfolding whole_lines
@@ -68,14 +64,7 @@ lines-nil = refl
 
 pub whole_lines-joined : (ts : List Text) → AreWhole ts → whole_lines (joined ts) ≡ ts
 whole_lines-joined [] are = lines-nil
-whole_lines-joined (t ∷ ts) are = ⊎_elim
-    (λ w.
-    ap (λ x. whole_lines (x ++ joined ts)) w.2
-    ∙ lines-ended w.0 (joined ts) w.1
-    ∙ ap (λ xs. (w.0 ++ 10 ∷ []) ∷ xs) (whole_lines-joined ts are.1)
-    ∙ ap (λ x. x ∷ ts) (sym w.2))
-    (λ w. ap (λ xs. whole_lines (t ++ joined xs)) w.1 ∙ ap whole_lines (append-nil t) ∙ lines-open t w.0.1 w.0.0 ∙ ap (λ xs. t ∷ xs) (sym w.1))
-    are.0
+whole_lines-joined (t ∷ ts) are = search (rules, lines-ended, lines-open, (whole_lines-joined ts are.1))
 
 -- ---- some of the lines
 

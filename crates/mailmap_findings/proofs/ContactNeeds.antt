@@ -1,5 +1,5 @@
 -- The lines that no contact needs, as contacts are added one by one.
-use Rattle.std.proofs.Common.{◌≡◌, Bool, true, false, cond, List, [], ◌∷◌, ◌++◌, Some, None, Ordering, Less, Equal, Greater, is_eq, filter, not, option_to_list, refl, sym, ap, subst, ◌∙◌, true≢false}
+use Rattle.std.proofs.Common.{◌≡◌, Bool, true, false, cond, List, [], ◌∷◌, ◌++◌, Some, None, Ordering, Less, Equal, Greater, is_eq, filter, not, option_to_list, refl, sym, ap, subst, ◌∙◌, true≢false, arith}
 use Rattle.std.specs.Prelude.{◌||◌, ◌&&◌}
 use Rattle.std.specs.Cmp.{both_ways, tied_itself}
 use Rattle.std.specs.List.{list_any}
@@ -60,8 +60,7 @@ is_equal q p =
 -- removing a position from a set
 pub removed : (ps : List Position) (q : Position) → list_any (eq_by_cmp position_cmp q) (remove_key (eq_by_cmp position_cmp q) ps) ≡ false
     → remove_key (eq_by_cmp position_cmp q) ps ≡ filter (λ p. not (list_any (same_position p) (option_to_list (Some q)))) ps
-removed ps q none =
-    removed_key (eq_by_cmp position_cmp q) ps none ∙ filter_agree _ _ (λ p. ap not (is_equal q p ∙ sym (or_false (same_position p q)))) ps
+removed ps q none = grind (arith, removed_key, filter_agree, is_equal, or_false)
 
 -- an answer that needs no line removes nothing
 pub removed_none : (ps : List Position) → ps ≡ filter (λ p. not (list_any (same_position p) (option_to_list None))) ps

@@ -18,7 +18,8 @@ use Rattle.mailmap_findings.specs.Findings.{IsPruned, first_read_otherwise, is_l
 use Rattle.mailmap_findings.specs.GitAnswers.{git_answer, git_mappings}
 use Rattle.mailmap_findings.specs.Positions.{Line, entry, located_lines, located, located_from, whole_lines}
 use Rattle.mailmap_findings.proofs.Pruned.{mappings_of-one, kept_entries, kept_lines, one_buffer, same_listing, text_entries, text_lines}
-use Rattle.mailmap_findings.proofs.Renumbered.{entry_same, texts-located}
+use Rattle.mailmap_findings.proofs.Entries.{all_filter}
+use Rattle.mailmap_findings.proofs.Readings.{entry_same, texts-located}
 use Rattle.mailmap_findings.proofs.Concatenated.{texts}
 
 -- git reads exactly the entry of this library
@@ -65,10 +66,6 @@ alike_entries (l ∷ ls) all =
       | Some e ↦ refl
     ]
 
-some_alike : (test : Line → Bool) (ls : List Line) → AreAlike ls → AreAlike (filter test ls)
-some_alike test [] all = tt
-some_alike test (l ∷ ls) all = elim (test l) as (λ b. AreAlike (if b then l ∷ filter test ls else filter test ls)) [ true ↦ (all.0, some_alike test ls all.1) | false ↦ some_alike test ls all.1 ]
-
 renumbered_alike : (buffer line : ℕ) (ls : List Line) → AreAlike ls → AreAlike (located_from buffer line (texts ls))
 unfolding located_from
 renumbered_alike buffer line [] all = tt
@@ -90,7 +87,7 @@ module _ (buffer text : Text) (pruned : IsPruned buffer text) (none : first_read
   all_alike = read_alike (located_lines (buffer ∷ [])) none
 
   kept_alike : AreAlike (kept_lines buffer text pruned)
-  kept_alike = some_alike (is_line_kept pruned.kept) (located_lines (buffer ∷ [])) all_alike
+  kept_alike = all_filter IsAlike (is_line_kept pruned.kept) (located_lines (buffer ∷ [])) all_alike
 
   text_history : git_mappings text ≡ mappings_of text
   text_history =

@@ -9,6 +9,7 @@ use Rattle.std.proofs.lemmas.Bool.{cases_lt}
 use Rattle.std.proofs.lemmas.List.{drop_all}
 use Rattle.std.proofs.lemmas.List.Elements.{filter-append}
 use Rattle.mailmap_entries.specs.Folding.{Text}
+use Rattle.mailmap_entries.proofs.Parts.{all_append, all_weaker}
 use Rattle.mailmap_redundancy.specs.Redundancy.{IsSublist, LocatedMapping, entries, none, position_cmp}
 use Rattle.mailmap_redundancy.specs.declared.located.Position.{Position}
 use Rattle.mailmap_redundancy.proofs.Kept.{one_reduced, reduced_sublist}
@@ -16,11 +17,11 @@ use Rattle.mailmap_redundancy.proofs.Positions.{positions_total}
 use Rattle.mailmap_findings.specs.Findings.{AreFindings, Finding, FindingKind, finding_of, reported_of_line}
 use Rattle.mailmap_findings.specs.declared.verify.Finding.{Finding as the_finding}
 use Rattle.mailmap_findings.specs.Positions.{Line, has_entry_at, located_lines, located, same_position, whole_lines}
-use Rattle.mailmap_findings.proofs.BufferLines.{apart_lines}
+use Rattle.mailmap_findings.proofs.BufferLines.{Ascend, all_told, apart_lines, lines_ascend, reported_at, told}
+use Rattle.mailmap_findings.proofs.Entries.{all_flat_map}
 use Rattle.mailmap_findings.proofs.Walking.{InStep, is_first_at, same_is, starts, step, without_first_at}
 use Rattle.mailmap_findings.specs.Needs.{AreUnneeded, any_needs}
 use Rattle.mailmap_findings.specs.Remarks.{AreRemarks, Remark, found, first_before, merged_remarks, unneeded, with_finding}
-use Rattle.mailmap_findings.proofs.LinesAscend.{Ascend, lines_ascend}
 
 -- ---- one step
 
@@ -39,20 +40,6 @@ position_next (Some f) fs ps rest p nothing is comes =
     before : (b : Bool) → cond b (Some p) None ≡ Some p → b ≡ true
     before true e = refl
     before false e = cc
-
--- the next remark is the finding
-pub finding_next : (f : Finding) (fs : List Finding) (ps : List Position) → first_before (Some f) ps ≡ None → merged_remarks (f ∷ fs) ps ≡ found f ∷ merged_remarks fs ps
-finding_next f fs [] comes = refl
-finding_next f fs (p ∷ ps) comes = merged_first f fs p ps false (after (is_lt (position_cmp p f.position)) comes)
-  where
-    after : (b : Bool) → cond b (Some p) None ≡ None → b ≡ false
-    after true e = cc
-    after false e = refl
-
--- there is no next remark
-pub nothing_next : (fs : List Finding) (ps : List Position) → fs ≡ [] → first_before None ps ≡ None → merged_remarks fs ps ≡ []
-nothing_next fs [] empty comes = ap (λ l. merged_remarks l []) empty
-nothing_next fs (p ∷ ps) empty comes = cc
 
 -- the positions after the first one
 pub position_left : (ahead : Option Finding) (ps : List Position) (n : ℕ) (p : Position) → first_before ahead (drop n ps) ≡ Some p → drop n ps ≡ p ∷ drop (n + 1) ps
@@ -76,10 +63,6 @@ position_left ahead ps n p comes = ⊎_elim
 
 -- ---- line by line
 
--- findings at one position
-abbrev reported_at : Position → List FindingKind → List Finding
-reported_at q ts = map (λ t. record { position = q; kind = t }) ts
-
 abbrev NoneBefore : Position → List Position → Type 0
 NoneBefore q ps = AllByRecursion (λ (p : Position). is_lt (position_cmp p q) ≡ false) ps
 
@@ -87,17 +70,13 @@ findings_first : (q : Position) (ts : List FindingKind) (gs : List Finding) (ps 
 findings_first q [] gs ps after = refl
 findings_first q (t ∷ ts) gs [] after = ap (λ l. found (record { position = q; kind = t }) ∷ l) (findings_first q ts gs [] after)
 findings_first q (t ∷ ts) gs (p ∷ ps) after =
-    let f : Finding = record { position = q; kind = t } in
-    merged_first f (reported_at q ts ++ gs) p ps false after.0 ∙ ap (λ l. found f ∷ l) (findings_first q ts gs (p ∷ ps) after)
+    grind (arith, merged_first, reported_at, (findings_first q ts gs (p ∷ ps) after))
 
 position_first : (q : Position) (gs : List Finding) (ps : List Position) → AllByRecursion (λ (g : Finding). position_cmp q g.position ≡ Less) gs → merged_remarks gs (q ∷ ps) ≡ unneeded q ∷ merged_remarks gs ps
 position_first q [] ps after = refl
 position_first q (g ∷ gs) ps after = merged_first g gs q ps true (ap is_lt after.0)
 
 module _ (tell : Line → List FindingKind) (marked : Line → Bool) where
-  abbrev told : List Line → List Finding
-  told ls = flat_map (λ (l : Line). reported_at l.position (tell l)) ls
-
   abbrev own : Line → List Position
   own l = cond (marked l) (l.position ∷ []) []
 
@@ -107,34 +86,24 @@ module _ (tell : Line → List FindingKind) (marked : Line → Bool) where
   abbrev both : Line → List Remark
   both l = map found (reported_at l.position (tell l)) ++ cond (marked l) (unneeded l.position ∷ []) []
 
-  all_here : (P : Position → Type 0) (q : Position) (ts : List FindingKind) (gs : List Finding) → P q → AllByRecursion (λ (g : Finding). P g.position) gs → AllByRecursion (λ (g : Finding). P g.position) (reported_at q ts ++ gs)
-  all_here P q [] gs h a = a
-  all_here P q (t ∷ ts) gs h a = (h, all_here P q ts gs h a)
-
-  all_told : (P : Position → Type 0) (ls : List Line) → AllByRecursion (λ (l : Line). P l.position) ls → AllByRecursion (λ (g : Finding). P g.position) (told ls)
-  all_told P [] a = tt
-  all_told P (l ∷ ls) a = all_here P l.position (tell l) (told ls) a.0 (all_told P ls a.1)
-
-  all_own : (P : Position → Type 0) (l : Line) (ps : List Position) → P l.position → AllByRecursion P ps → AllByRecursion P (own l ++ ps)
-  all_own P l ps h a = elim (marked l) as (λ b. AllByRecursion P (cond b (l.position ∷ []) [] ++ ps)) [ true ↦ (h, a) | false ↦ a ]
+  all_own : (P : Position → Type 0) (l : Line) → P l.position → AllByRecursion P (own l)
+  all_own P l h = elim (marked l) as (λ b. AllByRecursion P (cond b (l.position ∷ []) [])) [ true ↦ (h, tt) | false ↦ tt ]
 
   all_marks : (P : Position → Type 0) (ls : List Line) → AllByRecursion (λ (l : Line). P l.position) ls → AllByRecursion P (marks ls)
-  all_marks P [] a = tt
-  all_marks P (l ∷ ls) a = all_own P l (marks ls) a.0 (all_marks P ls a.1)
+  all_marks P ls a = all_flat_map P own ls (all_weaker ls (all_own P) a)
 
   not_before : (q : Position) (ls : List Line) → AllByRecursion (λ (l : Line). position_cmp q l.position ≡ Less) ls → AllByRecursion (λ (l : Line). is_lt (position_cmp l.position q) ≡ false) ls
-  not_before q [] a = tt
-  not_before q (l ∷ ls) a = (ap is_lt (positions_total.antisymm l.position q ∙ ap ordering_reverse a.0), not_before q ls a.1)
+  not_before q ls = all_weaker ls (λ (l : Line) less. ap is_lt (positions_total.antisymm l.position q ∙ ap ordering_reverse less))
 
-  pub line_by_line : (ls : List Line) → Ascend ls → merged_remarks (told ls) (marks ls) ≡ flat_map both ls
+  pub line_by_line : (ls : List Line) → Ascend ls → merged_remarks (told tell ls) (marks ls) ≡ flat_map both ls
   line_by_line [] a = refl
   line_by_line (l ∷ ls) a =
       let q = l.position in
       let itself : is_lt (position_cmp q q) ≡ false = ap is_lt (tied_itself positions_total q) in
-      findings_first q (tell l) (told ls) (own l ++ marks ls) (all_own (λ p. is_lt (position_cmp p q) ≡ false) l (marks ls) itself (all_marks (λ p. is_lt (position_cmp p q) ≡ false) ls (not_before q ls a.0)))
+      findings_first q (tell l) (told tell ls) (own l ++ marks ls) (all_append (λ p. is_lt (position_cmp p q) ≡ false) (own l) (marks ls) (all_own (λ p. is_lt (position_cmp p q) ≡ false) l itself) (all_marks (λ p. is_lt (position_cmp p q) ≡ false) ls (not_before q ls a.0)))
       ∙ ap (λ r. map found (reported_at q (tell l)) ++ r)
-      ((elim (marked l) as (λ b. merged_remarks (told ls) (cond b (q ∷ []) [] ++ marks ls) ≡ cond b (unneeded q ∷ []) [] ++ merged_remarks (told ls) (marks ls)) [
-        | true ↦ position_first q (told ls) (marks ls) (all_told (λ p. position_cmp q p ≡ Less) ls a.0)
+      ((elim (marked l) as (λ b. merged_remarks (told tell ls) (cond b (q ∷ []) [] ++ marks ls) ≡ cond b (unneeded q ∷ []) [] ++ merged_remarks (told tell ls) (marks ls)) [
+        | true ↦ position_first q (told tell ls) (marks ls) (all_told tell (λ p. position_cmp q p ≡ Less) ls a.0)
         | false ↦ refl
       ])
       ∙ ap (λ r. cond (marked l) (unneeded q ∷ []) [] ++ r) (line_by_line ls a.1))

@@ -1,22 +1,24 @@
 -- The lines behind an answer move with their entries.
-use Rattle.std.proofs.Common.{◌≡◌, ◌≢◌, ◌+◌, ◌<◌, ℕ, Bool, true, false, if◌then◌else◌, Less, Equal, Greater, Option, Some, None, IfSome, List, [], ◌∷◌, is_some, map, option_map, ⊎_elim, inl, inr, arith, ap, refl, subst, sym, ◌∙◌}
+use Rattle.std.proofs.Common.{◌≡◌, ◌≢◌, ◌+◌, ◌<◌, ℕ, Bool, true, false, if◌then◌else◌, Less, Equal, Greater, Option, Some, None, IfSome, List, [], ◌∷◌, map, option_map, ⊎_elim, inl, inr, arith, ap, refl, subst, sym, ◌∙◌}
 use Rattle.std.specs.Prelude.{◌⊎◌}
 use Rattle.std.specs.Cmp.{nat_cmp_is, ranks, tied_itself}
 use Rattle.std.specs.declared.cmp.Ordering.{Ordering}
-use Rattle.std.specs.List.{AllByRecursion, cons_option}
+use Rattle.std.specs.List.{AllByRecursion}
 use Rattle.std.specs.Option.{option_or}
-use Rattle.std.specs.Ordering.{MatchOrdering, match_ordering, nat_cmp, ordering_reverse}
+use Rattle.std.specs.Ordering.{MatchOrdering, nat_cmp, ordering_reverse}
 use Rattle.mailmap_entries.specs.Folding.{Text}
+use Rattle.mailmap_entries.proofs.Parts.{all_weaker}
 use Rattle.mailmap_entries.specs.Semantics.{Fields}
 use Rattle.mailmap_redundancy.specs.Origins.{Origins, origins}
 use Rattle.mailmap_redundancy.specs.Redundancy.{LocatedMapping, position_cmp}
 use Rattle.mailmap_redundancy.specs.declared.located.Position.{Position}
-use Rattle.mailmap_redundancy.proofs.Moved.{AreOf, moved_entry, moved_origins, origins-moved, origins_are}
+use Rattle.mailmap_redundancy.proofs.Giving.{AreOf, moved_entry, moved_origins, origins-moved, origins_are}
 use Rattle.mailmap_redundancy.proofs.Positions.{positions_total}
 use Rattle.mailmap_findings.specs.Explanations.{in_order, origin_positions, two_in_order}
-use Rattle.mailmap_findings.specs.Positions.{Line, entry, located, same_position}
+use Rattle.mailmap_findings.specs.Positions.{Line, located, same_position}
 use Rattle.mailmap_findings.specs.Pruning.{number_among, position_among}
-use Rattle.mailmap_findings.proofs.LinesAscend.{Ascend}
+use Rattle.mailmap_findings.proofs.BufferLines.{Ascend}
+use Rattle.mailmap_findings.proofs.Entries.{at_entries}
 use Rattle.mailmap_findings.proofs.Walking.{differs, same_itself}
 
 -- ---- numbers among ascending lines
@@ -30,10 +32,7 @@ above l [] p all is = absurd is
 above l (m ∷ ls) p all is = ⊎_elim (λ here. subst (λ q. position_cmp l.position q ≡ Less) here all.0) (λ later. above l ls p all.1 later) is
 
 not_here : (p q : Position) → position_cmp p q ≡ Less → p ≢ q
-not_here p q less same =
-    let equal : position_cmp p q ≡ Equal = subst (λ r. position_cmp p r ≡ Equal) same (tied_itself positions_total p) in
-    let both : Less ≡ Equal = sym less ∙ equal in
-    cc
+not_here p q less same = grind (arith, positions_total)
 
 some_number : (ls : List Line) (p : Position) → 0 < number_among ls p
 some_number [] p = omega arith
@@ -81,16 +80,11 @@ same_order (l ∷ ls) a p q at_p at_q =
 
 -- the entries of lines are among these
 pub all_among : (ls : List Line) → AllByRecursion (λ x. IsAmong ls x.position) (located ls)
-all_among [] = tt
-all_among (l ∷ ls) =
-    elim (entry l) as (λ o. AllByRecursion (λ x. IsAmong (l ∷ ls) x.position) (cons_option (option_map (λ e. record { position = l.position; entry = e }) o) (located ls))) [
-      | None ↦ later (located ls) (all_among ls)
-      | Some e ↦ (inl refl, later (located ls) (all_among ls))
-    ]
+all_among ls = at_entries (IsAmong ls) ls (among ls)
   where
-    later : (xs : List LocatedMapping) → AllByRecursion (λ x. IsAmong ls x.position) xs → AllByRecursion (λ x. IsAmong (l ∷ ls) x.position) xs
-    later [] all = tt
-    later (x ∷ xs) all = (inr all.0, later xs all.1)
+    among : (ms : List Line) → AllByRecursion (λ m. IsAmong ms m.position) ms
+    among [] = tt
+    among (m ∷ ms) = (inl refl, all_weaker ms (λ (k : Line). inr) (among ms))
 
 -- ---- the lines behind an answer
 
@@ -102,13 +96,7 @@ module _ (ls : List Line) (ascend : Ascend ls) where
   IsHere x = IsAmong ls x.position
 
   two-moved : (p q : Position) → IsAmong ls p → IsAmong ls q → two_in_order (move p) (move q) ≡ map move (two_in_order p q)
-  two-moved p q at_p at_q =
-      ap (λ o. match_ordering o (move p ∷ move q ∷ []) (move p ∷ []) (move q ∷ move p ∷ [])) (same_order ls ascend p q at_p at_q)
-      ∙ elim (position_cmp p q) as (λ o. match_ordering o (move p ∷ move q ∷ []) (move p ∷ []) (move q ∷ move p ∷ []) ≡ map move (match_ordering o (p ∷ q ∷ []) (p ∷ []) (q ∷ p ∷ []))) [
-        | Less ↦ refl
-        | Equal ↦ refl
-        | Greater ↦ refl
-      ]
+  two-moved p q at_p at_q = grind (arith, same_order)
 
   order-moved : (a b : Option LocatedMapping) → IfSome a IsHere → IfSome b IsHere → in_order (option_map (moved_entry move) a) (option_map (moved_entry move) b) ≡ map move (in_order a b)
   order-moved None None at_a at_b = refl
@@ -128,10 +116,7 @@ module _ (ls : List Line) (ascend : Ascend ls) where
   emails_are true (Some x) spelling at_email at_spelling = at_email
 
   behind-moved : (g : Origins) (f : Fields) → AreOf IsHere g → origin_positions (moved_origins move g) f ≡ map move (origin_positions g f)
-  behind-moved g f are =
-      let changed = is_some f.email in
-      ap (in_order (option_map (moved_entry move) g.name)) (emails-moved changed g.email g.spelling)
-      ∙ order-moved g.name (if changed then option_or g.email g.spelling else None) are.0 (emails_are changed g.email g.spelling are.1 are.2)
+  behind-moved g f are = grind (arith, moved_entry, emails-moved, order-moved, emails_are)
 
 pub moved_positions : (ls : List Line) (kept : List LocatedMapping) → Ascend ls → AllByRecursion (λ x. IsAmong ls x.position) kept → (name email : Text) (f : Fields)
     → origin_positions (origins (map (moved_entry (position_among ls)) kept) name email) f ≡ map (position_among ls) (origin_positions (origins kept name email) f)

@@ -1,5 +1,5 @@
 -- A pruned text has exactly the effective entries, and pruning it again changes nothing.
-use Rattle.std.proofs.Common.{◌≡◌, ◌≢◌, true, false, if◌then◌else◌, Some, None, is_none, List, [], ◌∷◌, ◌++◌, filter, append-nil, append_assoc, refl, sym, ap, subst, ◌∙◌}
+use Rattle.std.proofs.Common.{◌≡◌, ◌≢◌, Bool, true, false, if◌then◌else◌, IfSome, Option, Some, None, is_none, List, [], ◌∷◌, ◌++◌, filter, append-nil, append_assoc, refl, sym, ap, subst, ◌∙◌, arith, rules}
 use Rattle.std.specs.Prelude.{◌||◌, ◌↔◌}
 use Rattle.std.specs.List.{AllByRecursion, cons_option, flat_map}
 use Rattle.std.specs.Option.{option_map}
@@ -7,6 +7,7 @@ use Rattle.std.proofs.lemmas.Bool.{cond-true, or_right}
 use Rattle.std.proofs.lemmas.List.{map-append}
 use Rattle.mailmap_entries.specs.Entries.{Mapping}
 use Rattle.mailmap_entries.specs.Folding.{Text}
+use Rattle.mailmap_entries.proofs.Parts.{all_weaker, filter_all}
 use Rattle.mailmap_grammar.specs.Lines.{mappings_of}
 use Rattle.mailmap_entries.specs.Semantics.{IsNormal}
 use Rattle.mailmap_redundancy.specs.Redundancy.{LocatedMapping, IsPass, done, stays, AreEffective, settled, IsSublist, none, IsRedundant, entries}
@@ -17,7 +18,8 @@ use Rattle.mailmap_findings.specs.Positions.{Line, entry, located, same_position
 use Rattle.mailmap_findings.specs.Marked.{AreApart}
 use Rattle.mailmap_findings.proofs.BufferLines.{apart_lines}
 use Rattle.mailmap_findings.proofs.Read.{mappings_of-located_lines}
-use Rattle.mailmap_findings.proofs.Renumbered.{entries-renumbered, texts-located}
+use Rattle.mailmap_findings.proofs.Entries.{all_located}
+use Rattle.mailmap_findings.proofs.Readings.{entries-renumbered, texts-located}
 use Rattle.mailmap_findings.proofs.Walking.{InStep, First, is_first_at, without_first_at, passes, meets, first_met, step_by, starts, no_entry_at, located_elsewhere, same_itself}
 use Rattle.mailmap_findings.proofs.Concatenated.{joined, joined-whole_lines, are_whole, whole_lines-joined, texts, some_whole, without_one, AreWhole}
 
@@ -68,28 +70,20 @@ module _ (buffer text : Text) (pruned : IsPruned buffer text) where
   kept_lines = filter (is_line_kept pruned.kept) (located_lines (buffer ∷ []))
 
   pub text_lines : whole_lines text ≡ texts kept_lines
-  text_lines =
-      ap whole_lines (pruned.whole ∙ joined-texts kept_lines)
-      ∙ whole_lines-joined (texts kept_lines) (some_whole (is_line_kept pruned.kept) (located_lines (buffer ∷ [])) (lines_whole buffer))
+  text_lines = grind (arith, joined-texts, whole_lines-joined, texts, some_whole, lines_whole)
 
   pub kept_entries : located kept_lines ≡ pruned.kept
-  kept_entries =
-      located_left pruned.kept (located_lines (buffer ∷ [])) pruned.kept
-      (starts pruned.kept (located_lines (buffer ∷ []))
-      (record { sublist = reduced_sublist (located (located_lines (buffer ∷ []))) pruned.kept pruned.effective; apart = apart_lines 0 (buffer ∷ []) }))
+  kept_entries = search (rules, located_left, starts, reduced_sublist, apart_lines)
 
   pub text_entries : entries (located (located_lines (text ∷ []))) ≡ entries pruned.kept
-  text_entries =
-      ap (λ ls. entries (located ls)) (one_buffer text ∙ ap (located_from 0 1) text_lines)
-      ∙ entries-renumbered 0 1 kept_lines
-      ∙ ap entries kept_entries
+  text_entries = grind (arith, one_buffer, text_lines, entries-renumbered, kept_entries)
 
 pub mappings_of-one : (s : Text) → entries (located (located_lines (s ∷ []))) ≡ mappings_of s
 mappings_of-one s = mappings_of-located_lines 0 (s ∷ []) ∙ append-nil (mappings_of s)
 
 -- deleting one line from a text leaves the entries of the other lines
-pub mappings_of-without : (s : Text) (a c : List Line) (l : Line) → located_lines (s ∷ []) ≡ a ++ l ∷ c → mappings_of (flat_map (λ k. k.text) (a ++ c)) ≡ entries (located (a ++ c))
-mappings_of-without s a c l whole =
+pub mappings_of_without : (s : Text) (a c : List Line) (l : Line) → located_lines (s ∷ []) ≡ a ++ l ∷ c → mappings_of (flat_map (λ k. k.text) (a ++ c)) ≡ entries (located (a ++ c))
+mappings_of_without s a c l whole =
     let rest = flat_map (λ k. k.text) (a ++ c) in
     let are = without_one a c l (subst (λ ls. AreWhole (texts ls)) whole (lines_whole s)) in
     sym (mappings_of-one rest)
@@ -125,22 +119,18 @@ none_redundant ys kept a (x ∷ c) b (y ∷ d) effective parts front after =
     after in
     stays b y d (b ++ y ∷ d) busy (subst (IsPass (b ++ y ∷ []) d) (append_assoc b (y ∷ []) d) next)
 
-one_more : (x : LocatedMapping) (xs ys : List LocatedMapping) → AllByRecursion (λ y. has_entry_at xs y.position ≡ true) ys → AllByRecursion (λ y. has_entry_at (x ∷ xs) y.position ≡ true) ys
-one_more x xs [] all = tt
-one_more x xs (y ∷ ys) all = (or_right (same_position x.position y.position) (has_entry_at xs y.position) all.0, one_more x xs ys all.1)
-
 pub all_stand : (xs : List LocatedMapping) → AllByRecursion (λ x. has_entry_at xs x.position ≡ true) xs
 all_stand [] = tt
-all_stand (x ∷ xs) = (ap (λ b. b || has_entry_at xs x.position) (same_itself x.position), one_more x xs xs (all_stand xs))
+all_stand (x ∷ xs) = grind (arith, same_itself, all_weaker, or_right, (all_stand xs))
 
 all_left : (kept : List LocatedMapping) (ls : List Line) → AllByRecursion (λ x. has_entry_at kept x.position ≡ true) (located ls) → filter (is_line_kept kept) ls ≡ ls
-all_left kept [] = λ all. refl
-all_left kept (l ∷ ls) =
-    elim (entry l) as (λ o. AllByRecursion (λ x. has_entry_at kept x.position ≡ true) (cons_option (option_map (λ e. record { position = l.position; entry = e }) o) (located ls))
-    → (if is_none o || has_entry_at kept l.position then l ∷ filter (is_line_kept kept) ls else filter (is_line_kept kept) ls) ≡ l ∷ ls) [
-      | None ↦ λ all. ap (λ xs. l ∷ xs) (all_left kept ls all)
-      | Some e ↦ λ all. ap (λ b. if b then l ∷ filter (is_line_kept kept) ls else filter (is_line_kept kept) ls) all.0 ∙ ap (λ xs. l ∷ xs) (all_left kept ls all.1)
-    ]
+all_left kept ls all =
+    filter_all (is_line_kept kept) ls
+    (all_weaker ls (λ (l : Line). stands (entry l) (has_entry_at kept l.position)) (all_located (λ x. has_entry_at kept x.position ≡ true) ls all))
+  where
+    stands : (o : Option Mapping) (b : Bool) → IfSome o (λ _. b ≡ true) → (is_none o || b) ≡ true
+    stands None b _ = refl
+    stands (Some e) b is = is
 
 -- no entry of a pruned text is redundant
 pub text_reduced : (buffer text : Text) → IsPruned buffer text → AreEffective (located (located_lines (text ∷ []))) (located (located_lines (text ∷ [])))
@@ -150,12 +140,15 @@ text_reduced buffer text pruned =
 
 pub nothing_to_prune : (buffer text : Text) → IsPruned buffer text → IsPruned text text
 nothing_to_prune buffer text pruned =
-    let xs = located (located_lines (text ∷ [])) in record {
-      kept = xs;
-      effective = text_reduced buffer text pruned;
-      whole =
-          sym (joined-whole_lines text)
-          ∙ ap joined (sym (texts-located 0 1 (whole_lines text)) ∙ ap texts (sym (one_buffer text)))
-          ∙ sym (joined-texts (located_lines (text ∷ [])))
-          ∙ ap (flat_map (λ (l : Line). l.text)) (sym (all_left xs (located_lines (text ∷ [])) (all_stand xs)));
-    }
+    grind (
+      arith,
+      text_reduced,
+      joined-whole_lines,
+      joined,
+      texts-located,
+      texts,
+      one_buffer,
+      joined-texts,
+      all_left,
+      all_stand,
+    )

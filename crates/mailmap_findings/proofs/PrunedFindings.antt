@@ -1,35 +1,33 @@
 -- The findings of a pruned text are those of the kept lines, with their new line numbers.
-use Rattle.std.proofs.Common.{◌≡◌, ◌≢◌, ◌+◌, ℕ, Bool, true, false, true≢false, if◌then◌else◌, cond, Option, Some, None, option_to_list, unwrap_or, List, [], ◌∷◌, ◌++◌, filter, length, length-append, map, append_assoc, ap, refl, subst, sym, ◌∙◌, arith}
+use Rattle.std.proofs.Common.{◌≡◌, ◌≢◌, ◌+◌, ℕ, Bool, true, false, true≢false, if◌then◌else◌, Option, Some, None, option_to_list, unwrap_or, List, [], ◌∷◌, ◌++◌, IfSome, filter, map, ap, refl, subst, sym, ◌∙◌, arith}
 use Rattle.std.specs.Prelude.{◌||◌, ◌&&◌, is_none, not}
 use Rattle.std.specs.List.{AllByRecursion, cons_option, flat_map, list_any}
 use Rattle.std.specs.Option.{option_and_then, option_map}
 use Rattle.std.proofs.lemmas.List.{map-append}
+use Rattle.std.proofs.lemmas.Simd.{map-map}
 use Rattle.std.proofs.lemmas.List.Elements.{filter-append, filter_map-append}
 use Rattle.std.proofs.lemmas.List.Folds.{list_any-append}
 use Rattle.mailmap_entries.specs.Entries.{Mapping}
 use Rattle.mailmap_entries.specs.Folding.{Text}
 use Rattle.mailmap_findings.specs.Explanations.{origin_positions}
 use Rattle.mailmap_findings.specs.Git.{GitReading, read_in_place}
-use Rattle.mailmap_grammar.specs.Lines.{ParsedContact, Absent, Unclosed, Closed, cut, first_contact, mappings_of, is_comment, non_empty, strict_contacts, strict_line_reading, strict_reading, trimmed_contact, two_contacts, unless_blank}
-use Rattle.mailmap_grammar.specs.Trimming.{trim}
+use Rattle.mailmap_grammar.specs.Lines.{mappings_of, strict_reading}
 use Rattle.mailmap_entries.specs.Semantics.{IsNormal, fields_for, first, no_fields, answer_of}
 use Rattle.mailmap_redundancy.specs.Origins.{origins}
 use Rattle.mailmap_redundancy.specs.Redundancy.{AreEffective, LocatedMapping, entries}
 use Rattle.mailmap_redundancy.specs.declared.located.Position.{Position}
-use Rattle.mailmap_redundancy.proofs.Giving.{first-map}
-use Rattle.mailmap_redundancy.proofs.Moved.{moved_entry}
+use Rattle.mailmap_redundancy.proofs.Giving.{first-map, moved_entry}
 use Rattle.mailmap_redundancy.proofs.Kept.{listing_differs, one_reduced, reduced_scan}
-use Rattle.mailmap_findings.specs.Findings.{AreFindings, NewContact, Finding, IsPruned, FindingKind, proper_contact, findings, git_reads, has_no_effect, ignored, ignored_text, is_line_kept, is_reported_redundant, mapped_contact, mapping_positions, read_otherwise, replaced_contact, reported_by, reported_of_contact, reported_of_entry, reported_of_line, reported_of_reading, is_same_contact, itself_mapped}
+use Rattle.mailmap_findings.specs.Findings.{AreFindings, NewContact, Finding, IsPruned, FindingKind, proper_contact, findings, git_reads, has_no_effect, is_line_kept, is_reported_redundant, mapped_contact, mapping_positions, read_otherwise, replaced_contact, reported_by, reported_of_contact, reported_of_entry, reported_of_line, reported_of_reading, is_same_contact, itself_mapped}
 use Rattle.mailmap_findings.specs.Marked.{AreApart}
 use Rattle.mailmap_findings.specs.Positions.{Line, entry, has_entry_at, located_lines, located, located_entry, located_from, same_position}
 use Rattle.mailmap_findings.specs.Pruning.{at_line, is_left, lines_left, number_among, position_among, renumbered, with_number}
-use Rattle.mailmap_findings.proofs.Accepted.{located_accepted}
-use Rattle.mailmap_findings.proofs.Deleted.{contact_none, each_stays, git_none, left_lines, lines_stay, not_reported, one_findings, reading_none, redundant_at, reported_at, reported_redundant}
-use Rattle.mailmap_findings.proofs.BufferLines.{apart_lines, line_at}
-use Rattle.mailmap_findings.proofs.LinesAscend.{lines_ascend, some_ascend}
+use Rattle.mailmap_findings.proofs.Deleted.{contact_none, each_stays, effective_lines, left_lines, none_in_text, not_reported, one_findings, redundant_at, reported_redundant}
+use Rattle.mailmap_findings.proofs.BufferLines.{apart_lines, line_at, lines_ascend, reported_at}
+use Rattle.mailmap_findings.proofs.Entries.{all_located, later_filter}
 use Rattle.mailmap_findings.proofs.Moved.{IsAmong, all_among, moved_positions}
 use Rattle.mailmap_findings.proofs.Pruned.{all_stand, kept_entries, mappings_of-one, one_buffer, text_entries, text_lines, text_reduced}
-use Rattle.mailmap_findings.proofs.Renumbered.{entry_same}
+use Rattle.mailmap_findings.proofs.Readings.{entry_same, located_accepted, reading_numbered}
 use Rattle.mailmap_findings.proofs.Walking.{differs, same_itself}
 use Rattle.mailmap_findings.proofs.Concatenated.{texts}
 
@@ -40,100 +38,34 @@ abbrev AreNumbered : List Line → ℕ → List Line → Type 0
 AreNumbered all n [] = Unit {0}
 AreNumbered all n (l ∷ ls) = (number_among all l.position ≡ n) × AreNumbered all (n + 1) ls
 
-met : (P : Line → Type 0) (front : List Line) (l : Line) (ls : List Line) → AllByRecursion P (front ++ l ∷ ls) → P l
-met P [] l ls all = all.0
-met P (x ∷ front) l ls all = met P front l ls all.1
+one_more : (l : Line) (all : List Line) (n : ℕ) (ls : List Line) → AllByRecursion (λ m. m.position ≢ l.position) ls
+    → AreNumbered all n ls → AreNumbered (l ∷ all) (n + 1) ls
+one_more l all n [] apart are = tt
+one_more l all n (m ∷ ls) apart are = (
+  ap (λ b. if b then 1 else number_among all m.position + 1) (differs l.position m.position (λ e. apart.0 (sym e)))
+      ∙ ap (λ k. k + 1) are.0,
+  one_more l all (n + 1) ls apart.1 are.1,
+)
 
-number_at : (front : List Line) (l : Line) (ls : List Line) → AreApart (front ++ l ∷ ls) → number_among (front ++ l ∷ ls) l.position ≡ length front + 1
-number_at [] l ls apart = ap (λ b. if b then 1 else number_among ls l.position + 1) (same_itself l.position)
-number_at (x ∷ front) l ls apart =
-    let sum : length front + 1 + 1 ≡ length (x ∷ front) + 1 = omega arith in
-    ap (λ b. if b then 1 else number_among (front ++ l ∷ ls) l.position + 1)
-    (differs x.position l.position (λ e. met (λ y. y.position ≢ x.position) front l ls apart.0 (sym e)))
-    ∙ ap (λ n. n + 1) (number_at front l ls apart.1)
-    ∙ sum
-
-are_numbered : (front ls : List Line) → AreApart (front ++ ls) → AreNumbered (front ++ ls) (length front + 1) ls
-are_numbered front [] apart = tt
-are_numbered front (l ∷ ls) apart =
-    let whole : (front ++ l ∷ []) ++ ls ≡ front ++ l ∷ ls = append_assoc front (l ∷ []) ls in
-    let longer : length (front ++ l ∷ []) + 1 ≡ length front + 1 + 1 = omega (arith, length-append front (l ∷ [])) in
-    let rest : AreNumbered ((front ++ l ∷ []) ++ ls) (length (front ++ l ∷ []) + 1) ls = are_numbered (front ++ l ∷ []) ls (subst AreApart (sym whole) apart) in (
-      number_at front l ls apart,
-      subst (λ xs. AreNumbered xs (length front + 1 + 1) ls) whole (subst (λ n. AreNumbered ((front ++ l ∷ []) ++ ls) n ls) longer rest),
-    )
+are_numbered : (ls : List Line) → AreApart ls → AreNumbered ls 1 ls
+are_numbered [] apart = tt
+are_numbered (l ∷ ls) apart = (
+  ap (λ b. if b then 1 else number_among ls l.position + 1) (same_itself l.position),
+  one_more l ls 1 ls apart.0 (are_numbered ls apart.1),
+)
 
 -- the entries of numbered lines, at their new positions
 located_moved : (all : List Line) (n : ℕ) (ls : List Line) → AreNumbered all n ls → located (located_from 0 n (texts ls)) ≡ map (moved_entry (position_among all)) (located ls)
 unfolding located_from
 located_moved all n [] are = refl
 located_moved all n (l ∷ ls) are =
-    let rest = located (located_from 0 (n + 1) (texts ls)) in
-    ap (λ o. cons_option (option_map (λ (e : Mapping). record { position = record { buffer = 0; line = n }; entry = e }) o) rest) (entry_same (line_at 0 n l.text) l refl)
-    ∙ elim (entry l) as (λ o. cons_option (option_map (λ (e : Mapping). record { position = record { buffer = 0; line = n }; entry = e }) o) rest
-    ≡ map (moved_entry (position_among all)) (cons_option (option_map (λ e. record { position = l.position; entry = e }) o) (located ls))) [
-      | None ↦ located_moved all (n + 1) ls are.1
-      | Some e ↦
-          let others = located_moved all (n + 1) ls are.1 in
-          λ i. record { position = record { buffer = 0; line = (sym are.0) i }; entry = e } ∷ others i
-    ]
-
-some_apart : (test : Line → Bool) (ls : List Line) → AreApart ls → AreApart (filter test ls)
-some_apart test [] apart = tt
-some_apart test (l ∷ ls) apart =
-    elim (test l) as (λ b. AreApart (if b then l ∷ filter test ls else filter test ls)) [
-      | true ↦ (some_of (λ x. x.position ≢ l.position) ls apart.0, some_apart test ls apart.1)
-      | false ↦ some_apart test ls apart.1
-    ]
-  where
-    some_of : (P : Line → Type 0) (xs : List Line) → AllByRecursion P xs → AllByRecursion P (filter test xs)
-    some_of P [] all = tt
-    some_of P (x ∷ xs) all = elim (test x) as (λ b. AllByRecursion P (if b then x ∷ filter test xs else filter test xs)) [ true ↦ (all.0, some_of P xs all.1) | false ↦ some_of P xs all.1 ]
+    grind (arith, texts, entry_same, line_at, moved_entry, (located_moved all (n + 1) ls are.1))
 
 -- ---- a line's findings under another number
-
-text_numbered : (move : Position → Position) (n : ℕ) (o : Option Text) → option_map ignored_text o ≡ option_map (with_number move n) (option_map ignored_text o)
-text_numbered move n None = refl
-text_numbered move n (Some t) = refl
 
 git_numbered : (move : Position → Position) (n : ℕ) (o : Option GitReading) → option_map git_reads o ≡ option_map (with_number move n) (option_map git_reads o)
 git_numbered move n None = refl
 git_numbered move n (Some r) = refl
-
-module _ (move : Position → Position) (n m : ℕ) (line t : Text) where
-  two_numbered : (name email : Text) (h : ParsedContact) → reported_of_reading line (Some (two_contacts n t name email h)) ≡ option_map (with_number move n) (reported_of_reading line (Some (two_contacts m t name email h)))
-  two_numbered [] email Absent = refl
-  two_numbered [] email Unclosed = refl
-  two_numbered [] email (Closed a b c) = text_numbered move n (non_empty (ignored line))
-  two_numbered (x ∷ name) email Absent = text_numbered move n (non_empty (ignored line))
-  two_numbered (x ∷ name) email Unclosed = text_numbered move n (non_empty (ignored line))
-  two_numbered (x ∷ name) email (Closed a b c) = text_numbered move n (non_empty (ignored line))
-
-  second_numbered : (name email rest : Text) (h : ParsedContact)
-      → reported_of_reading line (Some (strict_contacts n t name email rest h)) ≡ option_map (with_number move n) (reported_of_reading line (Some (strict_contacts m t name email rest h)))
-  second_numbered name email rest Absent = two_numbered name email Absent
-  second_numbered name email rest Unclosed = refl
-  second_numbered name email rest (Closed a b c) = two_numbered name email (Closed a b c)
-
-  first_numbered : (h : ParsedContact)
-      → reported_of_reading line (Some (first_contact (λ name email rest. strict_contacts n t name email rest (trimmed_contact (cut rest))) n t h))
-      ≡ option_map (with_number move n) (reported_of_reading line (Some (first_contact (λ name email rest. strict_contacts m t name email rest (trimmed_contact (cut rest))) m t h)))
-  first_numbered Absent = refl
-  first_numbered Unclosed = refl
-  first_numbered (Closed name [] rest) = refl
-  first_numbered (Closed name (x ∷ email) rest) = second_numbered name (x ∷ email) rest (trimmed_contact (cut rest))
-
-blank_numbered : (move : Position → Position) (n m : ℕ) (line t : Text) → reported_of_reading line (unless_blank strict_line_reading n t) ≡ option_map (with_number move n) (reported_of_reading line (unless_blank strict_line_reading m t))
-blank_numbered move n m line [] = refl
-blank_numbered move n m line (x ∷ t) = first_numbered move n m line (x ∷ t) (trimmed_contact (cut (x ∷ t)))
-
-reading_numbered : (move : Position → Position) (n m : ℕ) (line : Text) → reported_of_reading line (strict_reading n line) ≡ option_map (with_number move n) (reported_of_reading line (strict_reading m line))
-reading_numbered move n m line =
-    elim (is_comment line) as (λ b. reported_of_reading line (cond b None (unless_blank strict_line_reading n (trim line)))
-    ≡ option_map (with_number move n) (reported_of_reading line (cond b None (unless_blank strict_line_reading m (trim line))))) [
-      | true ↦ refl
-      | false ↦ blank_numbered move n m line (trim line)
-    ]
 
 contact_numbered : (move : Position → Position) (n : ℕ) (c to : NewContact) (by moved : List Position) → moved ≡ map move by
     → reported_of_contact c to moved ≡ option_map (with_number move n) (reported_of_contact c to by)
@@ -149,9 +81,14 @@ contact_numbered move n c to by moved is = ap (reported_of_contact c to) is ∙ 
           | false ↦ refl
         ]
 
-to_list-map : (move : Position → Position) (n : ℕ) (o : Option FindingKind) → option_to_list (option_map (with_number move n) o) ≡ map (with_number move n) (option_to_list o)
-to_list-map move n None = refl
-to_list-map move n (Some t) = refl
+to_list-map : (w : FindingKind → FindingKind) (o : Option FindingKind) → option_to_list (option_map w o) ≡ map w (option_to_list o)
+to_list-map w None = refl
+to_list-map w (Some t) = refl
+
+three_parts : (w : FindingKind → FindingKind) (a b c : Option FindingKind)
+    → option_to_list (option_map w a) ++ option_to_list (option_map w b) ++ option_to_list (option_map w c)
+    ≡ map w (option_to_list a ++ option_to_list b ++ option_to_list c)
+three_parts w a b c = grind (arith, to_list-map, map-append)
 
 -- the findings of a line whose entry is effective
 abbrev kept_reported : List Mapping → List LocatedMapping → Line → List FindingKind
@@ -162,8 +99,7 @@ kept_findings h kept l = reported_at l.position (kept_reported h kept l)
 
 numbered_at : (move : Position → Position) (n : ℕ) (position : Position) (ts : List FindingKind)
     → reported_at (record { buffer = 0; line = n }) (map (with_number move n) ts) ≡ map (at_line move n) (reported_at position ts)
-numbered_at move n position [] = refl
-numbered_at move n position (t ∷ ts) = ap (λ fs. record { position = record { buffer = 0; line = n }; kind = with_number move n t } ∷ fs) (numbered_at move n position ts)
+numbered_at move n position ts = grind (arith, map-map)
 
 -- two lists of entries that map each contact alike, by lines that moved
 module _ (move : Position → Position) (g h : List Mapping) (there kept : List LocatedMapping) (same : (c : NewContact) → mapped_contact g c ≡ mapped_contact h c)
@@ -177,21 +113,13 @@ module _ (move : Position → Position) (g h : List Mapping) (there kept : List 
 
   line_numbered : (n : ℕ) (l : Line) → kept_reported g there (line_at 0 n l.text) ≡ map (with_number move n) (kept_reported h kept l)
   line_numbered n l =
-      let of_text = reported_of_reading l.text (strict_reading l.position.line l.text) in
-      let of_git = option_map git_reads (read_otherwise l) in
-      let of_entry = option_and_then (reported_of_entry h kept true) (entry l) in
-      let text_with = option_to_list (option_map (with_number move n) of_text) in
-      let git_with = option_to_list (option_map (with_number move n) of_git) in
       let here = line_at 0 n l.text in
-      ap (λ o. option_to_list o ++ option_to_list (option_map git_reads (read_otherwise here)) ++ option_to_list (option_and_then (reported_of_entry g there true) (entry here))) (reading_numbered move n l.position.line l.text)
-      ∙ ap (λ o. text_with ++ option_to_list (option_map git_reads (read_in_place o l.text)) ++ option_to_list (option_and_then (reported_of_entry g there true) o)) (entry_same here l refl)
-      ∙ ap (λ o. text_with ++ option_to_list o ++ option_to_list (option_and_then (reported_of_entry g there true) (entry l))) (git_numbered move n (read_otherwise l))
-      ∙ ap (λ o. text_with ++ git_with ++ option_to_list o) (entry_numbered n (entry l))
-      ∙ ap (λ ts. ts ++ git_with ++ option_to_list (option_map (with_number move n) of_entry)) (to_list-map move n of_text)
-      ∙ ap (λ ts. map (with_number move n) (option_to_list of_text) ++ ts ++ option_to_list (option_map (with_number move n) of_entry)) (to_list-map move n of_git)
-      ∙ ap (λ ts. map (with_number move n) (option_to_list of_text) ++ map (with_number move n) (option_to_list of_git) ++ ts) (to_list-map move n of_entry)
-      ∙ ap (λ ts. ts ++ map (with_number move n) (option_to_list of_entry)) (sym (map-append (with_number move n) (option_to_list of_text) (option_to_list of_git)))
-      ∙ sym (map-append (with_number move n) (option_to_list of_text ++ option_to_list of_git) (option_to_list of_entry))
+      let texts = reading_numbered n l.position.line move l.text in
+      let gits = ap (λ o. option_map git_reads (read_in_place o l.text)) (entry_same here l refl) ∙ git_numbered move n (read_otherwise l) in
+      let entries = ap (option_and_then (reported_of_entry g there true)) (entry_same here l refl) ∙ entry_numbered n (entry l) in
+      (λ i. option_to_list (texts i) ++ option_to_list (gits i) ++ option_to_list (entries i))
+      ∙ three_parts (with_number move n) (reported_of_reading l.text (strict_reading l.position.line l.text))
+      (option_map git_reads (read_otherwise l)) (option_and_then (reported_of_entry h kept true) (entry l))
 
   found_numbered : (n : ℕ) (l : Line) → kept_findings g there (line_at 0 n l.text) ≡ map (at_line move n) (kept_findings h kept l)
   found_numbered n l = ap (reported_at (record { buffer = 0; line = n })) (line_numbered n l) ∙ numbered_at move n l.position (kept_reported h kept l)
@@ -199,28 +127,10 @@ module _ (move : Position → Position) (g h : List Mapping) (there kept : List 
 -- ---- lines whose entries are effective
 
 abbrev Stands : List LocatedMapping → Position → Option Mapping → Type 0
-Stands kept position None = Unit {0}
-Stands kept position (Some e) = has_entry_at kept position ≡ true
+Stands kept position o = IfSome o (λ _. has_entry_at kept position ≡ true)
 
 standing : (h : List Mapping) (kept : List LocatedMapping) (l : Line) → Stands kept l.position (entry l) → findings h kept l ≡ kept_findings h kept l
-standing h kept l =
-    let of_text = option_to_list (reported_of_reading l.text (strict_reading l.position.line l.text)) in
-    let of_git = option_to_list (option_map git_reads (read_otherwise l)) in
-    elim (entry l) as (λ o. Stands kept l.position o
-    → reported_at l.position (of_text ++ of_git ++ option_to_list (option_and_then (reported_of_entry h kept (has_entry_at kept l.position)) o))
-    ≡ reported_at l.position (of_text ++ of_git ++ option_to_list (option_and_then (reported_of_entry h kept true) o))) [
-      | None ↦ λ _. refl
-      | Some e ↦ λ is. ap (λ b. reported_at l.position (of_text ++ of_git ++ option_to_list (reported_of_entry h kept b e))) is
-    ]
-
-all_stands : (kept : List LocatedMapping) (ls : List Line) → AllByRecursion (λ x. has_entry_at kept x.position ≡ true) (located ls) → AllByRecursion (λ l. Stands kept l.position (entry l)) ls
-all_stands kept [] = λ all. tt
-all_stands kept (l ∷ ls) =
-    elim (entry l) as (λ o. AllByRecursion (λ x. has_entry_at kept x.position ≡ true) (cons_option (option_map (λ e. record { position = l.position; entry = e }) o) (located ls))
-    → Stands kept l.position o × AllByRecursion (λ m. Stands kept m.position (entry m)) ls) [
-      | None ↦ λ all. (tt, all_stands kept ls all)
-      | Some e ↦ λ all. (all.0, all_stands kept ls all.1)
-    ]
+standing h kept l = grind (arith, reported_at)
 
 kept_stands : (kept : List LocatedMapping) (l : Line) → is_line_kept kept l ≡ true → Stands kept l.position (entry l)
 kept_stands kept l = elim (entry l) as (λ o. (is_none o || has_entry_at kept l.position) ≡ true → Stands kept l.position o) [ None ↦ λ _. tt | Some e ↦ λ is. is ]
@@ -272,18 +182,13 @@ left_found found h kept (l ∷ ls) all =
 
 renumbered_at : (all : List Line) (n : ℕ) (position : Position) (ts : List FindingKind) → number_among all position ≡ n
     → map (renumbered all) (reported_at position ts) ≡ map (at_line (position_among all) n) (reported_at position ts)
-renumbered_at all n position [] is = refl
-renumbered_at all n position (t ∷ ts) is =
-    let rest = renumbered_at all n position ts is in
-    λ i. at_line (position_among all) (is i) (record { position = position; kind = t }) ∷ rest i
+renumbered_at all n position ts is = grind (arith, map-map)
 
 renumbered_all : (h : List Mapping) (kept : List LocatedMapping) (all : List Line) (n : ℕ) (ls : List Line) → AreNumbered all n ls
     → map (renumbered all) (flat_map (kept_findings h kept) ls) ≡ numbered_findings (position_among all) h kept n ls
 renumbered_all h kept all n [] are = refl
 renumbered_all h kept all n (l ∷ ls) are =
-    map-append (renumbered all) (kept_findings h kept l) (flat_map (kept_findings h kept) ls)
-    ∙ ap (λ fs. fs ++ map (renumbered all) (flat_map (kept_findings h kept) ls)) (renumbered_at all n l.position (kept_reported h kept l) are.0)
-    ∙ ap (λ fs. map (at_line (position_among all) n) (kept_findings h kept l) ++ fs) (renumbered_all h kept all (n + 1) ls are.1)
+    grind (arith, map-append, renumbered_at, (renumbered_all h kept all (n + 1) ls are.1))
 
 -- ---- both are equal
 
@@ -306,7 +211,7 @@ module _ (buffer text : Text) (pruned : IsPruned buffer text) where
   same_mapped c = ap (λ o. replaced_contact (unwrap_or o no_fields) c) (same_answer (unwrap_or c.name []) c.email)
 
   left_numbered : AreNumbered left_ones 1 left_ones
-  left_numbered = are_numbered [] left_ones (some_apart (is_line_kept pruned.kept) (located_lines (buffer ∷ [])) (apart_lines 0 (buffer ∷ [])))
+  left_numbered = are_numbered left_ones (later_filter _ (is_line_kept pruned.kept) (located_lines (buffer ∷ [])) (apart_lines 0 (buffer ∷ [])))
 
   own_lines : located_lines (text ∷ []) ≡ located_from 0 1 (texts left_ones)
   own_lines = one_buffer text ∙ ap (located_from 0 1) (text_lines buffer text pruned)
@@ -325,11 +230,11 @@ module _ (buffer text : Text) (pruned : IsPruned buffer text) where
       ap (λ f. origin_positions (origins own name c.email) f) fields
       ∙ ap (λ xs. origin_positions (origins xs name c.email) (fields_for whole_history name c.email)) own_moved
       ∙ moved_positions left_ones pruned.kept
-      (some_ascend (is_line_kept pruned.kept) (located_lines (buffer ∷ [])) (lines_ascend 0 (buffer ∷ [])))
+      (later_filter _ (is_line_kept pruned.kept) (located_lines (buffer ∷ [])) (lines_ascend 0 (buffer ∷ [])))
       (subst (AllByRecursion (λ x. IsAmong left_ones x.position)) (kept_entries buffer text pruned) (all_among left_ones)) name c.email (fields_for whole_history name c.email)
 
   own_stand : AllByRecursion (λ l. Stands own l.position (entry l)) (located_lines (text ∷ []))
-  own_stand = all_stands own (located_lines (text ∷ [])) (all_stand own)
+  own_stand = all_located (λ x. has_entry_at own x.position ≡ true) (located_lines (text ∷ [])) (all_stand own)
 
   own_found : (left : List Finding) → AreFindings (text ∷ []) left → left ≡ flat_map (findings (entries own) own) (located_lines (text ∷ []))
   own_found left are = one_findings (text ∷ []) left (flat_map (findings (entries own) own) (located_lines (text ∷ []))) are (record { kept = own; effective = text_reduced buffer text pruned; whole = refl })
@@ -342,14 +247,12 @@ module _ (buffer text : Text) (pruned : IsPruned buffer text) where
 
   -- the lines that the findings leave are those that pruning keeps
   buffer_left : (found : List Finding) → AreFindings (buffer ∷ []) found → lines_left buffer found ≡ left_ones
-  buffer_left found are =
-      left_lines (buffer ∷ []) found are
-      ∙ ap (λ kept. filter (is_line_kept kept) (located_lines (buffer ∷ []))) (one_reduced (located (located_lines (buffer ∷ []))) are.kept pruned.kept are.effective pruned.effective)
+  buffer_left found are = grind (arith, left_lines, one_reduced)
 
   buffer_findings : (found : List Finding) → AreFindings (buffer ∷ []) found → filter (is_left found) found ≡ flat_map (kept_findings whole_history pruned.kept) left_ones
   buffer_findings found are =
       let ls = located_lines (buffer ∷ []) in
-      let stay = lines_stay are.kept ls (each_stays (located ls) are.kept are.effective (located_accepted ls)) in
+      let stay = effective_lines are.kept ls (each_stays (located ls) are.kept are.effective (located_accepted ls)) in
       let all : List Finding = flat_map (findings whole_history are.kept) ls in
       let none = not_reported whole_history are.kept all ls (reported_redundant whole_history are.kept ls (apart_lines 0 (buffer ∷ [])) stay) in
       ap (λ fs. filter (is_left fs) fs) are.whole
@@ -377,19 +280,7 @@ none_of position there (t ∷ ts) =
     ]
 
 kept_none : (h : List Mapping) (kept : List LocatedMapping) (l : Line) → list_any has_no_effect (kept_reported h kept l) ≡ false
-kept_none h kept l =
-    let of_text = option_to_list (reported_of_reading l.text (strict_reading l.position.line l.text)) in
-    let of_git = option_to_list (option_map git_reads (read_otherwise l)) in
-    let of_entry = option_to_list (option_and_then (reported_of_entry h kept true) (entry l)) in
-    list_any-append has_no_effect (of_text ++ of_git) of_entry
-    ∙ ap (λ b. b || list_any has_no_effect of_entry)
-    (list_any-append has_no_effect of_text of_git
-    ∙ ap (λ b. b || list_any has_no_effect of_git) (reading_none l.text (strict_reading l.position.line l.text))
-    ∙ git_none (read_otherwise l))
-    ∙ elim (entry l) as (λ o. list_any has_no_effect (option_to_list (option_and_then (reported_of_entry h kept true) o)) ≡ false) [
-      | None ↦ refl
-      | Some e ↦ contact_none (proper_contact e) (mapped_contact h (proper_contact e)) (mapping_positions h kept (proper_contact e))
-    ]
+kept_none h kept l = grind (arith, list_any-append, none_in_text, contact_none)
 
 none_found : (h : List Mapping) (kept : List LocatedMapping) (position : Position) (ls : List Line) → AllByRecursion (λ l. Stands kept l.position (entry l)) ls
     → list_any (redundant_at position) (flat_map (findings h kept) ls) ≡ false

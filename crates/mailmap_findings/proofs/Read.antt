@@ -1,12 +1,11 @@
 -- Parsing lines with their line feeds has the same result as parsing the pieces between line feeds.
-use Rattle.std.proofs.Common.{take-append-drop, ◌<◌, ◌-◌, suc, length, take, drop, get_or, arith, ◌≡◌, ◌+◌, ◌==◌, ℕ, true, false, cond, Option, Some, None, option_to_list, Ok, Err, List, [], ◌∷◌, ◌++◌, inl, inr, ⊎_elim, append-nil, refl, sym, ap, ◌∙◌}
+use Rattle.std.proofs.Common.{◌≡◌, ◌+◌, ◌==◌, ℕ, cond, Option, Some, None, option_to_list, Ok, Err, List, [], ◌∷◌, ◌++◌, inl, inr, ⊎_elim, append-nil, refl, ap, ◌∙◌, arith}
 use Rattle.std.specs.List.{cons_option, flat_map}
 use Rattle.std.specs.Option.{option_and_then, option_map}
 use Rattle.std.specs.Result.{result_ok}
 use Rattle.std.specs.Char.{encode_utf8}
 use Rattle.std.proofs.lemmas.Bool.{eqb-true}
-use Rattle.std.proofs.lemmas.List.{drop_all, map-append}
-use Rattle.std.proofs.Math.Seq.{drop-cons}
+use Rattle.std.proofs.lemmas.List.{map-append}
 use Rattle.std.proofs.lemmas.List.Elements.{filter_map-append}
 use Rattle.mailmap_entries.specs.Folding.{Text}
 use Rattle.mailmap_grammar.specs.Trimming.{trim}
@@ -38,11 +37,7 @@ first_byte b (w ∷ ws) (p ∷ ps) are = (⊎_elim (λ e. inl (ap (λ t. b ∷ t
 are_pieces : (s : Text) → ArePiecesOf (whole_lines s) (pieces s)
 unfolding whole_lines pieces
 are_pieces [] = tt
-are_pieces (b ∷ s) =
-    elim (b == 10) as (λ t. b == 10 ≡ t → ArePiecesOf (cond t ((b ∷ []) ∷ whole_lines s) (with_first b (whole_lines s))) (cond t ([] ∷ pieces s) (with_first b (pieces s)))) [
-      | true ↦ λ feed. (inr (ap (λ x. x ∷ []) (eqb-true b 10 feed)), are_pieces s)
-      | false ↦ λ other. first_byte b (whole_lines s) (pieces s) (are_pieces s)
-    ] refl
+are_pieces (b ∷ s) = grind (arith, eqb-true, first_byte, (are_pieces s))
 
 pub same_reading : (says : ℕ → Text → Reading) (n : ℕ) (w p : Text) → IsPieceOf w p → reading_by says n w ≡ reading_by says n p
 same_reading says n w p is = ⊎_elim (λ e. ap (reading_by says n) e) (λ e. ap (reading_by says n) e ∙ reading_by-feed says n p) is
@@ -60,13 +55,6 @@ same_ignored w p is = ⊎_elim (λ e. ap ignored e) (λ e. ap ignored e ∙ ap (
 pub same_reported : (n : ℕ) (w p : Text) → IsPieceOf w p → reported_of_reading w (strict_reading n w) ≡ reported_of_reading p (strict_reading n p)
 same_reported n w p is = reported_alike w p (same_ignored w p is) (strict_reading n w) ∙ ap (reported_of_reading p) (same_reading strict_line_reading n w p is)
 
-pub last-feed : (s : Text) → 0 < length s → get_or s (length s - 1) 0 ≡ 10 → s ≡ take (length s - 1) s ++ 10 ∷ []
-last-feed s some is =
-    let n = length s - 1 in
-    let none : drop (suc n) s ≡ [] = drop_all (suc n) s (omega arith) in
-    let one : drop n s ≡ 10 ∷ [] = drop-cons s n 0 (omega arith) ∙ ap (λ x. x ∷ drop (suc n) s) is ∙ ap (λ r. 10 ∷ r) none in
-    sym (ap (λ r. take n s ++ r) (sym one) ∙ take-append-drop n s)
-
 pub same_entry : (position : Position) (w p : Text) → IsPieceOf w p → entry (record { position = position; text = w }) ≡ entry (record { position = position; text = p })
 unfolding entry
 same_entry position w p is = ap (option_and_then result_ok) (same_reading line_reading position.line w p is)
@@ -82,8 +70,7 @@ said-located says buffer n [] [] are = refl
 said-located says buffer n [] (p ∷ ps) are = absurd are
 said-located says buffer n (w ∷ ws) [] are = absurd are
 said-located says buffer n (w ∷ ws) (p ∷ ps) are =
-    ap (λ o. option_to_list o ++ said (reading_by says) (located_from buffer (n + 1) ws)) (same_reading says n w p are.0)
-    ∙ ap (λ rs. option_to_list (reading_by says n p) ++ rs) (said-located says buffer (n + 1) ws ps are.1)
+    grind (arith, same_reading, (said-located says buffer (n + 1) ws ps are.1))
 
 pub said-buffer : (says : ℕ → Text → Reading) (s : Text) → said (reading_by says) (located_lines (s ∷ [])) ≡ readings_from (reading_by says) 1 (pieces s)
 unfolding lines_from
@@ -104,9 +91,7 @@ mappings_of-located buffer n [] [] are = refl
 mappings_of-located buffer n [] (p ∷ ps) are = absurd are
 mappings_of-located buffer n (w ∷ ws) [] are = absurd are
 mappings_of-located buffer n (w ∷ ws) (p ∷ ps) are =
-    good_first (reading n p) (record { position = record { buffer = buffer; line = n }; text = w }) (located_from buffer (n + 1) ws) (readings_from reading (n + 1) ps)
-    (ap (option_and_then result_ok) (same_reading line_reading n w p are.0))
-    (mappings_of-located buffer (n + 1) ws ps are.1)
+    grind (arith, good_first, same_reading, (mappings_of-located buffer (n + 1) ws ps are.1))
 
 pub entries-append : (xs ys : List Line) → entries (located (xs ++ ys)) ≡ entries (located xs) ++ entries (located ys)
 entries-append xs ys = ap entries (filter_map-append located_entry xs ys) ∙ map-append (λ (x : LocatedMapping). x.entry) (located xs) (located ys)
@@ -115,6 +100,4 @@ pub mappings_of-located_lines : (buffer : ℕ) (ss : List Text) → entries (loc
 unfolding lines_from
 mappings_of-located_lines buffer [] = refl
 mappings_of-located_lines buffer (s ∷ ss) =
-    entries-append (located_from buffer 1 (whole_lines s)) (lines_from (buffer + 1) ss)
-    ∙ ap (λ es. es ++ entries (located (lines_from (buffer + 1) ss))) (mappings_of-located buffer 1 (whole_lines s) (pieces s) (are_pieces s))
-    ∙ ap (λ es. mappings_of s ++ es) (mappings_of-located_lines (buffer + 1) ss)
+    grind (arith, entries-append, mappings_of-located, are_pieces, (mappings_of-located_lines (buffer + 1) ss))

@@ -1,13 +1,13 @@
 -- From the results of parsing and of without_redundant to those of verify and prune, also for buffers without lines;
 -- and when findings are equal.
-use Rattle.std.proofs.Common.{◌≡◌, Bool, true, false, true≢false, List, [], ◌∷◌, Result, Ok, Err, IfOk, filter, refl, sym, ap, subst, ◌∙◌}
+use Rattle.std.proofs.Common.{◌≡◌, Bool, true, false, true≢false, List, [], ◌∷◌, Result, Ok, Err, IfOk, filter, refl, sym, ap, subst, ◌∙◌, arith}
 use Rattle.std.specs.Prelude.{◌&&◌, ◌↔◌}
 use Rattle.std.specs.List.{flat_map}
 use Rattle.mailmap_entries.specs.Folding.{Text}
 use Rattle.mailmap_redundancy.specs.Redundancy.{LocatedMapping, AreEffective, IsSublist, done, entries, settled}
 use Rattle.mailmap_redundancy.proofs.Kept.{reduced_sublist}
 use Rattle.mailmap_findings.specs.Findings.{AreFindings, Finding, IsPruned, findings, is_line_kept}
-use Rattle.mailmap_findings.specs.Positions.{Line, located_lines, located}
+use Rattle.mailmap_findings.specs.Positions.{located_lines, located}
 
 pub are_kept : (buffers : List Text) (xs kept : List LocatedMapping) → xs ≡ located (located_lines buffers) → AreEffective xs kept → IsSublist kept (located (located_lines buffers))
 are_kept buffers xs kept given effective = subst (IsSublist kept) given (reduced_sublist xs kept effective)
@@ -30,8 +30,7 @@ pub no_findings : (buffers : List Text) (found : List Finding) → located_lines
 no_findings buffers found none is = record { kept = []; effective = no_line buffers none; whole = is ∙ ap (flat_map (findings (entries (located (located_lines buffers))) [])) (sym none) }
 
 pub nothing_left : (buffer text : Text) → located_lines (buffer ∷ []) ≡ [] → text ≡ [] → IsPruned buffer text
-nothing_left buffer text none is =
-    record { kept = []; effective = no_line (buffer ∷ []) none; whole = is ∙ ap (λ ls. flat_map (λ (l : Line). l.text) (filter (is_line_kept []) ls)) (sym none) }
+nothing_left buffer text none is = grind (arith, no_line)
 
 -- ---- equal findings
 

@@ -1,8 +1,7 @@
 -- An iteration over lines stays in step with the effective entries.
-use Rattle.std.proofs.Common.{◌≡◌, ◌≢◌, ◌+◌, ◌<◌, ◌≤◌, ℕ, suc, Bool, true, false, if◌then◌else◌, Some, None, List, [], ◌∷◌, Bor, drop, get_or, length, map, ⊎_elim, arith, refl, sym, ap, subst, ◌∙◌}
+use Rattle.std.proofs.Common.{◌≡◌, ◌≢◌, ◌+◌, ◌<◌, ◌≤◌, ℕ, Bool, true, false, if◌then◌else◌, Some, List, [], ◌∷◌, Bor, drop, get_or, length, map, ⊎_elim, arith, refl, sym, ap, subst, ◌∙◌, filter, is_none}
 use Rattle.std.specs.Prelude.{◌||◌}
-use Rattle.std.specs.List.{AllByRecursion, cons_option}
-use Rattle.std.specs.Option.{option_map}
+use Rattle.std.specs.List.{AllByRecursion, flat_map}
 use Rattle.std.proofs.Math.Seq.{drop-cons}
 use Rattle.std.proofs.lemmas.List.{drop_all}
 use Rattle.std.proofs.lemmas.Bool.{cases_Bool, cond-true, cond-false, and_parts, and_from, eqb-true, eq-eqb}
@@ -11,17 +10,16 @@ use Rattle.mailmap_redundancy.specs.declared.located.LocatedEntry.{LocatedEntry}
 use Rattle.mailmap_redundancy.specs.declared.located.Position.{Position}
 use Rattle.mailmap_redundancy.proofs.Sublists.{sublist_all}
 use Rattle.mailmap_findings.specs.Positions.{Line, entry, located, located_entry, same_position, has_entry_at}
-use Rattle.mailmap_findings.specs.Marked.{AreApart, IsWalk, marked}
+use Rattle.mailmap_findings.specs.Marked.{AreApart, IsWalk, marked, MarkedLine}
+use Rattle.mailmap_findings.proofs.Entries.{all_hold, at_entries}
+use Rattle.mailmap_entries.specs.Folding.{Text}
+use Rattle.mailmap_findings.specs.Findings.{is_line_kept}
 
 pub same_itself : (a : Position) → same_position a a ≡ true
 same_itself a = and_from _ _ (eq-eqb a.buffer a.buffer refl) (eq-eqb a.line a.line refl)
 
 pub same_is : (a b : Position) → same_position a b ≡ true → a ≡ b
-same_is a b same =
-    let both = and_parts _ _ same in
-    let buffer : a.buffer ≡ b.buffer = eqb-true _ _ both.0 in
-    let line : a.line ≡ b.line = eqb-true _ _ both.1 in
-    λ i. record { buffer = buffer i; line = line i }
+same_is a b same = grind (arith, and_parts, same, eqb-true)
 
 pub differs : (a b : Position) → a ≢ b → same_position a b ≡ false
 differs a b other = ⊎_elim (λ yes. absurd (other (same_is a b yes))) (λ no. no) (cases_Bool (same_position a b))
@@ -42,12 +40,7 @@ abbrev pub Elsewhere : Position → List LocatedMapping → Type 0
 Elsewhere position = AllByRecursion (λ x. x.position ≢ position)
 
 pub located_elsewhere : (position : Position) (ls : List Line) → AllByRecursion (λ l. l.position ≢ position) ls → Elsewhere position (located ls)
-located_elsewhere position [] a = tt
-located_elsewhere position (l ∷ ls) a =
-    elim (entry l) as (λ o. Elsewhere position (cons_option (option_map (λ e. record { position = l.position; entry = e }) o) (located ls))) [
-      | None ↦ located_elsewhere position ls a.1
-      | Some e ↦ (a.0, located_elsewhere position ls a.1)
-    ]
+located_elsewhere position = at_entries (λ p. p ≢ position)
 
 pub no_entry_at : (position : Position) (xs : List LocatedMapping) → Elsewhere position xs → has_entry_at xs position ≡ false
 no_entry_at position [] a = refl
@@ -68,12 +61,8 @@ pub record InStep (kept left : List LocatedMapping) (ls : List Line) : Type 0 wh
   pub same : AllByRecursion (λ l. has_entry_at kept l.position ≡ has_entry_at left l.position) ls
   pub walk : IsWalk left ls
 
-all_same : (kept : List LocatedMapping) (ls : List Line) → AllByRecursion (λ l. has_entry_at kept l.position ≡ has_entry_at kept l.position) ls
-all_same kept [] = tt
-all_same kept (l ∷ ls) = (refl, all_same kept ls)
-
 pub starts : (kept : List LocatedMapping) (ls : List Line) → IsWalk kept ls → InStep kept kept ls
-starts kept ls walk = record { same = all_same kept ls; walk = walk }
+starts kept ls walk = record { same = all_hold _ (λ l. refl) ls; walk = walk }
 
 -- the first line's entry is not among the remaining ones, or is the first of them
 pub data First (l : Line) (ls : List Line) : List LocatedMapping → Type 0 where
@@ -85,11 +74,7 @@ first_some l ls _ _ here is (skips _ left _ s) = passes left s
 first_some l ls _ _ here is (keeps x left _ s) = meets x left here is s
 
 pub first_met : (l : Line) (ls : List Line) (left : List LocatedMapping) → IsSublist left (located (l ∷ ls)) → First l ls left
-first_met l ls left =
-    elim (entry l) as (λ o. entry l ≡ o → IsSublist left (cons_option (option_map (λ e. record { position = l.position; entry = e }) o) (located ls)) → First l ls left) [
-      | None ↦ λ is s. passes left s
-      | Some e ↦ λ is s. first_some l ls left (record { position = l.position; entry = e }) refl (ap (option_map (λ m. record { position = l.position; entry = m })) is) s
-    ] refl
+first_met l ls left = grind (arith, passes, first_some)
 
 -- dropping a first entry that is on none of the lines
 without_first : (kept left : List LocatedMapping) (x : LocatedMapping) (ls : List Line) → AllByRecursion (λ l. l.position ≢ x.position) ls
@@ -158,24 +143,30 @@ module _ (kept : List (Bor LocatedEntry)) (i : ℕ) (ls rest : List Line) (l : L
 
   -- no entry is left
   pub none_marked : length kept ≤ i → (map (marked (kept_from i kept)) ls ≡ (l, false) ∷ map (marked (kept_from i kept)) rest) × IsWalk (kept_from i kept) rest
-  none_marked past =
-      let none : kept_from i kept ≡ [] = ap (map located_of_reference) (drop_all i kept past) in
-      marked_by (kept_from i kept) false (ap (λ xs. is_first_at xs l.position) none) (ap (λ xs. without_first_at xs l.position) none ∙ sym none)
+  none_marked past = grind (arith, drop_all, marked_by)
 
   module _ (x : Bor LocatedEntry) (within : i < length kept) (here : x ≡ get_or kept i x) where
     parts : kept_from i kept ≡ located_of_reference x ∷ kept_from (i + 1) kept
-    parts =
-        let e : suc i ≡ i + 1 = omega arith in
-        ap (map located_of_reference) (drop-cons kept i x within) ∙ (λ j. located_of_reference (sym here j) ∷ kept_from (e j) kept)
+    parts = grind (arith, drop-cons)
 
     -- the next entry is another line's
     pub other_marked : same_position x.now.position l.position ≡ false → (map (marked (kept_from i kept)) ls ≡ (l, false) ∷ map (marked (kept_from i kept)) rest) × IsWalk (kept_from i kept) rest
-    other_marked other =
-        marked_by (kept_from i kept) false (ap (λ xs. is_first_at xs l.position) parts ∙ other)
-        (ap (λ xs. without_first_at xs l.position) parts ∙ cond-false _ _ _ other ∙ sym parts)
+    other_marked other = grind (arith, marked_by, parts, cond-false)
 
     -- the next entry is this line's
     pub kept_marked : same_position x.now.position l.position ≡ true → (map (marked (kept_from i kept)) ls ≡ (l, true) ∷ map (marked (kept_from (i + 1) kept)) rest) × IsWalk (kept_from (i + 1) kept) rest
     kept_marked same =
         marked_by (kept_from (i + 1) kept) true (ap (λ xs. is_first_at xs l.position) parts ∙ same)
         (ap (λ xs. without_first_at xs l.position) parts ∙ cond-true _ _ _ same)
+
+-- ---- the text of the lines that pruning keeps
+
+abbrev pub is_marked_kept : MarkedLine → Bool
+is_marked_kept m = is_none (entry m.0) || m.1
+
+abbrev pub kept_text : List MarkedLine → Text
+kept_text ms = flat_map (λ m. m.0.text) (filter is_marked_kept ms)
+
+pub kept_text_marked : (kept : List LocatedMapping) (ls : List Line) → kept_text (map (marked kept) ls) ≡ flat_map (λ l. l.text) (filter (is_line_kept kept) ls)
+kept_text_marked kept [] = refl
+kept_text_marked kept (l ∷ ls) = grind (arith, (kept_text_marked kept ls))

@@ -1,5 +1,5 @@
 -- bstr splits a text into the lines of the specification.
-use Rattle.std.proofs.Common.{◌≡◌, ◌==◌, ℕ, suc, List, [], ◌∷◌, take, drop, sym, ap, ◌∙◌, arith, ⊎_elim}
+use Rattle.std.proofs.Common.{◌≡◌, ℕ, List, [], ◌∷◌, take, drop, sym, ap, ◌∙◌, arith}
 use Rattle.std.proofs.lemmas.Bool.{cases_Bool, cond-true, cond-false}
 use Rattle.bstr.specs.Text.{line_len, lines_of}
 use Rattle.bstr.proofs.lemmas.LineLemmas.{lines-nil, lines-step}
@@ -15,18 +15,5 @@ one_more b (c ∷ s) = sym (ap (with_first b) (lines-step (c ∷ s) (omega arith
 pub lines-whole : (s : List ℕ) → lines_of s ≡ whole_lines s
 unfolding line_len whole_lines
 lines-whole [] = lines-nil
-lines-whole (b ∷ s) = ⊎_elim
-    (λ feed.
-    let len : line_len (b ∷ s) ≡ 1 = cond-true _ _ _ feed in
-    lines-step (b ∷ s) (omega arith)
-    ∙ ap (λ n. take n (b ∷ s) ∷ lines_of (drop n (b ∷ s))) len
-    ∙ ap (λ ls. (b ∷ []) ∷ ls) (lines-whole s)
-    ∙ sym (cond-true _ _ _ feed))
-    (λ other.
-    let len : line_len (b ∷ s) ≡ suc (line_len s) = cond-false _ _ _ other in
-    lines-step (b ∷ s) (omega arith)
-    ∙ ap (λ n. take n (b ∷ s) ∷ lines_of (drop n (b ∷ s))) len
-    ∙ one_more b s
-    ∙ ap (with_first b) (lines-whole s)
-    ∙ sym (cond-false _ _ _ other))
-    (cases_Bool (b == 10))
+lines-whole (b ∷ s) =
+    grind (arith, cond-true, lines-step, cond-false, one_more, cases_Bool, (lines-whole s), (lines-whole s))

@@ -1,6 +1,6 @@
 -- The findings of mailmaps, and the lines that pruning keeps.
 use Rattle.std.specs.Prelude.{◌≡◌, ◌<◌, ◌≤◌, ◌⊎◌, ◌++◌, ◌∷◌, ◌||◌, ◌&&◌, Bool, true, false, if◌then◌else◌, Option, Some, None, List, [], Ok, Err, map, filter, is_none, is_some, nat_eq, unwrap_or}
-use Rattle.std.specs.List.{AllByRecursion, flat_map, list_any}
+use Rattle.std.specs.List.{flat_map, list_any}
 use Rattle.std.specs.Option.{option_and_then, option_copied, option_map, option_or, option_to_list}
 use lib.Pointwise.{pointwise}
 use Rattle.mailmap_entries.specs.Entries.{Mapping}
@@ -14,7 +14,7 @@ use Rattle.mailmap_entries.specs.Listings.{same_optional}
 use Rattle.mailmap_redundancy.specs.Origins.{origins}
 use Rattle.mailmap_redundancy.specs.Redundancy.{LocatedMapping, AreEffective, entries, last_of_key}
 use Rattle.mailmap_redundancy.specs.declared.located.Position.{Position}
-use Rattle.mailmap_findings.specs.Positions.{Line, entry, located_lines, located, same_position, has_entry_at}
+use Rattle.mailmap_findings.specs.Positions.{AllLater, Line, entry, located_lines, located, same_position, has_entry_at}
 use Rattle.mailmap_findings.specs.declared.verify.Contact as the_contact
 use Rattle.mailmap_findings.specs.declared.verify.Finding as the_finding
 use Rattle.mailmap_findings.specs.declared.verify.FindingKind as the_kind
@@ -147,8 +147,7 @@ IsUpTo a b = (a.buffer < b.buffer) ⊎ ((a.buffer ≡ b.buffer) × (a.line ≤ b
 
 -- the findings are in the order of their lines
 abbrev pub AreInOrder : List Finding → Type 0
-AreInOrder [] = Unit {0}
-AreInOrder (f ∷ fs) = AllByRecursion (λ g. IsUpTo f.position g.position) fs × AreInOrder fs
+AreInOrder = AllLater (λ f g. IsUpTo f.position g.position)
 
 -- ---- pruned texts
 

@@ -1,8 +1,7 @@
 -- Lines, each with whether its entry is effective.
-use Rattle.std.specs.Prelude.{◌≡◌, ◌≢◌, Bool, List, [], ◌∷◌}
-use Rattle.std.specs.List.{AllByRecursion}
+use Rattle.std.specs.Prelude.{◌≡◌, ◌≢◌, Bool, List}
 use Rattle.mailmap_redundancy.specs.Redundancy.{LocatedMapping, IsSublist}
-use Rattle.mailmap_findings.specs.Positions.{Line, has_entry_at, line_of, located}
+use Rattle.mailmap_findings.specs.Positions.{AllLater, Line, has_entry_at, line_of, located}
 use Rattle.mailmap_findings.specs.Clean.{are_clean}
 use Rattle.mailmap_findings.specs.declared.verify.lines.Line.{Line as the_line}
 use Rattle.mailmap_findings.specs.declared.verify.lines.KnownLine.{KnownLine as the_known_line}
@@ -23,8 +22,7 @@ marked_line_of k = (line_of k.line, k.is_kept)
 
 -- the positions are distinct
 abbrev pub AreApart : List Line → Type 0
-AreApart [] = Unit {0}
-AreApart (l ∷ ls) = AllByRecursion (λ x. x.position ≢ l.position) ls × AreApart ls
+AreApart = AllLater (λ l x. x.position ≢ l.position)
 
 -- the lines of an iteration, and some of their entries
 pub record IsWalk (kept : List LocatedMapping) (ls : List Line) : Type 0 where

@@ -1,6 +1,6 @@
 -- The lines of buffers with their positions, and their entries.
 use Rattle.std.specs.Prelude.{◌≡◌, ◌⊎◌, ◌+◌, ◌==◌, ◌&&◌, ℕ, Bool, if◌then◌else◌, Option, List, [], ◌∷◌, ◌++◌, filter}
-use Rattle.std.specs.List.{filter_map, flat_map, list_any}
+use Rattle.std.specs.List.{AllByRecursion, filter_map, flat_map, list_any}
 use Rattle.std.specs.Option.{option_map, option_and_then}
 use Rattle.std.specs.Result.{result_ok}
 use Rattle.mailmap_entries.specs.Entries.{Mapping}
@@ -9,6 +9,11 @@ use Rattle.mailmap_grammar.specs.Lines.{reading, with_first}
 use Rattle.mailmap_redundancy.specs.Redundancy.{LocatedMapping}
 use Rattle.mailmap_redundancy.specs.declared.located.Position.{Position}
 use Rattle.mailmap_findings.specs.declared.verify.lines.Line.{Line as the_line}
+
+-- each element is in this relation to all later ones
+abbrev pub AllLater : {X : Type 0} → (X → X → Type 0) → List X → Type 0
+AllLater R [] = Unit {0}
+AllLater R (x ∷ xs) = AllByRecursion (R x) xs × AllLater R xs
 
 -- a line, including its line feed if it has one
 pub record Line : Type 0 where

@@ -65,6 +65,7 @@ pub struct Needed {
 
 impl<'m, 'a> Explanations<'m, 'a> {
     /// Finds out which entries have an effect. Allocates all the memory that the explanations need.
+    #[tactic(auto, using(crate::proofs::Readings::items_accepted))]
     pub fn new(
         alloc: Global,
         mailmaps: &'m Mailmaps<'_, 'a>,

@@ -32,6 +32,7 @@ use std::marker::Model;
 /// that are not contacts need nothing.
 ///
 /// With the mailmap `Jane <jd@x>\nJoe <joe@x>\n`, the contacts `jd <JD@x>\n` don't need line 2.
+#[tactic(auto, using(crate::proofs::Verified::if_given))]
 pub fn unneeded(
     alloc: Global,
     buffers: &[&[u8]],
@@ -95,6 +96,7 @@ impl<'m, 'a> Needs<'m, 'a> {
 
     /// Adds a line of contacts, with or without its line end. Returns `false` if the line is neither a contact nor
     /// blank.
+    #[tactic(auto, using(crate::proofs::ContactNeeds::unclosed_some))]
     pub fn add_line(&mut self, line: &[u8]) -> bool
         ensures history { self.new.history ≡ self.old.history }
         ensures kept { self.new.kept ≡ self.old.kept }

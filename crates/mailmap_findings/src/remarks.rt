@@ -53,6 +53,7 @@ impl<'v, 'a> Model for Remarks<'v, 'a> {
 }
 
 impl<'v, 'a> Remarks<'v, 'a> {
+    #[tactic(auto, using(crate::proofs::Merging::ahead_first, crate::proofs::Merging::are_remarks))]
     pub fn new(mut findings: Findings<'v, 'a>, unneeded: &'v [Position]) -> Remarks<'v, 'a>
         ensures { (buffers : List Text) (contacts : Text) → AreFindings buffers findings.entry
             → AreUnneeded buffers contacts unneeded.now → AreRemarks buffers contacts result }
@@ -73,6 +74,7 @@ impl<'v, 'a> Iterator for Remarks<'v, 'a> {
 
     ghost remaining = { item_count (λ s. s) };
 
+    #[tactic(auto, using(crate::proofs::Merging::none_mapped, crate::proofs::Merging::position_left, crate::proofs::Merging::position_next))]
     fn next(&mut self) -> Option<Remark<'a>> {
         if let Some(position) = position_ahead(&self.ahead, self.unneeded, self.given) {
             self.given += 1;

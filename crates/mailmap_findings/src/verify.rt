@@ -94,6 +94,7 @@ pub struct Contact<'a> {
 ///
 /// For the buffer `P <a@x>\nP <a@x> p`, this reports that line 1 has no effect beside line 2, and that line 2 has the
 /// ignored text `p`.
+#[tactic(auto, using(crate::proofs::Verified::no_findings))]
 pub fn verify<'a>(alloc: Global, buffers: &[&'a [u8]]) -> Result<Vec<Finding<'a>>, AllocError>
     ensures findings { IfOk result
         (λ findings. AreFindings (map (λ b. b.now) buffers.now) (map finding_of findings.items)) }
@@ -111,6 +112,7 @@ pub fn verify<'a>(alloc: Global, buffers: &[&'a [u8]]) -> Result<Vec<Finding<'a>
 
 /// Copies the buffer without the lines whose entries have no effect. All other lines are kept byte for byte, including
 /// comments and lines with faults.
+#[tactic(auto, using(crate::proofs::Readings::items_accepted, crate::proofs::Walking::kept_text_marked, crate::proofs::Verified::are_kept, crate::proofs::Verified::if_given, crate::proofs::Verified::is_pruned, crate::proofs::Verified::nothing_left))]
 pub fn prune(alloc: Global, buffer: &[u8]) -> Result<Vec<u8>, AllocError>
     ensures pruned { IfOk result (λ text. IsPruned buffer.now text.items) }
 
@@ -200,6 +202,7 @@ impl<'m, 'a> Model for Verification<'m, 'a> {
 
 impl<'m, 'a> Verification<'m, 'a> {
     /// Finds out which entries have an effect. Allocates all the memory that the findings need.
+    #[tactic(auto, using(crate::proofs::Readings::items_accepted, crate::proofs::Verified::are_kept))]
     pub fn new(
         alloc: Global,
         mailmaps: &'m Mailmaps<'_, 'a>,

@@ -1,28 +1,7 @@
 -- A text split at its first `<` and the first `>` after it.
-use Rattle.std.proofs.Common.{◌≡◌, ◌⊎◌, ℕ, Some, None, option_map, List, [], ◌∷◌, ◌++◌, refl, sym, ap, ◌∙◌, inl, inr, ⊎_elim}
-use Rattle.std.proofs.lemmas.Bool.{cases_eq, cond-true, cond-false, ne_eqb, eq-eqb}
-use Rattle.mailmap_grammar.specs.Lines.{split_once, cut_at_opening, cut_at_closing, cut, Absent, Unclosed, Closed, HoldsNo, IsCut, IsUnclosed}
-
-module _ (x : ℕ) where
-  once-none : (s : List ℕ) → HoldsNo x s → split_once x s ≡ None
-  unfolding split_once
-  once-none [] h = refl
-  once-none (y ∷ s) h = cond-false _ _ _ (ne_eqb y x h.0) ∙ ap (option_map _) (once-none s h.1)
-
-  once-some : (a r : List ℕ) → HoldsNo x a → split_once x (a ++ x ∷ r) ≡ Some (a, r)
-  unfolding split_once
-  once-some [] r h = cond-true _ _ _ (eq-eqb x x refl)
-  once-some (y ∷ a) r h = cond-false _ _ _ (ne_eqb y x h.0) ∙ ap (option_map _) (once-some a r h.1)
-
-  once-cases : (s : List ℕ) → HoldsNo x s ⊎ ((a : List ℕ) × (r : List ℕ) × HoldsNo x a × (s ≡ a ++ x ∷ r))
-  once-cases [] = inl tt
-  once-cases (y ∷ s) = ⊎_elim
-      (λ same. inr ([], s, tt, ap (λ z. z ∷ s) same))
-      (λ other. ⊎_elim
-      (λ h. inl (other, h))
-      (λ h. inr (y ∷ h.0, h.1, (other, h.2), ap (λ t. y ∷ t) h.3))
-      (once-cases s))
-      (cases_eq y x)
+use Rattle.std.proofs.Common.{◌≡◌, ℕ, List, ◌∷◌, ◌++◌, ap, ◌∙◌, ⊎_elim}
+use Rattle.mailmap_grammar.specs.Lines.{cut_at_opening, cut_at_closing, cut, Absent, Unclosed, Closed, HoldsNo, IsCut, IsUnclosed}
+use Rattle.mailmap_grammar.proofs.SplitOnce.{once-cases, once-none, once-some}
 
 -- exactly one of three cases holds for each text
 pub data Kind (s : List ℕ) : Type 0 where
@@ -53,17 +32,14 @@ kind s = ⊎_elim
     (once-cases 60 s)
 
 pub absent-cut : (s : List ℕ) → cut s ≡ Absent → HoldsNo 60 s
-absent-cut s e = elim (kind s) [ absent_kind h f ↦ h | unclosed_kind h f ↦ let w : Unclosed ≡ Absent = sym f ∙ e in absurd (cc) | closed_kind a b c h f ↦ let w : Closed a b c ≡ Absent = sym f ∙ e in absurd (cc) ]
+absent-cut s e = elim (kind s) [ absent_kind h f ↦ h | unclosed_kind h f ↦ absurd (cc) | closed_kind a b c h f ↦ absurd (cc) ]
 
 pub unclosed-cut : (s : List ℕ) → cut s ≡ Unclosed → IsUnclosed s
-unclosed-cut s e = elim (kind s) [ absent_kind h f ↦ let w : Absent ≡ Unclosed = sym f ∙ e in absurd (cc) | unclosed_kind h f ↦ h | closed_kind a b c h f ↦ let w : Closed a b c ≡ Unclosed = sym f ∙ e in absurd (cc) ]
+unclosed-cut s e = elim (kind s) [ absent_kind h f ↦ absurd (cc) | unclosed_kind h f ↦ h | closed_kind a b c h f ↦ absurd (cc) ]
 
 pub cut_at_closing-cut : (s a b c : List ℕ) → cut s ≡ Closed a b c → IsCut s a b c
 cut_at_closing-cut s a b c e = elim (kind s) [
-  | absent_kind h f ↦ let w : Absent ≡ Closed a b c = sym f ∙ e in absurd (cc)
-  | unclosed_kind h f ↦ let w : Unclosed ≡ Closed a b c = sym f ∙ e in absurd (cc)
-  | closed_kind a' b' c' h f ↦
-      let w : Closed a' b' c' ≡ Closed a b c = sym f ∙ e in
-      let ea : a' ≡ a = cc in let eb : b' ≡ b = cc in let ec : c' ≡ c = cc in
-      rw (← ea, ← eb, ← ec) h
+  | absent_kind h f ↦ absurd (cc)
+  | unclosed_kind h f ↦ absurd (cc)
+  | closed_kind a' b' c' h f ↦ let ea : a' ≡ a = cc in let eb : b' ≡ b = cc in let ec : c' ≡ c = cc in rw (← ea, ← eb, ← ec) h
 ]

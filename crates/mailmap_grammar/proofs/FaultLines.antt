@@ -1,22 +1,22 @@
 -- The line numbers of faults ascend, and a line yields at most one item.
-use Rattle.std.proofs.Common.{◌≡◌, ◌+◌, ◌<◌, ◌≤◌, ℕ, suc, true, false, cond, Option, Some, None, option_to_list, Ok, Err, List, [], ◌∷◌, ◌++◌, length, refl, sym, arith, Less}
+use Rattle.std.proofs.Common.{IfSome, ◌≡◌, ◌+◌, ◌<◌, ◌≤◌, ℕ, suc, true, false, cond, Option, Some, None, option_to_list, Ok, Err, List, [], ◌∷◌, ◌++◌, length, refl, sym, arith, Less}
 use Rattle.std.specs.List.{AllByRecursion}
+use Rattle.std.specs.Result.{IfErr}
 use Rattle.std.specs.List.Sorted.{IsStrictlySortedBy}
 use Rattle.std.specs.Ordering.{nat_cmp}
 use Rattle.std.specs.Cmp.{nat_cmp_is}
+use Rattle.mailmap_entries.proofs.Parts.{all_weaker}
 use Rattle.mailmap_grammar.specs.declared.lines.Strictness.{Strictness}
 use Rattle.mailmap_grammar.specs.declared.lines.Strictness.TheVariants.{Lenient, Strict}
 use Rattle.mailmap_entries.specs.Folding.{Text}
 use Rattle.mailmap_grammar.specs.Trimming.{trim}
 use Rattle.mailmap_grammar.specs.Lines.{Reading, ParsedContact, Absent, Unclosed, Closed, cut, trimmed_contact, two_contacts, strict_contacts, first_contact, line_reader, is_comment, unless_blank, reading_by, readings_from, fault_lines}
 
-abbrev pub LineIs : ℕ → Reading → Type 0
-LineIs n (Ok m) = Unit {0}
-LineIs n (Err f) = f.line ≡ n
+abbrev LineIs : ℕ → Reading → Type 0
+LineIs n r = IfErr r (λ f. f.line ≡ n)
 
 abbrev pub IfLine : ℕ → Option Reading → Type 0
-IfLine n None = Unit {0}
-IfLine n (Some r) = LineIs n r
+IfLine n o = IfSome o (LineIs n)
 
 two-line : (n : ℕ) (t name email : Text) (h : ParsedContact) → LineIs n (two_contacts n t name email h)
 two-line n t [] email Absent = refl
@@ -42,27 +42,26 @@ line_reader-line : (s : Strictness) (n : ℕ) (t : Text) → LineIs n (line_read
 line_reader-line Lenient n t = first-line _ n t (λ name email rest. two-line n t name email (trimmed_contact (cut rest))) (trimmed_contact (cut t))
 line_reader-line Strict n t = first-line _ n t (λ name email rest. strict-line n t name email rest (trimmed_contact (cut rest))) (trimmed_contact (cut t))
 
-blank-line : (says : ℕ → Text → Reading) (n : ℕ) (t : Text) → ((m : ℕ) (s : Text) → LineIs m (says m s)) → IfLine n (unless_blank says n t)
-blank-line says n [] is = tt
-blank-line says n (x ∷ t) is = is n (x ∷ t)
-
-reading_by-line : (says : ℕ → Text → Reading) (n : ℕ) (l : Text) → ((m : ℕ) (s : Text) → LineIs m (says m s)) → IfLine n (reading_by says n l)
-reading_by-line says n l is = elim (is_comment l) as (λ b. IfLine n (cond b None (unless_blank says n (trim l)))) [ true ↦ tt | false ↦ blank-line says n (trim l) is ]
+-- what holds for the reading of the trimmed line holds for that of the line, if it has one
+pub if_read : (P : Reading → Type 0) (says : ℕ → Text → Reading) (n : ℕ) (l : Text) → P (says n (trim l)) → IfSome (reading_by says n l) P
+if_read P says n l p = elim (is_comment l) as (λ b. IfSome (cond b None (unless_blank says n (trim l))) P) [ true ↦ tt | false ↦ unless (trim l) p ]
+  where
+    unless : (t : Text) → P (says n t) → IfSome (unless_blank says n t) P
+    unless [] p = tt
+    unless (x ∷ t) p = p
 
 -- this holds for a reader of whole lines, too
 pub walk-line : (s : Strictness) (n : ℕ) (l : Text) → IfLine n (reading_by (line_reader s) n l)
-walk-line s n l = reading_by-line (line_reader s) n l (line_reader-line s)
+walk-line s n l = if_read (LineIs n) (line_reader s) n l (line_reader-line s n (trim l))
 
 abbrev Above : ℕ → List ℕ → Type 0
 Above n ks = AllByRecursion (λ k. n ≤ k) ks × IsStrictlySortedBy nat_cmp ks
 
 weaker : (m n : ℕ) (ks : List ℕ) → m ≤ n → AllByRecursion (λ k. n ≤ k) ks → AllByRecursion (λ k. m ≤ k) ks
-weaker m n [] le all = tt
-weaker m n (k ∷ ks) le all = (omega (arith, all.0), weaker m n ks le all.1)
+weaker m n ks le all = all_weaker ks (λ k high. omega arith) all
 
 below : (m n : ℕ) (ks : List ℕ) → m < n → AllByRecursion (λ k. n ≤ k) ks → AllByRecursion (λ k. nat_cmp m k ≡ Less) ks
-below m n [] le all = tt
-below m n (k ∷ ks) le all = (sym (nat_cmp_is m k Less (omega (arith, all.0))), below m n ks le all.1)
+below m n ks lt all = all_weaker ks (λ k high. sym (nat_cmp_is m k Less (omega arith))) all
 
 step : (n : ℕ) (o : Option Reading) (rs : List Reading) → IfLine n o → Above (n + 1) (fault_lines rs) → Above n (fault_lines (option_to_list o ++ rs))
 unfolding fault_lines IsStrictlySortedBy
@@ -74,8 +73,7 @@ step n (Some (Err f)) rs is all = (
 )
 
 at_most_one : (o : Option Reading) (rs : List Reading) → length (option_to_list o ++ rs) ≤ suc (length rs)
-at_most_one None rs = omega arith
-at_most_one (Some r) rs = omega arith
+at_most_one o rs = grind arith
 
 -- for any reader whose faults are on the line that is read
 module _ (read : ℕ → Text → Option Reading) (line : (n : ℕ) (l : Text) → IfLine n (read n l)) where

@@ -1,10 +1,10 @@
 -- What is computed for a line is what the definition by cases describes.
-use Rattle.std.proofs.Common.{◌≡◌, ◌≢◌, ◌⊎◌, ℕ, true, false, Option, Some, Ok, [], ◌∷◌, refl, sym, ap, subst, ◌∙◌, inl, inr, ⊎_elim}
+use Rattle.std.proofs.Common.{◌≡◌, ◌≢◌, ◌⊎◌, ℕ, true, false, Option, Some, Ok, [], ◌∷◌, refl, sym, ap, subst, ◌∙◌, inl, inr, ⊎_elim, arith}
 use Rattle.std.proofs.lemmas.Bool.{cond-true, cond-false, eqb-true, cases_Bool}
 use Rattle.mailmap_entries.specs.Folding.{Text}
 use Rattle.mailmap_grammar.specs.Trimming.{trim, IsTrimmed}
 use Rattle.mailmap_grammar.specs.Lines.{Reading, ParsedContact, Absent, Unclosed, Closed, cut, trimmed_contact, fault, nothing_to_map, by_both, by_name, two_contacts, strict_contacts, first_contact, is_comment, unless_blank, reading_by, line_reading, strict_line_reading, reading, strict_reading, HoldsNo, IsUnclosed, IsContact, NoContact, IsSecondRead, second, name_alone, neither, IsSecondReadStrictly, open_second, as_lenient, IsFirstRead, no_bracket, open_first, blank_email, first, IsComment, IsReadBy, comment, blank, non_blank, IsRead, IsReadStrictly}
-use Rattle.mailmap_grammar.proofs.Cut.{kind, absent_kind, unclosed_kind, closed_kind, cut-absent, cut-unclosed, cut-cut_at_closing}
+use Rattle.mailmap_grammar.proofs.Cut.{unclosed-cut, kind, absent_kind, unclosed_kind, closed_kind, cut-absent, cut-unclosed, cut-cut_at_closing}
 use Rattle.mailmap_grammar.proofs.Trimmed.{trimmed-same, trimmed-made}
 
 contact-cut : (s name email rest : Text) → IsContact s name email rest → trimmed_contact (cut s) ≡ Closed name email rest
@@ -36,9 +36,8 @@ some b s e = cc
 
 -- ---- the second contact
 
-both-closed : (n : ℕ) (t name email a b c : Text) → two_contacts n t name email (Closed a b c) ≡ Ok (by_both name email a b)
-both-closed n t [] email a b c = refl
-both-closed n t (x ∷ name) email a b c = refl
+pub both-closed : (n : ℕ) (t name email a b c : Text) → two_contacts n t name email (Closed a b c) ≡ Ok (by_both name email a b)
+both-closed n t name email a b c = grind arith
 
 second-none : (n : ℕ) (t name email rest : Text) → NoContact rest → (h : ParsedContact) → (h ≡ Absent) ⊎ (h ≡ Unclosed) → IsSecondRead n t name email rest (two_contacts n t name email h)
 second-none n t [] email rest none Absent is = neither none refl refl
@@ -54,17 +53,11 @@ second-made n t name email rest = elim (contact_kind rest) [
   | closed_contact a b c h e ↦ second a b c h (ap (two_contacts n t name email) e ∙ both-closed n t name email a b c)
 ]
 
-alone-none : (n : ℕ) (t name email : Text) (h : ParsedContact) → (h ≡ Absent) ⊎ (h ≡ Unclosed) → name ≢ [] → two_contacts n t name email h ≡ Ok (by_name name email)
-alone-none n t [] email h is other = absurd (other refl)
-alone-none n t (x ∷ name) email Absent is other = refl
-alone-none n t (x ∷ name) email Unclosed is other = refl
-alone-none n t (x ∷ name) email (Closed a b c) is other = absurd (⊎_elim (λ e. cc) (λ e. cc) is)
+pub alone-none : (n : ℕ) (t name email : Text) (h : ParsedContact) → (h ≡ Absent) ⊎ (h ≡ Unclosed) → name ≢ [] → two_contacts n t name email h ≡ Ok (by_name name email)
+alone-none n t name email h is other = grind arith
 
 neither-none : (n : ℕ) (t name email : Text) (h : ParsedContact) → (h ≡ Absent) ⊎ (h ≡ Unclosed) → name ≡ [] → two_contacts n t name email h ≡ fault nothing_to_map n t
-neither-none n t [] email Absent is same = refl
-neither-none n t [] email Unclosed is same = refl
-neither-none n t [] email (Closed a b c) is same = absurd (⊎_elim (λ e. cc) (λ e. cc) is)
-neither-none n t (x ∷ name) email h is same = absurd (some x name same)
+neither-none n t name email h is same = grind arith
 
 second-same : (n : ℕ) (t name email rest : Text) (r : Reading) → IsSecondRead n t name email rest r → two_contacts n t name email (trimmed_contact (cut rest)) ≡ r
 second-same n t name email rest r h = elim h [
@@ -74,13 +67,14 @@ second-same n t name email rest r h = elim h [
 ]
 
 -- unless the second contact is unclosed, strict parsing gives the same as lenient parsing
-strict-other : (n : ℕ) (t name email rest : Text) (h : ParsedContact) → h ≢ Unclosed → strict_contacts n t name email rest h ≡ two_contacts n t name email h
-strict-other n t name email rest Absent other = refl
-strict-other n t name email rest Unclosed other = absurd (other refl)
-strict-other n t name email rest (Closed a b c) other = refl
+pub strict-other : (n : ℕ) (t name email rest : Text) (h : ParsedContact) → h ≢ Unclosed → strict_contacts n t name email rest h ≡ two_contacts n t name email h
+strict-other n t name email rest h other = grind arith
 
 not_unclosed : (s : Text) → trimmed_contact (cut s) ≢ Unclosed → IsUnclosed s → ⊥
 not_unclosed s other h = other (ap trimmed_contact (cut-unclosed s h))
+
+untrimmed : (h : ParsedContact) → trimmed_contact h ≡ Unclosed → h ≡ Unclosed
+untrimmed h e = grind arith
 
 strict-second-made : (n : ℕ) (t name email rest : Text) → IsSecondReadStrictly n t name email rest (strict_contacts n t name email rest (trimmed_contact (cut rest)))
 strict-second-made n t name email rest = elim (contact_kind rest) [
@@ -96,14 +90,13 @@ strict-second-made n t name email rest = elim (contact_kind rest) [
 strict-second-same : (n : ℕ) (t name email rest : Text) (r : Reading) → IsSecondReadStrictly n t name email rest r → strict_contacts n t name email rest (trimmed_contact (cut rest)) ≡ r
 strict-second-same n t name email rest r h = elim h [
   | open_second u is ↦ ap (λ k. strict_contacts n t name email rest (trimmed_contact k)) (cut-unclosed rest u) ∙ sym is
-  | as_lenient not s ↦ elim (contact_kind rest) [
-    | absent_contact a e ↦ ap (strict_contacts n t name email rest) e ∙ sym (ap (two_contacts n t name email) e) ∙ second-same n t name email rest r s
-    | unclosed_contact u e ↦ absurd (not u)
-    | closed_contact a b c k e ↦ ap (strict_contacts n t name email rest) e ∙ sym (ap (two_contacts n t name email) e) ∙ second-same n t name email rest r s
-  ]
+  | as_lenient not s ↦ strict-other n t name email rest _ (λ u. not (unclosed-cut rest (untrimmed (cut rest) u))) ∙ second-same n t name email rest r s
 ]
 
 -- ---- the first contact
+
+pub with_email : (both : Text → Text → Text → Reading) (n : ℕ) (t name email rest : Text) → email ≢ [] → first_contact both n t (Closed name email rest) ≡ both name email rest
+with_email both n t name email rest other = grind arith
 
 module _ (both : Text → Text → Text → Reading) (Second : Text → Text → Text → Reading → Type 0) (n : ℕ) (t : Text) where
   first-closed : ((name email rest : Text) → Second name email rest (both name email rest)) → (name email rest : Text) → IsContact t name email rest → IsFirstRead Second n t (first_contact both n t (Closed name email rest))
@@ -119,16 +112,12 @@ module _ (both : Text → Text → Text → Reading) (Second : Text → Text →
         | closed_contact a b c h e ↦ subst P (sym e) (first-closed made a b c h)
       ]
 
-  first-email : (name email rest : Text) (r : Reading) → email ≢ [] → both name email rest ≡ r → first_contact both n t (Closed name email rest) ≡ r
-  first-email name [] rest r other e = absurd (other refl)
-  first-email name (x ∷ email) rest r other e = e
-
   first-same : ((name email rest : Text) (r : Reading) → Second name email rest r → both name email rest ≡ r) → (r : Reading) → IsFirstRead Second n t r → first_contact both n t (trimmed_contact (cut t)) ≡ r
   first-same same r h = elim h [
     | no_bracket a is ↦ ap (λ k. first_contact both n t (trimmed_contact k)) (cut-absent t a) ∙ sym is
     | open_first u is ↦ ap (λ k. first_contact both n t (trimmed_contact k)) (cut-unclosed t u) ∙ sym is
     | blank_email name rest contact is ↦ ap (first_contact both n t) (contact-cut t name [] rest contact) ∙ sym is
-    | first name email rest contact other s ↦ ap (first_contact both n t) (contact-cut t name email rest contact) ∙ first-email name email rest r other (same name email rest r s)
+    | first name email rest contact other s ↦ ap (first_contact both n t) (contact-cut t name email rest contact) ∙ with_email both n t name email rest other ∙ same name email rest r s
   ]
 
 -- ---- the line
@@ -139,6 +128,9 @@ commented (b ∷ s) e = (s, ap (λ x. x ∷ s) (eqb-true b 35 e))
 
 comment-test : (line : Text) → IsComment line → is_comment line ≡ true
 comment-test line h = ap is_comment h.1
+
+pub some_said : (says : ℕ → Text → Reading) (n : ℕ) (t : Text) → t ≢ [] → unless_blank says n t ≡ Some (says n t)
+some_said says n t other = grind arith
 
 module _ (says : ℕ → Text → Reading) (Says : Text → Reading → Type 0) (n : ℕ) (line : Text) where
   line-none : ((t : Text) → Says t (says n t)) → (IsComment line → ⊥) → (t : Text) → IsTrimmed line t → IsReadBy Says line (unless_blank says n t)
@@ -158,15 +150,11 @@ module _ (says : ℕ → Text → Reading) (Says : Text → Reading → Type 0) 
   not_comment : (IsComment line → ⊥) → is_comment line ≡ false
   not_comment plain = ⊎_elim (λ yes. absurd (plain (commented line yes))) (λ e. e) (cases_Bool (is_comment line))
 
-  some_said : (t : Text) → t ≢ [] → unless_blank says n t ≡ Some (says n t)
-  some_said [] other = absurd (other refl)
-  some_said (b ∷ t) other = refl
-
   line-same : ((t : Text) (r : Reading) → Says t r → says n t ≡ r) → (o : Option Reading) → IsReadBy Says line o → reading_by says n line ≡ o
   line-same same o h = elim h [
     | comment is e ↦ cond-true _ _ _ (comment-test line is) ∙ sym e
     | blank plain is e ↦ cond-false _ _ _ (not_comment plain) ∙ ap (unless_blank says n) (sym (trimmed-same line [] is)) ∙ sym e
-    | non_blank t r plain is other s e ↦ cond-false _ _ _ (not_comment plain) ∙ ap (unless_blank says n) (sym (trimmed-same line t is)) ∙ some_said t other ∙ ap (λ x. Some x) (same t r s) ∙ sym e
+    | non_blank t r plain is other s e ↦ cond-false _ _ _ (not_comment plain) ∙ ap (unless_blank says n) (sym (trimmed-same line t is)) ∙ some_said says n t other ∙ ap (λ x. Some x) (same t r s) ∙ sym e
   ]
 
 pub reading-made : (n : ℕ) (line : Text) (o : Option Reading) → reading n line ≡ o → IsRead n line o

@@ -1,6 +1,5 @@
 pub mod Cut
 pub mod NearFeeds
-pub mod MappingsIn
 pub mod Grammar
 pub mod Pieces
 pub mod Plain
@@ -10,5 +9,4 @@ pub mod SplitOnce
 pub mod Trims
 pub mod Trimmed
 pub mod Skipped
-mod Whole
 pub mod LineFeeds

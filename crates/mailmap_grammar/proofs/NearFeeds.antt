@@ -10,19 +10,6 @@ use Rattle.memchr.specs.Lanes.{HasLanes}
 abbrev pub AreMarks : List ℕ → ℕ → Type 0
 AreMarks bs m = (k : ℕ) → (bit_at m k ≡ 1) ↔ ((k < 32) × (slice_index bs k ≡ 10))
 
--- the lowest bit is the first line feed
-pub near : (bs : List ℕ) (m r : ℕ) → 32 ≤ length bs → AreMarks bs m → bit_at m r ≡ 1 → ((k : ℕ) → k < r → bit_at m k ≡ 0) → IsFirstByte (is_byte 10) bs (Some r)
-near bs m r long marks set below =
-    let at = (marks r).0 set in
-    let high : r < 32 = at.0 in (
-      record {
-        low = omega arith;
-        high = omega arith;
-        before = λ k low l is. let one : bit_at m k ≡ 1 = (marks k).1 (omega arith, eqb-true _ _ is) in let none : bit_at m k ≡ 0 = below k l in omega (arith, one, none);
-      },
-      eq-eqb _ _ at.1,
-    )
-
 -- without a bit none of the first 32 bytes is a line feed
 pub no_near : (bs : List ℕ) (m : ℕ) → AreMarks bs m → m ≡ 0 → (k : ℕ) → k < 32 → slice_index bs k ≢ 10
 no_near bs m marks none k l is =
@@ -38,12 +25,7 @@ module _ (bs far : List ℕ) (long : 32 ≤ length bs) (before : (k : ℕ) → k
   at_far k = ap (λ l. slice_index l k) far_is ∙ get_or-drop 32 bs k 0
 
   none_at : (end : ℕ) → ((k : ℕ) → k < end → slice_index far k ≢ 10) → (k : ℕ) → k < 32 + end → slice_index bs k ≢ 10
-  none_at end none k l is = ⊎_elim
-      (λ near. before k near is)
-      (λ after.
-      let e : 32 + (k - 32) ≡ k = omega arith in
-      none (k - 32) (omega arith) (at_far (k - 32) ∙ ap (slice_index bs) e ∙ is))
-      (cases_lt k 32)
+  none_at end none k l is = grind (arith, before k, none (k - 32), at_far (k - 32))
 
   pub far_some : (feed : ℕ) → IsFirstByte (is_byte 10) far (Some feed) → IsFirstByte (is_byte 10) bs (Some (32 + feed))
   far_some feed h =

@@ -1,7 +1,11 @@
--- The readings of a list of lines, from the reading of the first line and those of the others.
-use Rattle.std.proofs.Common.{◌≡◌, ◌+◌, ℕ, Some, Option, None, option_to_list, List, [], ◌∷◌, ◌++◌, refl, sym, ap, ◌∙◌}
+-- The readings of a list of lines, and the mappings among them, from the first one and the others.
+use Rattle.std.proofs.Common.{◌≡◌, ◌+◌, ℕ, Some, Option, None, option_to_list, List, [], ◌∷◌, ◌++◌, refl, sym, ap, ◌∙◌, ◌≤◌, Result, Ok, Err, length, arith}
 use Rattle.mailmap_entries.specs.Folding.{Text}
-use Rattle.mailmap_grammar.specs.Lines.{Reading, readings_from}
+use Rattle.mailmap_grammar.specs.Lines.{Reading, readings_from, reading_of, mappings_in}
+use Rattle.mailmap_entries.specs.declared.entry.Entry.{Entry}
+use Rattle.mailmap_grammar.specs.declared.lines.Error.{Error}
+use Rattle.mailmap_entries.specs.Entries.{Mapping, mapping_of}
+use Rattle.std.specs.Result.{result_ok}
 
 module _ (read : ℕ → Text → Option Reading) (n : ℕ) (said : List Reading) (ls rest : List Text) (l : Text) (whole : readings_from read n ls ≡ said) (first : ls ≡ l ∷ rest) where
   split : said ≡ option_to_list (read n l) ++ readings_from read (n + 1) rest
@@ -17,3 +21,24 @@ module _ (read : ℕ → Text → Option Reading) (n : ℕ) (said : List Reading
 pub readings_from-nil : (read : ℕ → Text → Option Reading) (n : ℕ) → readings_from read n [] ≡ []
 unfolding readings_from
 readings_from-nil read n = refl
+
+module _ (said : List Mapping) (rs rest : List Reading) (x : Result Entry Error) (whole : mappings_in rs ≡ said) (first : rs ≡ reading_of x ∷ rest) where
+  split_mappings : said ≡ option_to_list (result_ok (reading_of x)) ++ mappings_in rest
+  unfolding mappings_in
+  split_mappings = sym whole ∙ ap mappings_in first
+
+  pub mappings_in-ok : (e : Entry) → x ≡ Ok e → said ≡ mapping_of e ∷ mappings_in rest
+  mappings_in-ok e is = split_mappings ∙ ap (λ y. option_to_list (result_ok (reading_of y)) ++ mappings_in rest) is
+
+  pub mappings_in-err : (e : Error) → x ≡ Err e → mappings_in rest ≡ said
+  mappings_in-err e is = sym (split_mappings ∙ ap (λ y. option_to_list (result_ok (reading_of y)) ++ mappings_in rest) is)
+
+pub mappings_in-nil : mappings_in [] ≡ []
+unfolding mappings_in
+mappings_in-nil = refl
+
+-- there are no more mappings than items
+pub length_mappings_in : (rs : List Reading) → length (mappings_in rs) ≤ length rs
+unfolding mappings_in
+length_mappings_in [] = omega arith
+length_mappings_in (r ∷ rs) = grind (arith, length_mappings_in rs)

@@ -1,7 +1,7 @@
 -- Trimming by a predicate removes characters at either end. The predicate holds only for characters, and not for the
 -- replacement character, which stands for invalid UTF-8.
 use Rattle.std.proofs.Common.{◌≡◌, ◌⊎◌, ◌+◌, ◌-◌, ◌<◌, ◌≤◌, ℕ, zero, suc, Bool, true, false, cond, Option, Some, None, List, [], ◌∷◌, ◌++◌, length, take, drop, slice_index, length-append, length-drop, refl, sym, ap, subst, ◌∙◌, arith, inl, inr, ⊎_elim, add_assoc}
-use Rattle.std.proofs.lemmas.Bool.{cases_Bool, cond-true, cond-false, cases_lt}
+use Rattle.std.proofs.lemmas.Bool.{cases_Bool, cond-true, cond-false, cond_both, cases_lt}
 use Rattle.std.proofs.lemmas.Bool.Decides.{nat_tests}
 use Rattle.std.proofs.Math.Seq.{drop-append-add, drop-append_seam, take-append_seam, drop-length}
 use Rattle.std.proofs.Common.{append-nil, append_assoc, take-append-drop, take_all}
@@ -31,15 +31,7 @@ some_bytes c = grind (arith, nat_tests)
 kept-shift : (t : ℕ → Bool) (a n off : ℕ) (ps : List Decoded) → kept_start t (a + n) (spans_from (a + off) ps) ≡ a + kept_start t n (spans_from off ps)
 unfolding kept_start spans_from
 kept-shift t a n off [] = refl
-kept-shift t a n off (p ∷ ps) =
-    ⊎_elim
-    (λ yes. cond-true _ _ _ yes ∙ ap (λ k. kept_start t (a + n) (spans_from k ps)) (add_assoc a off p.size) ∙ kept-shift t a n (off + p.size) ps ∙ ap (λ k. a + k) (sym (cond-true _ _ _ yes)))
-    (λ no. cond-false _ _ _ no ∙ ap (λ k. a + k) (sym (cond-false _ _ _ no)))
-    (cases_Bool (t (or_replacement p.char)))
-
-cond_le : (b : Bool) (x y z : ℕ) → x ≤ z → y ≤ z → cond b x y ≤ z
-cond_le true x y z p q = p
-cond_le false x y z p q = q
+kept-shift t a n off (p ∷ ps) = grind (arith, kept-shift t a n (off + p.size) ps, ap (λ k. kept_start t (a + n) (spans_from k ps)) (add_assoc a off p.size))
 
 module _ (t : ℕ → Bool) (scalars : (c : ℕ) → t c ≡ true → scalar c ≡ true) (other_not : t 65533 ≡ false) where
   pub reads : (c : ℕ) (rest : List ℕ) → t c ≡ true → decoded (encode_utf8 c ++ rest) ≡ good c (length (encode_utf8 c))
@@ -53,21 +45,19 @@ module _ (t : ℕ → Bool) (scalars : (c : ℕ) → t c ≡ true → scalar c �
   start-passed c rest passes =
       let bs = encode_utf8 c ++ rest in
       let k = length (encode_utf8 c) in
-      let long : length bs ≡ k + length rest = length-append (encode_utf8 c) rest in
       let read : decoded bs ≡ good c k = reads c rest passes in
-      let size = ap (λ (p : Decoded). p.size) read in
-      let bounds = piece-bounds bs in
-      let some : 0 < length bs = nonempty c rest in
       let first : spans_from 0 (pieces bs) ≡ (0, 0 + k, c) ∷ spans_from (0 + k) (pieces (drop k bs)) =
-      spans-first bs 0 some ∙ ap (λ (p : Decoded). (0, 0 + p.size, or_replacement p.char) ∷ spans_from (0 + p.size) (pieces (drop p.size bs))) read in
-      let left : drop k bs ≡ rest = drop-append_seam (encode_utf8 c) rest in
+      spans-first bs 0 (nonempty c rest) ∙ ap (λ (p : Decoded). (0, 0 + p.size, or_replacement p.char) ∷ spans_from (0 + p.size) (pieces (drop p.size bs))) read in
       let index : 0 + k ≡ k + 0 = omega arith in
       let kept : kept_start t (length bs) (spans_from 0 (pieces bs)) ≡ k + kept_start t (length rest) (spans_from 0 (pieces rest)) =
-      ap (kept_start t (length bs)) first ∙ kept-skip t (length bs) (0, 0 + k, c) (spans_from (0 + k) (pieces (drop k bs))) passes
-      ∙ ap (λ n. kept_start t n (spans_from (0 + k) (pieces (drop k bs)))) long
-      ∙ ap (λ r. kept_start t (k + length rest) (spans_from (0 + k) (pieces r))) left
-      ∙ ap (λ n. kept_start t (k + length rest) (spans_from n (pieces rest))) index
-      ∙ kept-shift t k (length rest) 0 (pieces rest) in
+      cc (
+        first,
+        kept-skip t (length bs) (0, 0 + k, c) (spans_from (0 + k) (pieces (drop k bs))) passes,
+        length-append (encode_utf8 c) rest,
+        drop-append_seam (encode_utf8 c) rest,
+        index,
+        kept-shift t k (length rest) 0 (pieces rest),
+      ) in
       ap (λ n. drop n bs) kept ∙ drop-append-add (encode_utf8 c) rest _
 
   pub start-nil : trim_start_by t [] ≡ []
@@ -98,8 +88,7 @@ module _ (t : ℕ → Bool) (scalars : (c : ℕ) → t c ≡ true → scalar c �
       ⊎_elim
       (λ yes.
       let alone : decoded bs ≡ bad 1 = continuation-alone (length bs) (slice_index bs 0) (slice_index bs 1) (slice_index bs 2) (slice_index bs 3) some yes in
-      let read : decoded bs ≡ good c (length bs) = encoded c passes in
-      let none : None ≡ Some c = ap (λ (p : Decoded). p.char) (sym alone ∙ read) in
+      let none : None ≡ Some c = ap (λ (p : Decoded). p.char) (sym alone ∙ encoded c passes) in
       absurd (cc))
       (λ no. no)
       (cases_Bool (continues (slice_index bs 0)))
@@ -107,9 +96,7 @@ module _ (t : ℕ → Bool) (scalars : (c : ℕ) → t c ≡ true → scalar c �
   pieces-encoded : (c : ℕ) → t c ≡ true → pieces (encode_utf8 c) ≡ good c (length (encode_utf8 c)) ∷ []
   pieces-encoded c passes =
       let bs = encode_utf8 c in
-      let read : decoded bs ≡ good c (length bs) = encoded c passes in
-      pieces-step bs (some_bytes c) ∙ ap (λ (p : Decoded). p ∷ pieces (drop p.size bs)) read
-      ∙ ap (λ s. good c (length bs) ∷ pieces s) (drop-length bs) ∙ ap (λ l. good c (length bs) ∷ l) pieces-nil
+      pieces-step bs (some_bytes c) ∙ ap (λ (p : Decoded). p ∷ pieces (drop p.size bs)) (encoded c passes) ∙ rw (drop-length bs, pieces-nil)
 
   last : (front : List ℕ) (c : ℕ) → t c ≡ true → IsLastPiece (front ++ encode_utf8 c) (good c (length (encode_utf8 c)))
   last front c passes =
@@ -134,8 +121,8 @@ module _ (t : ℕ → Bool) (scalars : (c : ℕ) → t c ≡ true → scalar c �
       let bounds = piece-bounds bs (omega arith) in
       let left = length-drop p.size bs in
       let next = cond (t (or_replacement p.char)) end (off + p.size) in
-      let within : next ≤ off + p.size = cond_le (t (or_replacement p.char)) end (off + p.size) (off + p.size) (omega arith) (omega arith) in
-      let rest : kept_end t next (spans_from (off + p.size) (pieces (drop p.size bs))) ≤ off + p.size + length (drop p.size bs) = kept_end-bound f (drop p.size bs) (off + p.size) next (omega arith) within in
+      let within : next ≤ off + p.size = cond_both (t (or_replacement p.char)) end (off + p.size) (λ n. n ≤ off + p.size) (λ _. omega arith) (λ _. omega arith) in
+      let rest = kept_end-bound f (drop p.size bs) (off + p.size) next (omega arith) within in
       rw (spans-first bs off (omega arith)) (omega arith)
 
   -- such a character is removed at the end
@@ -148,9 +135,11 @@ module _ (t : ℕ → Bool) (scalars : (c : ℕ) → t c ≡ true → scalar c �
       let short : n ≡ length front = omega arith in
       let whole : take n bs ≡ front = ap (λ i. take i bs) short ∙ take-append_seam front (encode_utf8 c) in
       let kept : kept_end t 0 (spans_from 0 (pieces bs)) ≡ kept_end t 0 (spans_from 0 (pieces front)) =
-      ap (kept_end t 0) (spans-last bs (good c k) 0 (last front c passes))
-      ∙ kept_end-snoc t 0 (spans_from 0 (pieces (take n bs))) (0 + n, 0 + n + k, c)
-      ∙ cond-true _ _ _ passes ∙ ap (λ s. kept_end t 0 (spans_from 0 (pieces s))) whole in
+      cc (
+        spans-last bs (good c k) 0 (last front c passes),
+        kept_end-snoc t 0 (spans_from 0 (pieces (take n bs))) (0 + n, 0 + n + k, c),
+        cond-true _ (kept_end t 0 (spans_from 0 (pieces (take n bs)))) (0 + n + k) passes,
+      ) in
       let bound = kept_end-bound (length front) front 0 0 (omega arith) (omega arith) in
       ap (λ i. take i bs) kept ∙ take-append-le (kept_end t 0 (spans_from 0 (pieces front))) front (encode_utf8 c) (omega arith)
 

@@ -64,6 +64,7 @@ pub fn trim(text: &[u8]) -> &[u8]
 }
 
 #[inline(always)]
+#[tactic(auto, using(crate::proofs::Plain::first_blank))]
 fn trim_start_spaces(text: &[u8]) -> &[u8]
     ensures { spec_trim result.now ≡ spec_trim text.now }
 {
@@ -75,6 +76,7 @@ fn trim_start_spaces(text: &[u8]) -> &[u8]
 }
 
 #[inline(always)]
+#[tactic(auto, using(crate::proofs::Plain::last_blank))]
 fn trim_end_spaces(text: &[u8]) -> &[u8]
     ensures { spec_trim result.now ≡ spec_trim text.now }
 {
@@ -86,6 +88,7 @@ fn trim_end_spaces(text: &[u8]) -> &[u8]
 }
 
 // Ideographic spaces, U+3000, have their own loops as well.
+#[tactic(auto, using(crate::proofs::Plain::first_wide))]
 fn trim_start_ideographic_spaces(text: &[u8]) -> &[u8]
     ensures { spec_trim result.now ≡ spec_trim text.now }
 {
@@ -98,6 +101,7 @@ fn trim_start_ideographic_spaces(text: &[u8]) -> &[u8]
     &text[start..]
 }
 
+#[tactic(auto, using(crate::proofs::Plain::last_wide))]
 fn trim_end_ideographic_spaces(text: &[u8]) -> &[u8]
     ensures { spec_trim result.now ≡ spec_trim text.now }
 {
@@ -117,6 +121,7 @@ fn is_ideographic_space(first: u8, second: u8, third: u8) -> bool
 
 // Whether the first and the last byte show that there is nothing to trim.
 #[inline(always)]
+#[tactic(auto, using(crate::proofs::Plain::plain, crate::proofs::Plain::plain_nil))]
 fn is_plain(text: &[u8]) -> bool
     ensures { IsTrue result → spec_trim text.now ≡ text.now }
 {

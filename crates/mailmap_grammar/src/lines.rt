@@ -73,6 +73,7 @@ pub fn parse_strict(buf: &[u8]) -> Lines<'_>
 /// accepts an email of spaces: there, `Jane < > <b@x>` maps `b@x`.
 ///
 /// The buffer `<a@x>\nJane <j@x>\nplain` yields only the entry that maps `j@x` to `Jane`.
+#[tactic(auto, using(crate::proofs::Readings::length_mappings_in))]
 pub fn parse_ignore_errors(buf: &[u8]) -> GoodLines<'_>
     ensures value { result ≡ mappings_of buf.now }
 

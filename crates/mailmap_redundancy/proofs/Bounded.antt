@@ -1,186 +1,158 @@
 -- Three passes leave nothing to drop. The first can drop any entry, the second only entries that were the first of
 -- their key, the third only entries that were the first of their email, and the fourth drops none.
-use Rattle.std.proofs.Common.{◌≡◌, Bool, true, false, true≢false, ◌&&◌, ◌||◌, if◌then◌else◌, List, [], ◌∷◌, ◌++◌, filter, Ordering, Less, Equal, Greater, Option, Some, None, is_some, is_none, append-nil, append_assoc, inl, inr, ⊎_elim, refl, sym, ap, subst, ◌∙◌}
+use Rattle.std.proofs.Common.{◌≡◌, Bool, true, false, true≢false, ◌&&◌, ◌||◌, if◌then◌else◌, List, [], ◌∷◌, ◌++◌, filter, Ordering, Less, Equal, Greater, Option, Some, None, is_some, is_none, append-nil, append_assoc, inl, inr, ⊎_elim, refl, sym, ap, subst, ◌∙◌, arith}
 use Rattle.std.specs.Prelude.{◌⊎◌}
 use Rattle.std.specs.Cmp.{Equal-is}
-use Rattle.std.specs.List.{filter_map}
 use Rattle.std.specs.Option.{option_cmp, option_map, option_or}
 use Rattle.std.specs.Ordering.{eq_by_cmp, is_eq, ordering_then}
-use Rattle.std.proofs.lemmas.Bool.{or_left, or_right}
+use Rattle.std.proofs.lemmas.Bool.{and_from, and_parts, or_cases, or_left, or_right}
 use Rattle.mailmap_entries.specs.Entries.{Mapping}
 use Rattle.mailmap_entries.specs.Folding.{Text, folded, text_cmp}
-use Rattle.mailmap_entries.specs.Semantics.{Fields, Key, accepted, first, is_accepted, key, key_cmp, last, last_given, new_fields, of_key, spelling}
+use Rattle.mailmap_entries.specs.Semantics.{Fields, Key, accepted, first, is_accepted, key, key_cmp, last, new_fields, spelling}
 use Rattle.mailmap_entries.specs.Listings.{same_optional}
 use Rattle.mailmap_entries.proofs.Keys.{keys_exact}
 use Rattle.mailmap_redundancy.specs.Redundancy.{IsPass, AreEffective, IsRedundant, LocatedMapping, again, done, entries, goes, settled, stays}
-use Rattle.mailmap_redundancy.specs.Summaries.{KeySummary, Summary, is_last_unchanged, is_redundant_before, is_value_unchanged, joined_summary, key_summary, later_of, no_summary, same_fields, summary}
-use Rattle.mailmap_redundancy.specs.declared.passes.Later.{Later}
+use Rattle.mailmap_redundancy.specs.Summaries.{KeySummary, Summary, is_last_unchanged, is_redundant, is_value_unchanged, joined_summary, key_summary, later_of, no_summary, same_fields, summary}
 use Rattle.mailmap_redundancy.proofs.Kept.{some_pass, unaccepted_redundant}
-use Rattle.mailmap_redundancy.proofs.Redundant.{named_first, redundant_decides}
-use Rattle.mailmap_redundancy.proofs.Keyed.{unequal_emails, unequal_keys}
-use Rattle.mailmap_redundancy.proofs.Summaries.{spelling_own, spelling_parts, spelling_without, summary_own, summary_parts, summary_without}
-use Rattle.mailmap_redundancy.proofs.Walked.{entries-more}
+use Rattle.mailmap_redundancy.proofs.Redundant.{named_first, redundant_decides, spelling_own, spelling_parts, spelling_without, summary_own, summary_parts, summary_without}
+use Rattle.mailmap_redundancy.proofs.Keyed.{by_cases, unequal_emails, unequal_keys}
+use Rattle.mailmap_redundancy.proofs.Rows.{entries-more}
 
 -- ---- optional values and tests of them
 
-either : {G : Type 0} (b : Bool) → (b ≡ true → G) → (b ≡ false → G) → G
-either true own other = own refl
-either false own other = other refl
+record Implies (p q : Bool) : Type 0 where
+  so : p ≡ true → q ≡ true
 
-or_carry : (p q r s : Bool) → (p || q) ≡ true → (p ≡ true → r ≡ true) → (q ≡ true → s ≡ true) → (r || s) ≡ true
-or_carry true q r s e f g = or_left r s (f refl)
-or_carry false q r s e f g = or_right r s (g e)
+or_implies : {p q r s : Bool} → Implies p r → Implies q s → Implies (p || q) (r || s)
+or_implies {p} {q} {r} {s} f g = record { so = λ e. ⊎_elim (λ x. or_left r s (f.so x)) (λ y. or_right r s (g.so y)) (or_cases p q e) }
 
-and_carry : (p q r s : Bool) → (p && q) ≡ true → (p ≡ true → r ≡ true) → (q ≡ true → s ≡ true) → (r && s) ≡ true
-and_carry true q true s e f g = g e
-and_carry true q false s e f g = absurd (true≢false (sym (f refl)))
-and_carry false q r s e f g = absurd (true≢false (sym e))
+and_implies : {p q r s : Bool} → Implies p r → Implies q s → Implies (p && q) (r && s)
+and_implies {p} {q} {r} {s} f g = record { so = λ e. let both = and_parts p q e in and_from r s (f.so both.0) (g.so both.1) }
 
 -- the second value is the first one, or None
-abbrev AsBefore : {X : Type 0} → Option X → Option X → Type 0
-AsBefore old new = (new ≡ old) ⊎ (new ≡ None)
+data AsBefore {X : Type 0} (old : Option X) : Option X → Type 0 where
+  same : AsBefore old old
+  gone : AsBefore old None
 
-some_before : {X : Type 0} (old new : Option X) → AsBefore old new → is_some new ≡ true → is_some old ≡ true
-some_before old new like some = ⊎_elim (λ e. sym (ap is_some e) ∙ some) (λ e. absurd (true≢false (sym some ∙ ap is_some e))) like
+some_before : {X : Type 0} {old new : Option X} → AsBefore old new → Implies (is_some new) (is_some old)
+some_before same = record { so = λ e. e }
+some_before gone = record { so = λ e. cc }
 
-last_carry : (old new field : Option Text) (given fewer : Bool) → AsBefore old new → (fewer ≡ true → given ≡ true) → is_last_unchanged new field fewer ≡ true → is_last_unchanged old field given ≡ true
-last_carry old new field given true like more e = or_left given (is_none field || same_optional field old) (more refl)
-last_carry old new None given false like more e = or_right given true refl
-last_carry old new (Some t) given false like more e =
-    or_right given (same_optional (Some t) old)
-    (⊎_elim (λ same. sym (ap (same_optional (Some t)) same) ∙ e) (λ none. absurd (true≢false (sym e ∙ ap (same_optional (Some t)) none))) like)
+last_implies : {old new : Option Text} {given fewer : Bool} (field : Option Text) → AsBefore old new → Implies fewer given
+    → Implies (is_last_unchanged new field fewer) (is_last_unchanged old field given)
+last_implies field like more = or_implies more (by field like)
+  where
+    by : {old new : Option Text} (field : Option Text) → AsBefore old new
+        → Implies (is_none field || same_optional field new) (is_none field || same_optional field old)
+    by None like = record { so = λ e. refl }
+    by (Some t) same = record { so = λ e. e }
+    by (Some t) gone = record { so = λ e. cc }
 
-fields_carry : (f : Fields) (old new : Option Fields) → AsBefore old new → same_fields f new ≡ true → same_fields f old ≡ true
-fields_carry f old new like e = ⊎_elim (λ same. sym (ap (same_fields f) same) ∙ e) (λ none. absurd (true≢false (sym e ∙ ap (same_fields f) none))) like
+fields_imply : {old new : Option Fields} (f : Fields) → AsBefore old new → Implies (same_fields f new) (same_fields f old)
+fields_imply f same = record { so = λ e. e }
+fields_imply f gone = record { so = λ e. cc }
 
 -- ---- an entry that is redundant in one place is redundant in another
 
 -- relates the summaries around an entry in one pass to those in the next
-record Carries (old new : Summary) (e : Mapping) (later fewer : Later) : Type 0 where
-  lasts : AsBefore old.of_key.last new.of_key.last
-  names : AsBefore old.of_key.name new.of_key.name
-  emails : AsBefore old.of_key.email new.of_key.email
-  has : fewer.has_key ≡ true → later.has_key ≡ true
-  later_names : fewer.gives_name ≡ true → later.gives_name ≡ true
-  later_emails : fewer.gives_email ≡ true → later.gives_email ≡ true
-  spelled : (is_some new.spelling || fewer.same_old_email) ≡ true → (is_some old.spelling || later.same_old_email) ≡ true
-  named : is_some e.old_name ≡ true → (is_some new.of_key.old_name || fewer.same_old_name) ≡ true → (is_some old.of_key.old_name || later.same_old_name) ≡ true
+record IsAfter (old new : KeySummary) : Type 0 where
+  lasts : AsBefore old.last new.last
+  names : AsBefore old.name new.name
+  emails : AsBefore old.email new.email
+  old_names : Implies (is_some new.old_name) (is_some old.old_name)
 
--- the value of is_value_unchanged, by whether the entry has an old name
-abbrev Value : Mapping → Bool → KeySummary → Later → Bool
-Value e b before l =
-    if b then (is_some before.old_name || l.same_old_name) && (l.has_key || same_fields (new_fields e) before.last)
-    else (is_last_unchanged before.name e.new_name l.gives_name && is_last_unchanged before.email e.new_email l.gives_email)
+record Gives (all left : KeySummary) : Type 0 where
+  lasts : Implies (is_some left.last) (is_some all.last)
+  names : Implies (is_some left.name) (is_some all.name)
+  emails : Implies (is_some left.email) (is_some all.email)
 
-value_carry : (old new : Summary) (e : Mapping) (later fewer : Later) → Carries old new e later fewer → is_value_unchanged new.of_key e fewer ≡ true → is_value_unchanged old.of_key e later ≡ true
-value_carry old new e later fewer h = by (is_some e.old_name) refl
+value_implies : (old new : KeySummary) (e : Mapping) (all left : Summary) → IsAfter old new → Gives all.of_key left.of_key
+    → (is_some e.old_name ≡ true → Implies (is_some new.old_name || (later_of e left).same_old_name) (is_some old.old_name || (later_of e all).same_old_name))
+    → Implies (is_value_unchanged new e (later_of e left)) (is_value_unchanged old e (later_of e all))
+value_implies old new e all left after gives = by e.old_name
   where
-    by : (b : Bool) → is_some e.old_name ≡ b → Value e b new.of_key fewer ≡ true → Value e b old.of_key later ≡ true
-    by true is v =
-        and_carry (is_some new.of_key.old_name || fewer.same_old_name) (fewer.has_key || same_fields (new_fields e) new.of_key.last)
-        (is_some old.of_key.old_name || later.same_old_name) (later.has_key || same_fields (new_fields e) old.of_key.last) v (h.named is)
-        (λ w. or_carry fewer.has_key (same_fields (new_fields e) new.of_key.last) later.has_key (same_fields (new_fields e) old.of_key.last) w h.has (fields_carry (new_fields e) old.of_key.last new.of_key.last h.lasts))
-    by false is v =
-        and_carry (is_last_unchanged new.of_key.name e.new_name fewer.gives_name) (is_last_unchanged new.of_key.email e.new_email fewer.gives_email)
-        (is_last_unchanged old.of_key.name e.new_name later.gives_name) (is_last_unchanged old.of_key.email e.new_email later.gives_email) v
-        (last_carry old.of_key.name new.of_key.name e.new_name later.gives_name fewer.gives_name h.names h.later_names)
-        (last_carry old.of_key.email new.of_key.email e.new_email later.gives_email fewer.gives_email h.emails h.later_emails)
-
-carry : (old new : Summary) (e : Mapping) (later fewer : Later) → Carries old new e later fewer → is_redundant_before new e fewer ≡ true → is_redundant_before old e later ≡ true
-carry old new e later fewer h all =
-    and_carry (is_some new.of_key.last || fewer.has_key) ((is_some new.spelling || fewer.same_old_email) && is_value_unchanged new.of_key e fewer)
-    (is_some old.of_key.last || later.has_key) ((is_some old.spelling || later.same_old_email) && is_value_unchanged old.of_key e later) all
-    (λ w. or_carry (is_some new.of_key.last) fewer.has_key (is_some old.of_key.last) later.has_key w (some_before old.of_key.last new.of_key.last h.lasts) h.has)
-    (λ w. and_carry (is_some new.spelling || fewer.same_old_email) (is_value_unchanged new.of_key e fewer) (is_some old.spelling || later.same_old_email) (is_value_unchanged old.of_key e later) w h.spelled (value_carry old new e later fewer h))
+    by : (o : Option Text) → (is_some o ≡ true → Implies (is_some new.old_name || same_optional o left.of_key.old_name) (is_some old.old_name || same_optional o all.of_key.old_name))
+        → Implies (if is_some o then (is_some new.old_name || same_optional o left.of_key.old_name) && (is_some left.of_key.last || same_fields (new_fields e) new.last) else (is_last_unchanged new.name e.new_name (is_some left.of_key.name) && is_last_unchanged new.email e.new_email (is_some left.of_key.email)))
+        (if is_some o then (is_some old.old_name || same_optional o all.of_key.old_name) && (is_some all.of_key.last || same_fields (new_fields e) old.last) else (is_last_unchanged old.name e.new_name (is_some all.of_key.name) && is_last_unchanged old.email e.new_email (is_some all.of_key.email)))
+    by None named = and_implies (last_implies e.new_name after.names gives.names) (last_implies e.new_email after.emails gives.emails)
+    by (Some t) named = and_implies (named refl) (or_implies gives.lasts (fields_imply (new_fields e) after.lasts))
 
 -- ---- the entries kept in one pass and in the next
 
 record Follows (a b : List Mapping) : Type 0 where
-  lasts : (k : Key) → AsBefore (key_summary a k).last (key_summary b k).last
-  names : (k : Key) → AsBefore (key_summary a k).name (key_summary b k).name
-  emails : (k : Key) → AsBefore (key_summary a k).email (key_summary b k).email
-  old_names : (k : Key) → is_some (key_summary b k).old_name ≡ true → is_some (key_summary a k).old_name ≡ true
-  spellings : (email : Text) → is_some (spelling b email) ≡ true → is_some (spelling a email) ≡ true
+  summaries : (k : Key) → IsAfter (key_summary a k) (key_summary b k)
+  spellings : (email : Text) → Implies (is_some (spelling b email)) (is_some (spelling a email))
 
-before_or : {X : Type 0} (p old new : Option X) → AsBefore old new → AsBefore (option_or p old) (option_or p new)
-before_or None old new like = like
-before_or (Some x) old new like = inl refl
+before_or : {X : Type 0} (p : Option X) {old new : Option X} → AsBefore old new → AsBefore (option_or p old) (option_or p new)
+before_or None like = like
+before_or (Some x) like = same
 
-some_or : {X : Type 0} (old new p : Option X) → (is_some new ≡ true → is_some old ≡ true) → is_some (option_or new p) ≡ true → is_some (option_or old p) ≡ true
-some_or (Some x) new p more e = refl
-some_or None (Some y) p more e = absurd (true≢false (sym (more refl)))
-some_or None None p more e = e
+some_or : {X : Type 0} (old new p : Option X) → Implies (is_some new) (is_some old) → Implies (is_some (option_or new p)) (is_some (option_or old p))
+some_or (Some x) new p more = record { so = λ e. refl }
+some_or None (Some y) p more = absurd (true≢false (sym (more.so refl)))
+some_or None None p more = record { so = λ e. e }
 
-some_first : {X : Type 0} (o p : Option X) → is_some o ≡ true → is_some (option_or o p) ≡ true
-some_first None p e = absurd (true≢false (sym e))
-some_first (Some x) p e = refl
+some_first : {X : Type 0} (o p : Option X) → Implies (is_some o) (is_some (option_or o p))
+some_first None p = record { so = λ e. cc }
+some_first (Some x) p = record { so = λ e. e }
 
-some_second : {X : Type 0} (o p : Option X) → is_some p ≡ true → is_some (option_or o p) ≡ true
-some_second None p e = e
-some_second (Some x) p e = refl
+some_second : {X : Type 0} (o p : Option X) → Implies (is_some p) (is_some (option_or o p))
+some_second None p = record { so = λ e. e }
+some_second (Some x) p = record { so = λ e. refl }
+
+trans_implies : {p q r : Bool} → Implies p q → Implies q r → Implies p r
+trans_implies f g = record { so = λ e. g.so (f.so e) }
+
+subst₂ : {X Y : Type 0} (P : X → Y → Type 0) {x x' : X} {y y' : Y} → x ≡ x' → y ≡ y' → P x' y' → P x y
+subst₂ P {x} {x'} {y} {y'} p q h = subst (λ z. P z y) (sym p) (subst (P x') (sym q) h)
 
 start : Follows [] []
-start = record { lasts = λ k. inl refl; names = λ k. inl refl; emails = λ k. inl refl; old_names = λ k e. e; spellings = λ email e. e }
+start = record { summaries = λ k. record { lasts = same; names = same; emails = same; old_names = record { so = λ e. e } }; spellings = λ email. record { so = λ e. e } }
 
 -- both passes keep the entry
 both_keep : (a b : List Mapping) (e : Mapping) → Follows a b → Follows (a ++ e ∷ []) (b ++ e ∷ [])
 both_keep a b e f =
     record {
-      lasts = λ k. let p = key_summary (e ∷ []) k in
-          along (λ s. s.last) k (before_or p.last (key_summary a k).last (key_summary b k).last (f.lasts k));
-      names = λ k. let p = key_summary (e ∷ []) k in
-          along (λ s. s.name) k (before_or p.name (key_summary a k).name (key_summary b k).name (f.names k));
-      emails = λ k. let p = key_summary (e ∷ []) k in
-          along (λ s. s.email) k (before_or p.email (key_summary a k).email (key_summary b k).email (f.emails k));
-      old_names = λ k some.
-          ap (λ s. is_some s.old_name) (summary_parts a (e ∷ []) k)
-          ∙ some_or (key_summary a k).old_name (key_summary b k).old_name (key_summary (e ∷ []) k).old_name (f.old_names k) (sym (ap (λ s. is_some s.old_name) (summary_parts b (e ∷ []) k)) ∙ some);
-      spellings = λ email some.
-          ap is_some (spelling_parts a (e ∷ []) email)
-          ∙ some_or (spelling a email) (spelling b email) (spelling (e ∷ []) email) (f.spellings email) (sym (ap is_some (spelling_parts b (e ∷ []) email)) ∙ some);
+      summaries = λ k.
+          let s = f.summaries k in let p = key_summary (e ∷ []) k in
+          subst₂ IsAfter (summary_parts a (e ∷ []) k) (summary_parts b (e ∷ []) k) (record {
+            lasts = before_or p.last s.lasts;
+            names = before_or p.name s.names;
+            emails = before_or p.email s.emails;
+            old_names = some_or _ _ p.old_name s.old_names;
+          });
+      spellings = λ email.
+          subst₂ (λ x y. Implies (is_some y) (is_some x)) (spelling_parts a (e ∷ []) email) (spelling_parts b (e ∷ []) email)
+          (some_or _ _ (spelling (e ∷ []) email) (f.spellings email));
     }
-  where
-    along : {Y : Type 0} (read : KeySummary → Option Y) (k : Key) → AsBefore (read (joined_summary (key_summary a k) (key_summary (e ∷ []) k))) (read (joined_summary (key_summary b k) (key_summary (e ∷ []) k)))
-        → AsBefore (read (key_summary (a ++ e ∷ []) k)) (read (key_summary (b ++ e ∷ []) k))
-    along read k like =
-        subst (λ s. AsBefore (read s) (read (key_summary (b ++ e ∷ []) k))) (sym (summary_parts a (e ∷ []) k))
-        (subst (λ s. AsBefore (read (joined_summary (key_summary a k) (key_summary (e ∷ []) k))) (read s)) (sym (summary_parts b (e ∷ []) k)) like)
 
 -- a key without entries has an empty summary
 nothing_of : (l : List Mapping) → option_map new_fields (last l) ≡ None → l ≡ []
 nothing_of [] e = refl
 nothing_of (x ∷ l) e = absurd (true≢false (ap is_some e))
 
-abbrev said : List Mapping → KeySummary
-said l = record {
-  old_name = first (filter_map (λ e. e.old_name) l);
-  name = last_given (λ e. e.new_name) l;
-  email = last_given (λ e. e.new_email) l;
-  last = option_map new_fields (last l);
-}
-
 nothing_said : (h : List Mapping) (k : Key) → (key_summary h k).last ≡ None → key_summary h k ≡ no_summary
-nothing_said h k none = ap said (nothing_of (of_key h k) none)
+nothing_said h k none = grind (arith, nothing_of)
 
 -- the next pass drops the first entry of a key
 one_goes : (a b : List Mapping) (e : Mapping) → Follows a b → (key_summary a (key e)).last ≡ None → Follows (a ++ e ∷ []) b
 one_goes a b e f none =
     record {
-      lasts = λ k. by_key k (λ s. s.last) refl (f.lasts k);
-      names = λ k. by_key k (λ s. s.name) refl (f.names k);
-      emails = λ k. by_key k (λ s. s.email) refl (f.emails k);
-      old_names = λ k some. ap (λ s. is_some s.old_name) (summary_parts a (e ∷ []) k) ∙ some_first (key_summary a k).old_name (key_summary (e ∷ []) k).old_name (f.old_names k some);
-      spellings = λ email some. ap is_some (spelling_parts a (e ∷ []) email) ∙ some_first (spelling a email) (spelling (e ∷ []) email) (f.spellings email some);
+      summaries = λ k. by_cases (eq_by_cmp key_cmp k (key e))
+          (λ own. subst (IsAfter (key_summary (a ++ e ∷ []) k)) (sym (nothing k (keys_exact k (key e) ((Equal-is (key_cmp k (key e))).0 own))))
+          (record { lasts = gone; names = gone; emails = gone; old_names = record { so = λ e. cc } }))
+          (λ other. subst (λ s. IsAfter s (key_summary b k)) (sym (summary_without a e [] k other ∙ ap (λ l. key_summary l k) (append-nil a))) (f.summaries k));
+      spellings = λ email.
+          subst (λ o. Implies (is_some (spelling b email)) (is_some o)) (sym (spelling_parts a (e ∷ []) email))
+          (trans_implies (f.spellings email) (some_first (spelling a email) (spelling (e ∷ []) email)));
     }
   where
-    gone : (k : Key) → k ≡ key e → key_summary b k ≡ no_summary
-    gone k same = nothing_said b k (⊎_elim (λ like. like ∙ ap (λ j. (key_summary a j).last) same ∙ none) (λ like. like) (f.lasts k))
+    still : {X : Type 0} {old new : Option X} → AsBefore old new → old ≡ None → new ≡ None
+    still same e = e
+    still gone e = refl
 
-    by_key : {Y : Type 0} (k : Key) (read : KeySummary → Option Y) → read no_summary ≡ None → AsBefore (read (key_summary a k)) (read (key_summary b k)) → AsBefore (read (key_summary (a ++ e ∷ []) k)) (read (key_summary b k))
-    by_key k read empty like =
-        either (eq_by_cmp key_cmp k (key e))
-        (λ own. inr (ap read (gone k (keys_exact k (key e) ((Equal-is (key_cmp k (key e))).0 own))) ∙ empty))
-        (λ other. subst (λ s. AsBefore (read s) (read (key_summary b k))) (sym (summary_without a e [] k other ∙ ap (λ l. key_summary l k) (append-nil a))) like)
+    nothing : (k : Key) → k ≡ key e → key_summary b k ≡ no_summary
+    nothing k own = nothing_said b k (still (f.summaries k).lasts (ap (λ j. (key_summary a j).last) own ∙ none))
 
 -- ---- a pass as a list of kept and dropped entries
 
@@ -211,40 +183,31 @@ none_drops _ _ _ _ (drops seen kept x xs left never redundant w) = absurd never
 none_drops _ _ _ _ (keeps seen kept x xs left busy w) = ap (λ l. x ∷ l) (none_drops (seen ++ x ∷ []) (kept ++ x ∷ []) xs left w)
 
 accepted_if : (a : List Mapping) (e : Mapping) (c : List Mapping) → (IsRedundant a e c → ⊥) → is_accepted e ≡ true
-accepted_if a e c busy = either (is_accepted e) (λ own. own) (λ other. absurd (busy (unaccepted_redundant a e c other)))
+accepted_if a e c busy = by_cases (is_accepted e) (λ own. own) (λ other. absurd (busy (unaccepted_redundant a e c other)))
 
--- a key or an email that the remaining entries set a field for has one in all entries, too
-record Gives (all left : List Mapping) : Type 0 where
-  lasts : (k : Key) → is_some (key_summary left k).last ≡ true → is_some (key_summary all k).last ≡ true
-  names : (k : Key) → is_some (key_summary left k).name ≡ true → is_some (key_summary all k).name ≡ true
-  emails : (k : Key) → is_some (key_summary left k).email ≡ true → is_some (key_summary all k).email ≡ true
+-- a key that the remaining entries set a field for has one in all entries, too
+gives_more : (e : Mapping) (all left : List Mapping) (k : Key) → Gives (key_summary all k) (key_summary left k) → Gives (key_summary (e ∷ all) k) (key_summary left k)
+gives_more e all left k g =
+    let s = key_summary all k in let p = key_summary (e ∷ []) k in
+    subst (λ x. Gives x (key_summary left k)) (sym (summary_parts (e ∷ []) all k)) (record {
+      lasts = trans_implies g.lasts (some_first s.last p.last);
+      names = trans_implies g.names (some_first s.name p.name);
+      emails = trans_implies g.emails (some_first s.email p.email);
+    })
 
-gives_more : (e : Mapping) (all left : List Mapping) → Gives all left → Gives (e ∷ all) left
-gives_more e all left g =
-    record {
-      lasts = λ k some. ap (λ s. is_some s.last) (summary_parts (e ∷ []) all k) ∙ some_first (key_summary all k).last (key_summary (e ∷ []) k).last (g.lasts k some);
-      names = λ k some. ap (λ s. is_some s.name) (summary_parts (e ∷ []) all k) ∙ some_first (key_summary all k).name (key_summary (e ∷ []) k).name (g.names k some);
-      emails = λ k some. ap (λ s. is_some s.email) (summary_parts (e ∷ []) all k) ∙ some_first (key_summary all k).email (key_summary (e ∷ []) k).email (g.emails k some);
-    }
+gives_both : (e : Mapping) (all left : List Mapping) (k : Key) → Gives (key_summary all k) (key_summary left k) → Gives (key_summary (e ∷ all) k) (key_summary (e ∷ left) k)
+gives_both e all left k g =
+    let p = key_summary (e ∷ []) k in
+    subst₂ Gives (summary_parts (e ∷ []) all k) (summary_parts (e ∷ []) left k) (record {
+      lasts = some_or _ _ p.last g.lasts;
+      names = some_or _ _ p.name g.names;
+      emails = some_or _ _ p.email g.emails;
+    })
 
-gives_both : (e : Mapping) (all left : List Mapping) → Gives all left → Gives (e ∷ all) (e ∷ left)
-gives_both e all left g =
-    record {
-      lasts = λ k some.
-          ap (λ s. is_some s.last) (summary_parts (e ∷ []) all k)
-          ∙ some_or (key_summary all k).last (key_summary left k).last (key_summary (e ∷ []) k).last (g.lasts k) (sym (ap (λ s. is_some s.last) (summary_parts (e ∷ []) left k)) ∙ some);
-      names = λ k some.
-          ap (λ s. is_some s.name) (summary_parts (e ∷ []) all k)
-          ∙ some_or (key_summary all k).name (key_summary left k).name (key_summary (e ∷ []) k).name (g.names k) (sym (ap (λ s. is_some s.name) (summary_parts (e ∷ []) left k)) ∙ some);
-      emails = λ k some.
-          ap (λ s. is_some s.email) (summary_parts (e ∷ []) all k)
-          ∙ some_or (key_summary all k).email (key_summary left k).email (key_summary (e ∷ []) k).email (g.emails k) (sym (ap (λ s. is_some s.email) (summary_parts (e ∷ []) left k)) ∙ some);
-    }
-
-walk_gives : (Q : List LocatedMapping → LocatedMapping → Type 0) (seen kept xs left : List LocatedMapping) → Walks Q seen kept xs left → Gives (entries xs) (entries left)
-walk_gives Q _ _ _ _ (ends seen kept) = record { lasts = λ k e. e; names = λ k e. e; emails = λ k e. e }
-walk_gives Q _ _ _ _ (drops seen kept x xs left q redundant w) = gives_more x.entry (entries xs) (entries left) (walk_gives Q (seen ++ x ∷ []) kept xs left w)
-walk_gives Q _ _ _ _ (keeps seen kept x xs left busy w) = gives_both x.entry (entries xs) (entries left) (walk_gives Q (seen ++ x ∷ []) (kept ++ x ∷ []) xs left w)
+walk_gives : (Q : List LocatedMapping → LocatedMapping → Type 0) (seen kept xs left : List LocatedMapping) → Walks Q seen kept xs left → (k : Key) → Gives (key_summary (entries xs) k) (key_summary (entries left) k)
+walk_gives Q _ _ _ _ (ends seen kept) k = record { lasts = record { so = λ e. e }; names = record { so = λ e. e }; emails = record { so = λ e. e } }
+walk_gives Q _ _ _ _ (drops seen kept x xs left q redundant w) k = gives_more x.entry (entries xs) (entries left) k (walk_gives Q (seen ++ x ∷ []) kept xs left w k)
+walk_gives Q _ _ _ _ (keeps seen kept x xs left busy w) k = gives_both x.entry (entries xs) (entries left) k (walk_gives Q (seen ++ x ∷ []) (kept ++ x ∷ []) xs left w k)
 
 -- ---- one pass after another
 
@@ -275,34 +238,26 @@ module _ (Q R : List LocatedMapping → LocatedMapping → Type 0) (first_of_key
 
 -- ---- why an entry is dropped only now
 
+-- what is_redundant_before compares the spellings of an entry's email and name to, before and after the entry
+abbrev is_spelled : List Mapping → Mapping → List Mapping → Bool
+is_spelled before e after = is_some (spelling before (folded e.old_email)) || same_optional (Some e.old_email) (spelling after (folded e.old_email))
+
+abbrev is_named : List Mapping → Mapping → List Mapping → Bool
+is_named before e after = is_some (key_summary before (key e)).old_name || same_optional e.old_name (key_summary after (key e)).old_name
+
 -- an entry that a pass drops, though the pass before kept it
 module _ (kept next : List LocatedMapping) (x : LocatedMapping) (xs left : List LocatedMapping) (busy : IsRedundant (entries kept) x.entry (entries xs) → ⊥)
-    (follows : Follows (entries kept) (entries next)) (gives : Gives (entries xs) (entries left)) (redundant : IsRedundant (entries next) x.entry (entries left)) where
-  abbrev own : Key
-  own = key x.entry
-
-  good : is_accepted x.entry ≡ true
-  good = accepted_if (entries kept) x.entry (entries xs) busy
-
-  would_go : ((is_some (spelling (entries next) own.0) || (later_of x.entry (summary (entries left) own)).same_old_email) ≡ true → (is_some (spelling (entries kept) own.0) || (later_of x.entry (summary (entries xs) own)).same_old_email) ≡ true)
-      → (is_some x.entry.old_name ≡ true → (is_some (key_summary (entries next) own).old_name || (later_of x.entry (summary (entries left) own)).same_old_name) ≡ true
-      → (is_some (key_summary (entries kept) own).old_name || (later_of x.entry (summary (entries xs) own)).same_old_name) ≡ true)
-      → ⊥
+    (follows : Follows (entries kept) (entries next)) (gives : (k : Key) → Gives (key_summary (entries xs) k) (key_summary (entries left) k)) (redundant : IsRedundant (entries next) x.entry (entries left)) where
+  would_go : Implies (is_spelled (entries next) x.entry (entries left)) (is_spelled (entries kept) x.entry (entries xs))
+      → (is_some x.entry.old_name ≡ true → Implies (is_named (entries next) x.entry (entries left)) (is_named (entries kept) x.entry (entries xs))) → ⊥
   would_go spelled named =
-      busy
-      ((redundant_decides (entries kept) x.entry (entries xs) good).0
-      (carry (summary (entries kept) own) (summary (entries next) own) x.entry (later_of x.entry (summary (entries xs) own)) (later_of x.entry (summary (entries left) own))
-      (record {
-        lasts = follows.lasts own;
-        names = follows.names own;
-        emails = follows.emails own;
-        has = gives.lasts own;
-        later_names = gives.names own;
-        later_emails = gives.emails own;
-        spelled = spelled;
-        named = named;
-      })
-      ((redundant_decides (entries next) x.entry (entries left) good).1 redundant)))
+      let k = key x.entry in
+      let good = accepted_if (entries kept) x.entry (entries xs) busy in
+      let after = follows.summaries k in
+      let carried : Implies (is_redundant (summary (entries next) k) x.entry (summary (entries left) k)) (is_redundant (summary (entries kept) k) x.entry (summary (entries xs) k)) =
+      and_implies (or_implies (some_before after.lasts) (gives k).lasts)
+      (and_implies spelled (value_implies (key_summary (entries kept) k) (key_summary (entries next) k) x.entry (summary (entries xs) k) (summary (entries left) k) after (gives k) named)) in
+      busy ((redundant_decides (entries kept) x.entry (entries xs) good).0 (carried.so ((redundant_decides (entries next) x.entry (entries left) good).1 redundant)))
 
 -- ---- the second pass
 
@@ -319,7 +274,7 @@ key_spelled h k some = by (accepted h) some
         → is_some (option_map (λ e. e.old_email) (first (filter (λ e. eq_by_cmp text_cmp k.0 (folded e.old_email)) l))) ≡ true
     by [] some = absurd (true≢false (sym some))
     by (e ∷ l) some =
-        either (eq_by_cmp text_cmp k.0 (folded e.old_email))
+        by_cases (eq_by_cmp text_cmp k.0 (folded e.old_email))
         (λ own. ap (λ b. is_some (option_map (λ x. x.old_email) (first (if b then e ∷ filter (λ x. eq_by_cmp text_cmp k.0 (folded x.old_email)) l else filter (λ x. eq_by_cmp text_cmp k.0 (folded x.old_email)) l)))) own)
         (λ other.
         ap (λ b. is_some (option_map (λ x. x.old_email) (first (if b then e ∷ filter (λ x. eq_by_cmp text_cmp k.0 (folded x.old_email)) l else filter (λ x. eq_by_cmp text_cmp k.0 (folded x.old_email)) l)))) other
@@ -340,11 +295,7 @@ name_spelled h e = by e.old_name
 
     by : (o : Option Text) → is_some o ≡ true → is_some (key_summary h (folded e.old_email, option_map folded o)).last ≡ true → is_some (key_summary h (folded e.old_email, option_map folded o)).old_name ≡ true
     by None named some = absurd (true≢false (sym named))
-    by (Some w) named some =
-        sym (outer (key_summary h (folded e.old_email, Some (folded w))).old_name)
-        ∙ sym (ap is_some (named_first h (folded e.old_email) (folded w)))
-        ∙ sym (of_first (of_key h (folded e.old_email, Some (folded w))))
-        ∙ some
+    by (Some w) named some = grind (arith, outer, named_first, of_first)
 
 none_or_some : {X : Type 0} (o : Option X) → (o ≡ None) ⊎ (is_some o ≡ true)
 none_or_some None = inl refl
@@ -357,8 +308,8 @@ second_meets seen kept next x xs left w busy f redundant =
     ⊎_elim (λ none. none)
     (λ some. absurd
     (would_go kept next x xs left busy f (walk_gives Any (seen ++ x ∷ []) (kept ++ x ∷ []) xs left w) redundant
-    (λ _. or_left (is_some (spelling (entries kept) k.0)) (later_of x.entry (summary (entries xs) k)).same_old_email (key_spelled (entries kept) k some))
-    (λ named _. or_left (is_some (key_summary (entries kept) k).old_name) (later_of x.entry (summary (entries xs) k)).same_old_name (name_spelled (entries kept) x.entry named some))))
+    (record { so = λ _. or_left _ _ (key_spelled (entries kept) k some) })
+    (λ named. record { so = λ _. or_left _ _ (name_spelled (entries kept) x.entry named some) })))
     (none_or_some (key_summary (entries kept) k).last)
 
 -- ---- the third pass
@@ -367,13 +318,13 @@ some_stays : (seen : List LocatedMapping) (x : LocatedMapping) (k : Key) → is_
 some_stays seen x k some =
     ap (λ h. is_some (key_summary h k).last) (entries-more seen x)
     ∙ ap (λ s. is_some s.last) (summary_parts (entries seen) (x.entry ∷ []) k)
-    ∙ some_second (key_summary (x.entry ∷ []) k).last (key_summary (entries seen) k).last some
+    ∙ (some_second (key_summary (x.entry ∷ []) k).last (key_summary (entries seen) k).last).so some
 
 own_there : (seen : List LocatedMapping) (x : LocatedMapping) → is_accepted x.entry ≡ true → is_some (key_summary (entries (seen ++ x ∷ [])) (key x.entry)).last ≡ true
 own_there seen x good =
     ap (λ h. is_some (key_summary h (key x.entry)).last) (entries-more seen x)
     ∙ ap (λ s. is_some s.last) (summary_parts (entries seen) (x.entry ∷ []) (key x.entry))
-    ∙ some_first (key_summary (x.entry ∷ []) (key x.entry)).last (key_summary (entries seen) (key x.entry)).last (ap (λ s. is_some s.last) (summary_own x.entry good))
+    ∙ (some_first (key_summary (x.entry ∷ []) (key x.entry)).last (key_summary (entries seen) (key x.entry)).last).so (ap (λ s. is_some s.last) (summary_own x.entry good))
 
 -- a key that was seen loses no entry
 module _ (Q : List LocatedMapping → LocatedMapping → Type 0) (first_of_key : (seen : List LocatedMapping) (x : LocatedMapping) → Q seen x → FirstOfKey seen x) (k : Key) where
@@ -402,10 +353,8 @@ third_meets seen kept next x xs left w busy f redundant =
     ))
     (λ some. absurd
     (would_go kept next x xs left busy f gives redundant
-    (λ _. or_left (is_some (spelling (entries kept) k.0)) (later_of x.entry (summary (entries xs) k)).same_old_email some)
-    (λ named e. or_carry (is_some (key_summary (entries next) k).old_name) (later_of x.entry (summary (entries left) k)).same_old_name
-    (is_some (key_summary (entries kept) k).old_name) (later_of x.entry (summary (entries xs) k)).same_old_name e (f.old_names k)
-    (λ alike. sym (ap (λ s. same_optional x.entry.old_name s.old_name) same) ∙ alike))))
+    (record { so = λ _. or_left _ _ some })
+    (λ _. or_implies (f.summaries k).old_names (record { so = λ alike. sym (ap (λ s. same_optional x.entry.old_name s.old_name) same) ∙ alike }))))
     (none_or_some (spelling (entries kept) k.0))
 
 -- ---- the fourth pass
@@ -414,13 +363,13 @@ spelled_stays : (seen : List LocatedMapping) (x : LocatedMapping) (email : Text)
 spelled_stays seen x email some =
     ap (λ h. is_some (spelling h email)) (entries-more seen x)
     ∙ ap is_some (spelling_parts (entries seen) (x.entry ∷ []) email)
-    ∙ some_first (spelling (entries seen) email) (spelling (x.entry ∷ []) email) some
+    ∙ (some_first (spelling (entries seen) email) (spelling (x.entry ∷ []) email)).so some
 
 own_spelled : (seen : List LocatedMapping) (x : LocatedMapping) → is_accepted x.entry ≡ true → is_some (spelling (entries (seen ++ x ∷ [])) (folded x.entry.old_email)) ≡ true
 own_spelled seen x good =
     ap (λ h. is_some (spelling h (folded x.entry.old_email))) (entries-more seen x)
     ∙ ap is_some (spelling_parts (entries seen) (x.entry ∷ []) (folded x.entry.old_email))
-    ∙ some_second (spelling (entries seen) (folded x.entry.old_email)) (spelling (x.entry ∷ []) (folded x.entry.old_email)) (ap is_some (spelling_own x.entry good))
+    ∙ (some_second (spelling (entries seen) (folded x.entry.old_email)) (spelling (x.entry ∷ []) (folded x.entry.old_email))).so (ap is_some (spelling_own x.entry good))
 
 -- an email that was seen loses no entry
 same_of_email : (email : Text) (seen kept xs left : List LocatedMapping) → Walks FirstOfEmail seen kept xs left → is_some (spelling (entries seen) email) ≡ true → spelling (entries left) email ≡ spelling (entries xs) email
@@ -442,12 +391,8 @@ fourth_meets seen kept next x xs left w busy f redundant =
     let same : key_summary (entries left) k ≡ key_summary (entries xs) k = same_of_key FirstOfEmail (λ s y q. q.1) k (seen ++ x ∷ []) (kept ++ x ∷ []) xs left w (own_there seen x good) in
     let spelled : spelling (entries left) k.0 ≡ spelling (entries xs) k.0 = same_of_email k.0 (seen ++ x ∷ []) (kept ++ x ∷ []) xs left w (own_spelled seen x good) in
     would_go kept next x xs left busy f (walk_gives FirstOfEmail (seen ++ x ∷ []) (kept ++ x ∷ []) xs left w) redundant
-    (λ e. or_carry (is_some (spelling (entries next) k.0)) (later_of x.entry (summary (entries left) k)).same_old_email
-    (is_some (spelling (entries kept) k.0)) (later_of x.entry (summary (entries xs) k)).same_old_email e (f.spellings k.0)
-    (λ alike. sym (ap (same_optional (Some x.entry.old_email)) spelled) ∙ alike))
-    (λ named e. or_carry (is_some (key_summary (entries next) k).old_name) (later_of x.entry (summary (entries left) k)).same_old_name
-    (is_some (key_summary (entries kept) k).old_name) (later_of x.entry (summary (entries xs) k)).same_old_name e (f.old_names k)
-    (λ alike. sym (ap (λ s. same_optional x.entry.old_name s.old_name) same) ∙ alike))
+    (or_implies (f.spellings k.0) (record { so = λ alike. sym (ap (same_optional (Some x.entry.old_email)) spelled) ∙ alike }))
+    (λ _. or_implies (f.summaries k).old_names (record { so = λ alike. sym (ap (λ s. same_optional x.entry.old_name s.old_name) same) ∙ alike }))
 
 -- ---- all four
 

@@ -1,5 +1,5 @@
--- The origins of an answer determine it, and it needs no other entry.
-use Rattle.std.proofs.Common.{◌≡◌, ◌≢◌, Bool, true, false, true≢false, cond, ◌&&◌, ◌||◌, List, [], ◌∷◌, ◌++◌, map, filter, filter_map, Option, Some, None, IfSome, is_some, unwrap_or, option_to_list, refl, sym, ap, ap₂, subst, ◌∙◌}
+-- The origins of an answer determine it, it needs no other entry, and they move with their entries.
+use Rattle.std.proofs.Common.{◌≡◌, ◌≢◌, Bool, true, false, true≢false, cond, ◌&&◌, List, [], ◌∷◌, ◌++◌, map, filter, filter_map, Option, Some, None, IfSome, is_some, unwrap_or, option_to_list, refl, sym, ap, ap₂, subst, ◌∙◌, if◌then◌else◌, option_map, arith}
 use Rattle.std.specs.Cmp.{tied_itself}
 use Rattle.std.specs.Cmp.Lexicographic.{nat_list_cmp_total}
 use Rattle.std.specs.List.{AllByRecursion, cons_option}
@@ -12,12 +12,13 @@ use Rattle.mailmap_entries.specs.Semantics.{Fields, Key, accepted, fields_with_s
 use Rattle.mailmap_entries.specs.Alike.{Alike}
 use Rattle.mailmap_entries.proofs.Parts.{all_head, all_last, all_mapped, all_tail, and_then-flatten, filter-filter, filter_all, is_some-option_map, last_of_one}
 use Rattle.mailmap_batches.proofs.Stable.{filter-map}
-use Rattle.mailmap_redundancy.specs.Origins.{entries_of_email, git_answer_from, git_given, given, origins, last_or_all, last_with, needed, those_that_count, with_spelling}
+use Rattle.mailmap_redundancy.specs.Origins.{entries_of_email, git_answer_from, git_given, given, origins, last_or_all, last_with, needed, those_that_count, with_spelling, Origins}
 use Rattle.mailmap_redundancy.specs.Numbers.{key_origins, summary_by}
 use Rattle.mailmap_redundancy.specs.Redundancy.{AreEffective, LocatedMapping, entries, entries_of_key}
 use Rattle.mailmap_redundancy.specs.Summaries.{Summary, summary}
 use Rattle.mailmap_redundancy.proofs.Kept.{reduced_accepted, reduced_alike, reduced_scan}
 use Rattle.mailmap_redundancy.proofs.Keyed.{by_cases, of_other_key}
+use Rattle.mailmap_redundancy.specs.declared.located.Position.{Position}
 
 -- ---- the first and the last of a list
 
@@ -27,25 +28,23 @@ first-map f (x ∷ xs) = refl
 
 pub last-map : {X Y : Type 0} (f : X → Y) (xs : List X) → last (map f xs) ≡ option_map f (last xs)
 last-map f [] = refl
-last-map f (x ∷ xs) =
-    ap (λ o. Some (unwrap_or o (f x))) (last-map f xs)
-    ∙ (elim (last xs) as (λ o. Some (unwrap_or (option_map f o) (f x)) ≡ Some (f (unwrap_or o x))) [ None ↦ refl | Some y ↦ refl ])
+last-map f (x ∷ xs) = grind (arith, (last-map f xs))
+
+last_is : {X : Type 0} (P : X → Type 0) (xs : List X) → AllByRecursion P xs → IfSome (last xs) P
+last_is P [] all = tt
+last_is P (x ∷ xs) all = all_last P x xs all.0 all.1
+
+first_is : {X : Type 0} (P : X → Type 0) (xs : List X) → AllByRecursion P xs → IfSome (first xs) P
+first_is P [] all = tt
+first_is P (x ∷ xs) all = all.0
 
 last_passes : {X : Type 0} (p : X → Bool) (xs : List X) → IfSome (last (filter p xs)) (λ x. p x ≡ true)
-last_passes p xs = of_all (filter p xs) (recursion_from_All _ _ (filter_passes p xs))
-  where
-    of_all : (l : List _) → AllByRecursion (λ x. p x ≡ true) l → IfSome (last l) (λ x. p x ≡ true)
-    of_all [] a = tt
-    of_all (x ∷ l) a = all_last (λ x. p x ≡ true) x l a.0 a.1
+last_passes p xs = last_is (λ x. p x ≡ true) (filter p xs) (recursion_from_All _ _ (filter_passes p xs))
 
 module _ (f : Mapping → Option Text) where
   all_given : (xs : List LocatedMapping) → map (λ t. Some t) (filter_map f (entries xs)) ≡ map (λ x. f x.entry) (filter (λ x. is_some (f x.entry)) xs)
   all_given [] = refl
-  all_given (x ∷ xs) =
-      elim (f x.entry) as (λ o. f x.entry ≡ o → map (λ t. Some t) (cons_option o (filter_map f (entries xs))) ≡ map (λ y. f y.entry) (cond (is_some o) (x ∷ filter (λ y. is_some (f y.entry)) xs) (filter (λ y. is_some (f y.entry)) xs))) [
-        | None ↦ λ is. all_given xs
-        | Some t ↦ λ is. ap₂ (λ o l. o ∷ l) (sym is) (all_given xs)
-      ] refl
+  all_given (x ∷ xs) = grind (arith, (all_given xs))
 
   -- the last value of a field, by the entry that sets it
   given_last : (xs : List LocatedMapping) → last_given f (entries xs) ≡ option_and_then (λ x. f x.entry) (last_with f xs)
@@ -131,11 +130,7 @@ fields_that_count xs =
 count : (o : Option LocatedMapping) (others : List LocatedMapping)
     → unwrap_or (option_map new_fields (option_map (λ x. x.entry) o)) (record { name = last_given (λ e. e.new_name) (entries others); email = last_given (λ e. e.new_email) (entries others) }) ≡ fields_that_count (last_or_all o others)
 count None others = λ i. record { name = given_last (λ e. e.new_name) others i; email = given_last (λ e. e.new_email) others i }
-count (Some x) others =
-    λ i. record {
-      name = (sym (last_of_one (λ e. e.new_name) x.entry) ∙ given_last (λ e. e.new_name) (x ∷ [])) i;
-      email = (sym (last_of_one (λ e. e.new_email) x.entry) ∙ given_last (λ e. e.new_email) (x ∷ [])) i;
-    }
+count (Some x) others = grind (arith, last_of_one, given_last)
 
 first_of_two : {X : Type 0} (o p q : Option X) → true ≡ is_some o → option_or o p ≡ option_or o q
 first_of_two None p q some = absurd (true≢false some)
@@ -148,25 +143,14 @@ spelled : (email : Text) (name : Option Text) (origin head : Option LocatedMappi
       name = name;
       email = option_or (option_and_then (λ x. x.entry.new_email) origin) (option_and_then (λ x. respelled x.entry.old_email email) (cond (is_some origin) None head));
     })
-spelled email name origin None _ nobody =
-    let none = nobody refl in
-    λ i. unless_empty (record {
-      name = sym none.0 i;
-      email = option_or (option_and_then (λ x. x.entry.new_email) (sym none.1 i)) (option_and_then (λ (x : LocatedMapping). respelled x.entry.old_email email) (cond (is_some (sym none.1 i)) None None));
-    })
+spelled email name origin None _ nobody = grind (arith, nobody)
 spelled email name None (Some x) _ _ = refl
-spelled email name (Some y) (Some x) does _ =
-    ap (λ o. unless_empty (record { name = name; email = o })) (first_of_two y.entry.new_email (respelled x.entry.old_email email) None does)
+spelled email name (Some y) (Some x) does _ = grind (arith, first_of_two)
 
 -- which these are, is said by the entries that count
 fields_count : (kept : List LocatedMapping) (name email : Text) → AllByRecursion (λ x. is_accepted x.entry ≡ true) kept
     → unwrap_or (last_fields (entries kept) (folded email, Some (folded name))) (given_fields (entries kept) (folded email)) ≡ fields_that_count (those_that_count kept name email)
-fields_count kept name email all =
-    let n : Key = (folded email, Some (folded name)) in
-    let u : Key = (folded email, None) in
-    (λ i. unwrap_or (option_map new_fields (last (located_key kept all n i))) (record { name = last_given (λ e. e.new_name) (located_key kept all u i); email = last_given (λ e. e.new_email) (located_key kept all u i) }))
-    ∙ ap (λ o. unwrap_or (option_map new_fields o) (record { name = last_given (λ e. e.new_name) (entries (entries_of_key kept u)); email = last_given (λ e. e.new_email) (entries (entries_of_key kept u)) })) (last-map (λ (x : LocatedMapping). x.entry) (entries_of_key kept n))
-    ∙ count (last (entries_of_key kept n)) (entries_of_key kept u)
+fields_count kept name email all = grind (arith, located_key, last-map, count)
 
 head_is : (kept : List LocatedMapping) (email : Text) → AllByRecursion (λ x. is_accepted x.entry ≡ true) kept
     → first (of_email (entries kept) email) ≡ option_map (λ x. x.entry) (first (entries_of_email kept email))
@@ -183,10 +167,7 @@ origins_answer kept name email all =
     no_head (x ∷ xs) e = absurd (cc)
 
     nobody : first (entries_of_email kept (folded email)) ≡ None → ((fields_that_count (those_that_count kept name email)).name ≡ None) × (last_with (λ e. e.new_email) (those_that_count kept name email) ≡ None)
-    nobody none =
-        let nothing = no_head (entries_of_email kept (folded email)) none in
-        let nobody_counts : those_that_count kept name email ≡ [] = ap₂ (λ l m. last_or_all (last l) m) (none_of_key kept (folded email, Some (folded name)) nothing) (none_of_key kept (folded email, None) nothing) in
-        (ap (λ l. (fields_that_count l).name) nobody_counts, ap (last_with (λ e. e.new_email)) nobody_counts)
+    nobody none = grind (arith, no_head, none_of_key)
 
 pub reduced_origins : (xs kept : List LocatedMapping) (name email : Text) → AreEffective xs kept → given (origins kept name email) email ≡ answer_of (entries xs) name email
 reduced_origins xs kept name email s = sym (origins_answer kept name email (reduced_accepted xs kept s)) ∙ reduced_scan xs kept name email s
@@ -204,17 +185,10 @@ module _ (xs kept : List LocatedMapping) (s : AreEffective xs kept) where
       ∙ same_git_scan (entries kept) (entries xs) name email (reduced_alike xs kept s)
 
   pub reduced_last : (email name : Text) → is_some (last (entries_of_key kept (email, Some name))) ≡ is_some (last_fields (entries xs) (email, Some name))
-  reduced_last email name =
-      let k : Key = (email, Some name) in
-      let found : last (of_key (entries kept) k) ≡ option_map (λ x. x.entry) (last (entries_of_key kept k)) =
-      ap last (located_key kept (reduced_accepted xs kept s) k) ∙ last-map (λ (x : LocatedMapping). x.entry) (entries_of_key kept k) in
-      is_some-option_map (λ x. x.entry) (last (entries_of_key kept k)) ∙ ap is_some (sym found)
-      ∙ is_some-option_map new_fields (last (of_key (entries kept) k)) ∙ ap is_some ((reduced_alike xs kept s).lasts email name)
+  reduced_last email name = grind (arith, located_key, reduced_accepted, last-map, is_some-option_map, reduced_alike)
 
   pub reduced_first : (email : Text) → is_some (first (entries_of_email kept email)) ≡ is_some (spelling (entries xs) email)
-  reduced_first email =
-      is_some-option_map (λ x. x.entry) (first (entries_of_email kept email)) ∙ ap is_some (sym (head_is kept email (reduced_accepted xs kept s)))
-      ∙ is_some-option_map (λ e. e.old_email) (first (of_email (entries kept) email)) ∙ ap is_some ((reduced_alike xs kept s).spellings email)
+  reduced_first email = grind (arith, is_some-option_map, head_is, reduced_accepted, reduced_alike)
 
 -- ---- the answer needs no other entry
 
@@ -263,12 +237,7 @@ module _ (p : LocatedMapping → Bool) (kept : List LocatedMapping) (name email 
 
   -- an accepted entry that alone counts sets a field, so it is needed
   alone : (x : LocatedMapping) → is_accepted x.entry ≡ true → IfSome (last_with (λ e. e.new_name) (x ∷ [])) Passes → IfSome (last_with (λ e. e.new_email) (x ∷ [])) Passes → p x ≡ true
-  alone x good by_name by_email =
-      by_cases (is_some x.entry.new_name)
-      (λ does. subst (λ b. IfSome (last (cond b (x ∷ []) [])) Passes) does by_name)
-      (λ doesn't.
-      let does : is_some x.entry.new_email ≡ true = sym (ap (λ b. b || is_some x.entry.new_email) doesn't) ∙ good in
-      subst (λ b. IfSome (last (cond b (x ∷ []) [])) Passes) does by_email)
+  alone x good by_name by_email = grind (arith, by_cases)
 
   named_left : (o : Option LocatedMapping) (others : List LocatedMapping) → IfSome o (λ x. is_accepted x.entry ≡ true) → IfSome (last_with (λ e. e.new_name) (last_or_all o others)) Passes → IfSome (last_with (λ e. e.new_email) (last_or_all o others)) Passes → IfSome o Passes
   named_left None others _ _ _ = tt
@@ -299,18 +268,66 @@ module _ (p : LocatedMapping → Bool) (kept : List LocatedMapping) (name email 
       ∙ (λ i. with_spelling (with_left (λ e. e.new_name) o others by_name i) (with_left (λ e. e.new_email) o others by_email i) (first (filter p (entries_of_email kept (folded email)))))
       ∙ with_spelling_left g.name g.email (entries_of_email kept (folded email)) by_first
     where
-      of_last : (xs : List LocatedMapping) → AllByRecursion (λ x. is_accepted x.entry ≡ true) xs → IfSome (last xs) (λ x. is_accepted x.entry ≡ true)
-      of_last [] a = tt
-      of_last (x ∷ xs) a = all_last (λ x. is_accepted x.entry ≡ true) x xs a.0 a.1
-
       accepted_last : (k : Key) → IfSome (last (entries_of_key kept k)) (λ x. is_accepted x.entry ≡ true)
-      accepted_last k = of_last (entries_of_key kept k) (all_filter (λ x. is_accepted x.entry ≡ true) (λ x. eq_by_cmp key_cmp k (key x.entry)) kept all)
+      accepted_last k = last_is (λ x. is_accepted x.entry ≡ true) (entries_of_key kept k) (all_filter (λ x. is_accepted x.entry ≡ true) (λ x. eq_by_cmp key_cmp k (key x.entry)) kept all)
 
 -- the answer from the needed entries alone
 pub needed_answer : (p : LocatedMapping → Bool) (xs kept : List LocatedMapping) (name email : Text) → AreEffective xs kept → AllByRecursion (λ x. p x ≡ true) (needed (origins kept name email))
     → answer_of (entries (filter p kept)) name email ≡ answer_of (entries xs) name email
 needed_answer p xs kept name email s left =
-    let all = reduced_accepted xs kept s in
-    origins_answer (filter p kept) name email (all_filter (λ x. is_accepted x.entry ≡ true) p kept all)
-    ∙ ap (λ g. given g email) (origins_left p kept name email all left)
-    ∙ reduced_origins xs kept name email s
+    grind (arith, reduced_accepted, origins_answer, all_filter, origins_left, reduced_origins)
+
+-- ---- entries at other positions
+
+abbrev pub moved_entry : (Position → Position) → LocatedMapping → LocatedMapping
+moved_entry move x = record { position = move x.position; entry = x.entry }
+
+module _ (move : Position → Position) where
+  abbrev mv : LocatedMapping → LocatedMapping
+  mv = moved_entry move
+
+  key-moved : (xs : List LocatedMapping) (k : Key) → entries_of_key (map mv xs) k ≡ map mv (entries_of_key xs k)
+  key-moved xs k = filter-map (λ x. eq_by_cmp key_cmp k (key x.entry)) mv xs
+
+  email-moved : (xs : List LocatedMapping) (email : Text) → entries_of_email (map mv xs) email ≡ map mv (entries_of_email xs email)
+  email-moved xs email = filter-map (λ x. eq_by_cmp text_cmp email (folded x.entry.old_email)) mv xs
+
+  with-moved : (field : Mapping → Option Text) (xs : List LocatedMapping) → last_with field (map mv xs) ≡ option_map mv (last_with field xs)
+  with-moved field xs = ap last (filter-map (λ x. is_some (field x.entry)) mv xs) ∙ last-map mv (filter (λ x. is_some (field x.entry)) xs)
+
+  all-moved : (o : Option LocatedMapping) (xs : List LocatedMapping) → last_or_all (option_map mv o) (map mv xs) ≡ map mv (last_or_all o xs)
+  all-moved None xs = refl
+  all-moved (Some x) xs = refl
+
+  those-moved : (xs : List LocatedMapping) (name email : Text) → those_that_count (map mv xs) name email ≡ map mv (those_that_count xs name email)
+  those-moved xs name email = grind (arith, key-moved, last-map, all-moved)
+
+  abbrev pub moved_origins : Origins → Origins
+  moved_origins g = record { name = option_map mv g.name; email = option_map mv g.email; spelling = option_map mv g.spelling }
+
+  spelling-moved : (name email first : Option LocatedMapping) → with_spelling (option_map mv name) (option_map mv email) (option_map mv first) ≡ moved_origins (with_spelling name email first)
+  spelling-moved name None first = refl
+  spelling-moved name (Some x) first = refl
+
+  pub origins-moved : (xs : List LocatedMapping) (name email : Text) → origins (map mv xs) name email ≡ moved_origins (origins xs name email)
+  origins-moved xs name email = grind (arith, email-moved, first-map, those-moved, with-moved, spelling-moved)
+
+-- ---- the entries behind an answer are among those that it is made of
+
+module _ (P : LocatedMapping → Type 0) where
+  either : (o : Option LocatedMapping) (xs : List LocatedMapping) → IfSome o P → AllByRecursion P xs → AllByRecursion P (last_or_all o xs)
+  either None xs is all = all
+  either (Some x) xs is all = (is, tt)
+
+  those_are : (xs : List LocatedMapping) (name email : Text) → AllByRecursion P xs → AllByRecursion P (those_that_count xs name email)
+  those_are xs name email all = grind (arith, either, last_is, all_filter)
+
+  abbrev pub AreOf : Origins → Type 0
+  AreOf g = IfSome g.name P × IfSome g.email P × IfSome g.spelling P
+
+  spelling_is : (email first : Option LocatedMapping) → IfSome first P → IfSome (if is_some email then None else first) P
+  spelling_is None first is = is
+  spelling_is (Some x) first is = tt
+
+  pub origins_are : (xs : List LocatedMapping) (name email : Text) → AllByRecursion P xs → AreOf (origins xs name email)
+  origins_are xs name email all = grind (arith, those_are, last_is, all_filter, spelling_is, first_is)

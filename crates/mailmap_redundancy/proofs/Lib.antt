@@ -1,15 +1,10 @@
 pub mod Positions
-pub mod Summaries
 pub mod Giving
-pub mod Moved
 pub mod Redundant
 pub mod Sublists
 pub mod Kept
 pub mod Keyed
-pub mod Ascending
 pub mod Rows
-pub mod Walked
 pub mod Numbered
 pub mod Passing
-pub mod Settling
 pub mod Bounded

@@ -1,17 +1,18 @@
--- The loop of one pass.
-use Rattle.std.proofs.Common.{◌≡◌, ◌<◌, ◌+◌, ℕ, Bool, true, false, true≢false, List, [], ◌∷◌, ◌++◌, drop, length, get_or, refl, sym, ap, subst, ◌∙◌}
+-- The loop of one pass, and passes that are repeated until one drops nothing.
+use Rattle.std.proofs.Common.{◌≡◌, ◌<◌, ◌+◌, ℕ, Bool, true, false, true≢false, List, [], ◌∷◌, ◌++◌, drop, length, get_or, refl, sym, ap, subst, ◌∙◌, ◌≤◌, arith}
 use Rattle.std.specs.Prelude.{All}
 use Rattle.std.proofs.lemmas.List.{map_push}
 use Rattle.std.proofs.lemmas.List.Elements.{All-push}
 use Rattle.mailmap_entries.specs.Semantics.{Key, key}
-use Rattle.mailmap_redundancy.specs.Redundancy.{LocatedMapping, IsPass, goes, stays, entries}
+use Rattle.mailmap_redundancy.specs.Redundancy.{LocatedMapping, IsPass, goes, stays, entries, AreEffective, settled, again}
 use Rattle.mailmap_redundancy.specs.Summaries.{summary, later_of, is_redundant_before}
 use Rattle.mailmap_redundancy.specs.Numbers.{IsNumbered, IsTable, later_of_each, entry_of, located_entry_of, mappings}
 use Rattle.mailmap_redundancy.specs.declared.numbers.NumberedEntry.{NumberedEntry}
 use Rattle.mailmap_redundancy.specs.declared.passes.Later.{Later}
 use Rattle.mailmap_redundancy.specs.declared.table.Table.{Table}
 use Rattle.mailmap_redundancy.proofs.Redundant.{redundant_decides}
-use Rattle.mailmap_redundancy.proofs.Walked.{same_ends, mappings_next}
+use Rattle.mailmap_redundancy.proofs.Rows.{same_ends, mappings_next}
+use Rattle.mailmap_redundancy.proofs.Kept.{pass_whole}
 
 -- The state before entry i: the remaining results of each_later, the table of the kept entries, and the fact that a
 -- pass over the remaining entries completes the whole pass.
@@ -73,3 +74,21 @@ module _ (keys : List Key) (all : List NumberedEntry) (i : ℕ) (x : NumberedEnt
               ∙ sym (ap goes_by ends.1) ∙ works))
               (subst (λ l. IsPass l rest out) grown p)));
         }
+
+-- ---- repeated passes
+
+-- the last pass went over `len` entries, and kept the entries `kept`; passes before it may have dropped others
+pub record IsSettling (history : List LocatedMapping) (len : ℕ) (kept : List LocatedMapping) : Type 0 where
+  pub some : List LocatedMapping
+  pub counted : length some ≡ len
+  pub passed : IsPass [] some kept
+  pub rest : (out : List LocatedMapping) → AreEffective some out → AreEffective history out
+
+pub further : (history kept more : List LocatedMapping) (len n : ℕ) → IsSettling history len kept → length kept ≡ n → IsPass [] kept more → IsSettling history n more
+further history kept more len n so counted passed =
+    record { some = kept; counted = counted; passed = passed; rest = λ out s. so.rest out (again so.some kept out so.passed s) }
+
+pub over : (history kept : List LocatedMapping) (len : ℕ) → IsSettling history len kept → len ≤ length kept → AreEffective history kept
+over history kept len so many =
+    let all : kept ≡ so.some = (pass_whole [] so.some kept so.passed (omega (arith, so.counted))).0 in
+    so.rest kept (subst (λ l. AreEffective l kept) all (settled kept (subst (λ l. IsPass [] l kept) (sym all) so.passed)))

@@ -1,27 +1,103 @@
--- Whether an entry is redundant, decided by the summaries of its key and email before and after it.
-use Rattle.std.proofs.Common.{◌≡◌, Bool, true, false, true≢false, ◌&&◌, ◌||◌, if◌then◌else◌, List, [], ◌∷◌, ◌++◌, Option, Some, None, is_some, refl, sym, ap, subst, ◌∙◌}
-use Rattle.std.specs.Bool.{Decides}
-use Rattle.std.specs.Cmp.{Equal-is}
-use Rattle.std.specs.List.{AllByRecursion, cons_option, filter_map}
-use Rattle.std.specs.Option.{option_and_then, option_flatten, option_map, option_or}
-use Rattle.std.specs.Ordering.{eq_by_cmp}
-use Rattle.std.proofs.lemmas.Bool.Decides.{Decides-and, Decides-like}
-use Rattle.std.proofs.lemmas.List.Elements.{filter_passes, recursion_from_All}
-use Rattle.std.proofs.lemmas.Map.Lookups.{exact_bytes}
+-- Summaries of ranges, and whether they say that an entry is redundant.
+use Rattle.std.proofs.Common.{◌≡◌, Bool, true, false, cond, List, [], ◌∷◌, ◌++◌, filter, Option, None, Some, refl, ap, sym, ◌∙◌, true≢false, ◌&&◌, ◌||◌, if◌then◌else◌, is_some, subst, arith}
+use Rattle.std.specs.Cmp.{tied_itself, Equal-is}
+use Rattle.std.specs.Cmp.Lexicographic.{nat_list_cmp_total}
+use Rattle.std.specs.Ordering.{eq_by_cmp, is_eq}
+use Rattle.std.specs.List.{cons_option, filter_map, AllByRecursion}
+use Rattle.std.specs.Option.{option_map, option_or, option_flatten}
+use Rattle.std.proofs.lemmas.List.Elements.{filter_map-append, filter_passes, recursion_from_All}
 use Rattle.mailmap_entries.specs.Entries.{Mapping}
 use Rattle.mailmap_entries.specs.Folding.{Text, folded, text_cmp}
+use Rattle.mailmap_entries.specs.Semantics.{Key, key, key_cmp, first, last, is_accepted, accepted, new_fields, of_email, of_key, spelling, Fields, has_key, last_fields}
+use Rattle.mailmap_entries.proofs.Alike.{picked-append, first_parts, given_parts, last_parts, same_normal, alike_back, key_parts}
+use Rattle.mailmap_entries.proofs.Keys.{keys_total, keys_exact}
+use Rattle.mailmap_entries.proofs.Parts.{first-append, last_of_one}
+use Rattle.mailmap_redundancy.specs.Summaries.{key_summary, own_summary, joined_summary, KeySummary, Summary, later_of, summary, is_last_unchanged, same_fields, is_value_unchanged, is_redundant}
+use Rattle.std.specs.Bool.{Decides}
+use Rattle.std.proofs.lemmas.Bool.Decides.{Decides-and, Decides-like}
+use Rattle.std.proofs.lemmas.Map.Lookups.{exact_bytes}
 use Rattle.mailmap_entries.specs.Alike.{Alike, first_name}
-use Rattle.mailmap_entries.specs.Semantics.{Fields, Key, key, key_cmp, first, last, is_accepted, accepted, has_key, new_fields, of_key, last_fields, spelling}
 use Rattle.mailmap_entries.specs.Listings.{same_optional}
-use Rattle.mailmap_entries.proofs.Alike.{same_normal, alike_back, key_parts}
 use Rattle.mailmap_entries.proofs.EqualListings.{optional_decides}
 use Rattle.mailmap_entries.proofs.Exists.{normal, is_normal}
 use Rattle.mailmap_entries.proofs.Joined.{alike_trans}
-use Rattle.mailmap_entries.proofs.Keys.{keys_exact}
 use Rattle.mailmap_entries.proofs.Normal.{alike_normal, known}
 use Rattle.mailmap_redundancy.specs.Redundancy.{IsRedundant}
-use Rattle.mailmap_redundancy.specs.Summaries.{KeySummary, Summary, later_of, key_summary, summary, own_summary, joined_summary, is_last_unchanged, same_fields, is_value_unchanged, is_redundant}
-use Rattle.mailmap_redundancy.proofs.Summaries.{summary_parts, spelling_parts, of_key_without, summary_without, spelling_without, summary_around, spelling_around}
+
+-- ---- two ranges
+
+pub summary_parts : (a b : List Mapping) (k : Key) → key_summary (a ++ b) k ≡ joined_summary (key_summary a k) (key_summary b k)
+summary_parts a b k = grind (arith, picked-append, filter_map-append, first-append, given_parts, last_parts)
+
+pub spelling_parts : (a b : List Mapping) (email : Text) → spelling (a ++ b) email ≡ option_or (spelling a email) (spelling b email)
+spelling_parts a b email = first_parts (λ e. e.old_email) (λ e. eq_by_cmp text_cmp email (folded e.old_email)) a b
+
+-- ---- one entry
+
+-- a filter picks an accepted entry that passes its test
+pub picked_one : (p : Mapping → Bool) (e : Mapping) → is_accepted e ≡ true → filter p (accepted (e ∷ [])) ≡ cond (p e) (e ∷ []) []
+picked_one p e good = ap (λ b. filter p (cond b (e ∷ []) [])) good
+
+pub of_key_one : (e : Mapping) → is_accepted e ≡ true → of_key (e ∷ []) (key e) ≡ e ∷ []
+of_key_one e good =
+    picked_one (λ x. eq_by_cmp key_cmp (key e) (key x)) e good ∙ ap (λ o. cond (is_eq o) (e ∷ []) []) (tied_itself keys_total (key e))
+
+first_of_one : {X Y : Type 0} (f : X → Option Y) (x : X) → first (filter_map f (x ∷ [])) ≡ f x
+first_of_one f x = elim (f x) as (λ o. first (cons_option o []) ≡ o) [ None ↦ refl | Some y ↦ refl ]
+
+pub summary_own : (e : Mapping) → is_accepted e ≡ true → key_summary (e ∷ []) (key e) ≡ own_summary e
+summary_own e good = grind (arith, of_key_one, first_of_one, last_of_one)
+
+pub spelling_own : (e : Mapping) → is_accepted e ≡ true → spelling (e ∷ []) (folded e.old_email) ≡ Some e.old_email
+spelling_own e good =
+    ap (λ l. option_map (λ x. x.old_email) (first l))
+    (picked_one (λ x. eq_by_cmp text_cmp (folded e.old_email) (folded x.old_email)) e good
+    ∙ ap (λ o. cond (is_eq o) (e ∷ []) []) (tied_itself nat_list_cmp_total (folded e.old_email)))
+
+-- an entry that fails the filter's test can be dropped
+pub picked_without : (p : Mapping → Bool) (a : List Mapping) (e : Mapping) (c : List Mapping) → p e ≡ false → filter p (accepted (a ++ e ∷ c)) ≡ filter p (accepted (a ++ c))
+picked_without p a e c never =
+    picked-append p a (e ∷ c) ∙ ap (λ l. filter p (accepted a) ++ l) skipped ∙ sym (picked-append p a c)
+  where
+    skipped : filter p (accepted (e ∷ c)) ≡ filter p (accepted c)
+    skipped =
+        elim (is_accepted e) as (λ b. filter p (cond b (e ∷ accepted c) (accepted c)) ≡ filter p (accepted c)) [
+          | true ↦ ap (λ b. cond b (e ∷ filter p (accepted c)) (filter p (accepted c))) never
+          | false ↦ refl
+        ]
+
+pub of_key_without : (a : List Mapping) (e : Mapping) (c : List Mapping) (k : Key) → eq_by_cmp key_cmp k (key e) ≡ false → of_key (a ++ e ∷ c) k ≡ of_key (a ++ c) k
+of_key_without a e c k = picked_without (λ x. eq_by_cmp key_cmp k (key x)) a e c
+
+pub of_email_without : (a : List Mapping) (e : Mapping) (c : List Mapping) (email : Text) → eq_by_cmp text_cmp email (folded e.old_email) ≡ false → of_email (a ++ e ∷ c) email ≡ of_email (a ++ c) email
+of_email_without a e c email = picked_without (λ x. eq_by_cmp text_cmp email (folded x.old_email)) a e c
+
+-- the summary depends only on the entries of the key
+pub same_summary : (h g : List Mapping) (k : Key) → of_key h k ≡ of_key g k → key_summary h k ≡ key_summary g k
+same_summary h g k same = grind arith
+
+-- an entry with another key doesn't matter
+pub summary_without : (a : List Mapping) (e : Mapping) (c : List Mapping) (k : Key) → eq_by_cmp key_cmp k (key e) ≡ false → key_summary (a ++ e ∷ c) k ≡ key_summary (a ++ c) k
+summary_without a e c k other =
+    same_summary (a ++ e ∷ c) (a ++ c) k (of_key_without a e c k other)
+
+-- an entry of another email doesn't matter
+pub spelling_without : (a : List Mapping) (e : Mapping) (c : List Mapping) (email : Text) → eq_by_cmp text_cmp email (folded e.old_email) ≡ false → spelling (a ++ e ∷ c) email ≡ spelling (a ++ c) email
+spelling_without a e c email other = ap (λ l. option_map (λ x. x.old_email) (first l)) (of_email_without a e c email other)
+
+-- ---- a range, an entry and a range, at the entry's key and email
+
+pub summary_around : (a : List Mapping) (e : Mapping) (c : List Mapping) → is_accepted e ≡ true
+    → key_summary (a ++ e ∷ c) (key e) ≡ joined_summary (key_summary a (key e)) (joined_summary (own_summary e) (key_summary c (key e)))
+summary_around a e c good =
+    summary_parts a (e ∷ c) (key e)
+    ∙ ap (joined_summary (key_summary a (key e))) (summary_parts (e ∷ []) c (key e) ∙ ap (λ s. joined_summary s (key_summary c (key e))) (summary_own e good))
+
+pub spelling_around : (a : List Mapping) (e : Mapping) (c : List Mapping) → is_accepted e ≡ true
+    → spelling (a ++ e ∷ c) (folded e.old_email) ≡ option_or (spelling a (folded e.old_email)) (option_or (Some e.old_email) (spelling c (folded e.old_email)))
+spelling_around a e c good =
+    spelling_parts a (e ∷ c) (folded e.old_email)
+    ∙ ap (option_or (spelling a (folded e.old_email))) (spelling_parts (e ∷ []) c (folded e.old_email) ∙ ap (λ s. option_or s (spelling c (folded e.old_email))) (spelling_own e good))
 
 -- ---- dropping a redundant entry leaves equivalent entries
 
@@ -47,10 +123,7 @@ last_decides before (Some x) None = optional_decides (Some x) before
 
 fields_decide : (f : Fields) (o : Option Fields) → Decides (same_fields f o) (Some f ≡ o)
 fields_decide f None = (λ e. absurd (true≢false (sym e)), λ e. cc)
-fields_decide f (Some g) =
-    Decides-like (same_fields f (Some g)) (λ same. λ i. Some (record { name = same.0 i; email = same.1 i }))
-    (λ e. (ap (option_and_then (λ f. f.name)) e, ap (option_and_then (λ f. f.email)) e))
-    (Decides-and (same_optional f.name g.name) (same_optional f.email g.email) (optional_decides f.name g.name) (optional_decides f.email g.email))
+fields_decide f (Some g) = grind (arith, Decides-like, Decides-and, optional_decides)
 
 last_fields_decide : (before : Option Fields) (own : Fields) (after : Option Fields) → Decides (is_some after || same_fields own before) (option_or (option_or after (Some own)) before ≡ option_or after before)
 last_fields_decide before own (Some x) = (λ e. refl, λ e. refl)
@@ -95,8 +168,7 @@ some_out (Some x) (Some y) e = ap (λ o. option_flatten o) e
 -- equivalent entries give the key the same value
 alike_value : (h g : List Mapping) → Alike h g → (email : Text) (o : Option Text) → SameValue o (key_summary h (email, option_map folded o)) (key_summary g (email, option_map folded o))
 alike_value h g alike email None = (ap (λ f. f.name) (alike.given email), ap (λ f. f.email) (alike.given email))
-alike_value h g alike email (Some w) =
-    (some_out _ _ (sym (named_first h email (folded w)) ∙ alike.names email (folded w) ∙ named_first g email (folded w)), alike.lasts email (folded w))
+alike_value h g alike email (Some w) = grind (arith, some_out, named_first)
 
 there_last : (h : List Mapping) (k : Key) → has_key (accepted h) k ≡ is_some (last_fields h k)
 there_last h k = known h k ∙ (elim (of_key h k) as (λ l. is_some (first l) ≡ is_some (option_map new_fields (last l))) [ [] ↦ refl | x ∷ xs ↦ refl ])
@@ -172,10 +244,7 @@ module _ (a : List Mapping) (e : Mapping) (c : List Mapping) (good : is_accepted
       own_key k own = keys_exact k (key e) ((Equal-is (key_cmp k (key e))).0 own)
 
       value : SameValue e.old_name (key_summary (a ++ e ∷ c) (key e)) (key_summary (a ++ c) (key e))
-      value =
-          let p = summary_around a e c good in let q = summary_parts a c (key e) in
-          subst (λ s. SameValue e.old_name s (key_summary (a ++ c) (key e))) (sym p)
-          (subst (λ s. SameValue e.old_name (joined_summary (key_summary a (key e)) (joined_summary (own_summary e) (key_summary c (key e)))) s) (sym q) same.1.1)
+      value = grind (arith, summary_around, summary_parts)
 
       nameless : (s t : KeySummary) (o : Option Text) → option_map folded o ≡ None → SameValue o s t → (s.name ≡ t.name) × (s.email ≡ t.email)
       nameless s t None is v = v
@@ -188,4 +257,4 @@ module _ (a : List Mapping) (e : Mapping) (c : List Mapping) (good : is_accepted
   -- is_redundant decides it for an accepted entry
   pub redundant_decides : Decides (is_redundant (summary a (key e)) e (summary c (key e))) (IsRedundant a e c)
   redundant_decides =
-      Decides-like (is_redundant (summary a (key e)) e (summary c (key e))) (λ same. alike_redundant a e c (same_alike same)) (λ redundant. alike_same (redundant_alike a e c redundant)) same_decides
+      grind (arith, Decides-like, alike_redundant, same_alike, alike_same, redundant_alike, same_decides)

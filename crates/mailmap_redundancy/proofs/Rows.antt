@@ -1,25 +1,94 @@
--- Updating one row of a table for one more entry.
-use Rattle.std.proofs.Common.{◌≡◌, ◌≢◌, ◌<◌, ◌==◌, ◌++◌, ℕ, Bool, true, false, cond, List, [], ◌∷◌, filter, is_some, length, get_or, set, replicate, Option, Some, append-nil, refl, sym, ap, subst, ◌∙◌, arith}
+-- The rows of a table, and the entries before and after the index of a loop.
+use Rattle.std.proofs.Common.{◌≡◌, ◌<◌, ◌+◌, ℕ, true, cond, List, [], ◌∷◌, ◌++◌, take, drop, length, get_or, refl, sym, ap, subst, ◌∙◌, ◌≢◌, Bool, false, filter, is_some, set, replicate, Option, Some, append-nil, arith}
+use Rattle.std.specs.Prelude.{Contains}
+use Rattle.std.specs.List.{AllByRecursion}
+use Rattle.std.proofs.lemmas.List.{map-append, map_more, drop_more, length-set, get_or-set_other, length-replicate, get_or-replicate}
+use Rattle.std.proofs.lemmas.Option.{slice_get_within, get_or_from_slice_get}
+use Rattle.mailmap_entries.specs.Folding.{Text, folded, text_cmp}
+use Rattle.mailmap_entries.specs.Semantics.{Key, is_accepted, key, first, key_cmp, last}
+use Rattle.mailmap_redundancy.specs.Origins.{entries_of_email, last_with}
+use Rattle.mailmap_redundancy.specs.Redundancy.{LocatedMapping, entries, entries_of_key}
+use Rattle.mailmap_redundancy.specs.Numbers.{IsKnown, IsNumber, IsNumbered, email_key, located_entry_of, mappings, IsTableOf, joined_origins, key_origins}
+use Rattle.mailmap_redundancy.specs.declared.numbers.NumberedEntry.{NumberedEntry}
+use Rattle.mailmap_redundancy.proofs.Keyed.{unequal_emails, unequal_keys, same_number, some_out}
 use Rattle.std.specs.Cmp.{tied_itself}
 use Rattle.std.specs.Cmp.Lexicographic.{nat_list_cmp_total}
-use Rattle.std.specs.List.{slice_get}
 use Rattle.std.specs.List.Sorted.{IsStrictlySortedBy}
 use Rattle.std.specs.Option.{option_or}
 use Rattle.std.specs.Ordering.{eq_by_cmp, is_eq}
 use Rattle.std.proofs.lemmas.Bool.{eqb-true, eqb-false}
 use Rattle.std.proofs.lemmas.Grind.{get_or-set_at}
-use Rattle.std.proofs.lemmas.List.{length-set, get_or-set_other, length-replicate, get_or-replicate}
 use Rattle.std.proofs.lemmas.List.Elements.{filter-append}
-use Rattle.std.proofs.lemmas.Option.{slice_get_within}
 use Rattle.mailmap_entries.specs.Entries.{Mapping}
-use Rattle.mailmap_entries.specs.Folding.{Text, folded, text_cmp}
-use Rattle.mailmap_entries.specs.Semantics.{Key, first, key, key_cmp, last}
 use Rattle.mailmap_entries.proofs.Keys.{keys_total}
 use Rattle.mailmap_entries.proofs.Parts.{first-append, last-append}
-use Rattle.mailmap_redundancy.specs.Origins.{entries_of_email, last_with}
-use Rattle.mailmap_redundancy.specs.Numbers.{IsNumber, IsTableOf, email_key, joined_origins, key_origins}
-use Rattle.mailmap_redundancy.specs.Redundancy.{LocatedMapping, entries_of_key}
-use Rattle.mailmap_redundancy.proofs.Keyed.{same_number, some_out, unequal_emails, unequal_keys}
+
+-- ---- one step
+
+-- the entries before the index after one step forwards, and those from it on after one step backwards
+pub mappings_more : (xs : List NumberedEntry) (i : ℕ) (x : NumberedEntry) → i < length xs → x ≡ get_or xs i x
+    → mappings (take (i + 1) xs) ≡ mappings (take i xs) ++ located_entry_of x ∷ []
+mappings_more xs i x within is =
+    map_more located_entry_of xs i x within ∙ ap (λ y. mappings (take i xs) ++ located_entry_of y ∷ []) (sym is)
+
+pub mappings_next : (xs : List NumberedEntry) (i j : ℕ) (x : NumberedEntry) → i < length xs → x ≡ get_or xs i x
+    → j ≡ i + 1 → mappings (drop i xs) ≡ located_entry_of x ∷ mappings (drop j xs)
+mappings_next xs i j x within is next =
+    ap mappings (drop_more xs i x within) ∙ (λ k. located_entry_of (is' k) ∷ mappings (drop (next' k) xs))
+  where
+    is' : get_or xs i x ≡ x
+    is' = sym is
+
+    next' : i + 1 ≡ j
+    next' = sym next
+
+pub entries-more : (xs : List LocatedMapping) (x : LocatedMapping) → entries (xs ++ x ∷ []) ≡ entries xs ++ x.entry ∷ []
+entries-more xs x = map-append (λ y. y.entry) xs (x ∷ [])
+
+pub same_ends : {X : Type 0} (xs ys : List X) (x y : X) → xs ++ x ∷ [] ≡ ys ++ y ∷ [] → (xs ≡ ys) × (x ≡ y)
+same_ends [] [] x y e = (refl, cc)
+same_ends [] (b ∷ []) x y e = absurd (cc)
+same_ends [] (b ∷ c ∷ ys) x y e = absurd (cc)
+same_ends (a ∷ []) [] x y e = absurd (cc)
+same_ends (a ∷ c ∷ xs) [] x y e = absurd (cc)
+same_ends (a ∷ xs) (b ∷ ys) x y e =
+    let tails : xs ++ x ∷ [] ≡ ys ++ y ∷ [] = cc in
+    let heads : a ≡ b = cc in
+    let rest = same_ends xs ys x y tails in
+    (λ i. heads i ∷ rest.0 i, rest.1)
+
+-- ---- keys that are there, and keys that are not
+
+contained : (ks : List Key) (k : Key) (i : ℕ) → IsNumber ks k i → Contains ks k
+contained ks k i is = (i, slice_get_within ks i k is, get_or_from_slice_get ks i k k is)
+
+pub known : (ks : List Key) (x : NumberedEntry) → IsNumbered ks x → IsKnown ks (located_entry_of x)
+known ks x n =
+    record { own = contained ks _ x.key n.own; of_email = contained ks _ x.email n.of_email; accepted = n.accepted }
+
+pub none_of_unknown : (ks : List Key) (k : Key) → (Contains ks k → ⊥) → (xs : List LocatedMapping)
+    → AllByRecursion (IsKnown ks) xs → entries_of_key xs k ≡ []
+none_of_unknown ks k none [] all = refl
+none_of_unknown ks k none (x ∷ xs) all =
+    ap (λ b. cond b (x ∷ entries_of_key xs k) (entries_of_key xs k))
+    (unequal_keys k (key x.entry) (λ same. none (subst (Contains ks) (sym same) all.0.own)))
+    ∙ none_of_unknown ks k none xs all.1
+
+pub none_of_unknown_email : (ks : List Key) (email : Text) → (Contains ks (email_key email) → ⊥)
+    → (xs : List LocatedMapping) → AllByRecursion (IsKnown ks) xs → entries_of_email xs email ≡ []
+none_of_unknown_email ks email none [] all = refl
+none_of_unknown_email ks email none (x ∷ xs) all =
+    ap (λ b. cond b (x ∷ entries_of_email xs email) (entries_of_email xs email))
+    (unequal_emails email (folded x.entry.old_email)
+    (λ same. none (subst (λ t. Contains ks (email_key t)) (sym same) all.0.of_email)))
+    ∙ none_of_unknown_email ks email none xs all.1
+
+pub all_accepted : (ks : List Key) (xs : List LocatedMapping) → AllByRecursion (IsKnown ks) xs
+    → AllByRecursion (λ x. is_accepted x.entry ≡ true) xs
+all_accepted ks [] all = tt
+all_accepted ks (x ∷ xs) all = (all.0.accepted, all_accepted ks xs all.1)
+
+-- ---- one row
 
 -- the row of x follows a change of f at x, and no other row changes
 pub row_changed : {X Y Z : Type 0} (keys : List Key) (key_of : X → Key) (view : Z → Y) (f g : X → Y) (rows : List Z)
@@ -27,28 +96,13 @@ pub row_changed : {X Y Z : Type 0} (keys : List Key) (key_of : X → Key) (view 
     → IsTableOf keys key_of f view rows → IsNumber keys (key_of x) i
     → view z ≡ g x → ((y : X) → y ≢ x → g y ≡ f y) → IsTableOf keys key_of g view (set rows i z)
 row_changed {X} keys key_of view f g rows x i z up one table is new others y j n =
-    let within : i < length rows = (table x i is).0 in
-    elim (j == i) as (λ b. (j == i) ≡ b → (j < length (set rows i z)) × ((d : _) → view (get_or (set rows i z) j d) ≡ g y)) [
-      | true ↦ λ e.
-          let same : j ≡ i = eqb-true j i e in
-          let x_is : x ≡ y = one x y (some_out _ _ (sym is ∙ ap (λ m. slice_get keys m) (sym same) ∙ n)) in
-          (omega (arith, length-set rows i z), λ d. ap view (get_or-set_at rows i j z d same within) ∙ new ∙ ap g x_is)
-      | false ↦ λ e.
-          let apart : j ≢ i = eqb-false j i e in
-          let other : y ≢ x = λ y_is.
-          apart (same_number keys j i (key_of x) up (subst (λ a. slice_get keys j ≡ Some (key_of a)) y_is n) is) in (
-            omega (arith, length-set rows i z, (table y j n).0),
-            λ d. ap view (get_or-set_other rows i j z d apart) ∙ (table y j n).1 d ∙ sym (others y other),
-          )
-    ] refl
+    grind (arith, eqb-true, some_out, length-set, get_or-set_at, eqb-false, same_number, get_or-set_other)
 
 -- before the first entry, all rows of the table are equal
 pub blank : {X Y Z : Type 0} (keys : List Key) (key_of : X → Key) (view : Z → Y) (f : X → Y) (z : Z)
     (rows : List Z) (n : ℕ) → rows ≡ replicate n z → n ≡ length keys → ((x : X) → view z ≡ f x) → IsTableOf keys key_of f view rows
 blank keys key_of view f z rows n is counted says x i number =
-    let within : i < n = omega (arith, counted, slice_get_within keys i (key_of x) number) in
-    subst (λ l. (i < length l) × ((d : _) → view (get_or l i d) ≡ f x)) (sym is)
-    (omega (arith, length-replicate n z), λ d. ap view (get_or-replicate n i z d within) ∙ says x)
+    grind (arith, slice_get_within, length-replicate, get_or-replicate)
 
 -- ---- appending an entry, and prepending one
 
@@ -112,9 +166,7 @@ module _ (xs : List LocatedMapping) (x : LocatedMapping) where
 
   pub first_after : first (entries_of_email (xs ++ x ∷ []) (folded x.entry.old_email))
       ≡ option_or (first (entries_of_email xs (folded x.entry.old_email))) (Some x)
-  first_after =
-      ap first (picked_after (of_email (folded x.entry.old_email)) xs x own_email)
-      ∙ first-append (entries_of_email xs (folded x.entry.old_email)) (x ∷ [])
+  first_after = grind (arith, picked_after, own_email, first-append)
 
   pub first_before : first (entries_of_email (x ∷ xs) (folded x.entry.old_email)) ≡ Some x
   first_before = ap first (picked_before (of_email (folded x.entry.old_email)) xs x own_email)

@@ -104,18 +104,7 @@ email_key email = (email, None)
 abbrev pub IsNumber : List Key → Key → ℕ → Type 0
 IsNumber keys k i = slice_get keys i ≡ Some k
 
--- the numbers of a key and of its email's key
-pub record KeyNumbers : Type 0 where
-  pub key : ℕ
-  pub email : ℕ
-
-pub record AreNumbers (keys : List Key) (k : Key) (n : KeyNumbers) : Type 0 where
-  pub own : IsNumber keys k n.key
-  pub of_email : IsNumber keys (email_key k.0) n.email
-
-abbrev pub numbers_of : NumberedEntry → KeyNumbers
-numbers_of x = record { key = x.key; email = x.email }
-
+-- an accepted entry with the numbers of its key and of its email's key
 pub record IsNumbered (keys : List Key) (x : NumberedEntry) : Type 0 where
   pub own : IsNumber keys (key (entry_of x)) x.key
   pub of_email : IsNumber keys (email_key (key (entry_of x)).0) x.email

@@ -61,6 +61,7 @@ impl<'p, 'a> Effective<'p, 'a> {
 
     /// The entries behind the answer of all entries to a name and an email. Dropping all other effective entries would
     /// not change this answer.
+    #[tactic(auto, using(crate::proofs::Giving::reduced_origins))]
     pub fn origins(&self, name: &[u8], email: &[u8]) -> Origins<'p, 'a>
         ensures origins { origins_of result ≡ spec_origins self.now.kept name.now email.now }
         ensures answer { given (origins_of result) email.now
@@ -79,6 +80,7 @@ impl<'p, 'a> Effective<'p, 'a> {
 
     /// What git maps a name and an email to by the same entries, `None` if neither changes. Unlike
     /// [`Effective::answer_of`], it never respells an email.
+    #[tactic(auto, using(crate::proofs::Giving::reduced_git))]
     pub fn git_answer_of(&self, name: &[u8], email: &[u8]) -> Option<Fields<'a>>
         ensures { option_map fields_of result ≡ git_answer_from (entries self.now.history) name.now email.now }
     {

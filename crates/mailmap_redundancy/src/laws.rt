@@ -14,12 +14,14 @@ ghost use Rattle.mailmap_redundancy.specs.Summaries.{is_redundant, summary};
 use crate::located;
 
 /// Dropping the redundant entries keeps the normal list.
+#[tactic(auto, using(crate::proofs::Kept::reduced_normal))]
 pub fn law_same_listing()
     ensures { (xs kept : List LocatedMapping) (n : List Mapping) → AreEffective xs kept
         → IsNormal (entries xs) n ↔ IsNormal (entries kept) n }
 {}
 
 /// No effective entry is redundant: without it, the normal list would differ.
+#[tactic(auto, using(crate::proofs::Kept::none_can_go, crate::proofs::Kept::listing_differs))]
 pub fn law_none_can_go()
     ensures redundant { (xs a c : List LocatedMapping) (x : LocatedMapping) → AreEffective xs (a ++ x ∷ c)
         → IsRedundant (entries a) x.entry (entries c) → ⊥ }
@@ -39,6 +41,7 @@ pub fn law_some_stay()
 {}
 
 /// Each key of the accepted entries keeps at least one entry.
+#[tactic(auto, using(crate::proofs::Kept::reduced_keys, crate::proofs::Kept::last_stays))]
 pub fn law_each_key_stays()
     ensures keys { (xs kept : List LocatedMapping) (k : Key) → AreEffective xs kept
         → has_key (accepted (entries kept)) k ≡ has_key (accepted (entries xs)) k }
@@ -55,6 +58,7 @@ pub fn law_stable()
 {}
 
 /// Three passes are enough: the fourth drops nothing.
+#[tactic(auto, using(crate::proofs::Bounded::fourth_drops_none, crate::proofs::Bounded::reduced_by_three))]
 pub fn law_passes()
     ensures fourth { (xs a b c : List LocatedMapping) → IsPass [] xs a → IsPass [] a b → IsPass [] b c
         → IsPass [] c c }
@@ -63,6 +67,7 @@ pub fn law_passes()
 {}
 
 /// The origins of an answer determine it.
+#[tactic(auto, using(crate::proofs::Giving::reduced_origins))]
 pub fn law_origins()
     ensures { (xs kept : List LocatedMapping) (name email : Text) → AreEffective xs kept
         → given (origins kept name email) email ≡ answer_of (entries xs) name email }
@@ -78,6 +83,7 @@ pub fn law_needed()
 
 /// Whether an accepted entry is redundant depends only on the summaries, for its key and its email, of the entries
 /// before it and of those after it.
+#[tactic(auto, using(crate::proofs::Redundant::redundant_decides))]
 pub fn law_redundant()
     ensures { (a c : List Mapping) (e : Mapping) → is_accepted e ≡ true
         → (is_redundant (summary a (key e)) e (summary c (key e)) ≡ true) ↔ IsRedundant a e c }

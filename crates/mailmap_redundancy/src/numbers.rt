@@ -2,9 +2,9 @@
 ghost use Rattle.std.specs.Prelude.{◌≡◌, ℕ, IfOk, OnOk, All, Some, map, true};
 ghost use Rattle.std.specs.List.Sorted.{IsStrictlySortedBy};
 ghost use Rattle.mailmap_entries.specs.Entries.{mapping_of};
-ghost use Rattle.mailmap_entries.specs.Semantics.{Key as HistoryKey, key, key_cmp, is_accepted};
+ghost use Rattle.mailmap_entries.specs.Semantics.{Key as SpecKey, key, key_cmp, is_accepted};
 ghost use Rattle.mailmap_redundancy.specs.Redundancy.{located_of};
-ghost use Rattle.mailmap_redundancy.specs.Numbers.{AreAscending, AreNumbers, IsNumber, IsNumbered, IsPushed, IsReached, last_email, last_key, numbers_of, located_entry_of, mappings};
+ghost use Rattle.mailmap_redundancy.specs.Numbers.{AreAscending, IsNumber, IsNumbered, IsPushed, IsReached, last_email, last_key, located_entry_of, mappings};
 
 use crate::keys::{Key, compare};
 use crate::located::LocatedEntry;
@@ -73,19 +73,20 @@ struct AscendingKeys<'a> {
 
 impl<'a> AscendingKeys<'a> {
     // Adds the entry's key and its email's key, unless they are there already.
+    #[tactic(auto, using(crate::proofs::Keyed::keeps))]
     fn number<'p>(
         &mut self,
         located: &'p LocatedEntry<'a>,
     ) -> Result<NumberedEntry<'p, 'a>, AllocError>
+        requires accepted { is_accepted (mapping_of located.now.entry) ≡ true }
         requires ascending { AreAscending self.old.keys.items self.old.email }
         requires up { IsReached self.old.keys.items (key (mapping_of located.now.entry)) }
         ensures ascending { OnOk result (AreAscending self.new.keys.items self.new.email) }
         ensures last { OnOk result (last_key self.new.keys.items ≡ Some (key (mapping_of located.now.entry))) }
-        ensures keeps { OnOk result ((k : HistoryKey) (i : ℕ) → IsNumber self.old.keys.items k i
+        ensures keeps { OnOk result ((k : SpecKey) (i : ℕ) → IsNumber self.old.keys.items k i
             → IsNumber self.new.keys.items k i) }
         ensures located { IfOk result (λ x. located_entry_of x ≡ located_of located.now) }
-        ensures numbers { IfOk result
-            (λ x. AreNumbers self.new.keys.items (key (mapping_of located.now.entry)) (numbers_of x)) }
+        ensures numbered { IfOk result (IsNumbered self.new.keys.items) }
     {
         self.push_email(&located.entry)?;
         push_above(&mut self.keys, Key::of(&located.entry))?;
@@ -97,13 +98,14 @@ impl<'a> AscendingKeys<'a> {
     }
 
     // Adds the key of the entry's email, unless the last key has the same email.
+    #[tactic(auto, using(crate::proofs::Keyed::keeps))]
     fn push_email(&mut self, entry: &Entry<'a>) -> Result<(), AllocError>
         requires ascending { AreAscending self.old.keys.items self.old.email }
         requires up { IsReached self.old.keys.items (key (mapping_of entry.now)) }
         ensures ascending { OnOk result (AreAscending self.new.keys.items self.new.email) }
         ensures up { OnOk result (IsReached self.new.keys.items (key (mapping_of entry.now))) }
         ensures email { OnOk result (last_email self.new.keys.items ≡ Some (key (mapping_of entry.now)).0) }
-        ensures keeps { OnOk result ((k : HistoryKey) (i : ℕ) → IsNumber self.old.keys.items k i
+        ensures keeps { OnOk result ((k : SpecKey) (i : ℕ) → IsNumber self.old.keys.items k i
             → IsNumber self.new.keys.items k i) }
     {
         let number = self.keys.len();

@@ -72,6 +72,7 @@ fn respelling<'a>(origin: Option<&LocatedEntry<'a>>, email: &[u8]) -> Option<&'a
 }
 
 /// The last entry of a key.
+#[tactic(auto, using(crate::proofs::Rows::none_of_unknown))]
 pub(crate) fn last_of_key<'p, 'a>(
     keys: &[Key<'_>],
     table: &Table<'p, 'a>,
@@ -87,6 +88,7 @@ pub(crate) fn last_of_key<'p, 'a>(
 }
 
 /// The first entry of an email.
+#[tactic(auto, using(crate::proofs::Rows::none_of_unknown_email))]
 pub(crate) fn first_of_email<'p, 'a>(
     keys: &[Key<'_>],
     table: &Table<'p, 'a>,
@@ -102,6 +104,7 @@ pub(crate) fn first_of_email<'p, 'a>(
 }
 
 /// Looks up the origins of an answer in a table of entries.
+#[tactic(auto, using(crate::proofs::Giving::none_of_key, crate::proofs::Rows::none_of_unknown_email))]
 pub(crate) fn find_origins<'p, 'a>(
     keys: &[Key<'_>],
     table: &Table<'p, 'a>,

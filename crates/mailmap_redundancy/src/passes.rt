@@ -67,6 +67,7 @@ pub(crate) fn drop_redundant_once<'p, 'a>(
 
 // For each entry, what its redundancy depends on in the entries after it. In reverse: the last entry's comes first, so
 // that a pass can pop them.
+#[tactic(auto, using(crate::proofs::Rows::mappings_next))]
 fn each_later(
     alloc: Global,
     keys: &[Key<'_>],

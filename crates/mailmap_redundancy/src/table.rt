@@ -1,7 +1,7 @@
 //! Summaries of a range of entries, for each key and each email, as references to the entries that matter.
 ghost use Rattle.std.specs.Prelude.{◌≡◌, ◌<◌, ◌++◌, [], ◌∷◌, IfOk, List, vec_len};
 ghost use Rattle.std.specs.List.Sorted.{IsStrictlySortedBy};
-ghost use Rattle.mailmap_entries.specs.Semantics.{Key as HistoryKey, key, key_cmp};
+ghost use Rattle.mailmap_entries.specs.Semantics.{Key as SpecKey, key, key_cmp};
 ghost use Rattle.mailmap_redundancy.specs.Redundancy.{LocatedMapping, entries as spec_entries, located_of};
 
 use crate::keys::Key;
@@ -93,6 +93,7 @@ impl<'p, 'a> Table<'p, 'a> {
         })
     }
 
+    #[tactic(auto, using(crate::proofs::Rows::mappings_more))]
     pub(crate) fn of(
         alloc: Global,
         keys: &[Key<'_>],
@@ -112,7 +113,7 @@ impl<'p, 'a> Table<'p, 'a> {
     pub(crate) fn summary(&self, x: &NumberedEntry) -> Summary<'p, 'a>
         requires key { x.now.key < vec_len self.now.keys }
         requires email { x.now.email < vec_len self.now.emails }
-        ensures { (keys : List HistoryKey) (xs : List LocatedMapping) → IsNumbered keys x.now → IsTable keys xs self.now
+        ensures { (keys : List SpecKey) (xs : List LocatedMapping) → IsNumbered keys x.now → IsTable keys xs self.now
             → summary_of result ≡ summary (spec_entries xs) (key (entry_of x.now)) }
     {
         Summary {
@@ -125,7 +126,7 @@ impl<'p, 'a> Table<'p, 'a> {
     pub(crate) fn append(&mut self, x: &NumberedEntry<'p, 'a>)
         requires key { x.now.key < vec_len self.old.keys }
         requires email { x.now.email < vec_len self.old.emails }
-        ensures { (keys : List HistoryKey) (xs : List LocatedMapping) → IsStrictlySortedBy key_cmp keys
+        ensures { (keys : List SpecKey) (xs : List LocatedMapping) → IsStrictlySortedBy key_cmp keys
             → IsNumbered keys x.now → IsTable keys xs self.old
             → IsTable keys (xs ++ located_entry_of x.now ∷ []) self.new }
     {
@@ -139,7 +140,7 @@ impl<'p, 'a> Table<'p, 'a> {
     pub(crate) fn prepend(&mut self, x: &NumberedEntry<'p, 'a>)
         requires key { x.now.key < vec_len self.old.keys }
         requires email { x.now.email < vec_len self.old.emails }
-        ensures { (keys : List HistoryKey) (xs : List LocatedMapping) → IsStrictlySortedBy key_cmp keys
+        ensures { (keys : List SpecKey) (xs : List LocatedMapping) → IsStrictlySortedBy key_cmp keys
             → IsNumbered keys x.now → IsTable keys xs self.old
             → IsTable keys (located_entry_of x.now ∷ xs) self.new }
     {

@@ -1,6 +1,6 @@
 -- A text spells at most one time: it is split at its first space, and each part has one value.
 use Rattle.std.proofs.Common.{◌≡◌, ◌≢◌, ◌+◌, ◌*◌, ◌^◌, ◌<◌, ◌≤◌, ℕ, zero, suc, ℤ, pos, neg_ℤ, Bool, true, false, cond, ◌==◌, Result, Ok, Err, MatchResult, Option, MatchOption, [], ◌∷◌, ◌++◌, length, length-append, get_or, take, drop, refl, sym, ap, ◌∙◌, arith, rules, ⊎_elim, w64, FitsSigned}
-use Rattle.std.proofs.lemmas.Bool.{cases_eq, cond-true, cond-false, eq-eqb, ne_eqb}
+use Rattle.std.proofs.lemmas.Bool.{cases_eq, cond-false, ne_eqb}
 use Rattle.std.proofs.Math.Seq.{get_or-append_seam}
 use Rattle.std.proofs.lemmas.List.{take_at, drop_at}
 use Rattle.std.proofs.lemmas.Str.Parse.{IsNumeralModel, numerals_by_weight, not_in_digits, parse_signed_minus, parse_signed_plain}
@@ -79,24 +79,24 @@ minus_first (b ∷ text) first = ap (λ x. x ∷ text) first
 
 -- seconds contain no space
 Lacks-seconds : (text : Text) (seconds : ℤ) → SpellsSeconds text seconds → Lacks 32 text
-Lacks-seconds text seconds s = ⊎_elim
-    (λ minus.
-    let whole = minus_first text minus in
-    let rest = minus_digits text (drop 1 text) seconds whole s in
-    rw whole (Lacks-cons 32 45 (drop 1 text) (omega arith) (Lacks-digits 32 (drop 1 text) (omega arith) rest.are.0)))
-    (λ other. Lacks-digits 32 text (omega arith) (plain_digits text seconds other s).are.0)
-    (cases_eq (get_or text 0 0) 45)
+Lacks-seconds text seconds s = rw s.whole (with_sign s.negative s.digits s.are_digits.0)
+  where
+    with_sign : (negative : Bool) (digits : Text) → AreDigits digits → Lacks 32 (cond negative (45 ∷ digits) digits)
+    with_sign true digits are = Lacks-cons 32 45 digits (omega arith) (Lacks-digits 32 digits (omega arith) are)
+    with_sign false digits are = Lacks-digits 32 digits (omega arith) are
 
 -- the seconds of a text, depending on whether it begins with a `-`
 abbrev seconds_at : Text → ℤ
 seconds_at text = cond (get_or text 0 0 == 45) (neg_ℤ (pos (decimal_value (drop 1 text)))) (pos (decimal_value text))
 
+seconds-cases : (negative : Bool) (digits : Text) → AreDigits digits → signed negative (decimal_value digits) ≡ seconds_at (cond negative (45 ∷ digits) digits)
+seconds-cases true digits are = refl
+seconds-cases false [] are = refl
+seconds-cases false (d ∷ ds) are = sym (cond-false _ _ _ (ne_eqb d 45 (Lacks-digits 45 (d ∷ ds) (omega arith) are 0 (omega arith))))
+
 -- a text determines its seconds
 seconds-value : (text : Text) (seconds : ℤ) → SpellsSeconds text seconds → seconds ≡ seconds_at text
-seconds-value text seconds s = ⊎_elim
-    (λ minus. (minus_digits text (drop 1 text) seconds (minus_first text minus) s).value ∙ sym (cond-true _ _ _ (eq-eqb _ _ minus)))
-    (λ other. (plain_digits text seconds other s).value ∙ sym (cond-false _ _ _ (ne_eqb _ _ other)))
-    (cases_eq (get_or text 0 0) 45)
+seconds-value text seconds s = s.value ∙ seconds-cases s.negative s.digits s.are_digits.0 ∙ ap seconds_at (sym s.whole)
 
 -- the offset of a text, depending on its sign
 abbrev offset_at : Text → ℤ
@@ -172,9 +172,9 @@ time_of seconds offset = record { seconds = seconds; offset = offset }
 pub Spells-unique : (text : Text) (a b : Time) → Spells text a → Spells text b → a ≡ b
 Spells-unique text a b s t =
     let cut = same_cut 32 s.front t.front s.back t.back (Lacks-seconds s.front a.seconds s.seconds) (Lacks-seconds t.front b.seconds t.seconds) (sym s.whole ∙ t.whole) in
-    let seconds : a.seconds ≡ b.seconds = seconds-value s.front a.seconds s.seconds ∙ ap seconds_at cut.0 ∙ sym (seconds-value t.front b.seconds t.seconds) in
-    let offset : a.offset ≡ b.offset = offset-value s.back a.offset s.offset ∙ ap offset_at cut.1 ∙ sym (offset-value t.back b.offset t.offset) in
-    ap (λ seconds. time_of seconds a.offset) seconds ∙ ap (time_of b.seconds) offset
+    let seconds : a.seconds ≡ b.seconds = cc (seconds-value s.front a.seconds s.seconds, seconds-value t.front b.seconds t.seconds) in
+    let offset : a.offset ≡ b.offset = cc (offset-value s.back a.offset s.offset, offset-value t.back b.offset t.offset) in
+    λ i. time_of (seconds i) (offset i)
 
 -- a signature's text determines its time
 pub IsTimeOf-unique : (text : Text) (a b : Time) → IsTimeOf text a → IsTimeOf text b → a ≡ b

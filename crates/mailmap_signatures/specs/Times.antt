@@ -1,5 +1,5 @@
 -- The time that a text such as `1711398853 +0800` spells.
-use Rattle.std.specs.Prelude.{◌≡◌, ◌⊎◌, ◌+◌, ◌*◌, ◌-◌, ◌^◌, ◌<◌, ◌<ℤ◌, ℕ, ℤ, pos, neg_ℤ, Bool, if◌then◌else◌, Option}
+use Rattle.std.specs.Prelude.{◌≡◌, ◌⊎◌, ◌+◌, ◌*◌, ◌-◌, ◌^◌, ◌<◌, ℕ, ℤ, pos, neg_ℤ, Bool, if◌then◌else◌, Option}
 use Rattle.std.specs.Prelude.{MatchOption, [], ◌∷◌, ◌++◌, length, FitsSigned}
 use Rattle.std.specs.Char.{IsAsciiDigit}
 use Rattle.std.specs.Int.{w64}
@@ -61,9 +61,5 @@ abbrev pub IsTimeOf : Text → Time → Type 0
 IsTimeOf text time = Spells text time ⊎ (((other : Time) → ¬ Spells text other) × (time ≡ epoch))
 
 -- the seconds decide, and the offsets if the seconds are equal
-abbrev pub IsEarlier : Time → Time → Type 0
-IsEarlier a b = (a.seconds <ℤ b.seconds) ⊎ ((a.seconds ≡ b.seconds) × (a.offset <ℤ b.offset))
-
--- this order as the result of `cmp`
 abbrev pub time_cmp : Time → Time → Ordering
 time_cmp a b = ordering_then (int_cmp a.seconds b.seconds) (int_cmp a.offset b.offset)

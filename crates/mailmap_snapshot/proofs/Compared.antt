@@ -1,5 +1,5 @@
 -- Comparing two iterators item by item, and comparing and hashing entries by their texts.
-use Rattle.std.proofs.Common.{◌≡◌, ◌&&◌, Bool, true, false, List, [], ◌∷◌, Option, Some, None, IfSome, refl, sym, ap, ap₂, subst, ◌∙◌}
+use Rattle.std.proofs.Common.{◌≡◌, ◌&&◌, Bool, true, false, List, [], ◌∷◌, Option, Some, None, IfSome, refl, sym, ap, ap₂, subst, ◌∙◌, arith}
 use Rattle.std.specs.Hash as fed
 use Rattle.std.specs.Iterator.{YieldsThen, AlwaysYields, ComparesItemsByEq}
 use Rattle.std.specs.List.{AllZip}
@@ -20,10 +20,8 @@ module _ {S T A B : Type 0} (steps : S → Option A → S → Type 0) (others : 
   Last o p = MatchOption o (MatchOption p (r ≡ true) (λ _. r ≡ false)) (λ x. (r ≡ false) × IfSome p (λ y. eq x y ≡ false))
 
   at_last : (o p : Option A) (xs ys : List B) (s u : S) (t w : T) → AlwaysYields steps v s xs → AlwaysYields others v t ys → steps s o u → others t p w → Last o p → r ≡ pointwise R xs ys
-  at_last None None (x ∷ xs) ys s u t w e f a b h = absurd (e.0 u a)
-  at_last None (Some y) (x ∷ xs) ys s u t w e f a b h = absurd (e.0 u a)
-  at_last (Some x) None [] ys s u t w e f a b h = absurd (e x u a)
-  at_last (Some x) (Some y) [] ys s u t w e f a b h = absurd (e x u a)
+  at_last None o (x ∷ xs) ys s u t w e f a b h = absurd (e.0 u a)
+  at_last (Some x) o [] ys s u t w e f a b h = absurd (e x u a)
   at_last None None [] (y ∷ ys) s u t w e f a b h = absurd (f.0 w b)
   at_last None (Some y) [] [] s u t w e f a b h = absurd (f y w b)
   at_last (Some x) None (z ∷ xs) (y ∷ ys) s u t w e f a b h = absurd (f.0 w b)
@@ -58,11 +56,7 @@ eq_from_yields_List {steps = steps} {others = others} {v = v} {s = s} {eq = eq} 
 -- ---- fields in memory, and their texts
 
 pub same_fields : (o p : Option (Bor Text)) → option_eq (λ a b. pointwise nat_eq a.now b.now) o p ≡ same_optional (option_copied o) (option_copied p)
-same_fields None None = refl
-same_fields None (Some y) = refl
-same_fields (Some x) None = refl
-same_fields (Some x) (Some y) = refl
+same_fields o p = grind arith
 
 pub hashed_fields : (o : Option (Bor Text)) → fed.option (λ a. fed.slice fed.u8 a.now) o ≡ text_writes (option_copied o)
-hashed_fields None = refl
-hashed_fields (Some x) = refl
+hashed_fields o = grind arith

@@ -1,34 +1,28 @@
 -- A walk over the lines of an input finds where to split it, and there is only one way to split it.
-use Rattle.std.proofs.Common.{◌≡◌, ◌⊎◌, ◌+◌, ◌<◌, ◌≤◌, ℕ, suc, ◌==◌, List, [], ◌∷◌, ◌++◌, length, take, drop, refl, sym, ap, subst, ◌∙◌, arith, inl, inr, ⊎_elim}
-use Rattle.std.proofs.lemmas.Bool.{cases_Bool, cond-true, cond-false, eqb-true}
-use Rattle.std.proofs.lemmas.List.{append_assoc, append_cancel_left, drop-append-le, drop-drop, drop_all, length-append, length-drop, length-take-le, take-append-drop}
+use Rattle.std.proofs.Common.{◌≡◌, ◌+◌, ◌<◌, ◌≤◌, ℕ, suc, ◌==◌, List, [], ◌∷◌, ◌++◌, length, take, drop, refl, sym, ap, ◌∙◌, arith, inl, inr, ⊎_elim}
+use Rattle.std.proofs.lemmas.Bool.{cases_Bool, cases_lt, cond-true, cond-false, eqb-true}
+use Rattle.std.proofs.lemmas.List.{append_assoc, length_push, same_from_push, append_cancel_left, drop-append-le, drop-drop, drop_all, length-append, length-drop, length-take-le, take-append-drop}
 use Rattle.std.proofs.Math.Seq.{take-add, take-append_seam}
 use Rattle.bstr.specs.Text.{line_len, lines_of}
 use Rattle.bstr.proofs.lemmas.LineLemmas.{line_len-bounds, lines-nil, lines-step}
 use Rattle.mailmap_snapshot.specs.Parts.{EndsLine, IsDividerLine, IsDivider, PartsAt, IsFirstParting, IsSplit}
 
-le_or_lt : (a b : ℕ) → (a ≤ b) ⊎ (b < a)
-le_or_lt a b = grind arith
-
 -- the two dashes alone have no line feed
 no_feed : (front : List ℕ) → 45 ∷ 45 ∷ [] ≡ front ++ 10 ∷ [] → ⊥
-no_feed [] is = cc
-no_feed (a ∷ []) is = cc
-no_feed (a ∷ b ∷ front) is = omega (arith, ap length is, length-append front (10 ∷ []))
+no_feed front is = let wrong = (same_from_push (45 ∷ []) front 45 10 is).1 in omega arith
 
 -- a line `--` has at least two bytes
 IsDividerLine-length : (line : List ℕ) → IsDividerLine line → 2 ≤ length line
-IsDividerLine-length line divider = ⊎_elim
-    (λ is. omega (arith, ap length is))
-    (λ others. ⊎_elim (λ is. omega (arith, ap length is)) (λ is. omega (arith, ap length is)) others)
-    divider
+IsDividerLine-length line (inl is) = omega (arith, ap length is)
+IsDividerLine-length line (inr (inl is)) = omega (arith, ap length is)
+IsDividerLine-length line (inr (inr is)) = omega (arith, ap length is)
 
 -- a line that is followed by something ends with a line feed
 line_ends : (bs : List ℕ) → line_len bs < length bs → (front : List ℕ) × (take (line_len bs) bs ≡ front ++ 10 ∷ [])
 unfolding line_len
 line_ends [] more = absurd (omega arith)
 line_ends (b ∷ bs) more = ⊎_elim
-    (λ feed. ([], ap (λ n. take n (b ∷ bs)) (cond-true _ _ _ feed) ∙ ap (λ x. x ∷ []) (eqb-true _ _ feed)))
+    (λ feed. ([], rw (cond-true _ 1 (suc (line_len bs)) feed) (ap (λ x. x ∷ []) (eqb-true _ _ feed))))
     (λ other.
     let len : line_len (b ∷ bs) ≡ suc (line_len bs) = cond-false _ _ _ other in
     let inner = line_ends bs (omega arith) in
@@ -39,41 +33,30 @@ line_ends (b ∷ bs) more = ⊎_elim
 line_len-feed : (xs ys : List ℕ) → line_len (xs ++ 10 ∷ ys) ≤ length xs + 1
 unfolding line_len
 line_len-feed [] ys = omega arith
-line_len-feed (x ∷ xs) ys =
-    let inner = line_len-feed xs ys in
-    ⊎_elim
-    (λ feed. let len : line_len (x ∷ xs ++ 10 ∷ ys) ≡ 1 = cond-true _ _ _ feed in omega arith)
-    (λ other. let len : line_len (x ∷ (xs ++ 10 ∷ ys)) ≡ suc (line_len (xs ++ 10 ∷ ys)) = cond-false _ _ _ other in omega arith)
-    (cases_Bool (x == 10))
+line_len-feed (x ∷ xs) ys = grind (arith, line_len-feed xs ys)
 
 -- a line `--` at the start of some bytes is their first line
 first_divider : (line after : List ℕ) → IsDivider line after → take (line_len (line ++ after)) (line ++ after) ≡ line
 unfolding line_len
-first_divider line after (divider, last) = ⊎_elim
-    (λ is. rw is)
-    (λ others. ⊎_elim (λ is. rw is) (λ is. rw (last is, is)) others)
-    divider
+first_divider line after (inl is, last) = rw is
+first_divider line after (inr (inl is), last) = rw is
+first_divider line after (inr (inr is), last) = rw (last is, is)
 
 -- without their first bytes, whole lines still end a line
 EndsLine-drop : (n : ℕ) (xs : List ℕ) → EndsLine xs → EndsLine (drop n xs)
 EndsLine-drop n xs (inl none) = inl (drop_all n xs (omega (arith, ap length none)))
 EndsLine-drop n xs (inr (front, is)) = ⊎_elim
+    (λ part. inr (drop n front, ap (drop n) is ∙ drop-append-le n front (10 ∷ []) (omega (arith, ap length is, length_push front 10))))
     (λ whole. inl (drop_all n xs whole))
-    (λ part.
-    let long : length xs ≡ length front + 1 = ap length is ∙ length-append front (10 ∷ []) in
-    inr (drop n front, ap (drop n) is ∙ drop-append-le n front (10 ∷ []) (omega arith)))
-    (le_or_lt (length xs) n)
+    (cases_lt n (length xs))
 
 -- if the first line isn't `--`, the input isn't split within it
 past_line : (before line after : List ℕ) → EndsLine before → IsDivider line after → (IsDividerLine (take (line_len (before ++ (line ++ after))) (before ++ (line ++ after))) → ⊥)
     → line_len (before ++ (line ++ after)) ≤ length before
-past_line before line after (inl none) divider other = absurd (other (subst IsDividerLine (sym (ap (λ b. take (line_len (b ++ (line ++ after))) (b ++ (line ++ after))) none ∙ first_divider line after divider)) divider.0))
+past_line before line after (inl none) divider other =
+    absurd (other (rw none (rw (first_divider line after divider) divider.0)))
 past_line before line after (inr (front, is)) divider other =
-    let long : length before ≡ length front + 1 = ap length is ∙ length-append front (10 ∷ []) in
-    let regrouped : before ++ (line ++ after) ≡ front ++ 10 ∷ (line ++ after) = ap (λ b. b ++ (line ++ after)) is ∙ append_assoc front (10 ∷ []) (line ++ after) in
-    let feed = line_len-feed front (line ++ after) in
-    let len = ap line_len regrouped in
-    omega arith
+    omega (arith, ap length is, length_push front 10, ap line_len (ap (λ b. b ++ (line ++ after)) is ∙ append_assoc front (10 ∷ []) (line ++ after)), line_len-feed front (line ++ after))
 
 some_line : (bs line : List ℕ) (left : List (List ℕ)) → line ∷ left ≡ lines_of bs → 0 < length bs
 some_line [] line left is = let none = is ∙ lines-nil in cc
@@ -82,9 +65,6 @@ some_line (b ∷ bs) line left is = omega arith
 no_bytes : (bs : List ℕ) → [] ≡ lines_of bs → length bs ≡ 0
 no_bytes [] none = refl
 no_bytes (b ∷ bs) none = let some = lines-step (b ∷ bs) (omega arith) in absurd (cc)
-
-abbrev by : (A : Type 0) → A → A
-by A a = a
 
 -- The state of a walk over the lines of the input: `left` are the lines from this index on, and the input has no line
 -- `--` before it.
@@ -113,16 +93,16 @@ module _ (input : List ℕ) (index : ℕ) (lines : List (List ℕ)) (line : List
 
   stepped : Stepped
   stepped =
-      let long : index + length rest ≡ length input = omega (arith, passed.within, length-drop index input) in
       let some : 0 < length rest = some_line rest line left (sym next ∙ passed.left_are) in
       let bounds = line_len-bounds rest some in
       let both : line ∷ left ≡ take (line_len rest) rest ∷ lines_of (drop (line_len rest) rest) = sym next ∙ passed.left_are ∙ lines-step rest some in
+      let is : line ≡ take (line_len rest) rest = cc in
       record {
-        is = cc;
-        len = ap length (by (line ≡ take (line_len rest) rest) (cc)) ∙ length-take-le (line_len rest) rest bounds.1;
+        is = is;
+        len = ap length is ∙ length-take-le (line_len rest) rest bounds.1;
         some = some;
         short = bounds.1;
-        long = long;
+        long = omega (arith, passed.within, length-drop index input);
         left_is = cc;
       }
 
@@ -135,19 +115,14 @@ module _ (input : List ℕ) (index : ℕ) (lines : List (List ℕ)) (line : List
     within = fits;
     starts = λ more.
         let ends = line_ends rest (omega (arith, stepped.len, stepped.long)) in
-        inr (
-          take index input ++ ends.0,
-          take-add index (length line) input ∙ ap (λ n. take index input ++ take n rest) stepped.len ∙ ap (λ l. take index input ++ l) ends.1
-              ∙ sym (append_assoc (take index input) ends.0 (10 ∷ [])),
-        );
-    left_are = stepped.left_is ∙ ap (λ n. lines_of (drop n rest)) (sym stepped.len) ∙ ap lines_of (drop-drop (length line) index input);
+        inr (take index input ++ ends.0, cc (take-add index (length line) input, stepped.len, ends.1, append_assoc (take index input) ends.0 (10 ∷ [])));
+    left_are = cc (stepped.left_is, stepped.len, drop-drop (length line) index input);
     none = λ p r parts.
         let before = drop index p in
         let within : index ≤ length p = passed.none p r parts in
         let rest_is : rest ≡ before ++ (parts.line ++ r) =
-        ap (drop index) (parts.whole ∙ append_assoc p parts.line r) ∙ drop-append-le index p (parts.line ++ r) within in
-        let bound = past_line before parts.line r (EndsLine-drop index p parts.starts) parts.divides
-        (λ divider. other (subst IsDividerLine (sym (stepped.is ∙ ap (λ b. take (line_len b) b) rest_is)) divider)) in
+        cc (append_assoc p parts.line r, drop-append-le index p (parts.line ++ r) within) in
+        let bound = past_line before parts.line r (EndsLine-drop index p parts.starts) parts.divides (λ divider. other (rw (stepped.is, rest_is) divider)) in
         omega (arith, stepped.len, ap line_len rest_is, length-drop index p);
   }
 
@@ -156,22 +131,23 @@ module _ (input : List ℕ) (index : ℕ) (lines : List (List ℕ)) (line : List
   parted divider = inl (record {
     parts = record {
       line = line;
-      whole =
-          let after = drop (length line) rest in
-          let line_is : take (length line) rest ≡ line = ap (λ n. take n rest) stepped.len ∙ sym stepped.is in
-          sym (take-append-drop index input)
-          ∙ ap (λ l. take index input ++ l) (sym (take-append-drop (length line) rest) ∙ ap (λ l. l ++ after) line_is)
-          ∙ sym (append_assoc (take index input) line after)
-          ∙ ap (λ l. (take index input ++ line) ++ l) (drop-drop (length line) index input);
+      whole = cc (
+        take-append-drop index input,
+        take-append-drop (length line) rest,
+        drop-drop (length line) index input,
+        stepped.is,
+        stepped.len,
+        append_assoc (take index input) line (drop (index + length line) input),
+      );
       starts = passed.starts (omega (arith, stepped.some, stepped.long));
       divides = (
         divider,
         λ bare. ⊎_elim
-            (λ end. drop_all (index + length line) input end)
             (λ more.
             let ends = line_ends rest (omega (arith, stepped.len, stepped.long)) in
             absurd (no_feed ends.0 (sym bare ∙ stepped.is ∙ ends.1)))
-            (le_or_lt (length input) (index + length line)),
+            (λ end. drop_all (index + length line) input end)
+            (cases_lt (index + length line) (length input)),
       );
     };
     first = λ p r parts. omega (arith, passed.none p r parts, length-take-le index input passed.within);
@@ -193,18 +169,17 @@ ended input index lines over passed = inr (record {
 -- two ways to see a line `--` at the same place agree on what follows it
 same_after : (line after line' after' : List ℕ) → IsDivider line after → IsDivider line' after' → line ++ after ≡ line' ++ after' → after ≡ after'
 same_after line r line' s here there same =
-    let lines : line ≡ line' = sym (first_divider line r here) ∙ ap (λ bs. take (line_len bs) bs) same ∙ first_divider line' s there in
-    append_cancel_left line' r s (ap (λ l. l ++ r) (sym lines) ∙ same)
+    let lines : line ≡ line' = cc (first_divider line r here, first_divider line' s there) in
+    append_cancel_left line' r s (rw lines at same)
 
 -- two first splits of an input are the same
 first_same : (input p r q s : List ℕ) → IsFirstParting input p r → IsFirstParting input q s → (p ≡ q) × (r ≡ s)
 first_same input p r q s here there =
     let long : length p ≡ length q = omega (arith, here.first q s there.parts, there.first p r here.parts) in
-    let p_is : take (length p) input ≡ p = ap (take (length p)) (here.parts.whole ∙ append_assoc p here.parts.line r) ∙ take-append_seam p (here.parts.line ++ r) in
-    let q_is : take (length q) input ≡ q = ap (take (length q)) (there.parts.whole ∙ append_assoc q there.parts.line s) ∙ take-append_seam q (there.parts.line ++ s) in
-    let fronts : p ≡ q = sym p_is ∙ ap (λ n. take n input) long ∙ q_is in
+    let front = λ (q s : List ℕ) (d : PartsAt input q s). take-append_seam q (d.line ++ s) in
+    let fronts : p ≡ q = cc (front p r here.parts, front q s there.parts, append_assoc p here.parts.line r, append_assoc q there.parts.line s) in
     let wholes : p ++ (here.parts.line ++ r) ≡ p ++ (there.parts.line ++ s) =
-    sym (append_assoc p here.parts.line r) ∙ sym here.parts.whole ∙ there.parts.whole ∙ append_assoc q there.parts.line s ∙ ap (λ l. l ++ (there.parts.line ++ s)) (sym fronts) in
+    cc (append_assoc p here.parts.line r, append_assoc q there.parts.line s) in
     (fronts, same_after here.parts.line r there.parts.line s here.parts.divides there.parts.divides (append_cancel_left p _ _ wholes))
 
 pub parted_same : (input p r q s : List ℕ) → IsSplit input p r → IsSplit input q s → (p ≡ q) × (r ≡ s)

@@ -1,17 +1,12 @@
-pub mod Counts
 pub mod Resolved
 pub mod Compared
 pub mod Remaining
 pub mod Sources
-pub mod Built
 pub mod WhiteEnds
 pub mod WritableLines
-pub mod WritableValues
 pub mod WrittenExamples
 pub mod WrittenLine
-pub mod WrittenText
 pub mod Contacts
 pub mod Dividers
 pub mod ContactLines
 pub mod Streams
-pub mod OneLine

@@ -1,20 +1,19 @@
 -- Merging an iterator with known entries, and merging several sources step by step.
-use Rattle.std.proofs.Common.{◌≡◌, ◌≢◌, ◌+◌, ◌<◌, ℕ, Bool, true, false, cond, Option, Some, List, [], ◌∷◌, ◌++◌, map, take, drop, length, get_or, Result, Ok, Err, OnOk, OnErr, is_ok, set, slice_get, Bor, ⊎_elim, append-nil, length-set, length-take-le, refl, sym, ap, ap₂, subst, ◌∙◌, arith, append_assoc, take-append-drop, take_all, ◌≤◌}
-use Rattle.std.specs.List.{AllByRecursion, flat_map}
+use Rattle.std.proofs.Common.{◌≡◌, ◌≢◌, ◌+◌, ◌<◌, ℕ, Bool, true, false, cond, Option, Some, List, [], ◌∷◌, ◌++◌, map, take, drop, length, get_or, Result, Ok, Err, IfOk, OnOk, OnErr, is_ok, set, slice_get, ⊎_elim, append-nil, length-append, length-set, length-take-le, refl, sym, ap, ◌∙◌, arith, append_assoc, take-append-drop, take_all, ◌≤◌}
+use Rattle.std.specs.List.{AllByRecursion}
 use Rattle.std.specs.Iterator.{Drains, Yields}
 use Rattle.std.proofs.lemmas.Iterator.{YieldsList, items_from_drains}
 use Rattle.std.proofs.lemmas.Iterator.Consumers.{YieldsList-so_far}
 use Rattle.std.specs.declared.alloc.AllocError.{AllocError}
 use Rattle.std.proofs.lemmas.Bool.{cases_eq}
-use Rattle.std.proofs.lemmas.List.{take_more, take_more_set, take-map, map-id, map_push, flat_map_more, get_or-set_same, get_or-set_other}
+use Rattle.std.proofs.lemmas.List.{take_more, take_more_set, take-map, map-id, nil_from_length, get_or-set_same, get_or-set_other}
+use Rattle.std.proofs.lemmas.Result.{IfOk-weaker, on_err_weaker, on_ok_weaker}
 use Rattle.std.proofs.lemmas.Option.{slice_get_read, get_or_from_slice_get}
 use Rattle.std.proofs.lemmas.List.Elements.{filter-append}
 use Rattle.mailmap_entries.specs.Entries.{Mapping, mapping_of}
 use Rattle.mailmap_entries.specs.Building.{IsMerged}
 use Rattle.mailmap_entries.proofs.Building.{is_merged}
 use Rattle.mailmap_entries.specs.Semantics.{IsNormal, accepted, is_accepted}
-use Rattle.mailmap_entries.specs.Folding.{Text}
-use Rattle.mailmap_grammar.specs.Lines.{mappings_of}
 use Rattle.mailmap_snapshot.specs.Sources.{merged_mappings, source_mappings}
 use Rattle.mailmap_entries.specs.declared.entry.Entry.{Entry}
 use Rattle.mailmap_snapshot.specs.declared.snapshot.sources.Source.{Source}
@@ -38,26 +37,22 @@ yields_entries {es = es} e = record {
   front = λ xs t y. ap (map mapping_of) (sym (map-id xs) ∙ YieldsList-so_far e xs t y) ∙ sym (take-map mapping_of (length xs) es);
 }
 
-front_none : (a b : List Mapping) → a ++ b ≡ [] → a ≡ []
-front_none [] b e = refl
-front_none (x ∷ a) b e = cc
-
 -- if nothing in a list is accepted, nothing in a prefix of it is
 front_ignored : (n : ℕ) (l : List Mapping) → accepted l ≡ [] → accepted (take n l) ≡ []
-front_ignored n l none = front_none _ _ (sym (filter-append is_accepted (take n l) (drop n l)) ∙ ap accepted (take-append-drop n l) ∙ none)
+front_ignored n l none =
+    let parts : accepted (take n l) ++ accepted (drop n l) ≡ [] = cc (filter-append is_accepted (take n l) (drop n l), take-append-drop n l, none) in
+    nil_from_length _ (omega (arith, ap length parts, length-append (accepted (take n l)) (accepted (drop n l))))
 
-module _ {S : Type 0} {steps : S → Option Entry → S → Type 0} {s : S} {said : List Mapping} (gives : YieldsMappings steps s said) where
-  pub merged_whole : (old new : List Mapping) → ((xs : List Entry) × Drains steps s xs × IsMerged old (map mapping_of xs) new) → IsMerged old said new
-  merged_whole old new m = subst (λ l. IsMerged old l new) (gives.whole m.0 m.1) m.2
+pub normal_all : {S E : Type 0} {steps : S → Option Entry → S → Type 0} {s : S} {said : List Mapping} → YieldsMappings steps s said → (r : Result (List Mapping) E)
+    → IfOk r (λ made. (xs : List Entry) × Drains steps s xs × IsNormal (map mapping_of xs) made) → IfOk r (IsNormal said)
+normal_all {said = said} gives r made = IfOk-weaker r _ (IsNormal said) (λ n d. rw (gives.whole d.0 d.1) at d.2) made
 
-module _ {S E : Type 0} {steps : S → Option Entry → S → Type 0} {s : S} {said : List Mapping} (gives : YieldsMappings steps s said) where
-  pub merged_all : (r : Result (Unit {0}) E) (old new : List Mapping) → OnOk r ((xs : List Entry) × Drains steps s xs × IsMerged old (map mapping_of xs) new) → OnOk r (IsMerged old said new)
-  merged_all (Ok u) old new m = merged_whole gives old new m
-  merged_all (Err e) old new m = tt
+module _ {S T E : Type 0} {steps : S → Option Entry → S → Type 0} {s : S} {said : List Mapping} (gives : YieldsMappings steps s said) where
+  pub merged_all : (r : Result T E) (old new : List Mapping) → OnOk r ((xs : List Entry) × Drains steps s xs × IsMerged old (map mapping_of xs) new) → OnOk r (IsMerged old said new)
+  merged_all r old new made = on_ok_weaker r (λ d. rw (gives.whole d.0 d.1) at d.2) made
 
-  pub out_of_memory_some : (r : Result (Unit {0}) E) → OnErr r ((xs : List Entry) × (rest : S) × Yields steps s xs rest × (accepted (map mapping_of xs) ≢ [])) → OnErr r (accepted said ≢ [])
-  out_of_memory_some (Ok u) m = tt
-  out_of_memory_some (Err e) m = λ none. m.3 (ap accepted (gives.front m.0 m.1 m.2) ∙ front_ignored (length m.0) said none)
+  pub out_of_memory_some : (r : Result T E) → OnErr r ((xs : List Entry) × (rest : S) × Yields steps s xs rest × (accepted (map mapping_of xs) ≢ [])) → OnErr r (accepted said ≢ [])
+  out_of_memory_some r failed = on_err_weaker r (λ d none. d.3 (ap accepted (gives.front d.0 d.1 d.2) ∙ front_ignored (length d.0) said none)) failed
 
 -- the merged mappings after one more source
 merged_mappings-push : (ss : List Source) (ms : List Bool) (s : Source) (m : Bool) → length ms ≡ length ss → merged_mappings (ss ++ s ∷ []) (ms ++ m ∷ []) ≡ merged_mappings ss ms ++ cond m (source_mappings s) []
@@ -66,18 +61,17 @@ merged_mappings-push [] [] s m e = append-nil (cond m (source_mappings s) [])
 merged_mappings-push [] (n ∷ ms) s m e = absurd (omega (arith, e))
 merged_mappings-push (x ∷ ss) [] s m e = absurd (omega (arith, e))
 merged_mappings-push (x ∷ ss) (n ∷ ms) s m e =
-    ap (λ l. cond n (source_mappings x) [] ++ l) (merged_mappings-push ss ms s m (omega (arith, e)))
-    ∙ sym (append_assoc (cond n (source_mappings x) []) (merged_mappings ss ms) (cond m (source_mappings s) []))
+    cc (merged_mappings-push ss ms s m (omega (arith, e)), append_assoc (cond n (source_mappings x) []) (merged_mappings ss ms) (cond m (source_mappings s) []))
 
 -- before the first source, the listing is the normal list of itself and no mappings
 pub normal_start : (n : List Mapping) → IsNormal n n → IsNormal (n ++ merged_mappings [] []) n
 unfolding merged_mappings
-normal_start n d = subst (λ l. IsNormal l n) (sym (append-nil n)) d
+normal_start n d = rw (append-nil n) d
 
 -- the entries of one more source are merged if it is marked as made, and otherwise nothing changes
 merged_next : (h n m : List Mapping) (s : Source) (r : Result (Unit {0}) AllocError) → IsNormal h n → OnOk r (IsMerged n (source_mappings s) m) → OnErr r (m ≡ n) → IsNormal (h ++ cond (is_ok r) (source_mappings s) []) m
 merged_next h n m s (Ok u) d ok err = ok.history h d
-merged_next h n m s (Err e) d ok err = subst (λ l. IsNormal l m) (sym (append-nil h)) (subst (IsNormal h) (sym err) d)
+merged_next h n m s (Err e) d ok err = rw (append-nil h, err) d
 
 -- merging a source without an accepted entry doesn't run out of memory
 unchanged_made : (s : Source) (r : Result (Unit {0}) AllocError) → OnErr r (accepted (source_mappings s) ≢ []) → accepted (source_mappings s) ≡ [] → is_ok r ≡ true
@@ -92,33 +86,32 @@ module _ (ss : List Source) (ms : List Bool) (i : ℕ) (s : Source) (r : Result 
   pub normal_more : (h n m : List Mapping) → IsNormal (h ++ merged_mappings (take i ss) (take i ms)) n → OnOk r (IsMerged n (source_mappings s) m) → OnErr r (m ≡ n)
       → IsNormal (h ++ merged_mappings (take (i + 1) ss) (take (i + 1) (set ms i b))) m
   normal_more h n m d ok err =
-      let sources : take (i + 1) ss ≡ take i ss ++ s ∷ [] = take_more ss i s within ∙ ap (λ x. take i ss ++ x ∷ []) (sym here) in
-      let marks : take (i + 1) (set ms i b) ≡ take i ms ++ b ∷ [] = take_more_set ms i b (omega (arith, same)) in
-      let long : length (take i ms) ≡ length (take i ss) = length-take-le i ms (omega (arith, same)) ∙ sym (length-take-le i ss (omega arith)) in
-      let step : merged_mappings (take (i + 1) ss) (take (i + 1) (set ms i b)) ≡ merged_mappings (take i ss) (take i ms) ++ cond (is_ok r) (source_mappings s) [] =
-      ap (λ l. merged_mappings l (take (i + 1) (set ms i b))) sources ∙ ap (merged_mappings (take i ss ++ s ∷ [])) marks
-      ∙ merged_mappings-push (take i ss) (take i ms) s b long ∙ ap (λ t. merged_mappings (take i ss) (take i ms) ++ cond t (source_mappings s) []) is in
-      subst (λ l. IsNormal l m) (append_assoc h (merged_mappings (take i ss) (take i ms)) (cond (is_ok r) (source_mappings s) []) ∙ ap (λ l. h ++ l) (sym step))
-      (merged_next (h ++ merged_mappings (take i ss) (take i ms)) n m s r d ok err)
+      let done = merged_mappings (take i ss) (take i ms) in
+      let more = cond (is_ok r) (source_mappings s) [] in
+      let long : length (take i ms) ≡ length (take i ss) = grind (arith, length-take-le) in
+      let step : merged_mappings (take (i + 1) ss) (take (i + 1) (set ms i b)) ≡ done ++ more =
+      cc (take_more ss i s within, take_more_set ms i b (omega (arith, same)), merged_mappings-push (take i ss) (take i ms) s b long) in
+      rw (step, ← append_assoc h done more) (merged_next (h ++ done) n m s r d ok err)
 
   pub marks_more : OnErr r (accepted (source_mappings s) ≢ []) → MarksUnchanged ss ms i → MarksUnchanged ss (set ms i b) (i + 1)
   marks_more out_of_memory before k x below at none = ⊎_elim
-      (λ (is_here : k ≡ i).
-      let x_is : x ≡ s = sym (get_or_from_slice_get ss k x s at) ∙ ap (λ j. get_or ss j s) is_here ∙ sym here in
-      slice_get_read (set ms i b) (length (set ms i b)) k true refl (omega (arith, same, length-set ms i b))
-      (sym (ap (λ j. get_or (set ms i b) j true) is_here ∙ get_or-set_same ms i b true (omega (arith, same)) ∙ is ∙ unchanged_made s r out_of_memory (ap (λ y. accepted (source_mappings y)) (sym x_is) ∙ none))))
+      (λ (here_is : k ≡ i).
+      let x_is : x ≡ s = cc (get_or_from_slice_get ss k x s at) in
+      let made : is_ok r ≡ true = unchanged_made s r out_of_memory (rw x_is at none) in
+      slice_get_read (set ms i b) _ k true refl long (cc (get_or-set_same ms i b true (omega (arith, same)))))
       (λ (other : k ≢ i).
-      let low : k < i = omega arith in
-      slice_get_read (set ms i b) (length (set ms i b)) k true refl (omega (arith, same, length-set ms i b))
-      (sym (get_or-set_other ms i k b true other ∙ get_or_from_slice_get ms k true true (before k x low at none))))
+      slice_get_read (set ms i b) _ k true refl long
+      (cc (get_or-set_other ms i k b true other, get_or_from_slice_get ms k true true (before k x (omega arith) at none))))
       (cases_eq k i)
+    where
+      long : k < length (set ms i b)
+      long = omega (arith, same, length-set ms i b)
 
 -- after all sources, the listing is that of the merge
 pub sources_merged : (ss : List Source) (ms : List Bool) (i : ℕ) (old new : List Mapping) → length ss ≤ i → length ms ≡ length ss → IsNormal old old
     → IsNormal (old ++ merged_mappings (take i ss) (take i ms)) new → IsMerged old (merged_mappings ss ms) new
 sources_merged ss ms i old new all same own d =
-    let whole : merged_mappings (take i ss) (take i ms) ≡ merged_mappings ss ms = ap₂ merged_mappings (take_all i ss all) (take_all i ms (omega (arith, same))) in
-    is_merged old (merged_mappings ss ms) new own (subst (λ l. IsNormal (old ++ l) new) whole d)
+    is_merged old (merged_mappings ss ms) new own (rw (take_all i ss all, take_all i ms (omega (arith, same))) at d)
 
 -- if no source is marked as made, nothing is merged
 pub none_merged : (ss : List Source) (ms : List Bool) → AllByRecursion (λ m. m ≡ false) ms → merged_mappings ss ms ≡ []
@@ -126,12 +119,3 @@ unfolding merged_mappings
 none_merged [] ms none = refl
 none_merged (s ∷ ss) [] none = refl
 none_merged (s ∷ ss) (m ∷ ms) none = ap (λ b. cond b (source_mappings s) [] ++ merged_mappings ss ms) none.0 ∙ none_merged ss ms none.1
-
--- ---- buffers
-
-pub buffers_more : (bufs : List (Bor Text)) (i : ℕ) (d : Bor Text) → i < length bufs
-    → flat_map mappings_of (map (λ x. x.now) (take (i + 1) bufs)) ≡ flat_map mappings_of (map (λ x. x.now) (take i bufs)) ++ mappings_of (get_or bufs i d).now
-buffers_more bufs i d within =
-    ap (λ l. flat_map mappings_of (map (λ x. x.now) l)) (take_more bufs i d within)
-    ∙ ap (flat_map mappings_of) (map_push (λ x. x.now) (take i bufs) (get_or bufs i d))
-    ∙ sym (flat_map_more mappings_of [] (map (λ x. x.now) (take i bufs)) (get_or bufs i d).now)

@@ -1,14 +1,27 @@
--- The entry of any line can be written as a line.
-use Rattle.std.proofs.Common.{◌≡◌, ◌≢◌, ◌+◌, ℕ, true, false, cond, List, [], ◌∷◌, ◌++◌, flat_map, Option, Some, None, IsSome, IfSome, OnSome, option_to_list, Ok, Err, IfOk, refl, sym, subst}
-use Rattle.std.specs.List.{AllByRecursion}
+-- The entry of any line can be written as a line, and so can the normal list of entries that can be written.
+use Rattle.std.proofs.Common.{◌≡◌, ◌≢◌, ◌+◌, ℕ, true, false, cond, List, [], ◌∷◌, ◌++◌, flat_map, Option, Some, None, IsSome, IfSome, OnSome, option_to_list, Ok, Err, IfOk, refl, sym, subst, Bool, filter, filter_map, length, IfNone, is_some, unwrap_or, option_map, All, ap, ◌∙◌}
+use Rattle.std.specs.List.{AllByRecursion, cons_option}
 use Rattle.mailmap_grammar.specs.CanonicalText.{IsWritableName, IsWritableEmail, IsWritable}
-use Rattle.mailmap_entries.specs.Folding.{Text}
+use Rattle.mailmap_entries.specs.Folding.{Text, folded, text_cmp}
 use Rattle.mailmap_grammar.specs.Lines.{Reading, ParsedContact, Absent, Unclosed, Closed, HoldsNo, cut, trimmed_contact, non_empty, two_contacts, first_contact, line_reading, is_comment, unless_blank, reading, readings_from, pieces, mappings_in, mappings_of}
 use Rattle.mailmap_grammar.specs.Trimming.{trim}
+use Rattle.mailmap_grammar.proofs.FaultLines.{if_read}
+use Rattle.mailmap_grammar.proofs.Grammar.{both-closed}
 use Rattle.mailmap_grammar.proofs.Cut.{cut_at_closing-cut}
 use Rattle.mailmap_grammar.proofs.LineFeeds.{pieces-hold_no}
-use Rattle.mailmap_entries.proofs.Parts.{all_head, all_tail, all_append}
+use Rattle.mailmap_entries.proofs.Parts.{all_head, all_tail, all_append, all_apply, all_last, all_weaker, is_some-option_map}
 use Rattle.mailmap_snapshot.proofs.WhiteEnds.{trim-trim, HoldsNo-trim}
+use Rattle.std.specs.Option.{option_and_then}
+use Rattle.std.specs.Ordering.{eq_by_cmp}
+use Rattle.std.proofs.lemmas.List.{length-map, nil_from_length}
+use Rattle.std.proofs.lemmas.Map.Views.{tells_apart}
+use Rattle.std.proofs.lemmas.List.Elements.{recursion_from_All, All-from_recursion, All-filter, filter_passes}
+use Rattle.mailmap_entries.specs.Entries.{Mapping}
+use Rattle.mailmap_entries.specs.Semantics.{Key, key, key_cmp, first, last, is_accepted, accepted, of_email, of_key, has_key, new_fields, no_fields, last_given, spelling, mapping_with, value, IsNormal}
+use Rattle.mailmap_entries.proofs.Ascending.{each_key}
+use Rattle.mailmap_entries.proofs.Exists.{speller}
+use Rattle.mailmap_entries.proofs.Keys.{keys_total, keys_exact}
+use Rattle.mailmap_entries.proofs.Normal.{known}
 
 -- ---- one line
 
@@ -49,8 +62,8 @@ two_fit n t [] email Absent a b some c = tt
 two_fit n t [] email Unclosed a b some c = tt
 two_fit n t (x ∷ name) email Absent a b some c = record { names = (a, tt); emails = (tt, b); some_new = tt; some_old = some; paired = tt }
 two_fit n t (x ∷ name) email Unclosed a b some c = record { names = (a, tt); emails = (tt, b); some_new = tt; some_old = some; paired = tt }
-two_fit n t [] email (Closed d f g) a b some c = record { names = (a, c.0); emails = (b, c.1); some_new = some; some_old = tt; paired = with_new_email email (non_empty d) }
-two_fit n t (x ∷ name) email (Closed d f g) a b some c = record { names = (a, c.0); emails = (b, c.1); some_new = some; some_old = tt; paired = with_new_email email (non_empty d) }
+two_fit n t name email (Closed d f g) a b some c =
+    subst (λ r. IfOk r IsWritable) (sym (both-closed n t name email d f g)) (record { names = (a, c.0); emails = (b, c.1); some_new = some; some_old = tt; paired = with_new_email email (non_empty d) })
 
 first_fits : (n : ℕ) (t : Text) (h : ParsedContact) → ContactFits h → IfOk (first_contact (λ name email rest. two_contacts n t name email (trimmed_contact (cut rest))) n t h) IsWritable
 first_fits n t Absent a = tt
@@ -58,13 +71,8 @@ first_fits n t Unclosed a = tt
 first_fits n t (Closed name [] rest) a = tt
 first_fits n t (Closed name (b ∷ email) rest) a = two_fit n t name (b ∷ email) (trimmed_contact (cut rest)) a.0 a.1 (λ e. absurd (cc)) (contact_fits rest a.2)
 
-says_fits : (n : ℕ) (t : Text) → HoldsNo 10 t → IfSome (unless_blank line_reading n t) (λ r. IfOk r IsWritable)
-says_fits n [] line = tt
-says_fits n (b ∷ t) line = first_fits n (b ∷ t) (trimmed_contact (cut (b ∷ t))) (contact_fits (b ∷ t) line)
-
 reading_fits : (n : ℕ) (l : Text) → HoldsNo 10 l → IfSome (reading n l) (λ r. IfOk r IsWritable)
-reading_fits n l line =
-    elim (is_comment l) as (λ b. IfSome (cond b None (unless_blank line_reading n (trim l))) (λ r. IfOk r IsWritable)) [ true ↦ tt | false ↦ says_fits n (trim l) (HoldsNo-trim 10 l line) ]
+reading_fits n l line = if_read (λ r. IfOk r IsWritable) line_reading n l (first_fits n (trim l) _ (contact_fits (trim l) (HoldsNo-trim 10 l line)))
 
 more_good : (o : Option Reading) (rs : List Reading) → IfSome o (λ r. IfOk r IsWritable) → AllByRecursion IsWritable (mappings_in rs) → AllByRecursion IsWritable (mappings_in (option_to_list o ++ rs))
 unfolding mappings_in
@@ -80,3 +88,131 @@ good_fits n (l ∷ ls) lines = more_good (reading n l) (readings_from reading (n
 pub all_read : (buffers : List Text) → AllByRecursion IsWritable (flat_map mappings_of buffers)
 all_read [] = tt
 all_read (b ∷ bs) = all_append IsWritable (mappings_of b) (flat_map mappings_of bs) (good_fits 1 (pieces b) (pieces-hold_no b)) (all_read bs)
+
+-- ---- the last field, and the first entry
+
+module _ (f : Mapping → Option Text) where
+  -- what holds for each field holds for the last
+  given_all : (P : Text → Type 0) (l : List Mapping) → AllByRecursion (λ x. IfSome (f x) P) l → IfSome (last_given f l) P
+  given_all P l a = last_all (filter_map f l) (kept l a)
+    where
+      kept_one : (o : Option Text) (ys : List Text) → IfSome o P → AllByRecursion P ys → AllByRecursion P (cons_option o ys)
+      kept_one None ys p a = a
+      kept_one (Some y) ys p a = (p, a)
+
+      kept : (l : List Mapping) → AllByRecursion (λ x. IfSome (f x) P) l → AllByRecursion P (filter_map f l)
+      kept [] a = tt
+      kept (x ∷ l) a = kept_one (f x) (filter_map f l) a.0 (kept l a.1)
+
+      last_all : (ys : List Text) → AllByRecursion P ys → IfSome (last ys) P
+      last_all [] a = tt
+      last_all (y ∷ ys) a = all_last P y ys a.0 a.1
+
+  -- what holds if some entry lacks the field holds if none has it and there is an entry
+  given_none : (Q : Type 0) (l : List Mapping) → is_some (first l) ≡ true → AllByRecursion (λ x. IfNone (f x) Q) l → IfNone (last_given f l) Q
+  given_none Q [] some a = absurd (cc)
+  given_none Q (x ∷ l) some a = elim (f x) as (λ o. IfNone o Q → IfNone (last (cons_option o (filter_map f l))) Q) [ None ↦ λ q. none_or (last (filter_map f l)) q | Some y ↦ λ _. tt ] a.0
+    where
+      none_or : (o : Option Text) → Q → IfNone o Q
+      none_or None q = q
+      none_or (Some y) q = tt
+
+-- what holds for each entry holds for the first
+first_all : {Y : Type 0} (P : Y → Type 0) (f : Mapping → Y) (l : List Mapping) → AllByRecursion (λ x. P (f x)) l → IfSome (option_map f (first l)) P
+first_all P f [] a = tt
+first_all P f (x ∷ l) a = a.0
+
+-- ---- the value of a key
+
+-- a text is empty if one that folds to the same is
+some_folded : (s t : Text) → folded s ≡ folded t → s ≢ [] → t ≢ []
+some_folded s t same some none = some (nil_from_length s (sym (length-map s _) ∙ ap length same ∙ rw none))
+
+if_none : (o : Option Text) (P Q : Type 0) → (P → Q) → IfNone o P → IfNone o Q
+if_none None P Q f p = f p
+if_none (Some s) P Q f p = tt
+
+on_some : (o : Option Text) (P : Type 0) → P → OnSome o P
+on_some None P p = tt
+on_some (Some s) P p = p
+
+at_some : (o : Option Text) (P : Type 0) → IsSome o → OnSome o P → P
+at_some None P is p = absurd (cc)
+at_some (Some s) P is p = p
+
+none_of_some : (o : Option Text) (Q : Type 0) → IsSome o → IfNone o Q
+none_of_some None Q is = absurd (cc)
+none_of_some (Some s) Q is = tt
+
+-- a value without an old name can be written: it has the last of each field
+given_fits : (l : List Mapping) (s : Text) → IsWritableEmail s → is_some (first l) ≡ true → AllByRecursion (λ e. IsWritable e × (folded e.old_email ≡ folded s)) l
+    → IsWritable (mapping_with (record { name = last_given (λ e. e.new_name) l; email = last_given (λ e. e.new_email) l }) None s)
+given_fits l s email some all =
+    record {
+      names = (given_all (λ e. e.new_name) IsWritableName l (each (λ e. IfSome e.new_name IsWritableName) (λ e w same. w.names.0)), tt);
+      emails = (given_all (λ e. e.new_email) IsWritableEmail l (each (λ e. IfSome e.new_email IsWritableEmail) (λ e w same. w.emails.0)), email);
+      some_new = given_all (λ e. e.new_email) (λ t. t ≢ []) l (each (λ e. IfSome e.new_email (λ t. t ≢ [])) (λ e w same. w.some_new));
+      some_old = given_none (λ e. e.new_email) (s ≢ []) l some (each (λ e. IfNone e.new_email (s ≢ [])) (λ e w same. if_none e.new_email _ _ (some_folded e.old_email s same) w.some_old));
+      paired = tt;
+    }
+  where
+    each : (R : Mapping → Type 0) → ((e : Mapping) → IsWritable e → folded e.old_email ≡ folded s → R e) → AllByRecursion R l
+    each R f = all_apply _ _ R (λ e w _. f e w.0 w.1) l all all
+
+-- a value with an old name can be written: it has the new fields of the last entry, and the name of the first
+named_fits : (l : List Mapping) (s : Text) → IsWritableEmail s → is_some (first l) ≡ true → AllByRecursion (λ e. IsWritable e × IsSome e.old_name) l
+    → IsWritable (mapping_with (unwrap_or (option_map new_fields (last l)) no_fields) (option_and_then (λ e. e.old_name) (first l)) s)
+named_fits [] s email some all = absurd (cc)
+named_fits (x ∷ l) s email some all =
+    let end : Mapping = unwrap_or (last l) x in
+    let w : IsWritable end × IsSome end.old_name = all_last (λ e. IsWritable e × IsSome e.old_name) x l all.0 all.1 in
+    let has : IsSome end.new_email = at_some end.old_name (IsSome end.new_email) w.1 w.0.paired in
+    record {
+      names = (w.0.names.0, all.0.0.names.1);
+      emails = (w.0.emails.0, email);
+      some_new = w.0.some_new;
+      some_old = none_of_some end.new_email (s ≢ []) has;
+      paired = on_some x.old_name (IsSome end.new_email) has;
+    }
+
+module _ (h : List Mapping) (writable : AllByRecursion IsWritable h) where
+  -- the accepted entries that a filter selects
+  picked : (p : Mapping → Bool) → AllByRecursion IsWritable (filter p (accepted h))
+  picked p = recursion_from_All _ _ (All-filter p IsWritable (accepted h) (All-filter is_accepted IsWritable h (All-from_recursion IsWritable h writable)))
+
+  module _ (k : Key) (has : has_key (accepted h) k ≡ true) where
+    -- the stored spelling
+    abbrev kept : Text
+    kept = unwrap_or (spelling h k.0) []
+
+    kept_fits : IsWritableEmail kept
+    kept_fits =
+        let w = speller h k has in
+        let emails = all_weaker (of_email h k.0) (λ e w. w.emails.1) (picked (λ e. eq_by_cmp text_cmp k.0 (folded e.old_email))) in
+        rw w.1 (rw w.1 at (first_all IsWritableEmail (λ e. e.old_email) (of_email h k.0) emails))
+
+    kept_folded : folded kept ≡ k.0
+    kept_folded = let w = speller h k has in ap (λ o. folded (unwrap_or o [])) w.1 ∙ w.2
+
+    some : is_some (first (of_key h k)) ≡ true
+    some = sym (known h k) ∙ has
+
+    keyed : AllByRecursion (λ e. IsWritable e × (k ≡ key e)) (of_key h k)
+    keyed =
+        all_apply IsWritable (λ e. eq_by_cmp key_cmp k (key e) ≡ true) (λ e. IsWritable e × (k ≡ key e)) (λ e w is. (w, tells_apart keys_exact k (key e) is)) (of_key h k)
+        (picked _) (recursion_from_All _ _ (filter_passes (λ e. eq_by_cmp key_cmp k (key e)) (accepted h)))
+
+  value_fits : (k : Key) → has_key (accepted h) k ≡ true → IsWritable (value h k)
+  value_fits (email, None) has =
+      let k : Key = (email, None) in
+      let all = all_weaker (of_key h k) (λ e w. (w.0, ap (λ j. j.0) (sym w.1) ∙ sym (kept_folded k has))) (keyed k has) in
+      given_fits (of_key h k) (kept k has) (kept_fits k has) (some k has) all
+  value_fits (email, Some name) has =
+      let k : Key = (email, Some name) in
+      let all = all_weaker (of_key h k) (λ e w. (w.0, is_some-option_map folded e.old_name ∙ ap (λ j. is_some j.1) (sym w.1))) (keyed k has) in
+      named_fits (of_key h k) (kept k has) (kept_fits k has) (some k has) all
+
+  pub normal_fits : (n : List Mapping) → IsNormal h n → All IsWritable n
+  normal_fits n d =
+      let fits = each_key keys_total keys_exact key (value h) (λ k. IsWritable (value h k)) n (λ k is. value_fits k (sym (d.keys k) ∙ is)) in
+      λ i x within. rw (d.values i x within) (All-from_recursion _ n fits i x within)

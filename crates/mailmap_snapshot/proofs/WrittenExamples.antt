@@ -9,8 +9,9 @@ use Rattle.mailmap_entries.specs.Folding.{Text}
 use Rattle.mailmap_entries.specs.Semantics.{IsNormal, key, value}
 use Rattle.mailmap_grammar.specs.Lines.{mappings_of}
 use Rattle.mailmap_grammar.specs.Trimming.{trim}
-use Rattle.mailmap_snapshot.proofs.WhiteEnds.{BeginsWhite-trimmed, EndsWhite-trimmed, trim-stays, trim-nil, BeginsWhite-ascii, EndsWhite-ascii}
-use Rattle.mailmap_snapshot.proofs.WrittenText.{mappings_of-canonical_text}
+use Rattle.mailmap_grammar.proofs.Plain.{first-white}
+use Rattle.mailmap_snapshot.proofs.WhiteEnds.{BeginsWhite-trimmed, EndsWhite-trimmed, trim-stays, trim-nil, EndsWhite-ascii}
+use Rattle.mailmap_snapshot.proofs.WrittenLine.{mappings_of-canonical_text}
 
 abbrev by : Option Text → Option Text → Option Text → Text → Mapping
 by new_name new_email old_name old_email = record { new_name = new_name; new_email = new_email; old_name = old_name; old_email = old_email }
@@ -64,7 +65,7 @@ by_empty : Mapping
 by_empty = by None (Some (codes "n@y")) None []
 
 plain : codes "n@y" ≡ trim (codes "n@y")
-plain = sym (trim-stays (codes "n@y") (λ h. let e = BeginsWhite-ascii 110 (codes "@y") (omega arith) h in absurd (cc)) (λ h. let e = EndsWhite-ascii 121 (codes "n@") (omega arith) h in absurd (cc)))
+plain = sym (trim-stays (codes "n@y") (λ h. let e = first-white (codes "n@y") (omega arith) h in absurd (cc)) (λ h. let e = EndsWhite-ascii 121 (codes "n@") (omega arith) h in absurd (cc)))
 
 writable : All IsWritable (by_empty ∷ [])
 unfolding by_empty

@@ -1,14 +1,22 @@
--- Parsing the line of an entry gives the entry.
-use Rattle.std.proofs.Common.{◌≡◌, ◌≢◌, ℕ, true, [], ◌∷◌, ◌++◌, Option, Some, None, IfSome, unwrap_or, Ok, append_assoc, append-nil, arith, refl, sym, ap, subst, ◌∙◌}
-use Rattle.mailmap_grammar.specs.CanonicalText.{IsWritableName, IsWritableEmail, IsWritable, name_part, bracketed_email, email_part, canonical_line}
+-- Parsing the line of an entry gives the entry, and parsing the text of a snapshot gives its entries.
+use Rattle.std.proofs.Common.{inl, ◌≡◌, ◌≢◌, ◌<◌, ℕ, length, true, [], ◌∷◌, ◌++◌, Option, Some, None, IfSome, unwrap_or, Ok, rules, append_assoc, append-nil, arith, refl, sym, ap, ◌∙◌, ◌+◌, List, map, All}
+use Rattle.std.proofs.lemmas.Option.{IfSome_then}
+use Rattle.mailmap_grammar.specs.CanonicalText.{IsWritableName, IsWritableEmail, IsWritable, name_part, bracketed_email, email_part, canonical_line, canonical_text}
 use Rattle.mailmap_entries.specs.Entries.{Mapping}
 use Rattle.mailmap_entries.specs.Folding.{Text}
-use Rattle.mailmap_entries.specs.Semantics.{is_accepted}
-use Rattle.mailmap_grammar.specs.Lines.{HoldsNo, Reading, ParsedContact, Absent, Unclosed, Closed, cut, trimmed_contact, non_empty, two_contacts, strict_contacts, first_contact, line_reading, strict_line_reading, unless_blank, reading_by, reading, strict_reading}
+use Rattle.mailmap_entries.specs.Semantics.{is_accepted, IsNormal}
+use Rattle.mailmap_grammar.specs.Lines.{HoldsNo, Reading, ParsedContact, Absent, Unclosed, Closed, cut, trimmed_contact, non_empty, two_contacts, strict_contacts, first_contact, line_reading, strict_line_reading, unless_blank, reading_by, reading, strict_reading, readings_from, pieces, readings, strict_readings, mappings_of, mappings_in}
 use Rattle.mailmap_grammar.specs.Trimming.{trim, BeginsWhite, EndsWhite}
+use Rattle.mailmap_grammar.proofs.Grammar.{alone-none, both-closed, some_said, with_email}
 use Rattle.mailmap_grammar.proofs.Cut.{cut-absent, cut-cut_at_closing}
+use Rattle.mailmap_grammar.proofs.Plain.{first-white}
+use Rattle.mailmap_grammar.proofs.Trimmed.{begins-before}
 use Rattle.mailmap_entries.proofs.Parts.{all_append}
-use Rattle.mailmap_snapshot.proofs.WhiteEnds.{BeginsWhite-ascii, BeginsWhite-before, EndsWhite-ascii, trim-stays, trim-nil, trim-blank_start, trim-blank_end, BeginsWhite-trimmed}
+use Rattle.mailmap_snapshot.proofs.WhiteEnds.{EndsWhite-ascii, trim-stays, trim-nil, trim-blank_start, trim-blank_end, BeginsWhite-trimmed}
+use Rattle.std.specs.List.{AllByRecursion}
+use Rattle.std.proofs.lemmas.List.Elements.{recursion_from_All}
+use Rattle.mailmap_grammar.proofs.LineFeeds.{pieces-line}
+use Rattle.mailmap_entries.proofs.Normal.{all_good}
 
 -- ---- the parts of a line
 
@@ -25,12 +33,10 @@ HoldsNo-email_part None h = tt
 HoldsNo-email_part (Some s) h = all_append _ (bracketed_email s) (32 ∷ []) (HoldsNo-bracketed_email s h.one_line) (omega arith, tt)
 
 name_line : (o : Option Text) → IfSome o IsWritableName → IfSome o (HoldsNo 10)
-name_line None h = tt
-name_line (Some s) h = h.one_line
+name_line o h = IfSome_then o h (λ s w. w.one_line)
 
 name_opening : (o : Option Text) → IfSome o IsWritableName → IfSome o (HoldsNo 60)
-name_opening None h = tt
-name_opening (Some s) h = h.no_opening
+name_opening o h = IfSome_then o h (λ s w. w.no_opening)
 
 -- trimming removes the space after a name
 trim-name_part : (o : Option Text) → IfSome o IsWritableName → trim (name_part o) ≡ unwrap_or o []
@@ -53,10 +59,7 @@ canonical_line-then e rest = append_assoc (32 ∷ body e) (10 ∷ []) rest
 
 -- this part of the line has no line feed
 pub one_line : (e : Mapping) → IsWritable e → HoldsNo 10 (32 ∷ body e)
-one_line e w =
-    let front = all_append _ (name_part e.new_name) (email_part e.new_email) (HoldsNo-name_part 10 e.new_name (omega arith) (name_line e.new_name w.names.0)) (HoldsNo-email_part e.new_email w.emails.0) in
-    let names = all_append _ (name_part e.new_name ++ email_part e.new_email) (name_part e.old_name) front (HoldsNo-name_part 10 e.old_name (omega arith) (name_line e.old_name w.names.1)) in
-    (omega arith, all_append _ (name_part e.new_name ++ email_part e.new_email ++ name_part e.old_name) (bracketed_email e.old_email) names (HoldsNo-bracketed_email e.old_email w.emails.1.one_line))
+one_line e w = search (rules, all_append, HoldsNo-name_part, name_line, HoldsNo-email_part, HoldsNo-bracketed_email)
 
 -- the body doesn't end with white space
 EndsWhite-body : (s r : Text) → EndsWhite (s ++ bracketed_email r) → ⊥
@@ -72,10 +75,14 @@ mapping nn ne on oe = record { new_name = nn; new_email = ne; old_name = on; old
 -- the body doesn't begin with white space
 BeginsWhite-body : (nn ne on : Option Text) (oe : Text) → IsWritable (mapping nn ne on oe) → is_accepted (mapping nn ne on oe) ≡ true → BeginsWhite (body (mapping nn ne on oe)) → ⊥
 BeginsWhite-body None None on oe w a h = absurd (cc)
-BeginsWhite-body None (Some ne) on oe w a h = let e = BeginsWhite-ascii 60 ((ne ++ 62 ∷ []) ++ 32 ∷ [] ++ name_part on ++ bracketed_email oe) (omega arith) h in absurd (cc)
+BeginsWhite-body None (Some ne) on oe w a h = let e = first-white (body (mapping None (Some ne) on oe)) (omega arith) h in absurd (cc)
 BeginsWhite-body (Some nn) ne on oe w a h =
     let whole : body (mapping (Some nn) ne on oe) ≡ nn ++ 32 ∷ (email_part ne ++ (name_part on ++ bracketed_email oe)) = simp append_assoc in
-    BeginsWhite-trimmed nn w.names.0.trimmed (BeginsWhite-before nn _ 32 (omega arith) w.names.0.some (subst BeginsWhite whole h))
+    BeginsWhite-trimmed nn w.names.0.trimmed (begins-before nn _ (λ _. refl) (some_name nn w.names.0.some) (rw whole at h))
+  where
+    some_name : (s : Text) → s ≢ [] → 0 < length s
+    some_name [] some = absurd (some refl)
+    some_name (b ∷ s) some = omega arith
 
 -- ---- splitting it into contacts
 
@@ -96,21 +103,6 @@ cut_only nn oe name email =
 
 -- ---- the entry of its contacts
 
--- the rest is read if the first contact has an email
-with_email : (both : Text → Text → Text → Reading) (n : ℕ) (t name email rest : Text) → email ≢ [] → first_contact both n t (Closed name email rest) ≡ both name email rest
-with_email both n t name [] rest some = absurd (some refl)
-with_email both n t name (b ∷ email) rest some = refl
-
--- two contacts are an entry with a new email
-two_closed : (n : ℕ) (t name email a b c : Text) → two_contacts n t name email (Closed a b c) ≡ Ok (mapping (non_empty name) (Some email) (non_empty a) b)
-two_closed n t [] email a b c = refl
-two_closed n t (x ∷ name) email a b c = refl
-
--- a name and an email are an entry without a new email
-name_alone : (n : ℕ) (t name email : Text) → name ≢ [] → two_contacts n t name email Absent ≡ Ok (mapping (Some name) None None email)
-name_alone n t [] email some = absurd (some refl)
-name_alone n t (x ∷ name) email some = refl
-
 -- a reader that differs from the lenient one only if the second contact is unclosed
 abbrev Agrees : ℕ → Text → (Text → Text → Text → Reading) → Type 0
 Agrees n t both = (name email rest : Text) (h : ParsedContact) → cut rest ≡ h → h ≢ Unclosed → both name email rest ≡ two_contacts n t name email (trimmed_contact h)
@@ -121,20 +113,16 @@ says : (both : Text → Text → Text → Reading) (n : ℕ) (t : Text) (nn ne o
 says both n t None None on oe agrees w a = absurd (cc)
 says both n t (Some nn) None (Some on) oe agrees w a = let e = w.paired in absurd (cc)
 says both n t (Some nn) None None oe agrees w a =
-    ap (λ h. first_contact both n t (trimmed_contact h)) (cut_only nn oe w.names.0.no_opening w.emails.1.no_closing)
-    ∙ (λ i. first_contact both n t (Closed (trim-name_part (Some nn) w.names.0 i) (sym w.emails.1.trimmed i) []))
-    ∙ with_email both n t nn oe [] w.some_old
-    ∙ agrees nn oe [] Absent (cut-absent [] tt) (λ e. cc)
-    ∙ name_alone n t nn oe w.names.0.some
+    rw (cut_only nn oe w.names.0.no_opening w.emails.1.no_closing, trim-name_part (Some nn) w.names.0, ← w.emails.1.trimmed, with_email both n t nn oe [] w.some_old)
+    (agrees nn oe [] Absent (cut-absent [] tt) (λ e. cc) ∙ alone-none n t nn oe Absent (inl refl) w.names.0.some)
 says both n t nn (Some ne) on oe agrees w a =
     let rest = 32 ∷ (name_part on ++ bracketed_email oe) in
     ap (λ h. first_contact both n t (trimmed_contact h)) (cut_first nn on ne oe (name_opening nn w.names.0) w.emails.0.no_closing)
     ∙ (λ i. first_contact both n t (Closed (trim-name_part nn w.names.0 i) (sym w.emails.0.trimmed i) rest))
     ∙ with_email both n t (unwrap_or nn []) ne rest w.some_new
     ∙ agrees (unwrap_or nn []) ne rest _ (cut_second on oe (name_opening on w.names.1) w.emails.1.no_closing) (λ e. cc)
-    ∙ (λ i. two_contacts n t (unwrap_or nn []) ne (Closed ((trim-blank_start (name_part on) ∙ trim-name_part on w.names.1) i) (sym w.emails.1.trimmed i) []))
-    ∙ two_closed n t (unwrap_or nn []) ne (unwrap_or on []) oe []
-    ∙ (λ i. Ok (mapping (non_empty-name nn w.names.0 i) (Some ne) (non_empty-name on w.names.1 i) oe))
+    ∙ both-closed n t (unwrap_or nn []) ne (trim (32 ∷ name_part on)) (trim oe) []
+    ∙ (λ i. Ok (mapping (non_empty-name nn w.names.0 i) (Some ne) ((ap non_empty (trim-blank_start (name_part on) ∙ trim-name_part on w.names.1) ∙ non_empty-name on w.names.1) i) (sym w.emails.1.trimmed i)))
 
 -- lenient parsing is such a reader
 lenient : (n : ℕ) (t : Text) → Agrees n t (λ name email rest. two_contacts n t name email (trimmed_contact (cut rest)))
@@ -148,18 +136,13 @@ strict n t name email rest (Closed a b c) is other = ap (λ h. strict_contacts n
 
 -- ---- the whole line
 
--- a line that isn't blank has a reading
-unless_some : (reads : ℕ → Text → Reading) (n : ℕ) (t : Text) → t ≢ [] → unless_blank reads n t ≡ Some (reads n t)
-unless_some reads n [] some = absurd (some refl)
-unless_some reads n (b ∷ t) some = refl
-
 -- only the body counts
 by_body : (reads : ℕ → Text → Reading) (n : ℕ) (e : Mapping) → IsWritable e → is_accepted e ≡ true → reading_by reads n (32 ∷ body e) ≡ Some (reads n (body e))
 by_body reads n e w a =
     let front = name_part e.new_name ++ email_part e.new_email ++ name_part e.old_name in
     let same : trim (32 ∷ body e) ≡ body e =
     trim-blank_start (body e) ∙ trim-stays (body e) (BeginsWhite-body e.new_name e.new_email e.old_name e.old_email w a) (EndsWhite-body front e.old_email) in
-    ap (unless_blank reads n) same ∙ unless_some reads n (body e) (some_end front e.old_email)
+    ap (unless_blank reads n) same ∙ some_said reads n (body e) (some_end front e.old_email)
 
 -- lenient parsing gives the entry
 pub reading-canonical_line : (n : ℕ) (e : Mapping) → IsWritable e → is_accepted e ≡ true → reading n (32 ∷ body e) ≡ Some (Ok e)
@@ -170,3 +153,36 @@ reading-canonical_line n e w a =
 pub strict_reading-canonical_line : (n : ℕ) (e : Mapping) → IsWritable e → is_accepted e ≡ true → strict_reading n (32 ∷ body e) ≡ Some (Ok e)
 strict_reading-canonical_line n e w a =
     by_body strict_line_reading n e w a ∙ ap (λ r. Some r) (says _ n (body e) e.new_name e.new_email e.old_name e.old_email (strict n (body e)) w a)
+
+-- a reader that gives the entry of each line gives the entries of the text
+module _ (read : ℕ → Text → Option Reading) (each : (n : ℕ) (e : Mapping) → IsWritable e → is_accepted e ≡ true → read n (32 ∷ body e) ≡ Some (Ok e)) where
+  from_text : (n : ℕ) (es : List Mapping) → AllByRecursion IsWritable es → AllByRecursion (λ e. is_accepted e ≡ true) es → readings_from read n (pieces (canonical_text es)) ≡ map Ok es
+  unfolding readings_from pieces
+  from_text n [] w a = refl
+  from_text n (e ∷ es) w a =
+      ap (λ s. readings_from read n (pieces s)) (canonical_line-then e (canonical_text es))
+      ∙ rw (pieces-line (32 ∷ body e) (canonical_text es) (one_line e w.0), each n e w.0 a.0) (ap (λ rs. Ok e ∷ rs) (from_text (n + 1) es w.1 a.1))
+
+mappings_in-map : (es : List Mapping) → mappings_in (map Ok es) ≡ es
+unfolding mappings_in
+mappings_in-map [] = refl
+mappings_in-map (e ∷ es) = ap (λ l. e ∷ l) (mappings_in-map es)
+
+module _ (v : List Mapping) (normal : IsNormal v v) (writable : All IsWritable v) where
+  all_writable : AllByRecursion IsWritable v
+  all_writable = recursion_from_All _ v writable
+
+  all_accepted : AllByRecursion (λ e. is_accepted e ≡ true) v
+  all_accepted = recursion_from_All _ v (all_good v v normal)
+
+  -- lenient parsing gives exactly the entries
+  pub readings-canonical_text : readings (canonical_text v) ≡ map Ok v
+  readings-canonical_text = from_text reading reading-canonical_line 1 v all_writable all_accepted
+
+  -- strict parsing gives exactly the entries, too
+  pub strict_text : strict_readings (canonical_text v) ≡ map Ok v
+  strict_text = from_text strict_reading strict_reading-canonical_line 1 v all_writable all_accepted
+
+  -- the mappings of the text are the list that it was written from
+  pub mappings_of-canonical_text : mappings_of (canonical_text v) ≡ v
+  mappings_of-canonical_text = ap mappings_in readings-canonical_text ∙ mappings_in-map v

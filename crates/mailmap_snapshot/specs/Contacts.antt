@@ -1,24 +1,16 @@
 -- Answers to lines of contacts.
-use Rattle.std.specs.Prelude.{◌≡◌, ◌≢◌, ◌⊎◌, ◌==◌, Bool, false, ◌&&◌, if◌then◌else◌, List, [], ◌∷◌, ◌++◌, unwrap_or}
+use Rattle.std.specs.Prelude.{◌≡◌, ◌≢◌, ◌⊎◌, List, [], ◌∷◌, ◌++◌, map, unwrap_or}
 use Rattle.std.specs.List.{AllByRecursion, AllZip, flat_map}
+use Rattle.bstr.specs.Text.{lines_of, without_terminator}
 use Rattle.mailmap_entries.specs.Entries.{Mapping}
 use Rattle.mailmap_entries.specs.Folding.{Text}
 use Rattle.mailmap_entries.specs.Semantics.{Fields, fields_for}
-use Rattle.mailmap_grammar.specs.Lines.{ParsedContact, Absent, Unclosed, Closed, contact_in, mappings_of, with_first, with_line_feeds, HoldsNo}
-
--- the text begins with a line feed
-abbrev pub feeds : Text → Bool
-feeds [] = false
-feeds (b ∷ s) = b == 10
+use Rattle.mailmap_grammar.specs.Lines.{ParsedContact, Absent, Unclosed, Closed, contact_in, mappings_of, with_line_feeds, HoldsNo}
 
 -- the lines of a text: each ends before its line feed, and before one carriage return directly before that; the last
 -- line may have no line feed, and then keeps a carriage return at its end
-unfoldable pub contact_lines : Text → List Text
-contact_lines [] = []
-contact_lines (b ∷ s) =
-    if b == 10 then [] ∷ contact_lines s
-    else if b == 13 && feeds s then contact_lines s
-    else with_first b (contact_lines s)
+abbrev pub contact_lines : Text → List Text
+contact_lines text = map without_terminator (lines_of text)
 
 -- the line is the piece without one carriage return at its end
 abbrev pub IsWithoutReturn : Text → Text → Type 0

@@ -1,20 +1,18 @@
 -- Distinct texts, and lists that are joined from a part for each.
-use Rattle.std.proofs.Common.{◌≡◌, ◌≢◌, Bool, true, false, true≢false, cond, not, ◌&&◌, ◌||◌, List, [], ◌∷◌, ◌++◌, map, filter, append-nil, bytes_eq, refl, sym, ap, ◌∙◌}
+use Rattle.std.proofs.Common.{◌≡◌, ◌≢◌, Bool, true, false, true≢false, not, ◌&&◌, List, [], ◌∷◌, ◌++◌, map, filter, append-nil, bytes_eq, refl, sym, ap, ◌∙◌, rules}
 use Rattle.std.specs.List.{AllByRecursion, flat_map, list_any}
 use Rattle.std.proofs.lemmas.List.Elements.{filter-append, filter_agree}
 use Rattle.mailmap_entries.specs.Folding.{Text}
 use Rattle.mailmap_entries.proofs.Parts.{all_append, all_weaker, filter-filter}
 use Rattle.mailmap_suggestions.specs.Forms.{distinct}
-use Rattle.mailmap_suggestions.proofs.OneEmail.{all_filtered}
-use Rattle.mailmap_suggestions.proofs.Exact.{equal_bytes, same_bytes}
+use Rattle.mailmap_contacts.proofs.Steps.{all_filtered}
+use lib.Pointwise.{bytes_decides}
 
-pub refuted : (b : Bool) → (b ≡ true → ⊥) → b ≡ false
-refuted true never = absurd (never refl)
-refuted false never = refl
+pub same_bytes : (a b : Text) → bytes_eq a b ≡ true → a ≡ b
+same_bytes a b = (bytes_decides a b).0
 
-and_false : (b : Bool) → (b && false) ≡ false
-and_false true = refl
-and_false false = refl
+pub equal_bytes : (a b : Text) → a ≡ b → bytes_eq a b ≡ true
+equal_bytes a b = (bytes_decides a b).1
 
 not_itself : (b : Bool) → (not b && b) ≡ false
 not_itself true = refl
@@ -33,24 +31,11 @@ once_more k x ds same =
     ∙ filter_nothing ds
 
 pub others_stay : (k x : Text) (ds : List Text) → bytes_eq k x ≡ false → filter (bytes_eq k) (filter (λ y. not (bytes_eq x y)) ds) ≡ filter (bytes_eq k) ds
-others_stay k x ds other =
-    filter-filter (bytes_eq k) (λ y. not (bytes_eq x y)) ds
-    ∙ filter_agree (λ y. not (bytes_eq x y) && bytes_eq k y) (bytes_eq k) at ds
-  where
-    at : (y : Text) → (not (bytes_eq x y) && bytes_eq k y) ≡ bytes_eq k y
-    at y = elim (bytes_eq k y) as (λ b. bytes_eq k y ≡ b → (not (bytes_eq x y) && b) ≡ b) [
-      | true ↦ λ same. ap (λ b. not b && true) (refuted (bytes_eq x y) (λ e. true≢false (sym (equal_bytes k x (same_bytes k y same ∙ sym (same_bytes x y e))) ∙ other)))
-      | false ↦ λ _. and_false (not (bytes_eq x y))
-    ] refl
+others_stay k x ds other = search (rules, filter-filter)
 
 pub once : (k : Text) (xs : List Text) → list_any (bytes_eq k) xs ≡ true → filter (bytes_eq k) (distinct xs) ≡ k ∷ []
 once k [] e = absurd (true≢false (sym e))
-once k (x ∷ xs) e =
-    elim (bytes_eq k x) as (λ b. bytes_eq k x ≡ b → (b || list_any (bytes_eq k) xs) ≡ true
-    → cond b (x ∷ filter (bytes_eq k) (filter (λ y. not (bytes_eq x y)) (distinct xs))) (filter (bytes_eq k) (filter (λ y. not (bytes_eq x y)) (distinct xs))) ≡ k ∷ []) [
-      | true ↦ λ same _. λ i. sym (same_bytes k x same) i ∷ once_more k x (distinct xs) same i
-      | false ↦ λ other among. others_stay k x (distinct xs) other ∙ once k xs among
-    ] refl e
+once k (x ∷ xs) e = search (rules, once k xs, once_more, others_stay)
 
 pub all_distinct : (P : Text → Type 0) (xs : List Text) → AllByRecursion P xs → AllByRecursion P (distinct xs)
 all_distinct P [] all = tt
@@ -74,11 +59,7 @@ filter_joined p part (x ∷ xs) = filter-append p (part x) (flat_map part xs) �
 
 one_part : {Y : Type 0} (part : Text → List Y) (k : Text) → ((j : Text) → bytes_eq k j ≡ false → part j ≡ []) → (xs : List Text) → flat_map part xs ≡ flat_map part (filter (bytes_eq k) xs)
 one_part part k none [] = refl
-one_part part k none (x ∷ xs) =
-    elim (bytes_eq k x) as (λ b. bytes_eq k x ≡ b → part x ++ flat_map part xs ≡ flat_map part (cond b (x ∷ filter (bytes_eq k) xs) (filter (bytes_eq k) xs))) [
-      | true ↦ λ _. ap (λ l. part x ++ l) (one_part part k none xs)
-      | false ↦ λ other. ap (λ l. l ++ flat_map part xs) (none x other) ∙ one_part part k none xs
-    ] refl
+one_part part k none (x ∷ xs) = search (rules, one_part part k none xs)
 
 -- what a filter keeps of the joined parts for distinct texts, if it keeps nothing of all but one
 pub kept_part : {Y : Type 0} (p : Y → Bool) (part : Text → List Y) (k : Text) (xs : List Text) → list_any (bytes_eq k) xs ≡ true → ((j : Text) → bytes_eq k j ≡ false → filter p (part j) ≡ []) → filter p (flat_map part (distinct xs)) ≡ filter p (part k)
@@ -102,42 +83,17 @@ pub all_of : {X : Type 0} (P : X → Type 0) → ((x : X) → P x) → (xs : Lis
 all_of P f [] = tt
 all_of P f (x ∷ xs) = (f x, all_of P f xs)
 
--- what holds of those that pass
-pub unfiltered : {X : Type 0} (p : X → Bool) (P : X → Type 0) (xs : List X) → AllByRecursion P (filter p xs) → AllByRecursion (λ x. p x ≡ true → P x) xs
-unfiltered p P [] all = tt
-unfiltered p P (x ∷ xs) all =
-    elim (p x) as (λ b. p x ≡ b → AllByRecursion P (cond b (x ∷ filter p xs) (filter p xs)) → (p x ≡ true → P x) × AllByRecursion (λ x. p x ≡ true → P x) xs) [
-      | true ↦ λ _ all. (λ _. all.0, unfiltered p P xs all.1)
-      | false ↦ λ out all. (λ passes. absurd (true≢false (sym passes ∙ out)), unfiltered p P xs all)
-    ] refl all
-
 -- at the text of each
 pub at_each : {X : Type 0} (text : X → Text) (P : Text → X → Type 0) (xs : List X) → ((k : Text) → AllByRecursion (P k) xs) → AllByRecursion (λ x. P (text x) x) xs
 at_each text P [] all = tt
 at_each text P (x ∷ xs) all = ((all (text x)).0, at_each text P xs (λ k. (all k).1))
 
-or_true : (b : Bool) → (b || true) ≡ true
-or_true true = refl
-or_true false = refl
-
 -- each text is among all of them
 pub all_among : {X : Type 0} (text : X → Text) (xs : List X) → AllByRecursion (λ x. list_any (bytes_eq (text x)) (map text xs) ≡ true) xs
 all_among text [] = tt
-all_among text (x ∷ xs) = (
-  ap (λ b. b || list_any (bytes_eq (text x)) (map text xs)) (equal_bytes (text x) (text x) refl),
-  all_weaker xs (λ y among. ap (λ b. bytes_eq (text y) (text x) || b) among ∙ or_true (bytes_eq (text y) (text x))) (all_among text xs),
-)
+all_among text (x ∷ xs) = search (rules, all_among text xs, all_weaker)
 
 -- and among those that pass a test if it passes
 pub among_passing : (test : Text → Bool) (k : Text) (xs : List Text) → test k ≡ true → list_any (bytes_eq k) xs ≡ true → list_any (bytes_eq k) (filter test xs) ≡ true
 among_passing test k [] passes among = among
-among_passing test k (x ∷ xs) passes among =
-    elim (bytes_eq k x) as (λ b. bytes_eq k x ≡ b → (b || list_any (bytes_eq k) xs) ≡ true → list_any (bytes_eq k) (cond (test x) (x ∷ filter test xs) (filter test xs)) ≡ true) [
-      | true ↦ λ same _.
-          ap (λ b. list_any (bytes_eq k) (cond b (x ∷ filter test xs) (filter test xs))) (ap test (sym (same_bytes k x same)) ∙ passes)
-          ∙ ap (λ b. b || list_any (bytes_eq k) (filter test xs)) same
-      | false ↦ λ other rest. elim (test x) as (λ b. list_any (bytes_eq k) (cond b (x ∷ filter test xs) (filter test xs)) ≡ true) [
-        | true ↦ ap (λ b. b || list_any (bytes_eq k) (filter test xs)) other ∙ among_passing test k xs passes rest
-        | false ↦ among_passing test k xs passes rest
-      ]
-    ] refl among
+among_passing test k (x ∷ xs) passes among = search (rules, among_passing test k xs passes)

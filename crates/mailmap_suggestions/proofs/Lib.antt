@@ -1,36 +1,14 @@
-mod Accepted
-mod After
-mod Answers
-mod Appended
+pub mod Suggesting
+pub mod Answers
 mod Distinct
-mod Exact
-mod Frequency
-mod Good
-mod Grouped
-mod Grouping
-mod KeptChanges
-mod Linked
-mod Named
-mod OldEmails
-mod OneEmail
-mod OneEntry
-mod Ordered
-mod Parsed
-mod Parts
-mod PlainForms
-mod PlainOnes
-mod Preferred
+pub mod Exact
+pub mod Frequency
+pub mod Writable
+pub mod United
+pub mod Grouping
+pub mod OneEmail
+pub mod Parsed
+pub mod Forms
 pub mod Printed
-mod Proper
-mod PushedNames
-mod Read
-mod Sharers
-mod Sharing
-mod Suggested
-mod Suggesting
-mod Tallied
-mod Texts
-mod Twice
-mod United
-mod Wanted
-mod Writable
+pub mod Suggested
+pub mod Texts

@@ -1,34 +1,46 @@
 -- The text of suggestions is read as their entries.
-use Rattle.std.proofs.Common.{◌≡◌, ◌≢◌, ◌+◌, ◌/◌, ◌%◌, ◌==◌, ℕ, zero, suc, Bool, true, false, if◌then◌else◌, not, List, [], ◌∷◌, ◌++◌, map, filter, Option, Some, None, option_to_list, unwrap_or, bytes_eq, decimal, codes, nat_lt, append-nil, append_assoc, arith, refl, sym, ap, subst, ◌∙◌}
-use Rattle.std.specs.Fmt.{digit_glyph, digits, digits_onto}
+use Rattle.std.proofs.Common.{◌≡◌, ℕ, true, false, if◌then◌else◌, Option, Some, None, Ok, [], ◌∷◌, unwrap_or, refl, sym, ap, ◌∙◌, rules, ◌≢◌, ◌+◌, zero, suc, Bool, not, List, ◌++◌, map, filter, option_to_list, bytes_eq, decimal, codes, append-nil, append_assoc, arith, subst}
+use Rattle.mailmap_entries.specs.Entries.{Mapping}
+use Rattle.mailmap_entries.specs.Folding.{Text}
+use Rattle.mailmap_entries.specs.Semantics.{is_accepted}
+use Rattle.mailmap_grammar.specs.CanonicalText.{IsWritable}
+use Rattle.mailmap_grammar.specs.Lines.{Reading, is_comment, line_reading, reading, reading_by, strict_line_reading, strict_reading, unless_blank, Absent, Closed, HoldsNo, Unclosed, contact_in, cut, trimmed_contact, mappings_in, mappings_of, pieces, readings_from}
+use Rattle.mailmap_grammar.specs.Trimming.{trim}
+use Rattle.mailmap_snapshot.proofs.WhiteEnds.{trim-blank_start, HoldsNo-trim, trim-nil, trim-trim}
+use Rattle.mailmap_snapshot.proofs.WrittenLine.{body, reading-canonical_line, strict_reading-canonical_line, one_line}
+use Rattle.mailmap_suggestions.specs.SuggestedText.{entry_line, fields_text, by_git, count_line, count_lines, entry_lines, group_text, reviewed_text, mark, suggested_text, text_by}
+use Rattle.std.specs.Fmt.{digits, digits_onto}
 use Rattle.std.specs.List.{AllByRecursion, flat_map}
 use Rattle.std.specs.Result.{result_ok}
 use Rattle.mailmap_contacts.specs.Contacts.{Contact, Tally, answer_to, answered, contact_on, contacts_from, once, same_contact, tallied, tally_on}
 use Rattle.mailmap_contacts.specs.declared.occurrences.Occurrences.{Occurrences}
-use Rattle.mailmap_entries.specs.Entries.{Mapping}
-use Rattle.mailmap_entries.specs.Folding.{Text}
 use Rattle.mailmap_entries.proofs.Parts.{all_append, all_apply, all_head, all_mapped, all_tail, all_weaker}
-use Rattle.mailmap_grammar.specs.CanonicalText.{IsWritable, IsWritableName}
-use Rattle.mailmap_grammar.specs.Lines.{Absent, Closed, HoldsNo, Reading, Unclosed, contact_in, cut, trimmed_contact, is_comment, line_reading, mappings_in, mappings_of, pieces, reading, readings_from, unless_blank}
-use Rattle.mailmap_grammar.specs.Trimming.{trim}
 use Rattle.mailmap_grammar.proofs.Cut.{cut_at_closing-cut}
 use Rattle.mailmap_grammar.proofs.LineFeeds.{pieces-line}
 use Rattle.mailmap_snapshot.specs.Contacts.{contact_line}
-use Rattle.mailmap_snapshot.proofs.WhiteEnds.{HoldsNo-trim, trim-nil, trim-trim}
-use Rattle.mailmap_snapshot.proofs.WrittenLine.{one_line}
 use Rattle.mailmap_suggestions.specs.Contacts.{git_answer_to}
 use Rattle.mailmap_suggestions.specs.Groups.{are_alike, email_shared, name_shared, shared_texts}
 use Rattle.mailmap_suggestions.specs.Forms.{alike}
 use Rattle.mailmap_suggestions.specs.Counted.{by_frequency, counted, git_answered, git_counted, ranked}
-use Rattle.mailmap_suggestions.specs.SuggestedText.{by_git, count_line, count_lines, entry_line, entry_lines, fields_text, group_text, reviewed_text, mark, suggested_text, text_by}
 use Rattle.mailmap_suggestions.specs.GroupEntries.{IsWritableContact, contacts, email_entries, group_entries, groups, name_entries, sharers}
-use Rattle.mailmap_suggestions.proofs.OneEmail.{all_filtered}
 use Rattle.mailmap_suggestions.proofs.Frequency.{all_by_frequency}
-use Rattle.mailmap_suggestions.proofs.Proper.{Each, each_tallied}
-use Rattle.mailmap_suggestions.proofs.Good.{emails_good, more_writable, names_good}
+use Rattle.mailmap_contacts.proofs.Tallied.{each_tallied}
+use Rattle.mailmap_suggestions.proofs.Suggested.{Each}
+use Rattle.mailmap_suggestions.proofs.Writable.{emails_good, more_writable, names_good, IsGood, answer_writable, git_writable}
 use Rattle.mailmap_suggestions.proofs.Distinct.{all_of}
-use Rattle.mailmap_suggestions.proofs.Read.{entry_read}
-use Rattle.mailmap_suggestions.proofs.Writable.{IsGood, answer_writable, git_writable}
+use Rattle.mailmap_contacts.proofs.Steps.{all_filtered}
+
+-- a space at its start changes nothing
+with_space : (reads : ℕ → Text → Reading) (n : ℕ) (s : Text) → is_comment s ≡ false → reading_by reads n s ≡ reading_by reads n (32 ∷ s)
+with_space reads n s out = ap (λ b. if b then None else unless_blank reads n (trim s)) out ∙ ap (unless_blank reads n) (sym (trim-blank_start s))
+
+as_line : (reads : ℕ → Text → Reading) (n : ℕ) (e : Mapping) → is_accepted e ≡ true → reading_by reads n (entry_line e) ≡ reading_by reads n (32 ∷ body e)
+as_line reads n e accepted = search (rules, with_space)
+
+pub entry_read : (n : ℕ) (e : Mapping) → IsWritable e → is_accepted e ≡ true → (reading n (entry_line e) ≡ Some (Ok e)) × (strict_reading n (entry_line e) ≡ Some (Ok e))
+entry_read n e w accepted = (as_line line_reading n e accepted ∙ reading-canonical_line n e w accepted, as_line strict_line_reading n e accepted ∙ strict_reading-canonical_line n e w accepted)
+
+-- ==== the text of suggestions is read as their entries
 
 -- ---- texts of whole lines
 
@@ -83,29 +95,14 @@ says_whole s es says =
 
 digits_line : (k n : ℕ) (acc : Text) → HoldsNo 10 acc → HoldsNo 10 (digits_onto k 10 false n acc)
 digits_line zero n acc one = one
-digits_line (suc k) n acc one =
-    let more : HoldsNo 10 (digit_glyph false (n % 10) ∷ acc) = (glyph (n % 10), one) in
-    elim (n / 10 == 0) as (λ b. HoldsNo 10 (if b then digit_glyph false (n % 10) ∷ acc else digits_onto k 10 false (n / 10) (digit_glyph false (n % 10) ∷ acc))) [
-      | true ↦ more
-      | false ↦ digits_line k (n / 10) (digit_glyph false (n % 10) ∷ acc) more
-    ]
-  where
-    glyph : (d : ℕ) → digit_glyph false d ≢ 10
-    glyph d = elim (nat_lt d 10) as (λ b. (if b then 48 + d else 87 + d) ≢ 10) [ true ↦ omega arith | false ↦ omega arith ]
+digits_line (suc k) n acc one = search (rules, digits_line k)
 
 decimal_line : (n : ℕ) → HoldsNo 10 (decimal n)
 unfolding digits
 decimal_line n = digits_line 64 n [] tt
 
 contact_holds_no_feed : (c : Contact) → IsWritableContact c → HoldsNo 10 (contact_line c.name c.email)
-contact_holds_no_feed c w = by c.name w.name
-  where
-    by : (name : Text) → (name ≢ [] → IsWritableName name) → HoldsNo 10 (contact_line name c.email)
-    by [] named = (omega arith, all_append (λ x. x ≢ 10) c.email (62 ∷ []) w.email.one_line (omega arith, tt))
-    by (b ∷ name) named =
-        all_append (λ x. x ≢ 10) ((b ∷ name) ++ 32 ∷ 60 ∷ c.email) (62 ∷ [])
-        (all_append (λ x. x ≢ 10) (b ∷ name) (32 ∷ 60 ∷ c.email) (named (λ e. cc)).one_line (omega arith, (omega arith, w.email.one_line)))
-        (omega arith, tt)
+contact_holds_no_feed c w = search (rules, all_append)
 
 git_line : (is_gits : Bool) → HoldsNo 10 (by_git is_gits)
 git_line false = tt

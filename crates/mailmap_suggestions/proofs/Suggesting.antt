@@ -1,74 +1,81 @@
 -- What is suggested, group by group.
-use Rattle.std.proofs.Common.{◌≡◌, ◌+◌, ℕ, Bool, true, false, true≢false, ◌||◌, if◌then◌else◌, not, List, [], ◌∷◌, ◌++◌, map, filter, is_some, bytes_eq, arith, append_assoc, refl, sym, ap, subst, ◌∙◌}
-use Rattle.std.specs.Prelude.{⊤}
+use Rattle.std.proofs.Common.{◌≡◌, true, Option, Some, None, List, [], ◌∷◌, append-nil, subst, rules, Bool, not, map, filter, bytes_eq, refl, sym, ap, ◌∙◌}
+use Rattle.std.specs.List.{AllByRecursion, filter_map, flat_map}
+use Rattle.std.specs.Option.{option_and_then}
+use Rattle.mailmap_entries.specs.Entries.{Mapping, mapping_of}
+use Rattle.mailmap_entries.specs.Folding.{Text}
+use Rattle.mailmap_entries.specs.Semantics.{is_accepted, accepted}
+use Rattle.mailmap_findings.proofs.Readings.{located_accepted}
+use Rattle.mailmap_findings.proofs.Read.{mappings_of-located_lines}
+use Rattle.mailmap_findings.specs.Git.{entry_of_first, entry_of_text, git_contact, git_entries, part_entry, parts, trim_name, GitContact}
+use Rattle.mailmap_findings.specs.Positions.{located, located_lines}
+use Rattle.mailmap_grammar.specs.Lines.{ParsedContact, Absent, Unclosed, Closed, mappings_of}
+use Rattle.mailmap_redundancy.specs.Redundancy.{LocatedMapping, entries, located_of}
 use Rattle.std.specs.Borrow.{Bor}
 use Rattle.std.specs.Global.{Vec}
-use Rattle.std.specs.List.{AllByRecursion, IsDistinct, flat_map}
-use Rattle.std.specs.List.Sorted.{IsStrictlySortedBy}
 use Rattle.std.specs.Ordering.{nat_cmp, on}
-use Rattle.std.proofs.lemmas.Bool.{and_parts}
-use Rattle.std.proofs.lemmas.List.Elements.{filter-append}
 use Rattle.std.proofs.lemmas.List.Folds.{flat_map-map}
 use Rattle.std.proofs.lemmas.List.Kept.{IsStrictlySortedBy-filter}
-use Rattle.mailmap_contacts.specs.Contacts.{Contact, Tally, answer_to, contacts_from, same_contact, tallied}
-use Rattle.mailmap_contacts.proofs.Tallied.{Ascends, ascends_tallied, contacts_ascend, later}
-use Rattle.mailmap_entries.specs.Entries.{Mapping, mapping_of}
-use Rattle.mailmap_entries.specs.Folding.{Text, folded}
-use Rattle.mailmap_entries.specs.Semantics.{accepted, is_accepted}
-use Rattle.mailmap_entries.proofs.Parts.{all_append, all_weaker, filter_all}
-use Rattle.mailmap_redundancy.specs.Redundancy.{LocatedMapping, entries, located_of}
+use Rattle.mailmap_contacts.specs.Contacts.{Contact, Tally, answer_to, same_contact}
+use Rattle.mailmap_contacts.proofs.Steps.{distinct_filter, all_filtered}
+use Rattle.mailmap_entries.proofs.Parts.{filter_all}
 use Rattle.mailmap_redundancy.specs.declared.located.LocatedEntry.{LocatedEntry}
 use Rattle.mailmap_suggestions.specs.Answered.{HaveAscendingLines, HaveDistinctContacts, contact_behind, tallies_behind}
 use Rattle.mailmap_suggestions.specs.Groups.{are_alike, shared_texts}
-use Rattle.mailmap_suggestions.specs.Forms.{Histories, are_answered, distinct, entries_for_email, entries_to, has_own_entry, is_answered, is_short_enough, long_form, name_unless_empty, named_entries, named_form, of_old_email, plain_entries, plus, short_form}
+use Rattle.mailmap_suggestions.specs.Forms.{Histories, entries_to}
 use Rattle.mailmap_suggestions.specs.Suggestions.{Suggestion, suggestion}
-use Rattle.mailmap_suggestions.specs.GroupEntries.{contacts, group_entries, groups, proper_answer, sharers}
+use Rattle.mailmap_suggestions.specs.GroupEntries.{contacts, group_entries, groups, sharers}
 use Rattle.mailmap_suggestions.specs.declared.answered.Answered.{Answered}
-use Rattle.mailmap_suggestions.proofs.Accepted.{AreAccepted}
-use Rattle.mailmap_suggestions.proofs.Appended.{or_true}
 use Rattle.mailmap_suggestions.proofs.Distinct.{all_joined, all_of}
-use Rattle.mailmap_suggestions.proofs.OneEmail.{all_filtered}
-use Rattle.mailmap_suggestions.proofs.Ordered.{distinct_filter}
-use Rattle.mailmap_suggestions.proofs.Tallied.{compared}
+use Rattle.mailmap_suggestions.proofs.OneEmail.{each_for_email}
+
+abbrev pub AreAccepted : List Mapping → Type 0
+AreAccepted = AllByRecursion (λ e. is_accepted e ≡ true)
+
+located_accepted_entries : (xs : List LocatedMapping) → AllByRecursion (λ x. is_accepted x.entry ≡ true) xs → AreAccepted (entries xs)
+located_accepted_entries [] all = tt
+located_accepted_entries (x ∷ xs) all = (all.0, located_accepted_entries xs all.1)
+
+pub ours_accepted : (buffer : Text) → AreAccepted (mappings_of buffer)
+ours_accepted buffer =
+    let whole = mappings_of-located_lines 0 (buffer ∷ []) in
+    subst AreAccepted (append-nil (mappings_of buffer))
+    (subst AreAccepted whole
+    (located_accepted_entries (located (located_lines (buffer ∷ []))) (located_accepted (located_lines (buffer ∷ [])))))
+
+-- ---- those that git reads
+
+abbrev IfAccepted : Option Mapping → Type 0
+IfAccepted None = Unit {0}
+IfAccepted (Some e) = is_accepted e ≡ true
+
+first_accepted : (new : GitContact) → IfAccepted (entry_of_first new)
+unfolding entry_of_first
+first_accepted new = search rules
+
+contact_accepted : (c : ParsedContact) → IfAccepted (option_and_then entry_of_first (git_contact c))
+contact_accepted Absent = tt
+contact_accepted Unclosed = tt
+contact_accepted (Closed name email rest) = first_accepted (record { name = trim_name name; email = email; rest = rest })
+
+text_accepted : (text : Text) → IfAccepted (entry_of_text text)
+unfolding entry_of_text
+text_accepted text = search (rules, contact_accepted)
+
+parts_accepted : (ps : List Text) → AreAccepted (filter_map part_entry ps)
+parts_accepted [] = tt
+parts_accepted (p ∷ ps) = search (rules, parts_accepted ps, text_accepted)
+
+pub line_accepted : (line : Text) → AreAccepted (git_entries line)
+unfolding git_entries
+line_accepted line = parts_accepted (parts line)
+
+-- ==== what is suggested, group by group
 
 -- ---- all suggested entries are accepted
 
-module _ (to : Contact) where
-  plain_accepted : (h : Histories) (ps : List Contact) → AreAccepted (plain_entries h to ps)
-  plain_accepted h [] = tt
-  plain_accepted h (c ∷ cs) =
-      elim (are_answered h to (c ∷ cs)) as (λ b. AreAccepted (if b then [] else (if is_short_enough h to c cs then short_form to else long_form to c) ∷ [])) [
-        | true ↦ tt
-        | false ↦ (
-          elim (is_short_enough h to c cs) as (λ b. is_short_enough h to c cs ≡ b → is_accepted (if b then short_form to else long_form to c) ≡ true) [
-            | true ↦ λ enough. ap (λ b. b || false)
-                (and_parts (is_some (name_unless_empty to)) (bytes_eq (folded to.email) (folded c.email))
-                (and_parts _ (are_answered (plus h (short_form to ∷ [])) to (c ∷ cs)) enough).0).0
-            | false ↦ λ _. or_true (is_some (name_unless_empty to)) true refl
-          ] refl,
-          tt,
-        )
-      ]
-
-  named_accepted : (h : Histories) (cs : List Contact) → AreAccepted (named_entries h to cs)
-  named_accepted h [] = tt
-  named_accepted h (c ∷ cs) =
-      elim (is_answered h to c) as (λ b. AreAccepted (if b then named_entries h to cs else named_form to c ∷ named_entries (plus h (named_form to c ∷ [])) to cs)) [
-        | true ↦ named_accepted h cs
-        | false ↦ (or_true (is_some (name_unless_empty to)) true refl, named_accepted (plus h (named_form to c ∷ [])) cs)
-      ]
-
-  email_accepted : (h : Histories) (cs : List Contact) → AreAccepted (entries_for_email h to cs)
-  email_accepted h cs =
-      let plain = plain_entries h to (filter (λ c. not (has_own_entry h c)) cs) in
-      all_append (λ e. is_accepted e ≡ true) plain (named_entries (plus h plain) to cs)
-      (plain_accepted h (filter (λ c. not (has_own_entry h c)) cs)) (named_accepted (plus h plain) cs)
-
-  pub entries_accepted : (h : Histories) (cs : List Contact) → AreAccepted (entries_to h to cs)
-  entries_accepted h cs =
-      let emails = distinct (map (λ c. folded c.email) cs) in
-      all_joined (λ e. is_accepted e ≡ true) (λ email. entries_for_email h to (of_old_email email cs)) emails
-      (all_of (λ email. AreAccepted (entries_for_email h to (of_old_email email cs))) (λ email. email_accepted h (of_old_email email cs)) emails)
+pub entries_accepted : (to : Contact) (h : Histories) (cs : List Contact) → AreAccepted (entries_to h to cs)
+entries_accepted to h cs = search (rules, all_joined, all_of, each_for_email)
 
 -- ---- groups
 
@@ -94,33 +101,6 @@ distinct_kept p ts once = distinct_filter (on (λ (t : Tally). t.contact) same_c
 pub contacts_of_group : (g : List (Bor Answered)) → contacts (tallies_behind g) ≡ map contact_behind g
 contacts_of_group [] = refl
 contacts_of_group (a ∷ g) = ap (λ l. contact_behind a ∷ l) (contacts_of_group g)
-
--- ---- the contacts of a history
-
-other : (b : Bool) → not b ≡ true → b ≡ false
-other true e = absurd (true≢false (sym e))
-other false e = refl
-
-pub distinct_tallied : (ts : List Tally) → HaveDistinctContacts (tallied ts)
-unfolding IsDistinct
-distinct_tallied [] = tt
-distinct_tallied (t ∷ ts) = (
-  all_filtered (λ u. not (same_contact t.contact u.contact)) (λ _. ⊤) (λ u. same_contact t.contact u.contact ≡ false)
-      (λ u _ out. other (same_contact t.contact u.contact) out) (tallied ts) (all_of (λ _. ⊤) (λ _. tt) (tallied ts)),
-  distinct_kept (λ u. not (same_contact t.contact u.contact)) (tallied ts) (distinct_tallied ts),
-)
-
-ascending : (n : ℕ) (ts : List Tally) → Ascends n ts → HaveAscendingLines ts
-unfolding IsStrictlySortedBy
-ascending n [] up = tt
-ascending n (t ∷ ts) up =
-    let line = t.seen.first_line in (
-      all_weaker ts (λ u le. compared line u.seen.first_line (omega (arith, le))) (later (line + 1) ts up.1),
-      ascending (line + 1) ts up.1,
-    )
-
-pub history_ascends : (lines : List Text) → HaveAscendingLines (tallied (contacts_from 1 lines))
-history_ascends lines = ascending 1 (tallied (contacts_from 1 lines)) (ascends_tallied 1 (contacts_from 1 lines) (contacts_ascend 1 lines))
 
 -- ---- the groups of a loop
 
@@ -148,13 +128,4 @@ pub suggested_entries : (h : Histories) (b : Bool) (gs : List (List Tally)) → 
 suggested_entries h b gs = flat_map-map (λ (s : Suggestion). s.entries) (suggestion h b) gs
 
 pub groups_accepted : (h : Histories) (gs : List (List Tally)) → accepted (flat_map (group_entries h) gs) ≡ flat_map (group_entries h) gs
-groups_accepted h gs =
-    filter_all is_accepted (flat_map (group_entries h) gs)
-    (all_joined (λ e. is_accepted e ≡ true) (group_entries h) gs
-    (all_of (λ g. AreAccepted (group_entries h g)) (λ g. entries_accepted (proper_answer h g) h (contacts g)) gs))
-
--- accepted entries one after another
-pub plus_accepted : (h : Histories) (xs ys : List Mapping) → plus (plus h (accepted xs)) (accepted ys) ≡ plus h (accepted (xs ++ ys))
-plus_accepted h xs ys =
-    (λ i. record { ours = append_assoc h.ours (accepted xs) (accepted ys) i; gits = append_assoc h.gits (accepted xs) (accepted ys) i })
-    ∙ ap (plus h) (sym (filter-append is_accepted xs ys))
+groups_accepted h gs = search (rules, filter_all, all_joined, all_of, entries_accepted)

@@ -1,26 +1,25 @@
 -- Suggested entries can be written, if the mappings and the contacts can.
-use Rattle.std.proofs.Common.{◌≡◌, ◌≢◌, Bool, true, false, true≢false, ◌||◌, if◌then◌else◌, not, List, [], ◌∷◌, ◌++◌, map, filter, filter_map, Option, Some, None, IfSome, is_some, unwrap_or, option_map, bytes_eq, refl, sym, ap, subst, ◌∙◌}
-use Rattle.std.specs.List.{AllByRecursion, cons_option}
+use Rattle.std.proofs.Common.{◌≡◌, ◌≢◌, Bool, true, false, true≢false, if◌then◌else◌, not, List, [], ◌∷◌, ◌++◌, map, filter, Option, Some, None, IfSome, is_some, unwrap_or, option_map, bytes_eq, refl, sym, ap, subst, ◌∙◌, rules}
+use Rattle.std.specs.List.{AllByRecursion}
 use Rattle.std.specs.Ordering.{eq_by_cmp}
-use Rattle.std.proofs.lemmas.Bool.{and_parts}
-use Rattle.mailmap_contacts.specs.Contacts.{Contact, answer_to}
+use Rattle.mailmap_contacts.specs.Contacts.{Contact, answer_to, Tally}
 use Rattle.mailmap_entries.specs.Entries.{Mapping}
 use Rattle.mailmap_entries.specs.Folding.{Text, folded, text_cmp}
-use Rattle.mailmap_entries.specs.Semantics.{Fields, Key, accepted, first, given_fields, is_accepted, key, key_cmp, last, new_fields, of_email, of_key, spelling}
-use Rattle.mailmap_entries.proofs.Building.{same_key}
+use Rattle.mailmap_entries.specs.Semantics.{Fields, accepted, first, is_accepted, of_email, spelling}
 use Rattle.mailmap_entries.proofs.Joined.{filter_none}
-use Rattle.mailmap_entries.proofs.Parts.{all_append, all_apply, all_last, all_weaker}
+use Rattle.mailmap_entries.proofs.Parts.{all_append, all_apply, all_weaker}
 use Rattle.mailmap_grammar.specs.CanonicalText.{IsWritable, IsWritableEmail, IsWritableName}
-use Rattle.mailmap_suggestions.specs.Contacts.{git_answer_to, own_key}
-use Rattle.mailmap_suggestions.specs.Forms.{alike, are_answered, distinct, entries_for_email, entries_to, has_own_entry, is_answered, is_short_enough, long_form, name_unless_empty, named_entries, named_form, of_old_email, plain_entries, plus, short_form}
-use Rattle.mailmap_suggestions.specs.GroupEntries.{IsWritableContact}
-use Rattle.mailmap_suggestions.proofs.Answers.{answer_is, fields, git_is, no_own, own_fields, spelled}
-use Rattle.mailmap_suggestions.proofs.Appended.{or_true}
-use Rattle.mailmap_suggestions.proofs.Distinct.{all_joined, all_of, refuted, unfiltered}
-use Rattle.mailmap_suggestions.proofs.OneEmail.{IsOfEmail, IsPlain, all_filtered, named_none, none_own, own_none, plain_all}
-use Rattle.mailmap_suggestions.proofs.Exact.{Answered, answered_decides, equal_bytes, named_step, same_bytes, spelled_more}
-use Rattle.mailmap_suggestions.proofs.Named.{folded_empty}
-use Rattle.mailmap_suggestions.proofs.Wanted.{IsWanting}
+use Rattle.mailmap_suggestions.specs.Contacts.{git_answer_to}
+use Rattle.mailmap_suggestions.specs.Forms.{alike, distinct, entries_for_email, entries_to, has_own_entry, is_answered, long_form, name_unless_empty, named_entries, named_form, of_old_email, plain_entries, short_form}
+use Rattle.mailmap_suggestions.specs.GroupEntries.{IsWritableContact, HasNoEmptyName, contacts, email_entries, name_entries}
+use Rattle.mailmap_suggestions.proofs.Answers.{answer_is, fields, git_is, no_own, own_fields, spelled, folded_empty, accepted_all, fields_all}
+use Rattle.mailmap_suggestions.proofs.Distinct.{all_joined, all_of, same_bytes, somes}
+use Rattle.mailmap_contacts.proofs.Steps.{all_unfiltered, all_filtered}
+use Rattle.mailmap_suggestions.proofs.OneEmail.{IsOfEmail, IsPlain, named_none, none_own, own_none, plain_all, each_plain, IsWanting}
+use Rattle.mailmap_suggestions.proofs.Exact.{Answered, answered_decides, named_step, spelled_more}
+use Rattle.mailmap_suggestions.specs.Groups.{are_alike, email_shared, name_shared}
+use Rattle.mailmap_suggestions.proofs.United.{sharing, CanUnite, part, whole, Any, some_email, IsProperIfAny}
+use Rattle.mailmap_suggestions.proofs.Suggested.{First, can_email, can_name, entries_are, proper_to, to}
 
 -- a line can hold it, and it maps something
 abbrev pub IsGood : Mapping → Type 0
@@ -31,39 +30,14 @@ IsGood e = IsWritable e × (is_accepted e ≡ true)
 abbrev AreWritable : Fields → Type 0
 AreWritable f = IfSome f.name IsWritableName × IfSome f.email IsWritableEmail
 
-last_some : (P : Text → Type 0) (f : Mapping → Option Text) (l : List Mapping) → AllByRecursion (λ e. IfSome (f e) P) l → IfSome (last (filter_map f l)) P
-last_some P f [] all = tt
-last_some P f (x ∷ xs) all =
-    elim (f x) as (λ o. IfSome o P → IfSome (last (cons_option o (filter_map f xs))) P) [
-      | None ↦ λ _. last_some P f xs all.1
-      | Some t ↦ λ p. by t p (last (filter_map f xs)) (last_some P f xs all.1)
-    ] all.0
-  where
-    by : (t : Text) → P t → (o : Option Text) → IfSome o P → P (unwrap_or o t)
-    by t p None q = p
-    by t p (Some u) q = q
-
-last_writable : (l : List Mapping) (f : Fields) → AllByRecursion IsWritable l → AreWritable f → AreWritable (unwrap_or (option_map new_fields (last l)) f)
-last_writable [] f all w = w
-last_writable (x ∷ xs) f all w = let e = all_last IsWritable x xs all.0 all.1 in (e.names.0, e.emails.0)
-
-of_key_writable : (h : List Mapping) (k : Key) → AllByRecursion IsWritable h → AllByRecursion IsWritable (of_key h k)
-of_key_writable h k all =
-    all_filtered (λ e. eq_by_cmp key_cmp k (key e)) IsWritable IsWritable (λ e p _. p) (accepted h)
-    (all_filtered is_accepted IsWritable IsWritable (λ e p _. p) h all)
-
 fields_writable : (h : List Mapping) (c : Contact) → AllByRecursion IsWritable h → AreWritable (fields h c)
 fields_writable h c all =
-    let plain = of_key h (folded c.email, None) in
-    let each = of_key_writable h (folded c.email, None) all in
-    last_writable (of_key h (own_key c)) (given_fields h (folded c.email)) (of_key_writable h (own_key c) all)
-    (last_some IsWritableName (λ e. e.new_name) plain (all_weaker plain (λ e w. w.names.0) each), last_some IsWritableEmail (λ e. e.new_email) plain (all_weaker plain (λ e w. w.emails.0) each))
+    fields_all (λ o. IfSome o IsWritableName) (λ o. IfSome o IsWritableEmail) tt tt h c (all_weaker h (λ x w. (w.names.0, w.emails.0)) all)
 
 spelled_writable : (h : List Mapping) (c : Contact) → AllByRecursion IsWritable h → IfSome (spelled h c) IsWritableEmail
 spelled_writable h c all =
     by (of_email h (folded c.email))
-    (all_filtered (λ e. eq_by_cmp text_cmp (folded c.email) (folded e.old_email)) IsWritable IsWritable (λ e p _. p) (accepted h)
-    (all_filtered is_accepted IsWritable IsWritable (λ e p _. p) h all))
+    (all_filtered (λ e. eq_by_cmp text_cmp (folded c.email) (folded e.old_email)) IsWritable IsWritable (λ e p _. p) (accepted h) (accepted_all IsWritable h all))
   where
     by : (l : List Mapping) → AllByRecursion IsWritable l → IfSome (option_map (λ e. e.old_email) (first l)) IsWritableEmail
     by [] all = tt
@@ -99,15 +73,7 @@ git_writable h c all w =
 
 -- a contact without a name has no entry of its own
 pub unnamed_own : (h : List Mapping) (c : Contact) → AllByRecursion IsWritable h → c.name ≡ [] → own_fields h c ≡ None
-unnamed_own h c all empty =
-    ap (λ l. option_map new_fields (last l))
-    (filter_none (λ e. eq_by_cmp key_cmp (own_key c) (key e)) (accepted h)
-    (all_weaker (accepted h) (λ e w. refuted (eq_by_cmp key_cmp (own_key c) (key e)) (λ same. named e.old_name w.names.1 (ap (λ k. k.1) ((same_key (own_key c) (key e)).0 same))))
-    (all_filtered is_accepted IsWritable IsWritable (λ e p _. p) h all)))
-  where
-    named : (o : Option Text) → IfSome o IsWritableName → Some (folded c.name) ≡ option_map folded o → ⊥
-    named None w same = true≢false (ap is_some same)
-    named (Some n) w same = w.some (folded_empty n (sym (ap (λ o. unwrap_or o []) same) ∙ ap folded empty))
+unnamed_own h c all empty = search (rules, filter_none, all_weaker, accepted_all, folded_empty)
 
 -- ---- the forms
 
@@ -116,49 +82,20 @@ pub record IsSuggestible (to : Contact) : Type 0 where
   pub writable : IsWritableContact to
   pub some : to.email ≢ []
 
-name_writable : (to : Contact) → IsWritableContact to → IfSome (name_unless_empty to) IsWritableName
-name_writable to w =
-    elim (bytes_eq to.name []) as (λ b. bytes_eq to.name [] ≡ b → IfSome (if b then None else Some to.name) IsWritableName) [
-      | true ↦ λ _. tt
-      | false ↦ λ other. w.name (λ e. true≢false (sym (equal_bytes to.name [] e) ∙ other))
-    ] refl
-
 long_good : (to c : Contact) → IsSuggestible to → IsWritableContact c → IsGood (long_form to c)
-long_good to c s w = (
-  record { names = (name_writable to s.writable, tt); emails = (s.writable.email, w.email); some_new = s.some; some_old = tt; paired = tt },
-  or_true (is_some (name_unless_empty to)) true refl,
-)
+long_good to c s w = search rules
 
 short_good : (to : Contact) → IsSuggestible to → is_some (name_unless_empty to) ≡ true → IsGood (short_form to)
-short_good to s named = (
-  record { names = (name_writable to s.writable, tt); emails = (tt, s.writable.email); some_new = tt; some_old = s.some; paired = tt },
-  ap (λ b. b || false) named,
-)
+short_good to s named = search rules
 
 named_good : (to c : Contact) → IsSuggestible to → IsWritableContact c → c.name ≢ [] → IsGood (named_form to c)
-named_good to c s w some = (
-  record { names = (name_writable to s.writable, w.name some); emails = (s.writable.email, w.email); some_new = s.some; some_old = tt; paired = refl },
-  or_true (is_some (name_unless_empty to)) true refl,
-)
+named_good to c s w some = search rules
 
 -- ---- the entries for one old email
 
 module _ (h : List Mapping) (to : Contact) (s : IsSuggestible to) where
   plain_good : (ps : List Contact) → AllByRecursion IsWritableContact ps → AllByRecursion IsGood (plain_entries (alike h) to ps)
-  plain_good [] all = tt
-  plain_good (c ∷ cs) all =
-      elim (are_answered (alike h) to (c ∷ cs)) as (λ b. AllByRecursion IsGood (if b then [] else (if is_short_enough (alike h) to c cs then short_form to else long_form to c) ∷ [])) [
-        | true ↦ tt
-        | false ↦ (
-          elim (is_short_enough (alike h) to c cs) as (λ b. is_short_enough (alike h) to c cs ≡ b → IsGood (if b then short_form to else long_form to c)) [
-            | true ↦ λ enough. short_good to s
-                (and_parts (is_some (name_unless_empty to)) (bytes_eq (folded to.email) (folded c.email))
-                (and_parts _ (are_answered (plus (alike h) (short_form to ∷ [])) to (c ∷ cs)) enough).0).0
-            | false ↦ λ _. long_good to c s all.0
-          ] refl,
-          tt,
-        )
-      ]
+  plain_good ps all = each_plain IsGood to (alike h) ps (all_weaker ps (λ c w. (λ named _. short_good to s named, long_good to c s w)) all)
 
   -- what is known of each contact before the entries with old names
   record IsNameable (g : List Mapping) (email : Text) (c : Contact) : Type 0 where
@@ -167,14 +104,14 @@ module _ (h : List Mapping) (to : Contact) (s : IsSuggestible to) where
     writable : IsWritableContact c
     unnamed : c.name ≡ [] → Answered g to c
 
-  names_good : (email : Text) (cs : List Contact) (g : List Mapping) (t : Text) → spelling g email ≡ Some t → AllByRecursion (IsNameable g email) cs → AllByRecursion IsGood (named_entries (alike g) to cs)
-  names_good email [] g t some all = tt
-  names_good email (c ∷ cs) g t some all =
+  named_entries_good : (email : Text) (cs : List Contact) (g : List Mapping) (t : Text) → spelling g email ≡ Some t → AllByRecursion (IsNameable g email) cs → AllByRecursion IsGood (named_entries (alike g) to cs)
+  named_entries_good email [] g t some all = tt
+  named_entries_good email (c ∷ cs) g t some all =
       elim (is_answered (alike g) to c) as (λ b. is_answered (alike g) to c ≡ b → AllByRecursion IsGood (if b then named_entries (alike g) to cs else named_form to c ∷ named_entries (alike (g ++ named_form to c ∷ [])) to cs)) [
-        | true ↦ λ _. names_good email cs g t some all.1
+        | true ↦ λ _. named_entries_good email cs g t some all.1
         | false ↦ λ other. (
           named_good to c s (all.0).writable (λ empty. true≢false (sym ((answered_decides g to c).1 ((all.0).unnamed empty)) ∙ other)),
-          names_good email cs (g ++ named_form to c ∷ []) t (spelled_more g (named_form to c ∷ []) email t some)
+          named_entries_good email cs (g ++ named_form to c ∷ []) t (spelled_more g (named_form to c ∷ []) email t some)
               (all_weaker cs (λ d p. record {
                 email_is = p.email_is;
                 fits = p.fits;
@@ -199,7 +136,7 @@ module _ (h : List Mapping) (to : Contact) (s : IsSuggestible to) where
       answered : AllByRecursion (λ c. own_fields h c ≡ None → Answered (h ++ plain) to c) cs
       answered =
           all_weaker cs (λ c f none. f (own_none h c none))
-          (unfiltered own (Answered (h ++ plain) to) cs
+          (all_unfiltered own (Answered (h ++ plain) to) cs
           (plain_all h to email (filter own cs)
           (all_filtered own (λ c. IsOfEmail h to email c × IsWritableContact c) (IsPlain h to email) (λ c p out. record { email_is = p.0.email_is; none = none_own h c out; unnamed = p.0.unnamed }) cs all)))
 
@@ -211,7 +148,7 @@ module _ (h : List Mapping) (to : Contact) (s : IsSuggestible to) where
           (λ c p f. f (no_own h c (ap (spelling h) p.0.email_is ∙ none))) cs all answered)))
           tt
       by (Some t) some =
-          names_good email cs (h ++ plain) t (spelled_more h plain email t some)
+          named_entries_good email cs (h ++ plain) t (spelled_more h plain email t some)
           (all_apply (λ c. IsOfEmail h to email c × IsWritableContact c) (λ c. own_fields h c ≡ None → Answered (h ++ plain) to c) (IsNameable (h ++ plain) email)
           (λ c p f. record { email_is = p.0.email_is; fits = p.0.fits; writable = p.1; unnamed = λ empty. f (unnamed_own h c writable empty) }) cs all answered)
 
@@ -224,3 +161,53 @@ module _ (h : List Mapping) (to : Contact) (s : IsSuggestible to) where
       (all_filtered (λ c. bytes_eq email (folded c.email)) (λ c. IsWanting h to c × IsWritableContact c) (λ c. IsOfEmail h to email c × IsWritableContact c)
       (λ c p same. (record { email_is = sym (same_bytes email (folded c.email) same); fits = p.0.fits; unnamed = p.0.unnamed }, p.1)) cs all))
       emails)
+
+-- ==== all suggested entries can be written, if the mappings and the contacts can
+
+module _ (h : List Mapping) (cs : List Contact) (shared : Contact → Text) (In : Contact → Type 0) (to : Text → Contact) (can : CanUnite h cs shared In to)
+    (proper : (text : Text) → text ≢ [] → IsProperIfAny h (sharing shared (alike h) cs text) (to text))
+    (has_email : (a : Contact) → shared a ≢ [] → a.email ≢ [])
+    (writable : AllByRecursion IsWritable h) (each : AllByRecursion IsWritableContact cs) where
+  one_good : (to : Contact) (ds : List Contact) → IsProperIfAny h ds to → AllByRecursion (IsWanting h to) ds → AllByRecursion (λ c. IsWritableContact c × ((answer_to h c).email ≢ [])) ds → AllByRecursion IsGood (entries_to (alike h) to ds)
+  one_good to [] proper wanting all = tt
+  one_good to (c ∷ ds) proper wanting all =
+      let s : IsSuggestible to = record {
+        writable = proper.among IsWritableContact (all_weaker (c ∷ ds) (λ d p. answer_writable h d writable p.0) all);
+        some = proper.among (λ a. a.email ≢ []) (all_weaker (c ∷ ds) (λ d p. p.1) all);
+      } in
+      entries_good h to s writable (c ∷ ds)
+      (all_apply (IsWanting h to) (λ c. IsWritableContact c × ((answer_to h c).email ≢ [])) (λ c. IsWanting h to c × IsWritableContact c) (λ d w p. (w, p.0)) (c ∷ ds) wanting all)
+
+  part_good : (text : Text) → text ≢ [] → AllByRecursion IsGood (part h cs shared In to can text)
+  unfolding part
+  part_good text some =
+      let sharers = sharing shared (alike h) cs text in
+      elim (are_alike (alike h) sharers) as (λ b. AllByRecursion IsGood (if not b then entries_to (alike h) (to text) sharers else [])) [
+        | true ↦ tt
+        | false ↦ one_good (to text) sharers (proper text some) (can.wanting text some)
+            (all_filtered (λ c. bytes_eq text (shared (answer_to h c))) IsWritableContact (λ c. IsWritableContact c × ((answer_to h c).email ≢ []))
+            (λ c w same. (w, has_email (answer_to h c) (λ e. some (same_bytes text (shared (answer_to h c)) same ∙ e)))) cs each)
+      ]
+
+  pub whole_good : AllByRecursion IsGood (whole h cs shared In to can)
+  whole_good = search (rules, all_joined, all_weaker, part_good, somes)
+
+module _ (h : List Mapping) (ts : List Tally) (writable : AllByRecursion IsWritable h) (each : AllByRecursion IsWritableContact (contacts ts)) where
+  named : AllByRecursion HasNoEmptyName h
+  named = search (rules, all_weaker)
+
+  pub emails_good : AllByRecursion IsGood (email_entries (alike h) ts)
+  emails_good =
+      subst (AllByRecursion IsGood) (sym (entries_are h ts email_shared Any (can_email h ts named)))
+      (whole_good h (contacts ts) email_shared Any (to h ts email_shared) (can_email h ts named) (proper_to h ts email_shared) (λ a some e. some (ap folded e)) writable each)
+
+  abbrev with_entries : List Mapping
+  with_entries = h ++ email_entries (alike h) ts
+
+  pub more_writable : AllByRecursion IsWritable with_entries
+  more_writable = all_append IsWritable h (email_entries (alike h) ts) writable (all_weaker (email_entries (alike h) ts) (λ e g. g.0) emails_good)
+
+  pub names_good : AllByRecursion IsGood (name_entries (alike h) ts)
+  names_good =
+      subst (AllByRecursion IsGood) (sym (entries_are with_entries ts name_shared (First h ts named) (can_name h ts named)))
+      (whole_good with_entries (contacts ts) name_shared (First h ts named) (to with_entries ts name_shared) (can_name h ts named) (proper_to with_entries ts name_shared) (λ a some e. some_email a some (ap folded e)) more_writable each)

@@ -131,12 +131,14 @@ impl<'a> History<'a> {
     }
 
     /// What answers as these entries do.
+    #[tactic(auto, using(crate::proofs::Suggesting::entries_in))]
     pub(crate) fn effective(&self, alloc: Global) -> Result<Effective<'_, 'a>, AllocError>
         ensures { IfOk result (λ effective. entries effective.history ≡ self.now) }
     {
         Ok(without_redundant(alloc, self.entries.as_slice())?)
     }
 
+    #[tactic(auto, using(crate::proofs::Suggesting::ours_accepted))]
     fn read(&mut self, buffer: &'a [u8]) -> Result<(), AllocError>
         ensures { OnOk result (self.new ≡ self.old ++ mappings_of buffer.now) }
     {
@@ -155,6 +157,7 @@ impl<'a> History<'a> {
         Ok(())
     }
 
+    #[tactic(auto, using(crate::proofs::Suggesting::line_accepted))]
     fn read_line_as_git(&mut self, line: &'a [u8]) -> Result<(), AllocError>
         ensures { OnOk result (self.new ≡ self.old ++ spec_git_entries line.now) }
     {

@@ -47,6 +47,7 @@ pub fn law_exact()
 
 /// Contacts with the same key, or with the same email and no entries of their own, have answers with the same email,
 /// ASCII case aside. With the same key, they have the same name, too, except for the case.
+#[tactic(auto, using(crate::proofs::OneEmail::linked_email, crate::proofs::OneEmail::linked_name))]
 pub fn law_linked()
     ensures email { (h : List Mapping) (b c : Contact) → folded b.email ≡ folded c.email
         → (folded b.name ≡ folded c.name) ⊎ ((last_fields h (own_key b) ≡ None) × (last_fields h (own_key c) ≡ None))
@@ -57,6 +58,7 @@ pub fn law_linked()
 
 /// If git reads each line of mailmaps as this library does, both have the same entries. No new name that is read is
 /// empty. So the next law holds for such mailmaps.
+#[tactic(auto, using(crate::proofs::Texts::same_histories, crate::proofs::Texts::all_named))]
 pub fn law_read_alike()
     ensures histories { (buffers : List Text) → first_read_otherwise buffers ≡ None
         → flat_map git_mappings buffers ≡ flat_map mappings_of buffers }
@@ -66,6 +68,7 @@ pub fn law_read_alike()
 /// With mailmaps that git reads as this library does, the suggested entries do what they are for. With those of the
 /// first kind appended, no two answers share an email and differ; with those of the second kind, too, no two share a
 /// name, either. Contacts in no group are answered as before, and git answers the same.
+#[tactic(auto, using(crate::proofs::Suggested::unites_emails, crate::proofs::Suggested::unites_names, crate::proofs::Suggested::emails_stay))]
 pub fn law_suggestions()
     ensures emails { (h : List Mapping) (ts : List Tally) → AllByRecursion HasNoEmptyName h
         → Unites email_shared h ts (h ++ email_entries (alike h) ts) }

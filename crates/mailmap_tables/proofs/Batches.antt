@@ -1,14 +1,14 @@
 -- A batch can be sorted by key without a change to the result, if each email gets its first spelling.
+use Rattle.std.proofs.lemmas.Grind.{common_steps}
 use Rattle.std.proofs.Common.{◌≡◌, ◌≤◌, ◌<◌, ◌+◌, ℕ, zero, suc, Bool, true, false, cond, List, [], ◌∷◌, ◌++◌, map}
-use Rattle.std.proofs.Common.{filter, length, get_or, All, Contains, Option, Some, None, option_map, is_some, unwrap_or}
-use Rattle.std.proofs.Common.{is_eq, refl, sym, ap, ◌∙◌, arith}
+use Rattle.std.proofs.Common.{filter, length, get_or, All, Contains, Some, None, option_map, is_some, unwrap_or}
+use Rattle.std.proofs.Common.{refl, sym, ap, ◌∙◌, arith}
 use Rattle.std.specs.Cmp.{Equal-is, tied_itself}
 use Rattle.std.specs.Cmp.Lexicographic.{nat_list_cmp_total}
 use Rattle.std.specs.List.{AllByRecursion, enumerate_from, list_any}
 use Rattle.std.specs.List.Sorted.{IsPermutation}
-use Rattle.std.specs.Option.{option_or}
 use Rattle.std.specs.Ordering.{eq_by_cmp}
-use Rattle.std.proofs.lemmas.Bool.{or_right, false_from_ne_true}
+use Rattle.std.proofs.lemmas.Bool.{or_right}
 use Rattle.std.proofs.lemmas.List.{map-append}
 use Rattle.std.proofs.lemmas.List.Elements.{All-contains, All-from_recursion, recursion_from_All}
 use Rattle.std.proofs.lemmas.List.Sorted.{All-permutation, Contains-permutation, IsPermutation-sym}
@@ -25,6 +25,7 @@ use Rattle.mailmap_entries.proofs.Parts.{list_any-map, some_again}
 use Rattle.mailmap_entries.proofs.Joined.{alike_by_keys, stripped}
 use Rattle.mailmap_entries.proofs.Keys.{keys_total, keys_exact}
 use Rattle.mailmap_entries.proofs.Normal.{known}
+use Rattle.mailmap_tables.proofs.Grouped.{other_text}
 use Rattle.mailmap_batches.proofs.Numbered.{mapped_twice}
 use Rattle.mailmap_batches.proofs.Stable.{filter-map}
 
@@ -73,11 +74,7 @@ module _ (a xs us : List Mapping) (keyed : (k : Key) → of_key xs k ≡ of_key 
   accepted_kept = filter-map is_accepted respell us
 
   of_key_kept : (k : Key) → of_key (map respell us) k ≡ map respell (of_key us k)
-  of_key_kept k =
-      let t : Mapping → Bool = λ e. eq_by_cmp key_cmp k (key e) in
-      ap (filter t) accepted_kept ∙ filter-map t respell (accepted us)
-      ∙ ap (map respell) (filter_alike (λ e. t (respell e)) t (accepted us) (all_weaker (accepted us)
-      (λ e same. ap (eq_by_cmp key_cmp k) (key_kept e same)) kept))
+  of_key_kept k = grind (arith, common_steps, accepted_kept, filter-map, filter_alike, all_weaker, key_kept, kept)
 
   keyed_alike : (k : Key) → map stripped (of_key h k) ≡ map stripped (of_key (a ++ map respell us) k)
   keyed_alike k =
@@ -112,15 +109,7 @@ module _ (a xs us : List Mapping) (keyed : (k : Key) → of_key xs k ≡ of_key 
       ∙ ap (λ b. cond b (Some s) None) any
 
   spelled_alike : (email : Text) → spelling h email ≡ spelling (a ++ map respell us) email
-  spelled_alike email =
-      let parts : (l : List Mapping) → spelling (a ++ l) email ≡ option_or (spelling a email) (spelling l email) =
-      λ l. first_parts (λ e. e.old_email) (λ e. eq_by_cmp text_cmp email (folded e.old_email)) a l in
-      by (spelling a email) (spelling xs email) (spelling h email) (parts xs) ∙ ap (option_or (spelling a email))
-      (sym (spelling_kept email)) ∙ sym (parts (map respell us))
-    where
-      by : (o p s : Option Text) → s ≡ option_or o p → s ≡ option_or o (cond (is_some p) (Some (unwrap_or s [])) None)
-      by None p s e = e ∙ sym (some_again p []) ∙ ap (λ z. cond (is_some p) (Some (unwrap_or z [])) None) (sym e)
-      by (Some z) p s e = e
+  spelled_alike email = grind (arith, common_steps, first_parts, spelling_kept, some_again)
 
   -- a batch can be sorted by its keys, if each email is spelled as in the whole list
   pub alike_respelled : Alike (a ++ xs) (a ++ map (respelled (a ++ xs)) us)
@@ -130,71 +119,45 @@ module _ (a xs us : List Mapping) (keyed : (k : Key) → of_key xs k ≡ of_key 
 
 spelling_skips : (email : Text) (y : Mapping) (ys : List Mapping) → eq_by_cmp text_cmp email (folded y.old_email)
     ≡ false → spelling (y ∷ ys) email ≡ spelling ys email
-spelling_skips email y ys other =
-    let t : Mapping → Bool = λ e. eq_by_cmp text_cmp email (folded e.old_email) in
-    elim (is_accepted y) as (λ b. option_map (λ e. e.old_email)
-    (first (filter t (cond b (y ∷ accepted ys) (accepted ys)))) ≡ spelling ys email) [
-      | true ↦ ap (λ b. option_map (λ e. e.old_email)
-          (first (cond b (y ∷ filter t (accepted ys)) (filter t (accepted ys))))) other
-      | false ↦ refl
-    ]
+spelling_skips email y ys other = grind (arith, common_steps)
 
 pub spelling_first : (y : Mapping) (ys : List Mapping) → is_accepted y ≡ true → spelling (y ∷ ys) (folded y.old_email)
     ≡ Some y.old_email
-spelling_first y ys good =
-    let t : Mapping → Bool = λ e. eq_by_cmp text_cmp (folded y.old_email) (folded e.old_email) in
-    ap (λ b. option_map (λ e. e.old_email) (first (filter t (cond b (y ∷ accepted ys) (accepted ys))))) good
-    ∙ ap (λ o. option_map (λ e. e.old_email) (first (cond (is_eq o) (y ∷ filter t (accepted ys))
-    (filter t (accepted ys))))) (tied_itself nat_list_cmp_total (folded y.old_email))
+spelling_first y ys good = grind (arith, common_steps, tied_itself, nat_list_cmp_total)
 
-module _ {X : Type 0} (f : X → Mapping) where
-  abbrev IsLeast : ℕ × X → ℕ × X → Type 0
-  IsLeast p q = folded (f q.1).old_email ≡ folded (f p.1).old_email → p.0 ≤ q.0
+-- what no later entry of the same email comes before
+abbrev IsLeast : ℕ × Mapping → ℕ × Mapping → Type 0
+IsLeast p q = folded q.1.old_email ≡ folded p.1.old_email → p.0 ≤ q.0
 
-  numbered : (n : ℕ) (xs : List X) → AllByRecursion (λ q. n ≤ q.0) (enumerate_from n xs)
-  numbered n [] = tt
-  numbered n (x ∷ xs) =
-      (omega arith, all_weaker (enumerate_from (n + 1) xs) (λ q le. omega (arith, le)) (numbered (n + 1) xs))
+numbered : {X : Type 0} (n : ℕ) (xs : List X) → AllByRecursion (λ q. n ≤ q.0) (enumerate_from n xs)
+numbered n [] = tt
+numbered n (x ∷ xs) =
+    (omega arith, all_weaker (enumerate_from (n + 1) xs) (λ q le. omega (arith, le)) (numbered (n + 1) xs))
 
-  spells_from : (n : ℕ) (xs : List X) (p : ℕ × X) (k : ℕ) → AllByRecursion (λ e. is_accepted (f e) ≡ true) xs
-      → k < length (enumerate_from n xs) → get_or (enumerate_from n xs) k p ≡ p
-      → AllByRecursion (IsLeast p) (enumerate_from n xs) → spelling (map f xs) (folded (f p.1).old_email) ≡ Some
-      (f p.1).old_email
-  spells_from n [] p k good lt is least = absurd (omega arith)
-  spells_from n (x ∷ xs) p zero good lt is least =
-      ap (λ q. spelling (map f (x ∷ xs)) (folded (f q.1).old_email)) (sym is) ∙ spelling_first (f x) (map f xs) good.0
-      ∙ ap (λ q. Some (f q.1).old_email) is
-  spells_from n (x ∷ xs) p (suc k) good lt is least =
-      let rest : List (ℕ × X) = enumerate_from (n + 1) xs in
-      let more : n + 1 ≤ p.0 = All-contains (λ q. n + 1 ≤ q.0) rest p (All-from_recursion _ rest (numbered (n + 1) xs))
-      (k, omega arith, is) in
-      let email : Text = folded (f p.1).old_email in
-      spelling_skips email (f x) (map f xs) (false_from_ne_true (eq_by_cmp text_cmp email (folded (f x).old_email))
-      (λ same. absurd (let le : p.0 ≤ n =
-      least.0 (sym (exact_bytes email (folded (f x).old_email)
-      ((Equal-is (text_cmp email (folded (f x).old_email))).0 same))) in omega arith)))
-      ∙ spells_from (n + 1) xs p k good.1 (omega arith) is least.1
+spells_from : (n : ℕ) (xs : List Mapping) (p : ℕ × Mapping) (k : ℕ) → AllByRecursion (λ e. is_accepted e ≡ true) xs
+    → k < length (enumerate_from n xs) → get_or (enumerate_from n xs) k p ≡ p
+    → AllByRecursion (IsLeast p) (enumerate_from n xs) → spelling xs (folded p.1.old_email) ≡ Some p.1.old_email
+spells_from n [] p k good lt is least = absurd (omega arith)
+spells_from n (x ∷ xs) p zero good lt is least =
+    ap (λ q. spelling (x ∷ xs) (folded q.1.old_email)) (sym is) ∙ spelling_first x xs good.0
+    ∙ ap (λ q. Some q.1.old_email) is
+spells_from n (x ∷ xs) p (suc k) good lt is least =
+    let rest : List (ℕ × Mapping) = enumerate_from (n + 1) xs in
+    let more : n + 1 ≤ p.0 = All-contains (λ q. n + 1 ≤ q.0) rest p (All-from_recursion _ rest (numbered (n + 1) xs))
+    (k, omega arith, is) in
+    let email : Text = folded p.1.old_email in
+    spelling_skips email x xs (other_text email (folded x.old_email) (λ same. absurd (let le : p.0 ≤ n = least.0 same in
+    omega arith)))
+    ∙ spells_from (n + 1) xs p k good.1 (omega arith) is least.1
 
-  -- the item with the least index spells its email
-  pub least_spells_by : (xs : List X) (ps : List (ℕ × X)) (p : ℕ × X) → AllByRecursion (λ e. is_accepted (f e) ≡ true)
-      xs → IsPermutation (enumerate_from 0 xs) ps → Contains ps p
-      → All (λ q. folded (f q.1).old_email ≡ folded (f p.1).old_email → p.0 ≤ q.0) ps
-      → spelling (map f xs) (folded (f p.1).old_email) ≡ Some (f p.1).old_email
-  least_spells_by xs ps p good moved among least =
-      let all : List (ℕ × X) = enumerate_from 0 xs in
-      let back : IsPermutation ps all = IsPermutation-sym all ps moved in
-      let here = Contains-permutation ps all p back among in
-      spells_from 0 xs p here.0 good here.1 here.2 (recursion_from_All (IsLeast p) all (All-permutation (IsLeast p) ps
-      all back least))
-
-map-itself : {X : Type 0} (xs : List X) → map (λ x. x) xs ≡ xs
-map-itself [] = refl
-map-itself (x ∷ xs) = ap (λ l. x ∷ l) (map-itself xs)
-
+-- the entry with the least index spells its email
 pub least_spells : (xs : List Mapping) (ps : List (ℕ × Mapping)) (p : ℕ × Mapping)
     → AllByRecursion (λ e. is_accepted e ≡ true) xs → IsPermutation (enumerate_from 0 xs) ps → Contains ps p
-    → All (λ q. folded q.1.old_email ≡ folded p.1.old_email → p.0 ≤ q.0) ps → spelling xs (folded p.1.old_email)
-    ≡ Some p.1.old_email
+    → All (λ q. folded q.1.old_email ≡ folded p.1.old_email → p.0 ≤ q.0) ps
+    → spelling xs (folded p.1.old_email) ≡ Some p.1.old_email
 least_spells xs ps p good moved among least =
-    ap (λ l. spelling l (folded p.1.old_email)) (sym (map-itself xs)) ∙ least_spells_by (λ e. e) xs ps p good moved
-    among least
+    let all : List (ℕ × Mapping) = enumerate_from 0 xs in
+    let back : IsPermutation ps all = IsPermutation-sym all ps moved in
+    let here = Contains-permutation ps all p back among in
+    spells_from 0 xs p here.0 good here.1 here.2 (recursion_from_All (IsLeast p) all (All-permutation (IsLeast p) ps
+    all back least))

@@ -1,289 +1,360 @@
--- What tables represent after a row was inserted or replaced.
-use Rattle.std.proofs.Common.{◌≡◌, ◌+◌, ◌-◌, ◌≤◌, ◌<◌, get_or, ℕ, zero, suc, List, [], ◌∷◌, ◌++◌, map, take, drop}
-use Rattle.std.proofs.Common.{length, set, length-drop, option_map, refl, sym, ap, ◌∙◌, arith, subst}
-use Rattle.std.specs.List.{AllByRecursion, insert}
-use Rattle.std.proofs.Math.Seq.{take-set-lt}
-use Rattle.std.proofs.lemmas.List.{drop-set-lt, take-set-le, drop-set-add, map-set}
+-- What tables hold after a row was inserted or replaced.
+use Rattle.std.proofs.lemmas.Grind.{common_steps}
+use Rattle.std.proofs.Common.{◌≡◌, ◌+◌, ◌-◌, ◌≤◌, ◌<◌, get_or, ℕ, suc, List, [], ◌∷◌, ◌++◌, map, take, drop}
+use Rattle.std.proofs.Common.{length, set, length-append, length-set, option_map, refl, sym}
+use Rattle.std.proofs.Common.{ap, ◌∙◌, arith, subst, append_assoc, take-append-drop}
+use Rattle.std.specs.List.{AllByRecursion, HoldsAt, insert}
+use borrow.Rule.Slice.PartMut.{put_mid}
+use Rattle.std.proofs.Math.Seq.{map-set_same, set-append_seam, drop-append-add, drop-append_seam, take-append_seam}
+use Rattle.std.proofs.lemmas.List.{drop-map, drop-set-lt, length-map, map-append}
+use Rattle.std.proofs.lemmas.List.{get_or-map, set-append_left, set-append_right, take-map}
+use Rattle.std.proofs.lemmas.List.Edits.{insert-append_left, insert-append_right, length-insert}
 use Rattle.mailmap_entries.specs.Folding.{Text}
+use Rattle.mailmap_entries.proofs.Parts.{all_append, all_mapped}
+use Rattle.mailmap_batches.proofs.Numbered.{mapped_twice}
+use Rattle.mailmap_tables.specs.Groups.{Contents, EmailGroup}
 use Rattle.mailmap_tables.specs.Merging.{bare}
-use Rattle.mailmap_tables.specs.Pool.{spelled, names_of, name_group, email_group, EmailInPool, Follow, end_of}
-use Rattle.mailmap_tables.specs.Pool.{prefix_of}
-use Rattle.mailmap_tables.specs.Reserved.{one_later}
-use Rattle.mailmap_tables.specs.RowTexts.{IsBare}
+use Rattle.mailmap_tables.specs.Pool.{AreTables, EmailInPool, Follow, LiesIn, NameInPool, TextsInPool, contents}
+use Rattle.mailmap_tables.specs.Pool.{email_group, end_of, group_of, name_group, names_of, prefix_of, spelled}
+use Rattle.mailmap_tables.specs.Reserved.{one_later, with_email_at}
+use Rattle.mailmap_tables.specs.RowTexts.{IsBare, old_span}
 use Rattle.mailmap_tables.specs.declared.texts.Span.{Span}
 use Rattle.mailmap_tables.specs.declared.texts.RowTexts.{RowTexts}
 use Rattle.mailmap_tables.specs.declared.rows.EmailRow.{EmailRow}
-use Rattle.mailmap_tables.proofs.Pooled.{all_drop, all_take, end_above, end_within}
+use Rattle.mailmap_tables.proofs.Laid.{AreLaid, Owner, all_names, end_above, end_rows, end_within, laid_at}
+use Rattle.mailmap_tables.proofs.Laid.{laid_contents, laid_follow, laid_of, length-owners, names_after, owner}
+use Rattle.mailmap_tables.proofs.Laid.{owner_group, row_at, row_from, rows_after, rows_from, start}
+use Rattle.mailmap_tables.proofs.Lists.{all_at, all_drop, all_insert, all_set, all_take, insert_parts, map-insert}
+use Rattle.mailmap_tables.proofs.Lists.{split_head}
+use Rattle.mailmap_tables.proofs.Pooled.{index_within}
 
--- ---- lists with one more element
+rows_later : (k : ℕ) (os : List Owner) → rows_from (k + 1) os ≡ map one_later (rows_from k os)
+rows_later k [] = refl
+rows_later k (o ∷ os) =
+    let n = k + length o.names in
+    let next : k + 1 + length o.names ≡ n + 1 = omega arith in
+    λ i. record { texts = o.texts; names_start = k + 1; names_end = next i }
+    ∷ (ap (λ m. rows_from m os) next ∙ rows_later n os) i
 
-pub map-insert : {X Y : Type 0} (f : X → Y) (xs : List X) (i : ℕ) (x : X) → map f (insert xs i x) ≡ insert (map f xs) i
-    (f x)
-map-insert f xs zero x = refl
-map-insert f [] (suc i) x = refl
-map-insert f (y ∷ xs) (suc i) x = ap (λ l. f y ∷ l) (map-insert f xs i x)
+-- the group of an email without names and fields
+pub bare_group : (pool : Text) (t : RowTexts) (s : Span) → IsBare t s → group_of pool t [] ≡ bare (spelled pool s)
+bare_group pool t s is i =
+    record {
+      old_email = spelled pool (is.old i);
+      own = record {
+        name = option_map (spelled pool) (is.new_name i);
+        email = option_map (spelled pool) (is.new_email i);
+      };
+      names = [];
+    }
 
-pub all_insert : {X : Type 0} (P : X → Type 0) (xs : List X) (i : ℕ) (x : X) → AllByRecursion P xs → P x
-    → AllByRecursion P (insert xs i x)
-all_insert P xs zero x all p = (p, all)
-all_insert P [] (suc i) x all p = (p, tt)
-all_insert P (y ∷ xs) (suc i) x all p = (all.0, all_insert P xs i x all.1 p)
+module _ {pool : Text} {names : List RowTexts} {emails : List EmailRow} {prefixes : List ℕ}
+    (h : AreTables pool names emails prefixes) where
+  abbrev rest : List RowTexts
+  rest = drop (end_of 0 emails) names
 
-pub all_set : {X : Type 0} (P : X → Type 0) (xs : List X) (i : ℕ) (x : X) → AllByRecursion P xs → P x
-    → AllByRecursion P (set xs i x)
-all_set P [] i x all p = tt
-all_set P (y ∷ xs) zero x all p = (p, all.1)
-all_set P (y ∷ xs) (suc i) x all p = (all.0, all_set P xs i x all.1 p)
+  abbrev owners : List EmailRow → List Owner
+  owners es = map (owner names) es
 
--- an element that is inserted after the start of a part is inserted in that part
-drop-insert_below : {X : Type 0} (xs : List X) (s p d : ℕ) (x : X) → p ≡ s + d → p ≤ length xs
-    → drop s (insert xs p x) ≡ insert (drop s xs) d x
-drop-insert_below xs zero p d x is le = ap (λ k. insert xs k x) (omega (arith, is))
-drop-insert_below [] (suc s) p d x is le = absurd (omega (arith, is, le))
-drop-insert_below (y ∷ xs) (suc s) zero d x is le = absurd (omega (arith, is))
-drop-insert_below (y ∷ xs) (suc s) (suc p) d x is le =
-    drop-insert_below xs s p d x (omega (arith, is)) (omega (arith, le))
+  -- parts of the groups
+  groups-take : (i : ℕ) → map (owner_group pool) (owners (take i emails)) ≡ take i (contents pool names emails).groups
+  groups-take i =
+      mapped_twice (owner names) (owner_group pool) (take i emails) ∙ sym (take-map (email_group pool names) i emails)
 
-drop-insert_above : {X : Type 0} (xs : List X) (s p : ℕ) (x : X) → p ≤ s → p ≤ length xs → drop (suc s) (insert xs p x)
-    ≡ drop s xs
-drop-insert_above xs s zero x above le = refl
-drop-insert_above [] s (suc p) x above le = absurd (omega (arith, le))
-drop-insert_above (y ∷ xs) zero (suc p) x above le = absurd (omega (arith, above))
-drop-insert_above (y ∷ xs) (suc s) (suc p) x above le =
-    drop-insert_above xs s p x (omega (arith, above)) (omega (arith, le))
+  groups-drop : (i : ℕ) → map (owner_group pool) (owners (drop i emails)) ≡ drop i (contents pool names emails).groups
+  groups-drop i =
+      mapped_twice (owner names) (owner_group pool) (drop i emails) ∙ sym (drop-map (email_group pool names) i emails)
 
-take-insert_in : {X : Type 0} (xs : List X) (n d : ℕ) (x : X) → d ≤ n → d ≤ length xs → take (suc n) (insert xs d x)
-    ≡ insert (take n xs) d x
-take-insert_in xs n zero x in_head le = refl
-take-insert_in [] n (suc d) x in_head le = absurd (omega (arith, le))
-take-insert_in (y ∷ xs) zero (suc d) x in_head le = absurd (omega (arith, in_head))
-take-insert_in (y ∷ xs) (suc n) (suc d) x in_head le =
-    ap (λ l. y ∷ l) (take-insert_in xs n d x (omega (arith, in_head)) (omega (arith, le)))
+  -- ---- the email at an index
 
-take-insert_before : {X : Type 0} (xs : List X) (n d : ℕ) (x : X) → n ≤ d → d ≤ length xs
-    → take n (insert xs d x) ≡ take n xs
-take-insert_before xs zero d x before le = refl
-take-insert_before xs (suc n) zero x before le = absurd (omega (arith, before))
-take-insert_before [] (suc n) (suc d) x before le = absurd (omega (arith, le))
-take-insert_before (y ∷ xs) (suc n) (suc d) x before le =
-    ap (λ l. y ∷ l) (take-insert_before xs n d x (omega (arith, before)) (omega (arith, le)))
+  module _ (index : ℕ) (e : EmailRow) (lt : index < length emails) (read : e ≡ get_or emails index e) where
+    abbrev before : List Owner
+    before = owners (take index emails)
 
--- ---- rows when one email has one more name
+    abbrev after : List Owner
+    after = owners (drop (index + 1) emails)
 
--- the range of one email gets longer by one, and those after it move by one
-abbrev pub lengthen : ℕ → List EmailRow → List EmailRow
-lengthen i [] = []
-lengthen zero (r ∷ rs) = record r { names_end = r.names_end + 1 } ∷ map one_later rs
-lengthen (suc i) (r ∷ rs) = r ∷ lengthen i rs
+    abbrev this : Owner
+    this = owner names e
 
-pub lengthened : (es : List EmailRow) (i : ℕ) (e : EmailRow) → i < length es → e ≡ record (get_or es i e) {
-  names_end =
-      (get_or es i e).names_end + 1;
-} → take (suc i) (set es i e) ++ map one_later (drop (suc i) (set es i e)) ≡ lengthen
-    i es
-lengthened [] i e lt is = absurd (omega (arith, lt))
-lengthened (r ∷ rs) zero e lt is = ap (λ x. x ∷ map one_later rs) is
-lengthened (r ∷ rs) (suc i) e lt is = ap (λ l. r ∷ l) (lengthened rs i e (omega (arith, lt)) is)
+    abbrev pub Edited : List RowTexts → List EmailRow → Owner → Type 0
+    Edited ns es o = AreLaid ns es (before ++ o ∷ after) rest
 
-follow_later : (k n : ℕ) (es : List EmailRow) → Follow k n es → Follow (k + 1) (n + 1) (map one_later es)
-follow_later k n [] h = omega (arith, h)
-follow_later k n (r ∷ rs) h = (ap (λ m. m + 1) h.0, omega (arith, h.1), follow_later r.names_end n rs h.2)
+    laid : Edited names emails this
+    laid = laid_at names emails h.ranges index e lt read
 
-pub follow_lengthen : (k n i : ℕ) (es : List EmailRow) → i < length es → Follow k n es
-    → Follow k (n + 1) (lengthen i es)
-follow_lengthen k n i [] lt h = absurd (omega (arith, lt))
-follow_lengthen k n zero (r ∷ rs) lt h = (h.0, omega (arith, h.1), follow_later r.names_end n rs h.2)
-follow_lengthen k n (suc i) (r ∷ rs) lt h = (h.0, h.1, follow_lengthen r.names_end n i rs (omega (arith, lt)) h.2)
+    row_is : e ≡ row_from (start before) this
+    row_is = row_at names emails h.ranges index e lt read
 
-end_of-later : (k : ℕ) (es : List EmailRow) → end_of (k + 1) (map one_later es) ≡ end_of k es + 1
-end_of-later k [] = refl
-end_of-later k (r ∷ rs) = end_of-later r.names_end rs
+    rows_before : length (rows_from 0 before) ≡ index
+    rows_before = length-owners names emails h.ranges index (omega (arith, lt))
 
-pub end_of-lengthen : (k i : ℕ) (es : List EmailRow) → i < length es → end_of k (lengthen i es) ≡ end_of k es + 1
-end_of-lengthen k i [] lt = absurd (omega (arith, lt))
-end_of-lengthen k zero (r ∷ rs) lt = end_of-later r.names_end rs
-end_of-lengthen k (suc i) (r ∷ rs) lt = end_of-lengthen r.names_end i rs (omega (arith, lt))
+    emails_parts : emails ≡ rows_from 0 before ++ e ∷ rows_from e.names_end after
+    emails_parts =
+        laid.emails_are ∙ rows_after before (this ∷ after)
+        ∙ (λ i. rows_from 0 before ++ sym row_is i ∷ rows_from (sym row_is i).names_end after)
 
-later_lie : (n : ℕ) (es : List EmailRow) → AllByRecursion (EmailInPool n) es → AllByRecursion (EmailInPool n)
-    (map one_later es)
-later_lie n [] all = tt
-later_lie n (r ∷ rs) all = (all.0, later_lie n rs all.1)
+    take_before : take index emails ≡ rows_from 0 before
+    take_before =
+        (λ i. take (sym rows_before i) (emails_parts i))
+        ∙ take-append_seam (rows_from 0 before) (e ∷ rows_from e.names_end after)
 
-pub lengthen_lie : (n i : ℕ) (es : List EmailRow) → AllByRecursion (EmailInPool n) es → AllByRecursion (EmailInPool n)
-    (lengthen i es)
-lengthen_lie n i [] all = tt
-lengthen_lie n zero (r ∷ rs) all = (all.0, later_lie n rs all.1)
-lengthen_lie n (suc i) (r ∷ rs) all = (all.0, lengthen_lie n i rs all.1)
+    drop_after : drop (index + 1) emails ≡ rows_from e.names_end after
+    drop_after =
+        (λ i. drop (sym rows_before i + 1) (emails_parts i))
+        ∙ drop-append-add (rows_from 0 before) (e ∷ rows_from e.names_end after) 1
 
-prefixes_later : (pool : Text) (es : List EmailRow) → map (prefix_of pool) (map one_later es) ≡ map (prefix_of pool) es
-prefixes_later pool [] = refl
-prefixes_later pool (r ∷ rs) = ap (λ l. prefix_of pool r ∷ l) (prefixes_later pool rs)
+    parts : (o : Owner) → all_names (before ++ o ∷ after) ++ rest ≡ all_names before ++ (o.names ++ (all_names after
+        ++ rest))
+    parts o = names_after before (o ∷ after) rest ∙ ap (λ l. all_names before ++ l) (append_assoc o.names
+        (all_names after) rest)
 
-pub prefixes_lengthen : (pool : Text) (i : ℕ) (es : List EmailRow) → map (prefix_of pool) (lengthen i es) ≡ map
-    (prefix_of pool) es
-prefixes_lengthen pool i [] = refl
-prefixes_lengthen pool zero (r ∷ rs) = ap (λ l. prefix_of pool r ∷ l) (prefixes_later pool rs)
-prefixes_lengthen pool (suc i) (r ∷ rs) = ap (λ l. prefix_of pool r ∷ l) (prefixes_lengthen pool i rs)
+    names_parts : names ≡ all_names before ++ (this.names ++ (all_names after ++ rest))
+    names_parts = laid.names_are ∙ parts this
 
--- ---- the names of emails when a name is inserted or replaced
+    -- the range of its names
+    pub range_within : (e.names_start ≤ e.names_end) × (e.names_end ≤ length names)
+        × (length this.names ≡ e.names_end - e.names_start)
+    range_within = grind (arith, common_steps, row_is, names_parts, length-append)
 
-start_above : (k n i : ℕ) (es : List EmailRow) (d : EmailRow) → Follow k n es → i < length es
-    → k ≤ (get_or es i d).names_start
-start_above k n i [] d h lt = absurd (omega (arith, lt))
-start_above k n zero (r ∷ rs) d h lt = omega (arith, h.0)
-start_above k n (suc i) (r ∷ rs) d h lt = omega (arith, h.1, start_above r.names_end n i rs d h.2 (omega (arith, lt)))
+    -- what an edit of this email changes
+    edited_contents : {ns : List RowTexts} {es : List EmailRow} (o : Owner) → Edited ns es o
+        → contents pool ns es ≡ with_email_at (contents pool names emails) index (owner_group pool o)
+    edited_contents o made =
+        let group = owner_group pool in
+        laid_contents made pool ∙ (λ i. record {
+          pool = pool;
+          groups = (map-append group before (o ∷ after) ∙ (λ j. groups-take index j ++ group o ∷ groups-drop (index + 1)
+              j)) i;
+          unassigned_names = map (name_group pool) rest;
+        })
 
-module _ (pool : Text) (names : List RowTexts) (p : ℕ) (row : RowTexts) where
-  abbrev more : List RowTexts
-  more = insert names p row
+    -- a name inserted among those of the email, whose range gets longer by one, and those after it move by one
+    module _ (d : ℕ) (row : RowTexts) (le : d ≤ length this.names) where
+      abbrev longer : List EmailRow
+      longer = take index emails ++ record e { names_end = e.names_end + 1 } ∷ map one_later (drop (index + 1) emails)
 
-  abbrev other : List RowTexts
-  other = set names p row
+      abbrev more : Owner
+      more = record this { names = insert this.names d row }
 
-  -- an email whose names end before the index
-  before_insert : (e : EmailRow) → e.names_start ≤ e.names_end → e.names_end ≤ p → p ≤ length names
-      → email_group pool more e ≡ email_group pool names e
-  before_insert e up before le =
-      let d = p - e.names_start in
-      let at : p ≡ e.names_start + d = omega arith in
-      let rest : d ≤ length (drop e.names_start names) = omega (arith, length-drop e.names_start names) in
-      let same : names_of more e ≡ names_of names e = ap (take (e.names_end - e.names_start))
-      (drop-insert_below names e.names_start p d row at le)
-      ∙ take-insert_before (drop e.names_start names) (e.names_end - e.names_start) d row (omega arith) rest in
-      λ i. record (email_group pool names e) { names = map (name_group pool) (same i) }
+      pub insert_laid : Edited (insert names (e.names_start + d) row) longer more
+      insert_laid =
+          let from = ap (λ (r : EmailRow). r.names_start) row_is in
+          let to : e.names_end + 1 ≡ start before + length more.names = omega (
+            arith,
+            ap (λ (r : EmailRow). r.names_end) row_is,
+            length-insert this.names d row le,
+          ) in
+          let tail = all_names after ++ rest in
+          let place : e.names_start + d ≡ start before + d = omega (arith, from) in
+          let within : start before + d - start before ≡ d = omega arith in
+          record {
+            emails_are =
+                (λ i. take_before i ++ record { texts = e.texts; names_start = from i; names_end = to i }
+                ∷ (ap (map one_later) drop_after ∙ sym (rows_later e.names_end after) ∙ ap (λ m. rows_from m after) to)
+                i)
+                ∙ sym (rows_after before (more ∷ after));
+            names_are =
+                (λ i. insert (names_parts i) (place i) row)
+                ∙ insert-append_right (all_names before) (this.names ++ tail) (start before) (start before + d) row refl
+                (omega arith)
+                ∙ ap (λ l. all_names before ++ l) (ap (λ k. insert (this.names ++ tail) k row) within
+                ∙ insert-append_left this.names tail d row le)
+                ∙ sym (parts more);
+          }
 
-  before_set : (e : EmailRow) → e.names_start ≤ e.names_end → e.names_end ≤ p → email_group pool other e ≡ email_group
-      pool names e
-  before_set e up before =
-      let d = p - e.names_start in
-      let at : p ≡ e.names_start + d = omega arith in
-      let same : names_of other e ≡ names_of names e = ap (λ k. take (e.names_end - e.names_start)
-      (drop e.names_start (set names k row))) at
-      ∙ ap (take (e.names_end - e.names_start)) (drop-set-add e.names_start names d row)
-      ∙ take-set-le (e.names_end - e.names_start) (drop e.names_start names) d row (omega arith) in
-      λ i. record (email_group pool names e) { names = map (name_group pool) (same i) }
+      pub tables-insert_name : NameInPool (length pool) row
+          → AreTables pool (insert names (e.names_start + d) row) longer prefixes
+      tables-insert_name row_lies =
+          let front = take index emails in
+          let back = drop (index + 1) emails in
+          let lie = EmailInPool (length pool) in
+          let by = prefix_of pool in
+          record {
+            names_lie = all_insert (NameInPool (length pool)) names (e.names_start + d) row h.names_lie row_lies;
+            emails_lie =
+                all_append lie front _ (all_take lie index emails h.emails_lie) (
+                  subst lie (sym read) (all_at lie emails index e h.emails_lie lt),
+                  all_mapped one_later lie back (all_drop lie (index + 1) emails h.emails_lie),
+                );
+            ranges = laid_follow insert_laid;
+            prefix_each =
+                h.prefix_each ∙ ap (map by) (split_head emails index e lt read) ∙ map-append by front (e ∷ back)
+                ∙ ap (λ l. map by front ++ by e ∷ l) (sym (mapped_twice one_later by back))
+                ∙ sym (map-append by front (record e { names_end = e.names_end + 1 } ∷ map one_later back));
+          }
 
-  -- an email whose names begin after the index
-  after_insert : (e : EmailRow) → p ≤ e.names_start → p ≤ length names → email_group pool more (one_later e)
-      ≡ email_group pool names e
-  after_insert e after le =
-      let count : e.names_end + 1 - (e.names_start + 1) ≡ e.names_end - e.names_start = omega arith in
-      let next : e.names_start + 1 ≡ suc e.names_start = omega arith in
-      let same : names_of more (one_later e) ≡ names_of names e = (λ i. take (count i) (drop (next i) more))
-      ∙ ap (take (e.names_end - e.names_start)) (drop-insert_above names e.names_start p row after le) in
-      λ i. record (email_group pool names e) { names = map (name_group pool) (same i) }
+    -- a name of the email replaced
+    module _ (d : ℕ) (row : RowTexts) (less : d < length this.names) where
+      abbrev other : Owner
+      other = record this { names = set this.names d row }
 
-  after_set : (e : EmailRow) → p < e.names_start → email_group pool other e ≡ email_group pool names e
-  after_set e after =
-      let same : names_of other e ≡ names_of names e = ap (take (e.names_end - e.names_start))
-      (drop-set-lt e.names_start names p row after) in
-      λ i. record (email_group pool names e) { names = map (name_group pool) (same i) }
+      pub set_laid : Edited (set names (e.names_start + d) row) emails other
+      set_laid =
+          let from = ap (λ (r : EmailRow). r.names_start) row_is in
+          let tail = all_names after ++ rest in
+          let place : e.names_start + d ≡ start before + d = omega (arith, from) in
+          let within : start before + d - start before ≡ d = omega arith in
+          let count : length this.names ≡ length other.names = sym (length-set this.names d row) in
+          record {
+            emails_are =
+                laid.emails_are ∙ rows_after before (this ∷ after)
+                ∙ (λ i. rows_from 0 before ++ record {
+                  texts = e.texts;
+                  names_start = start before;
+                  names_end = start before + count i;
+                } ∷ rows_from (start before + count i) after)
+                ∙ sym (rows_after before (other ∷ after));
+            names_are =
+                (λ i. set (names_parts i) (place i) row)
+                ∙ set-append_right (all_names before) (this.names ++ tail) (start before) (start before + d) row refl
+                (omega arith)
+                ∙ ap (λ l. all_names before ++ l) (ap (λ k. set (this.names ++ tail) k row) within
+                ∙ set-append_left this.names tail d row less)
+                ∙ sym (parts other);
+          }
 
-  after_inserts : (k n : ℕ) (es : List EmailRow) → Follow k n es → p ≤ k → p ≤ length names
-      → map (email_group pool more) (map one_later es) ≡ map (email_group pool names) es
-  after_inserts k n [] h after le = refl
-  after_inserts k n (r ∷ rs) h after le =
-      λ i. after_insert r (omega (arith, h.0, after)) le i ∷ after_inserts r.names_end n rs h.2
-      (omega (arith, h.1, after)) le i
+    -- the fields of the email replaced
+    module _ (t : RowTexts) (same : spelled pool (old_span t) ≡ spelled pool (old_span e.texts)) where
+      abbrev given : EmailRow
+      given = record e { texts = t }
 
-  after_sets : (k n : ℕ) (es : List EmailRow) → Follow k n es → p < k → map (email_group pool other) es ≡ map
-      (email_group pool names) es
-  after_sets k n [] h after = refl
-  after_sets k n (r ∷ rs) h after =
-      λ i. after_set r (omega (arith, h.0, after)) i ∷ after_sets r.names_end n rs h.2 (omega (arith, h.1, after)) i
+      pub texts_laid : Edited names (set emails index given) (record this { texts = t })
+      texts_laid =
+          grind (
+            arith,
+            common_steps,
+            row_is,
+            emails_parts,
+            rows_before,
+            set-append_seam,
+            rows_after,
+            names_parts,
+            parts,
+          )
 
-  -- the email whose names the new one is inserted into, after d of them
-  at_insert : (e : EmailRow) (d : ℕ) → p ≡ e.names_start + d → e.names_start ≤ e.names_end
-      → d ≤ e.names_end - e.names_start → p ≤ length names
-      → email_group pool more (record e { names_end = e.names_end + 1 }) ≡ record (email_group pool names e) {
-        names =
-            insert (email_group pool names e).names d (name_group pool row);
-      }
-  at_insert e d at up within le =
-      let count : e.names_end + 1 - e.names_start ≡ suc (e.names_end - e.names_start) = omega (arith, up) in
-      let rest : d ≤ length (drop e.names_start names) = omega (arith, at, le, length-drop e.names_start names) in
-      let same : names_of more (record e { names_end = e.names_end + 1 }) ≡ insert (names_of names e) d row =
-      (λ i. take (count i) (drop e.names_start more))
-      ∙ ap (take (suc (e.names_end - e.names_start))) (drop-insert_below names e.names_start p d row at le)
-      ∙ take-insert_in (drop e.names_start names) (e.names_end - e.names_start) d row within rest in
-      λ i. record (email_group pool names e) {
-        names = (ap (map (name_group pool)) same ∙ map-insert (name_group pool)
-            (names_of names e) d row) i;
-      }
+      pub tables-texts : TextsInPool (length pool) t → AreTables pool names (set emails index given) prefixes
+      tables-texts texts_lie = grind (arith, common_steps, all_set, laid_follow, texts_laid, map-set_same)
 
-  at_set : (e : EmailRow) (d : ℕ) → p ≡ e.names_start + d → d < e.names_end - e.names_start
-      → email_group pool other e ≡ record (email_group pool names e) {
-        names = set (email_group pool names e).names d
-            (name_group pool row);
-      }
-  at_set e d at within =
-      let same : names_of other e ≡ set (names_of names e) d row = ap (λ k. take (e.names_end - e.names_start)
-      (drop e.names_start (set names k row))) at
-      ∙ ap (take (e.names_end - e.names_start)) (drop-set-add e.names_start names d row)
-      ∙ take-set-lt (e.names_end - e.names_start) (drop e.names_start names) d row within in
-      λ i. record (email_group pool names e) {
-        names = (ap (map (name_group pool)) same ∙ map-set (name_group pool)
-            (names_of names e) d row) i;
-      }
+  -- ---- an email inserted without names and fields
 
-  -- all emails, when a name is inserted among those of one
-  pub groups_insert : (k : ℕ) (es : List EmailRow) (index d : ℕ) (e : EmailRow) → Follow k (length names) es
-      → index < length es → e ≡ get_or es index e → p ≡ e.names_start + d → d ≤ e.names_end - e.names_start
-      → p ≤ length names
-      → map (email_group pool more) (lengthen index es)
-      ≡ take index (map (email_group pool names) es) ++ record (email_group pool names e) {
-        names =
-            insert (email_group pool names e).names d (name_group pool row);
-      } ∷ drop (suc index)
-      (map (email_group pool names) es)
-  groups_insert k [] index d e h lt read at within le = absurd (omega (arith, lt))
-  groups_insert k (r ∷ rs) zero d e h lt read at within le =
-      let start : e.names_start ≡ k = ap (λ (x : EmailRow). x.names_start) read ∙ h.0 in
-      let end : e.names_end ≡ r.names_end = ap (λ (x : EmailRow). x.names_end) read in
-      let up : e.names_start ≤ e.names_end = omega (arith, h.1, start, end) in
-      let after : p ≤ r.names_end = omega (arith, at, within, end, up) in
-      λ i. (ap (λ (x : EmailRow). email_group pool more (record x { names_end = x.names_end + 1 })) (sym read)
-      ∙ at_insert e d at up within le) i ∷ after_inserts r.names_end (length names) rs h.2 after le i
-  groups_insert k (r ∷ rs) (suc index) d e h lt read at within le =
-      let lt_tail : index < length rs = omega (arith, lt) in
-      let high : r.names_end ≤ e.names_start = subst (λ (x : EmailRow). r.names_end ≤ x.names_start) (sym read)
-      (start_above r.names_end (length names) index rs e h.2 lt_tail) in
-      λ i. before_insert r (omega (arith, h.0, h.1)) (omega (arith, high, at)) le i ∷ groups_insert r.names_end rs index
-      d e h.2 lt_tail read at within le i
+  module _ (index at : ℕ) (t : RowTexts) (s : Span) (is : IsBare t s) (le : index ≤ length emails)
+      (there : at ≡ end_of 0 (take index emails)) where
+    abbrev fresh : EmailRow
+    fresh = record { texts = t; names_start = at; names_end = at }
 
-  -- all emails, when a name of one is replaced
-  pub groups_set : (k n : ℕ) (es : List EmailRow) (index d : ℕ) (e : EmailRow) → Follow k n es → index < length es
-      → e ≡ get_or es index e → p ≡ e.names_start + d → d < e.names_end - e.names_start
-      → map (email_group pool other) es
-      ≡ take index (map (email_group pool names) es) ++ record (email_group pool names e) {
-        names =
-            set (email_group pool names e).names d (name_group pool row);
-      } ∷ drop (suc index)
-      (map (email_group pool names) es)
-  groups_set k n [] index d e h lt read at within = absurd (omega (arith, lt))
-  groups_set k n (r ∷ rs) zero d e h lt read at within =
-      let end : e.names_end ≡ r.names_end = ap (λ (x : EmailRow). x.names_end) read in
-      let after : p < r.names_end = omega (arith, at, within, end) in
-      λ i. (ap (email_group pool other) (sym read) ∙ at_set e d at within) i ∷ after_sets r.names_end n rs h.2 after i
-  groups_set k n (r ∷ rs) (suc index) d e h lt read at within =
-      let lt_tail : index < length rs = omega (arith, lt) in
-      let high : r.names_end ≤ e.names_start = subst (λ (x : EmailRow). r.names_end ≤ x.names_start) (sym read)
-      (start_above r.names_end n index rs e h.2 lt_tail) in
-      λ i. before_set r (omega (arith, h.0, h.1)) (omega (arith, high, at)) i ∷ groups_set r.names_end n rs index d e
-      h.2 lt_tail read at within i
+    abbrev front : List Owner
+    front = owners (take index emails)
 
--- the range of an email's names ends no later than the last range
-pub range_ends : (k n : ℕ) (es : List EmailRow) (i : ℕ) (d : EmailRow) → Follow k n es → i < length es
-    → (get_or es i d).names_end ≤ end_of k es
-range_ends k n [] i d h lt = absurd (omega (arith, lt))
-range_ends k n (r ∷ rs) zero d h lt = end_above r.names_end n rs h.2
-range_ends k n (r ∷ rs) (suc i) d h lt = range_ends r.names_end n rs i d h.2 (omega (arith, lt))
+    abbrev back : List Owner
+    back = owners (drop index emails)
 
-pub range_up : (k n : ℕ) (es : List EmailRow) (i : ℕ) (d : EmailRow) → Follow k n es → i < length es
-    → (get_or es i d).names_start ≤ (get_or es i d).names_end
-range_up k n [] i d h lt = absurd (omega (arith, lt))
-range_up k n (r ∷ rs) zero d h lt = omega (arith, h.0, h.1)
-range_up k n (r ∷ rs) (suc i) d h lt = range_up r.names_end n rs i d h.2 (omega (arith, lt))
+    abbrev new : Owner
+    new = record { texts = t; names = [] }
+
+    split : owners emails ≡ front ++ back
+    split = ap owners (sym (take-append-drop index emails)) ∙ map-append (owner names) (take index emails)
+        (drop index emails)
+
+    fresh_laid : AreLaid names (insert emails index fresh) (front ++ new ∷ back) rest
+    fresh_laid =
+        let all = laid_of names emails h.ranges in
+        let begins : start front + 0 ≡ start front = omega arith in
+        let rows = all.emails_are ∙ ap (rows_from 0) split ∙ rows_after front back in
+        let length_front = length-owners names emails h.ranges index le in
+        let head : take index emails ≡ rows_from 0 front = (λ i. take (sym length_front i) (rows i))
+        ∙ take-append_seam (rows_from 0 front) (rows_from (start front) back) in
+        let from : at ≡ start front = there ∙ ap (end_of 0) head ∙ end_rows front in
+        record {
+          emails_are =
+              insert_parts emails index fresh le
+              ∙ (λ i. head i ++ record { texts = t; names_start = from i; names_end = (from ∙ sym begins) i }
+              ∷ ((λ j. drop (sym length_front j) (rows j)) ∙ drop-append_seam (rows_from 0 front)
+              (rows_from (start front)
+              back) ∙ ap (λ m. rows_from m back) (sym begins)) i)
+              ∙ sym (rows_after front (new ∷ back));
+          names_are = all.names_are ∙ ap (λ os. all_names os ++ rest) split ∙ names_after front back rest
+              ∙ sym (names_after front (new ∷ back) rest);
+        }
+
+    pub tables-insert_email : LiesIn (length pool) s → (prefix : ℕ) → prefix ≡ prefix_of pool fresh
+        → AreTables pool names (insert emails index fresh) (insert prefixes index prefix)
+    tables-insert_email s_lies prefix number =
+        grind (arith, common_steps, all_insert, laid_follow, fresh_laid, map-insert)
+
+    pub contents-insert_email : contents pool names (insert emails index fresh) ≡ record (contents pool names emails)
+        { groups = insert (contents pool names emails).groups index (bare (spelled pool s)) }
+    contents-insert_email =
+        let group = owner_group pool in
+        let gs = (contents pool names emails).groups in
+        let within : index ≤ length gs = omega (arith, le, length-map emails (email_group pool names)) in
+        laid_contents fresh_laid pool ∙ (λ i. record {
+          pool = pool;
+          groups =
+              (map-append group front (new ∷ back) ∙ (λ j. groups-take index j ++ bare_group pool t s is j ∷ groups-drop
+              index j) ∙ sym (insert_parts gs index (bare (spelled pool s)) within)) i;
+          unassigned_names = map (name_group pool) rest;
+        })
+
+-- ---- the email at an index of what contracts see
+
+-- a statement about the group at an index, from one about its row
+pub at_group : (pool : Text) (names : List RowTexts) (emails : List EmailRow) (v : Contents) (index : ℕ) (e : EmailRow)
+    (P : EmailGroup → Type 0) → contents pool names emails ≡ v → index < length emails → e ≡ get_or emails index e
+    → P (email_group pool names e) → HoldsAt P v.groups index
+at_group pool names emails v index e P is lt read p = λ d.
+    subst P (ap (email_group pool names) read ∙ sym (get_or-map (email_group pool names) emails index e d lt)
+    ∙ ap (λ (c : Contents). get_or c.groups index d) is) p
+
+-- and the other way round
+pub from_group : (pool : Text) (names : List RowTexts) (emails : List EmailRow) (v : Contents) (index : ℕ)
+    (e : EmailRow) (P : EmailGroup → Type 0) → contents pool names emails ≡ v → index < length emails
+    → e ≡ get_or emails index e
+    → HoldsAt P v.groups index → P (email_group pool names e)
+from_group pool names emails v index e P is lt read h =
+    let d = email_group pool names e in
+    subst P (ap (λ (c : Contents). get_or c.groups index d) (sym is) ∙ get_or-map (email_group pool names) emails index
+    e d lt ∙ ap (email_group pool names) (sym read)) (h d)
+
+-- the range of names that a row has, for n names
+pub record IsRange (n count : ℕ) (e : EmailRow) : Type 0 where
+  pub up : e.names_start ≤ e.names_end
+  pub within : e.names_end ≤ n
+  pub counts : count ≡ e.names_end - e.names_start
+
+module _ {pool : Text} {names : List RowTexts} {emails : List EmailRow} {prefixes : List ℕ}
+    (h : AreTables pool names emails prefixes) {v : Contents} (is : contents pool names emails ≡ v) {index : ℕ}
+    {e : EmailRow} (lt : index < length v.groups) (read : e ≡ get_or emails index e) where
+  abbrev row_there : index < length emails
+  row_there = index_within pool names emails v index is lt
+
+  pub row_range : HoldsAt (λ (g : EmailGroup). IsRange (length names) (length g.names) e) v.groups index
+  row_range =
+      let range = range_within h index e row_there read in
+      at_group pool names emails v index e (λ g. IsRange (length names) (length g.names) e) is row_there read (record {
+        up = range.0;
+        within = range.1;
+        counts = length-map (names_of names e) (name_group pool) ∙ range.2;
+      })
+
+  -- an edit of the group
+  pub edited : (edit : Text → EmailGroup → EmailGroup) {ns : List RowTexts} {es : List EmailRow} (o : Owner)
+      → Edited h index e row_there read ns es o → owner_group pool o ≡ edit pool (email_group pool names e)
+      → HoldsAt (λ (g : EmailGroup). contents pool ns es ≡ with_email_at v index (edit v.pool g)) v.groups index
+  edited edit {ns} {es} o made does =
+      at_group pool names emails v index e (λ g. contents pool ns es ≡ with_email_at v index (edit v.pool g)) is
+      row_there read (edited_contents h index e row_there read o made ∙ ap (with_email_at (contents pool names emails)
+      index) does ∙ ap (λ (w : Contents). with_email_at w index (edit w.pool (email_group pool names e))) is)
+
+-- ---- the ranges of later emails move by one
+
+-- the rows of emails as they are written, when one gets a name and the ranges after it move by one
+pub emails_written : (es : List EmailRow) (email n : ℕ) (e : EmailRow) (written rows more : List EmailRow)
+    → email < length es → n ≡ length es → written ≡ set es email e
+    → rows ≡ map one_later (take (length written - (email + 1)) (drop (email + 1) written))
+    → take n (put_mid (email + 1) (length written - (email + 1)) written rows ++ more)
+    ≡ take email es ++ e ∷ map one_later (drop (email + 1) es)
+emails_written es email n e written rows more lt count is after = grind (arith, common_steps)
 
 -- all ranges end within the table of names
 pub ranges_below : (m k n : ℕ) (es : List EmailRow) → n < m → Follow k n es
@@ -297,59 +368,6 @@ ranges_below m k n (r ∷ rs) lt h = (
   ranges_below m r.names_end n rs lt
       h.2,
 )
-
--- ---- a row with other fields
-
-pub follow_set : (k n : ℕ) (es : List EmailRow) (i : ℕ) (e : EmailRow) → Follow k n es
-    → e.names_start ≡ (get_or es i e).names_start → e.names_end ≡ (get_or es i e).names_end → Follow k n (set es i e)
-follow_set k n [] i e h start end = h
-follow_set k n (r ∷ rs) zero e h start end =
-    (start ∙ h.0, omega (arith, h.1, end), subst (λ m. Follow m n rs) (sym end) h.2)
-follow_set k n (r ∷ rs) (suc i) e h start end = (h.0, h.1, follow_set r.names_end n rs i e h.2 start end)
-
-pub end_of-set : (k : ℕ) (es : List EmailRow) (i : ℕ) (e : EmailRow) → e.names_end ≡ (get_or es i e).names_end
-    → end_of k (set es i e) ≡ end_of k es
-end_of-set k [] i e end = refl
-end_of-set k (r ∷ rs) zero e end = ap (λ m. end_of m rs) end
-end_of-set k (r ∷ rs) (suc i) e end = end_of-set r.names_end rs i e end
-
--- ---- one more email, without names
-
-pub follow_insert : (k n : ℕ) (es : List EmailRow) (i : ℕ) (e : EmailRow) → Follow k n es → i ≤ length es
-    → e.names_start ≡ end_of k (take i es) → e.names_end ≡ end_of k (take i es) → Follow k n (insert es i e)
-follow_insert k n es zero e h le start end = (start, omega (arith, end), subst (λ m. Follow m n es) (sym end) h)
-follow_insert k n [] (suc i) e h le start end = absurd (omega (arith, le))
-follow_insert k n (r ∷ rs) (suc i) e h le start end =
-    (h.0, h.1, follow_insert r.names_end n rs i e h.2 (omega (arith, le)) start end)
-
-pub end_of-insert : (k : ℕ) (es : List EmailRow) (i : ℕ) (e : EmailRow) → i ≤ length es
-    → e.names_end ≡ end_of k (take i es) → end_of k (insert es i e) ≡ end_of k es
-end_of-insert k es zero e le end = ap (λ m. end_of m es) end
-end_of-insert k [] (suc i) e le end = absurd (omega (arith, le))
-end_of-insert k (r ∷ rs) (suc i) e le end = end_of-insert r.names_end rs i e (omega (arith, le)) end
-
--- the group of an email without names and fields
-pub bare_group : (pool : Text) (names : List RowTexts) (t : RowTexts) (s : Span) (at : ℕ) → IsBare t s
-    → email_group pool names (record { texts = t; names_start = at; names_end = at }) ≡ bare (spelled pool s)
-bare_group pool names t s at is =
-    let none : at - at ≡ 0 = omega arith in
-    λ i. record {
-      old_email = spelled pool (is.old i);
-      own =
-          record {
-            name = option_map (spelled pool) (is.new_name i);
-            email = option_map (spelled pool) (is.new_email i);
-          };
-      names = map (name_group pool) (take (none i) (drop at names));
-    }
-
--- the unassigned names, when a name is inserted before them
-pub unassigned_insert : (pool : Text) (names : List RowTexts) (p end : ℕ) (row : RowTexts) → p ≤ end → p ≤ length names
-    → map (name_group pool) (drop (end + 1) (insert names p row)) ≡ map (name_group pool) (drop end names)
-unassigned_insert pool names p end row le within =
-    let next : end + 1 ≡ suc end = omega arith in
-    (λ i. map (name_group pool) (drop (next i) (insert names p row))) ∙ ap (map (name_group pool))
-    (drop-insert_above names end p row le within)
 
 -- the ranges of the rows after one that was replaced
 pub ranges_after : (m k n : ℕ) (es : List EmailRow) (i j : ℕ) (e : EmailRow) (written : List EmailRow) → n < m

@@ -1,34 +1,46 @@
--- The email that a merge appends for one group of the batch.
-use Rattle.std.proofs.Common.{◌≡◌, ◌≢◌, ◌<◌, ℕ, zero, suc, true, false, List, [], ◌∷◌, ◌++◌, map, drop, length, Option}
-use Rattle.std.proofs.Common.{Some, None, IsSome, Bor, HoldsAt, unwrap_or, option_map, Ordering, length-append, refl}
-use Rattle.std.proofs.Common.{sym, ap, subst, ◌∙◌, arith}
-use Rattle.std.specs.List.{AllByRecursion, fold}
-use Rattle.std.specs.Option.{ForSome, option_cmp, option_copied}
+-- The email that a merge appends for one group of the batch, with the fields that its entries give.
+use Rattle.std.proofs.lemmas.Grind.{common_steps}
+use Rattle.std.proofs.Common.{◌≡◌, List, [], ◌∷◌, map, Option, Some, None, refl, sym, ap, ◌∙◌, ◌≢◌, ◌<◌, ℕ, zero, suc}
+use Rattle.std.proofs.Common.{true, false, ◌++◌, drop, length, IsSome, Bor, HoldsAt, option_map}
+use Rattle.std.proofs.Common.{subst, arith}
+use Rattle.std.specs.Option.{option_or, option_cmp, option_copied}
+use Rattle.std.specs.List.{fold, AllByRecursion}
+use Rattle.mailmap_entries.specs.Entries.{Mapping}
+use Rattle.mailmap_entries.specs.Folding.{Text, folded, text_cmp}
+use Rattle.mailmap_entries.specs.Semantics.{Fields, is_accepted}
+use Rattle.mailmap_batches.specs.Given.{give, given_or, NameGroup, IsNamed}
+use Rattle.mailmap_tables.specs.Merging.{with_email, NamesJoined, EmailJoined}
 use Rattle.std.specs.Ordering.{is_lt}
 use Rattle.std.proofs.lemmas.List.{map-append}
 use Rattle.mailmap_entries.specs.Alike.{Alike}
-use Rattle.mailmap_entries.specs.Entries.{Mapping}
-use Rattle.mailmap_entries.specs.Folding.{Text, folded, text_cmp}
-use Rattle.mailmap_batches.specs.Given.{NameGroup, IsNamed, give}
 use Rattle.mailmap_tables.specs.Groups.{EmailGroup, own_rows, rows}
-use Rattle.mailmap_entries.specs.Semantics.{is_accepted}
 use Rattle.mailmap_batches.specs.Batches.{IsAscending, mapping_at, name_text}
-use Rattle.mailmap_tables.specs.Merging.{Extends, NamesJoined, EmailJoined, with_email}
-use Rattle.mailmap_tables.specs.Pool.{spelled, LiesIn}
 use Rattle.mailmap_batches.specs.declared.indexed.IndexedEntry.{IndexedEntry}
-use Rattle.mailmap_tables.specs.declared.texts.Span.{Span}
-use Rattle.mailmap_tables.proofs.Given.{fold-give-with_email}
+use Rattle.mailmap_tables.proofs.Order.{ascending_as}
 use Rattle.mailmap_tables.proofs.Merging.{own_of, IsOwn, own_joined, group_joined}
-use Rattle.mailmap_tables.proofs.Pooled.{spelled-append, options-append}
 
--- ---- texts in a pool that has grown
+or-assoc : {X : Type 0} (a b c : Option X) → option_or (option_or a b) c ≡ option_or a (option_or b c)
+or-assoc None b c = refl
+or-assoc (Some x) b c = refl
 
-pub spelled_on : (a b : Text) → Extends a b → (s : Span) → LiesIn (length a) s → spelled b s ≡ spelled a s
-spelled_on a b e s lies = ap (λ p. spelled p s) e.1 ∙ spelled-append a e.0 s lies
+-- overriding fields gives the same as overriding none, with those fields as a fallback
+pub fold-give : (f g : Fields) (ms : List Mapping) → fold give (given_or g f) ms ≡ given_or (fold give g ms) f
+fold-give f g [] = refl
+fold-give f g (m ∷ ms) =
+    ap (λ h. fold give h ms) (λ i. record {
+      name = sym (or-assoc m.new_name g.name f.name) i;
+      email =
+          sym (or-assoc m.new_email g.email f.email) i;
+    })
+    ∙ fold-give f (give g m) ms
 
-pub options_on : (a b : Text) → Extends a b → (o : Option Span) → ForSome o (LiesIn (length a))
-    → option_map (spelled b) o ≡ option_map (spelled a) o
-options_on a b e o lies = ap (λ p. option_map (spelled p) o) e.1 ∙ options-append a e.0 o lies
+-- the spelling of an entry's email doesn't matter
+pub fold-give-with_email : (e : Text) (f : Fields) (ms : List Mapping) → fold give f (map (with_email e) ms) ≡ fold give
+    f ms
+fold-give-with_email e f [] = refl
+fold-give-with_email e f (m ∷ ms) = fold-give-with_email e (give f m) ms
+
+-- ---- the email that a merge appends for one group of the batch
 
 -- ---- the entries of a group with old names
 
@@ -44,12 +56,7 @@ some_copied None n = absurd (n refl)
 some_copied (Some x) n = refl
 
 is_named : (p : IndexedEntry) → (mapping_at p).old_name ≢ None → IsNamed (mapping_at p)
-is_named p n =
-    let some = some_copied p.entry.now.old_name n in
-    record {
-      old_name = copied_some p.entry.now.old_name some;
-      new_email = copied_some p.entry.now.new_email (p.entry.now.paired some);
-    }
+is_named p n = grind (arith, common_steps)
 
 -- an entry that sorts after one with an old name has an old name, too
 named_above : (a b : Option Text) → is_lt (option_cmp text_cmp (option_map folded a) (option_map folded b)) ≡ false
@@ -76,31 +83,11 @@ named_after (x ∷ xs) (suc i) up other = named_after xs i up.1 (λ lt d. other 
 -- entries with old names ascend by these
 lt_names : (a b : Mapping) → IsNamed a → IsNamed b → is_lt (option_cmp text_cmp (name_of a) (name_of b)) ≡ false
     → is_lt (text_cmp (name_text a) (name_text b)) ≡ false
-lt_names a b n m e = at a.old_name b.old_name n.old_name m.old_name e
-  where
-    at : (x y : Option Text) → IsSome x → IsSome y
-        → is_lt (option_cmp text_cmp (option_map folded x) (option_map folded y)) ≡ false
-        → is_lt (text_cmp (folded (unwrap_or x [])) (folded (unwrap_or y []))) ≡ false
-    at None y s t e = absurd (cc)
-    at (Some x) None s t e = absurd (cc)
-    at (Some x) (Some y) s t e = e
-
-names_not_below : (a : Mapping) → IsNamed a → (ms : List Mapping) → AllByRecursion IsNamed ms
-    → AllByRecursion (λ y. is_lt (option_cmp text_cmp y (name_of a)) ≡ false) (map name_of ms)
-    → AllByRecursion (λ y. is_lt (text_cmp y (name_text a)) ≡ false) (map name_text ms)
-names_not_below a n [] all up = tt
-names_not_below a n (m ∷ ms) all up = (lt_names m a all.0 n up.0, names_not_below a n ms all.1 up.1)
+lt_names a b n m e = grind (arith, common_steps)
 
 pub names_ascend : (ms : List Mapping) → AllByRecursion IsNamed ms → IsAscending (option_cmp text_cmp) (map name_of ms)
     → IsAscending text_cmp (map name_text ms)
-names_ascend [] all up = tt
-names_ascend (m ∷ ms) all up = (names_not_below m all.0 ms all.1 up.0, names_ascend ms all.1 up.1)
-
-pub ascending_rest : {X K : Type 0} (R : K → K → Ordering) (by : X → K) (i : ℕ) (xs : List X)
-    → IsAscending R (map by xs) → IsAscending R (map by (drop i xs))
-ascending_rest R by zero xs up = up
-ascending_rest R by (suc i) [] up = tt
-ascending_rest R by (suc i) (x ∷ xs) up = ascending_rest R by i xs up.1
+names_ascend ms all up = ascending_as (option_cmp text_cmp) name_of text_cmp name_text IsNamed lt_names ms all up
 
 -- ---- the appended email
 
@@ -125,7 +112,7 @@ email_joined g us js names none good joined =
     (own_joined e g.own us' own) in
     record {
       old_email = refl;
-      ascending = joined.ascending;
+      ascending = joined.order.ascending;
       alike = subst (λ l. Alike (rows g ++ l) (rows (joined_group g us names))) (sym (map-append (with_email e) us js))
           (group_joined g (joined_group g us names) us' (map (with_email e) js) own own_part (joined.alike e));
     }

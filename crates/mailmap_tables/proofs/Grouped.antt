@@ -1,36 +1,44 @@
 -- The entries of groups are a normal list, and what it answers to a signature.
-use Rattle.std.proofs.Common.{◌≡◌, ◌≢◌, ℕ, suc, ◌<◌, Bool, true, false, true≢false, cond, ◌||◌, if◌then◌else◌, is_some}
-use Rattle.std.proofs.Common.{List, [], ◌∷◌, ◌++◌, map, filter, take, drop, get_or, length, append-nil, append_assoc}
-use Rattle.std.proofs.Common.{Option, Some, None, option_map, unwrap_or, Ordering, Less, Equal, Greater, is_eq, ⊎_elim}
-use Rattle.std.proofs.Common.{refl, sym, ap, ap₂, subst, ◌∙◌, arith}
+use Rattle.std.proofs.Common.{◌≡◌, ◌≢◌, ℕ, ◌<◌, Bool, true, false, true≢false, cond, ◌||◌, if◌then◌else◌}
+use Rattle.std.proofs.Common.{is_some, List, [], ◌∷◌, ◌++◌, map, filter, drop, get_or, length}
+use Rattle.std.proofs.Common.{append_assoc, Option, Some, None, option_map, unwrap_or, Ordering, Less, Equal, Greater}
+use Rattle.std.proofs.Common.{is_eq, refl, sym, ap, ap₂, subst, ◌∙◌, arith, ◌+◌}
 use Rattle.std.specs.Cmp.{Equal-is, tied_itself}
 use Rattle.std.specs.Cmp.Lexicographic.{nat_list_cmp_total}
-use Rattle.std.specs.List.{AllByRecursion, AllWithin}
+use Rattle.std.specs.List.{AllByRecursion, AllWithin, slice_get}
 use Rattle.std.specs.List.Sorted.{IsStrictlySortedBy}
-use Rattle.std.specs.Option.{option_and_then, option_cmp}
+use Rattle.std.specs.Option.{option_cmp}
 use Rattle.std.specs.Ordering.{eq_by_cmp, ordering_then, ordering_reverse}
-use Rattle.std.proofs.Math.Seq.{drop-cons}
-use Rattle.std.proofs.lemmas.Bool.{or_right, cases_lt, false_from_ne_true}
-use Rattle.std.proofs.lemmas.Grind.{flat_map-append}
-use Rattle.std.proofs.lemmas.List.{map-append, take-append-drop}
-use Rattle.std.proofs.lemmas.List.Elements.{All-filter, All-from_recursion, recursion_from_All, filter-append}
+use Rattle.std.proofs.lemmas.Bool.{or_right, cases_lt, false_from_ne_true, eqb-true}
+use Rattle.std.proofs.lemmas.Grind.{common_steps, flat_map-append}
+use Rattle.std.proofs.lemmas.List.{drop_more}
+use Rattle.std.proofs.lemmas.List.Elements.{All-filter, All-from_recursion, recursion_from_All}
 use Rattle.std.proofs.lemmas.Map.Keys.{sorted_head, sorted_tail}
 use Rattle.std.proofs.lemmas.Map.Lookups.{exact_bytes}
 use Rattle.mailmap_entries.specs.Entries.{Mapping}
 use Rattle.mailmap_entries.specs.Folding.{Text, folded, text_cmp}
 use Rattle.mailmap_batches.specs.Given.{NameGroup}
 use Rattle.mailmap_tables.specs.Groups.{EmailGroup, IsGroup, AreGroups, email_key, name_key, name_fields, name_row}
-use Rattle.mailmap_tables.specs.Groups.{own_rows, rows, listing}
+use Rattle.mailmap_tables.specs.Groups.{own_rows, rows, listing, IsComplete, Contents}
 use Rattle.mailmap_entries.specs.Building.{IsListing, IsPaired}
-use Rattle.mailmap_entries.specs.Semantics.{Fields, key, key_cmp, first, last, last_given, is_accepted, accepted}
-use Rattle.mailmap_entries.specs.Semantics.{of_key, has_key, given_fields, last_fields, new_fields, no_fields}
+use Rattle.mailmap_entries.specs.Semantics.{Fields, key, key_cmp, first, last_given, is_accepted, accepted}
+use Rattle.mailmap_entries.specs.Semantics.{of_key, has_key, given_fields, last_fields}
 use Rattle.mailmap_entries.specs.Semantics.{mapping_with, spelling, value, fields_with_spelling, answer_of, IsNormal}
-use Rattle.mailmap_entries.proofs.Alike.{Alike, alike_back, same_normal, picked-append}
-use Rattle.mailmap_entries.proofs.Ascending.{before, after}
+use Rattle.mailmap_entries.proofs.Alike.{Alike, alike_back, same_normal}
+use Rattle.mailmap_entries.proofs.Exists.{speller}
+use Rattle.mailmap_entries.proofs.Normal.{known}
+use Rattle.mailmap_tables.proofs.Lists.{all_at}
+use Rattle.mailmap_tables.proofs.Order.{apart_less}
 use Rattle.mailmap_entries.proofs.Joined.{filter_none, never}
 use Rattle.mailmap_entries.proofs.Keys.{keys_total}
-use Rattle.mailmap_entries.proofs.Parts.{all_append, all_tail, all_map, all_apply, filter_all, last_of_one, all_weaker}
-use Rattle.mailmap_entries.proofs.Parts.{all_mapped}
+use Rattle.mailmap_entries.proofs.Parts.{first_alike, all_head, all_append, all_tail, all_map, all_apply, filter_all}
+use Rattle.mailmap_entries.proofs.Parts.{all_weaker, all_mapped}
+use Rattle.std.specs.Prelude.{nat_eq}
+use Rattle.std.proofs.lemmas.Option.{get_or_from_slice_get, slice_get_within}
+use Rattle.mailmap_tables.specs.Remaining.{left_to_list}
+use Rattle.mailmap_tables.specs.Pool.{spelled, group_of}
+use Rattle.mailmap_tables.specs.RowTexts.{old_span}
+use Rattle.mailmap_tables.specs.declared.texts.RowTexts.{RowTexts}
 
 -- ---- predicates that hold for every row
 
@@ -46,12 +54,7 @@ all_rows P email ns f = all_mapped (name_row email) P ns (every f ns)
 -- a predicate that holds for the row that an email may have for all names
 own_all : (P : Mapping → Type 0) (g : EmailGroup) → ((is_some g.own.name || is_some g.own.email) ≡ true
     → P (mapping_with g.own None g.old_email)) → AllByRecursion P (own_rows g)
-own_all P g f = by (is_some g.own.name || is_some g.own.email) f
-  where
-    by : (b : Bool) → (b ≡ true → P (mapping_with g.own None g.old_email))
-        → AllByRecursion P (if b then mapping_with g.own None g.old_email ∷ [] else [])
-    by true h = (h refl, tt)
-    by false h = tt
+own_all P g f = grind (arith, common_steps)
 
 -- all rows of an email have its spelling
 pub rows_spelled : (g : EmailGroup) → AllByRecursion (λ r. r.old_email ≡ g.old_email) (rows g)
@@ -98,20 +101,7 @@ alone (x ∷ n) s =
 -- an entry is the value of its key if no other has this key and the list spells its email the same
 value_alone : (n : List Mapping) (e : Mapping) → of_key n (key e) ≡ e ∷ [] → spelling n (folded e.old_email)
     ≡ Some e.old_email → e ≡ value n (key e)
-value_alone n e here spelled = by e.old_name refl here
-  where
-    by : (o : Option Text) → e.old_name ≡ o → of_key n (folded e.old_email, option_map folded o) ≡ e ∷ []
-        → e ≡ value n (folded e.old_email, option_map folded o)
-    by None plain here = λ i. mapping_with
-        (record {
-          name = sym (ap (last_given (λ x. x.new_name)) here ∙ last_of_one (λ x. x.new_name) e) i;
-          email =
-              sym (ap (last_given (λ x. x.new_email)) here ∙ last_of_one (λ x. x.new_email) e) i;
-        })
-        (plain i) (unwrap_or (sym spelled i) [])
-    by (Some name) named here =
-        λ i. mapping_with (unwrap_or (option_map new_fields (last (sym here i))) no_fields)
-        (option_and_then (λ x. x.old_name) (first (sym here i))) (unwrap_or (sym spelled i) [])
+value_alone n e here spelled = grind (arith, common_steps)
 
 -- a strictly ascending list of accepted entries, with one spelling for each email, is its own normal list
 pub self_normal : (n : List Mapping) → IsStrictlySortedBy key_cmp (map key n)
@@ -191,12 +181,17 @@ picked_none p l a =
     filter_none p (accepted l) (recursion_from_All _ (accepted l) (All-filter is_accepted (λ x. p x ≡ false) l
     (All-from_recursion _ l a)))
 
+pub other_text : (a b : Text) → (b ≡ a → ⊥) → eq_by_cmp text_cmp a b ≡ false
+other_text a b other =
+    false_from_ne_true (eq_by_cmp text_cmp a b) (λ same. other (sym (exact_bytes a b ((Equal-is (text_cmp a b)).0
+    same))))
+
 -- an email that no group has
-pub not_mailed : (email : Text) (gs : List EmailGroup) → AllByRecursion (λ g. eq_by_cmp text_cmp email (email_key g)
-    ≡ false) gs → AllByRecursion (λ x. eq_by_cmp text_cmp email (folded x.old_email) ≡ false) (listing gs)
+pub not_mailed : (email : Text) (gs : List EmailGroup) → AllByRecursion (λ g. email_key g ≡ email → ⊥) gs
+    → AllByRecursion (λ x. eq_by_cmp text_cmp email (folded x.old_email) ≡ false) (listing gs)
 not_mailed email gs other =
-    listing_all _ gs (all_weaker gs (λ g no. all_weaker (rows g) (λ x same. ap (λ t. eq_by_cmp text_cmp email
-    (folded t)) same ∙ no) (rows_spelled g)) other)
+    listing_all _ gs (all_weaker gs (λ g no. all_weaker (rows g) (λ x same. other_text email (folded x.old_email)
+    (λ is. no (ap folded (sym same) ∙ is))) (rows_spelled g)) other)
 
 -- what the first of two orders distinguishes, both together distinguish
 not_first : (o r : Ordering) → is_eq o ≡ false → is_eq (ordering_then o r) ≡ false
@@ -204,77 +199,117 @@ not_first Less r e = refl
 not_first Equal r e = absurd (true≢false e)
 not_first Greater r e = refl
 
-module _ (gs : List EmailGroup) (are : AreGroups gs) (head : List EmailGroup) (g : EmailGroup) (back : List EmailGroup)
-    (parted : gs ≡ head ++ g ∷ back) where
-  is_group : IsGroup g
-  is_group = (all_tail IsGroup head (g ∷ back) (subst (AllByRecursion IsGroup) parted are.each)).0
+-- an email of ascending groups: no other has its key, and no two entries have the same key
+pub record IsAmong (gs : List EmailGroup) (g : EmailGroup) : Type 0 where
+  pub group : IsGroup g
+  pub only : AllByRecursion (λ h. email_key g ≡ email_key h → h ≡ g) gs
+  pub alone : AllByRecursion (λ e. of_key (listing gs) (key e) ≡ e ∷ []) (rows g)
 
-  keys_parted : IsStrictlySortedBy text_cmp (map email_key head ++ email_key g ∷ map email_key back)
-  keys_parted =
-      subst (IsStrictlySortedBy text_cmp) (ap (map email_key) parted ∙ map-append email_key head (g ∷ back))
-      are.ascending
+pub all_among : (gs : List EmailGroup) → AreGroups gs → AllByRecursion (IsAmong gs) gs
+all_among gs are =
+    go gs are.each (unique gs are.ascending) (each _ gs (all_weaker (listing gs) (λ e here. ap (filter (λ x. eq_by_cmp
+    key_cmp (key e) (key x))) (filter_all is_accepted (listing gs) (groups_accepted gs)) ∙ here)
+    (alone (listing gs) (listing_sorted gs are.ascending are.each))))
+  where
+    go : (xs : List EmailGroup) → AllByRecursion IsGroup xs
+        → AllByRecursion (λ g. AllByRecursion (λ h. email_key g ≡ email_key h → h ≡ g) gs) xs
+        → AllByRecursion (λ g. AllByRecursion (λ e. of_key (listing gs) (key e) ≡ e ∷ []) (rows g)) xs
+        → AllByRecursion (IsAmong gs) xs
+    go [] a b c = tt
+    go (g ∷ xs) a b c = (record { group = a.0; only = b.0; alone = c.0 }, go xs a.1 b.1 c.1)
 
-  -- what a filter for this email selects
-  picked_at : (p : Mapping → Bool) → ((x : Mapping) → eq_by_cmp text_cmp (email_key g) (folded x.old_email) ≡ false
-      → p x ≡ false) → filter p (accepted (listing gs)) ≡ filter p (rows g)
-  picked_at p other =
-      let low : AllByRecursion (λ x. eq_by_cmp text_cmp (email_key g) (email_key x) ≡ false) head =
-      all_weaker head (λ x less. ap is_eq (nat_list_cmp_total.antisymm (email_key g) (email_key x)
-      ∙ ap ordering_reverse less)) (all_map email_key (λ k. text_cmp k (email_key g) ≡ Less) head
-      (before nat_list_cmp_total exact_bytes (map email_key head) (email_key g) (map email_key back)
-      keys_parted)) in
-      let high : AllByRecursion (λ x. eq_by_cmp text_cmp (email_key g) (email_key x) ≡ false) back =
-      all_weaker back (λ x less. ap is_eq less) (all_map email_key (λ k. text_cmp (email_key g) k ≡ Less) back
-      (after nat_list_cmp_total exact_bytes (map email_key head) (email_key g) (map email_key back) keys_parted)) in
-      ap (λ l. filter p (accepted (listing l))) parted
-      ∙ ap (λ l. filter p (accepted l)) (listing-append head (g ∷ back))
-      ∙ picked-append p (listing head) (rows g ++ listing back)
-      ∙ ap (λ l. l ++ filter p (accepted (rows g ++ listing back))) (picked_none p (listing head)
-      (all_weaker (listing head) other (not_mailed (email_key g) head low)))
-      ∙ picked-append p (rows g) (listing back)
-      ∙ ap (λ l. filter p (accepted (rows g)) ++ l) (picked_none p (listing back) (all_weaker (listing back) other
-      (not_mailed (email_key g) back high)))
-      ∙ append-nil (filter p (accepted (rows g)))
-      ∙ ap (filter p) (filter_all is_accepted (rows g) (rows_accepted g))
+    unique : (xs : List EmailGroup) → IsStrictlySortedBy text_cmp (map email_key xs)
+        → AllByRecursion (λ g. AllByRecursion (λ h. email_key g ≡ email_key h → h ≡ g) xs) xs
+    unique [] up = tt
+    unique (g ∷ xs) up =
+        let above = all_map email_key (λ k. text_cmp (email_key g) k ≡ Less) xs (sorted_head text_cmp (email_key g)
+        (map email_key xs) up) in (
+          ((λ _. refl), all_weaker xs (λ h less same. absurd (apart_less (email_key g) (email_key h) less same)) above),
+          all_apply _ _ _ (λ h less rest. (
+            (λ same. absurd (apart_less (email_key g) (email_key h) less (sym same))),
+            rest,
+          )) xs above (unique xs (sorted_tail text_cmp (email_key g) (map email_key xs) up)),
+        )
+
+    each : (P : Mapping → Type 0) (xs : List EmailGroup) → AllByRecursion P (listing xs)
+        → AllByRecursion (λ g. AllByRecursion P (rows g)) xs
+    each P [] a = tt
+    each P (g ∷ xs) a = (all_head _ (rows g) (listing xs) a, each P xs (all_tail _ (rows g) (listing xs) a))
+
+module _ {gs : List EmailGroup} {g : EmailGroup} (among : IsAmong gs g) where
+  -- what holds for its entries, and for those of other emails
+  everywhere : (P : Mapping → Type 0) → ((x : Mapping) → eq_by_cmp text_cmp (email_key g) (folded x.old_email) ≡ false
+      → P x) → AllByRecursion P (rows g) → AllByRecursion P (listing gs)
+  everywhere P other here =
+      listing_all P gs (all_weaker gs (λ h is. at h is (eq_by_cmp text_cmp (email_key g) (email_key h)) refl)
+      among.only)
+    where
+      at : (h : EmailGroup) → (email_key g ≡ email_key h → h ≡ g) → (b : Bool)
+          → eq_by_cmp text_cmp (email_key g) (email_key h) ≡ b → AllByRecursion P (rows h)
+      at h is true e =
+          subst (λ h. AllByRecursion P (rows h)) (sym (is (exact_bytes (email_key g) (email_key h)
+          ((Equal-is (text_cmp (email_key g) (email_key h))).0 e)))) here
+      at h is false e =
+          all_weaker (rows h) (λ x same. other x (ap (λ t. eq_by_cmp text_cmp (email_key g) (folded t)) same ∙ e))
+          (rows_spelled h)
 
   pub spelled_at : spelling (listing gs) (email_key g) ≡ Some g.old_email
-  spelled_at =
-      let p : Mapping → Bool = λ x. eq_by_cmp text_cmp (email_key g) (folded x.old_email) in
-      ap (λ l. option_map (λ e. e.old_email) (first l)) (picked_at p (λ x no. no)
-      ∙ filter_all p (rows g) (all_weaker (rows g) (λ x same. ap (λ t. eq_by_cmp text_cmp (email_key g) (folded t)) same
-      ∙ ap is_eq (tied_itself nat_list_cmp_total (email_key g))) (rows_spelled g)))
-      ∙ one (rows g) is_group.says (rows_spelled g)
+  spelled_at = at (rows g) among.group.says (rows_spelled g) among.alone
     where
-      one : (rs : List Mapping) → rs ≢ [] → AllByRecursion (λ r. r.old_email ≡ g.old_email) rs
-          → option_map (λ e. e.old_email) (first rs) ≡ Some g.old_email
-      one [] some a = absurd (some refl)
-      one (r ∷ rs) some a = ap (λ t. Some t) a.0
+      p : Mapping → Bool
+      p x = eq_by_cmp text_cmp (email_key g) (folded x.old_email)
 
-  of_key_at : (o : Option Text) → of_key (listing gs) (email_key g, o) ≡ filter (λ x. eq_by_cmp key_cmp (email_key g, o)
-      (key x)) (rows g)
-  of_key_at o =
-      picked_at (λ x. eq_by_cmp key_cmp (email_key g, o) (key x))
-      (λ x no. not_first (text_cmp (email_key g) (folded x.old_email)) (option_cmp text_cmp o (key x).1) no)
+      its : AllByRecursion (λ x. p x ≡ true → x.old_email ≡ g.old_email) (listing gs)
+      its =
+          everywhere (λ x. p x ≡ true → x.old_email ≡ g.old_email) (λ x no yes. absurd (true≢false (sym yes ∙ no)))
+          (all_weaker (rows g) (λ x same _. same) (rows_spelled g))
+
+      by : (b : Bool) (s : Text) → spelling (listing gs) (email_key g) ≡ cond b (Some g.old_email) None
+          → spelling (listing gs) (email_key g) ≡ Some s → spelling (listing gs) (email_key g) ≡ Some g.old_email
+      by true s e some = e
+      by false s e some = absurd (cc)
+
+      at : (rs : List Mapping) → rs ≢ [] → AllByRecursion (λ r. r.old_email ≡ g.old_email) rs
+          → AllByRecursion (λ e. of_key (listing gs) (key e) ≡ e ∷ []) rs
+          → spelling (listing gs) (email_key g) ≡ Some g.old_email
+      at [] some same only = absurd (some refl)
+      at (r ∷ rs) some same only =
+          let w = speller (listing gs) (key r) (known (listing gs) (key r) ∙ ap (λ l. is_some (first l)) only.0) in
+          by _ w.0.old_email (ap (λ l. option_map (λ x. x.old_email) (first (filter p l)))
+          (filter_all is_accepted (listing gs)
+          (groups_accepted gs)) ∙ first_alike (λ x. x.old_email) p g.old_email (listing gs) its)
+          (ap (λ t. spelling (listing gs) (folded t)) (sym same.0) ∙ w.1)
+
+  no_key : (o : Option Text) → AllByRecursion (λ x. eq_by_cmp key_cmp (email_key g, o) (key x) ≡ false) (rows g)
+      → of_key (listing gs) (email_key g, o) ≡ []
+  no_key o here =
+      picked_none _ (listing gs) (everywhere (λ x. eq_by_cmp key_cmp (email_key g, o) (key x) ≡ false)
+      (λ x no. not_first (text_cmp (email_key g) (folded x.old_email)) (option_cmp text_cmp o (key x).1) no) here)
 
   -- the fields without an old name
   given_at : given_fields (listing gs) (email_key g) ≡ g.own
   given_at =
-      let p : Mapping → Bool = λ x. eq_by_cmp key_cmp (email_key g, None) (key x) in
-      let e : Text = email_key g in
       let here : of_key (listing gs) (email_key g, None) ≡ own_rows g =
-      of_key_at None
-      ∙ filter-append p (own_rows g) (map (name_row g.old_email) g.names)
-      ∙ ap (λ l. filter p (own_rows g) ++ l) (filter_none p (map (name_row g.old_email) g.names)
-      (all_rows _ g.old_email g.names (λ n. never (text_cmp e e) Less refl)))
-      ∙ append-nil (filter p (own_rows g))
-      ∙ filter_all p (own_rows g) (own_all _ g (λ _. ap (λ o. is_eq (ordering_then o Equal))
-      (tied_itself nat_list_cmp_total e))) in
+      at (is_some g.own.name || is_some g.own.email) refl (all_head _ (own_rows g) (map (name_row g.old_email) g.names)
+      among.alone) in
       λ i. record {
         name = (ap (last_given (λ x. x.new_name)) here ∙ name_of g.own.name g.own.email) i;
         email =
             (ap (last_given (λ x. x.new_email)) here ∙ email_of g.own.name g.own.email) i;
       }
     where
+      own : Mapping
+      own = mapping_with g.own None g.old_email
+
+      at : (b : Bool) → (is_some g.own.name || is_some g.own.email) ≡ b
+          → AllByRecursion (λ e. of_key (listing gs) (key e) ≡ e ∷ []) (if b then own ∷ [] else [])
+          → of_key (listing gs) (email_key g, None) ≡ (if b then own ∷ [] else [])
+      at true e only = only.0
+      at false e only =
+          no_key None (all_append _ (own_rows g) (map (name_row g.old_email) g.names) (own_all _ g (λ given. absurd
+          (true≢false (sym given ∙ e)))) (all_rows _ g.old_email g.names (λ n. never (text_cmp (email_key g)
+          (email_key g)) Less refl)))
+
       name_of : (a b : Option Text) → last_given (λ x. x.new_name) (if is_some a || is_some b then mapping_with
           (record { name = a; email = b }) None g.old_email ∷ [] else []) ≡ a
       name_of None None = refl
@@ -292,46 +327,30 @@ module _ (gs : List EmailGroup) (are : AreGroups gs) (head : List EmailGroup) (g
   unnamed_at : (k : Text) → AllByRecursion (λ n. name_key n ≡ k → ⊥) g.names → of_key (listing gs) (email_key g, Some k)
       ≡ []
   unnamed_at k other =
-      let p : Mapping → Bool = λ x. eq_by_cmp key_cmp (email_key g, Some k) (key x) in
       let e : Text = email_key g in
-      of_key_at (Some k) ∙ filter_none p (rows g) (all_append _ (own_rows g) (map (name_row g.old_email) g.names)
-      (own_all _ g (λ _. never (text_cmp e e) Greater refl)) (each g.names other))
-    where
-      each : (ns : List NameGroup) → AllByRecursion (λ n. name_key n ≡ k → ⊥) ns
-          → AllByRecursion (λ x. eq_by_cmp key_cmp (email_key g, Some k) (key x) ≡ false) (map (name_row g.old_email)
-          ns)
-      each [] a = tt
-      each (n ∷ ns) a = (
-        never (text_cmp (email_key g) (email_key g)) (text_cmp k (name_key n))
-            (false_from_ne_true (eq_by_cmp text_cmp k (name_key n))
-            (λ same. a.0 (sym (exact_bytes k (name_key n) ((Equal-is (text_cmp k (name_key n))).0 same))))),
-        each ns a.1,
-      )
+      no_key (Some k) (all_append _ (own_rows g) (map (name_row g.old_email) g.names)
+      (own_all _ g (λ _. never (text_cmp e e) Greater refl))
+      (all_mapped (name_row g.old_email) _ g.names (all_weaker g.names (λ n no. never (text_cmp e e)
+      (text_cmp k (name_key n)) (other_text k (name_key n) no)) other)))
 
   -- the only entry for a name
-  named_at : (before : List NameGroup) (n : NameGroup) (after : List NameGroup) → g.names ≡ before ++ n ∷ after
+  named_at : (j : ℕ) (n : NameGroup) → j < length g.names → n ≡ get_or g.names j n
       → of_key (listing gs) (email_key g, Some (name_key n)) ≡ name_row g.old_email n ∷ []
-  named_at before n after names_parted =
-      let rest : List Mapping = map (name_row g.old_email) after in
-      of_key_at (Some (name_key n))
-      ∙ (all_tail _ (map (name_row g.old_email) before) (name_row g.old_email n ∷ rest)
-      (subst (AllByRecursion (λ e. filter (λ x. eq_by_cmp key_cmp (key e) (key x)) (rows g) ≡ e ∷ []))
-      (ap (map (name_row g.old_email)) names_parted ∙ map-append (name_row g.old_email) before (n ∷ after))
-      (all_tail _ (own_rows g) (map (name_row g.old_email) g.names)
-      (alone (rows g) (rows_sorted g is_group.ascending))))).0
+  named_at j n lt read =
+      let P = λ (n : NameGroup). of_key (listing gs) (email_key g, Some (name_key n)) ≡ name_row g.old_email n ∷ [] in
+      subst P (sym read) (all_at P g.names j n (all_map (name_row g.old_email) _ g.names (all_tail _ (own_rows g)
+      (map (name_row g.old_email) g.names) among.alone)) lt)
+
+pub among_at : (gs : List EmailGroup) → AreGroups gs → (i : ℕ) (g : EmailGroup) → i < length gs → g ≡ get_or gs i g
+    → IsAmong gs g
+among_at gs are i g lt read =
+    subst (IsAmong gs) (sym read) (all_at (IsAmong gs) gs i g (all_among gs are) lt)
 
 listing_spelled : (gs : List EmailGroup) → AreGroups gs
     → AllByRecursion (λ e. spelling (listing gs) (folded e.old_email) ≡ Some e.old_email) (listing gs)
-listing_spelled gs are = go [] gs refl
-  where
-    go : (head back : List EmailGroup) → gs ≡ head ++ back
-        → AllByRecursion (λ e. spelling (listing gs) (folded e.old_email) ≡ Some e.old_email) (listing back)
-    go head [] p = tt
-    go head (g ∷ back) p =
-        all_append _ (rows g) (listing back)
-        (all_weaker (rows g) (λ r same. ap (λ t. spelling (listing gs) (folded t)) same ∙ spelled_at gs are head g back
-        p ∙ ap (λ t. Some t) (sym same)) (rows_spelled g))
-        (go (head ++ g ∷ []) back (p ∙ sym (append_assoc head (g ∷ []) back)))
+listing_spelled gs are =
+    listing_all _ gs (all_weaker gs (λ g among. all_weaker (rows g) (λ r same. ap (λ t. spelling (listing gs)
+    (folded t)) same ∙ spelled_at among ∙ ap (λ t. Some t) (sym same)) (rows_spelled g)) (all_among gs are))
 
 -- the entries of groups are their own normal list
 pub groups_normal : (gs : List EmailGroup) → AreGroups gs → IsNormal (listing gs) (listing gs)
@@ -360,34 +379,20 @@ normal_of_groups h gs are alike =
 -- ---- the answer to a signature
 
 -- the answer if the email and the name are there
-pub scan_found_name : (gs : List EmailGroup) → AreGroups gs → (name email : Text) (head : List EmailGroup)
-    (g : EmailGroup) (back : List EmailGroup) → gs ≡ head ++ g ∷ back → folded g.old_email ≡ folded email
-    → (before : List NameGroup) (n : NameGroup) (after : List NameGroup) → g.names ≡ before ++ n ∷ after
-    → folded n.old_name ≡ folded name
+pub scan_name_at : (gs : List EmailGroup) → AreGroups gs → (name email : Text) (i : ℕ) (g : EmailGroup) → i < length gs
+    → g ≡ get_or gs i g → folded g.old_email ≡ folded email
+    → (j : ℕ) (n : NameGroup) → j < length g.names → n ≡ get_or g.names j n → folded n.old_name ≡ folded name
     → answer_of (listing gs) name email ≡ fields_with_spelling email (name_fields n) (Some g.old_email)
-scan_found_name gs are name email head g back parted same before n after names_parted same_name =
-    let h : List Mapping = listing gs in
-    let named : last_fields h (folded email, Some (folded name)) ≡ Some (name_fields n) =
-    (λ i. last_fields h (sym same i, Some (sym same_name i))) ∙ ap (λ l. option_map new_fields (last l))
-    (named_at gs are head g back parted before n after names_parted) in
-    ap₂ (λ o s. fields_with_spelling email (unwrap_or o (given_fields h (folded email))) s) named (ap (spelling h) (sym same)
-    ∙ spelled_at gs are head g back parted)
+scan_name_at gs are name email i g lt read same j n lt_name read_name same_name =
+    grind (arith, common_steps, among_at, named_at, spelled_at)
 
 -- the answer if the email is there, but not the name
-pub scan_found_own : (gs : List EmailGroup) → AreGroups gs → (name email : Text) (head : List EmailGroup)
-    (g : EmailGroup) (back : List EmailGroup) → gs ≡ head ++ g ∷ back → folded g.old_email ≡ folded email
-    → AllByRecursion (λ n. name_key n ≡ folded name → ⊥) g.names → answer_of (listing gs) name email ≡ fields_with_spelling email
-    g.own (Some g.old_email)
-scan_found_own gs are name email head g back parted same other =
-    let h : List Mapping = listing gs in
-    let unnamed : last_fields h (folded email, Some (folded name)) ≡ None =
-    (λ i. last_fields h (sym same i, Some (folded name))) ∙ ap (λ l. option_map new_fields (last l))
-    (unnamed_at gs are head g back parted (folded name) other) in
-    let given : given_fields h (folded email) ≡ g.own = ap (given_fields h) (sym same)
-    ∙ given_at gs are head g back parted in
-    let spelled : spelling h (folded email) ≡ Some g.old_email = ap (spelling h) (sym same)
-    ∙ spelled_at gs are head g back parted in
-    λ i. fields_with_spelling email (unwrap_or (unnamed i) (given i)) (spelled i)
+pub scan_own_at : (gs : List EmailGroup) → AreGroups gs → (name email : Text) (i : ℕ) (g : EmailGroup) → i < length gs
+    → g ≡ get_or gs i g → folded g.old_email ≡ folded email
+    → AllByRecursion (λ n. name_key n ≡ folded name → ⊥) g.names
+    → answer_of (listing gs) name email ≡ fields_with_spelling email g.own (Some g.old_email)
+scan_own_at gs are name email i g lt read same other =
+    grind (arith, common_steps, among_at, unnamed_at, given_at, spelled_at)
 
 -- the answer if the email isn't there
 pub scan_missing : (gs : List EmailGroup) (name email : Text) → AllByRecursion (λ g. email_key g ≡ folded email → ⊥) gs
@@ -397,45 +402,39 @@ scan_missing gs name email other =
     (folded email)) in
     ap (λ l. fields_with_spelling email f (option_map (λ e. e.old_email) (first l)))
     (picked_none (λ x. eq_by_cmp text_cmp (folded email) (folded x.old_email)) (listing gs)
-    (not_mailed (folded email) gs (all_weaker gs (λ g no. false_from_ne_true (eq_by_cmp text_cmp (folded email)
-    (email_key g)) (λ same. no (sym (exact_bytes (folded email) (email_key g)
-    ((Equal-is (text_cmp (folded email) (email_key g))).0 same))))) other)))
+    (not_mailed (folded email) gs other))
 
--- ---- answers by index
-
--- a list split around one of its indices
-pub split_at : {X : Type 0} (xs : List X) (i : ℕ) (x : X) → i < length xs → x ≡ get_or xs i x
-    → xs ≡ take i xs ++ x ∷ drop (suc i) xs
-split_at xs i x lt read =
-    sym (take-append-drop i xs) ∙ ap (λ l. take i xs ++ l) (drop-cons xs i x lt ∙ ap (λ y. y ∷ drop (suc i) xs)
-    (sym read))
-
-pub not_below_itself : (k : Text) → text_cmp k k ≡ Less → ⊥
-not_below_itself k below = true≢false (sym (ap is_eq (tied_itself nat_list_cmp_total k)) ∙ ap is_eq below)
+-- ---- elements that no search finds
 
 -- if a search finds no index, no element has the key
 pub none_has : {X : Type 0} (f : X → Text) (k : Text) (xs : List X) (i : ℕ) → AllWithin (λ x. text_cmp (f x) k ≡ Less)
     xs 0 i → AllWithin (λ x. text_cmp (f x) k ≡ Greater) xs i (length xs) → AllByRecursion (λ x. f x ≡ k → ⊥) xs
-none_has f k xs i low high = recursion_from_All _ xs (λ j d lt same. ⊎_elim
-    (λ before. wrong Less (low j d (omega arith) before) refl (ap (λ t. text_cmp t k) same))
-    (λ after. wrong Greater (high j d after lt) refl (ap (λ t. text_cmp t k) same))
-    (cases_lt j i))
-  where
-    wrong : {o : Ordering} (r : Ordering) → o ≡ r → is_eq r ≡ false → o ≡ text_cmp k k → ⊥
-    wrong r is other tied =
-        true≢false (sym (ap is_eq (tied_itself nat_list_cmp_total k)) ∙ ap is_eq (sym tied ∙ is) ∙ other)
+none_has f k xs i low high = grind (arith, common_steps, recursion_from_All, cases_lt, tied_itself, nat_list_cmp_total)
 
-pub scan_name_at : (gs : List EmailGroup) → AreGroups gs → (name email : Text) (i : ℕ) (g : EmailGroup) → i < length gs
-    → g ≡ get_or gs i g → folded g.old_email ≡ folded email
-    → (j : ℕ) (n : NameGroup) → j < length g.names → n ≡ get_or g.names j n → folded n.old_name ≡ folded name
-    → answer_of (listing gs) name email ≡ fields_with_spelling email (name_fields n) (Some g.old_email)
-scan_name_at gs are name email i g lt read same j n lt_name read_name same_name =
-    scan_found_name gs are name email (take i gs) g (drop (suc i) gs) (split_at gs i g lt read) same (take j g.names) n
-    (drop (suc j) g.names) (split_at g.names j n lt_name read_name) same_name
+-- ---- empty tables are those of a snapshot
 
-pub scan_own_at : (gs : List EmailGroup) → AreGroups gs → (name email : Text) (i : ℕ) (g : EmailGroup) → i < length gs
-    → g ≡ get_or gs i g → folded g.old_email ≡ folded email
-    → AllByRecursion (λ n. name_key n ≡ folded name → ⊥) g.names → answer_of (listing gs) name email ≡ fields_with_spelling email
-    g.own (Some g.old_email)
-scan_own_at gs are name email i g lt read same other =
-    scan_found_own gs are name email (take i gs) g (drop (suc i) gs) (split_at gs i g lt read) same other
+pub no_groups : AreGroups []
+unfolding IsStrictlySortedBy
+no_groups = record { ascending = tt; each = tt }
+
+pub complete_empty : IsComplete (record { pool = []; groups = []; unassigned_names = [] })
+complete_empty = record { groups = no_groups; none_unassigned = refl }
+
+-- ---- the entries of a listing that are left, step by step
+
+module _ (t : Contents) (email : Text) (ns : List RowTexts) (i : ℕ) (none : ns ≡ []) where
+  -- without a name left, the next email follows
+  pub next_email : (r : RowTexts) (rest : List RowTexts) → slice_get t.groups i ≡ Some (group_of t.pool r rest)
+      → left_to_list t email ns i ≡ own_rows (group_of t.pool r []) ++ left_to_list t (spelled t.pool (old_span r)) rest
+      (i + 1)
+  next_email r rest read =
+      let g : EmailGroup = group_of t.pool r rest in
+      let lt : i < length t.groups = slice_get_within t.groups i g read in
+      ap (λ l. left_to_list t email l i) none
+      ∙ ap listing (drop_more t.groups i g lt)
+      ∙ ap (λ x. listing (x ∷ drop (i + 1) t.groups)) (get_or_from_slice_get t.groups i g g read)
+      ∙ append_assoc (own_rows g) (map (name_row g.old_email) g.names) (listing (drop (i + 1) t.groups))
+
+pub empty : {X : Type 0} (xs : List X) → nat_eq (length xs) 0 ≡ true → xs ≡ []
+empty [] e = refl
+empty (x ∷ xs) e = let none : length (x ∷ xs) ≡ 0 = eqb-true _ _ e in absurd (omega arith)

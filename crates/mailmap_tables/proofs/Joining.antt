@@ -1,16 +1,30 @@
--- Entries that are joined in chunks.
-use Rattle.std.proofs.Common.{◌≡◌, ◌≢◌, ◌<◌, arith, length, true, map, List, [], ◌∷◌, ◌++◌, Option, Some, None}
-use Rattle.std.proofs.Common.{unwrap_or, append-nil, append_assoc, refl, sym, ap, subst, ◌∙◌}
-use Rattle.std.specs.List.{AllByRecursion}
+-- Entries that are collected, and joined in chunks.
+use Rattle.std.proofs.lemmas.Grind.{common_steps}
+use Rattle.std.proofs.Common.{◌≡◌, ◌≢◌, true, false, cond, List, [], ◌∷◌, ◌++◌, append-nil, sym, ap, ◌∙◌, ◌<◌, arith}
+use Rattle.std.proofs.Common.{length, map, Option, Some, None, unwrap_or, append_assoc, refl, subst}
+use Rattle.std.proofs.lemmas.List.Elements.{filter-append}
 use Rattle.mailmap_entries.specs.Entries.{Mapping}
-use Rattle.mailmap_entries.specs.Semantics.{IsNormal, accepted, is_accepted}
+use Rattle.mailmap_entries.specs.Semantics.{accepted, is_accepted, IsNormal}
+use Rattle.std.specs.List.{AllByRecursion}
 use Rattle.mailmap_entries.proofs.Building.{accepted_good, normal_accepted}
 use Rattle.mailmap_entries.proofs.Normal.{normal_then}
 use Rattle.mailmap_entries.proofs.Parts.{all_tail}
 use Rattle.mailmap_tables.specs.Collecting.{IsCollected}
 use Rattle.mailmap_tables.specs.Groups.{Contents, IsComplete, listing}
-use Rattle.mailmap_tables.proofs.Collected.{accepted-taken}
 use Rattle.mailmap_tables.proofs.Grouped.{groups_normal}
+
+pub accepted-taken : (h : List Mapping) (e : Mapping) → is_accepted e ≡ true → accepted (h ++ e ∷ []) ≡ accepted h ++ e
+    ∷ []
+accepted-taken h e good = filter-append is_accepted h (e ∷ []) ∙ ap (λ b. accepted h ++ cond b (e ∷ []) []) good
+
+pub accepted-ignored : (h : List Mapping) (e : Mapping) → is_accepted e ≡ false → accepted (h ++ e ∷ []) ≡ accepted h
+accepted-ignored h e bad =
+    filter-append is_accepted h (e ∷ []) ∙ ap (λ b. accepted h ++ cond b (e ∷ []) []) bad ∙ append-nil (accepted h)
+
+pub some_taken : (h : List Mapping) (e : Mapping) → is_accepted e ≡ true → accepted (h ++ e ∷ []) ≢ []
+some_taken h e good none = grind (arith, common_steps)
+
+-- ---- entries that are joined in chunks
 
 -- the state before the first entry
 pub collected_none : (s : Contents) → IsComplete s → IsCollected s [] None []
@@ -32,13 +46,7 @@ module _ (s : Contents) (h : List Mapping) (made : Option Contents) (batch : Lis
 
   -- the state after one more accepted entry
   pub collected_push : (m : Mapping) → is_accepted m ≡ true → IsCollected s (h ++ m ∷ []) made (batch ++ m ∷ [])
-  collected_push m good =
-      record {
-        head = c.head;
-        parts = accepted-taken h m good ∙ ap (λ l. l ++ m ∷ []) c.parts ∙ append_assoc c.head batch (m ∷ []);
-        complete = c.complete;
-        normal = c.normal;
-      }
+  collected_push m good = grind (arith, common_steps)
 
   -- an entry that is not accepted changes nothing
   pub collected_same : (m : Mapping) → accepted (h ++ m ∷ []) ≡ accepted h → IsCollected s (h ++ m ∷ []) made batch

@@ -1,19 +1,26 @@
--- The texts of a row as spans.
+-- The texts of a row as spans, and how many bytes they have.
+use Rattle.std.proofs.lemmas.Grind.{common_steps}
 use Rattle.std.proofs.Common.{◌≡◌, ◌==◌, ◌≤◌, ◌<◌, ◌+◌, ℕ, Bool, true, false, ◌++◌, take, drop, length, Option, Some}
-use Rattle.std.proofs.Common.{None, option_map, unwrap_or, refl, sym, ap, ◌∙◌, arith, cond, append_assoc, length-append}
-use Rattle.std.proofs.Common.{[], subst}
-use Rattle.std.specs.Option.{ForSome}
+use Rattle.std.proofs.Common.{None, option_map, unwrap_or, refl, sym, ap, ◌∙◌, arith, cond}
+use Rattle.std.proofs.Common.{length-append, [], subst, List, min}
+use Rattle.std.proofs.Math.Seq.{drop-append_seam}
+use Rattle.std.specs.Option.{ForSome, option_or}
 use Rattle.std.proofs.lemmas.Bool.Decides.{nat_tests}
-use Rattle.std.proofs.lemmas.List.{append-nil, take-append-le, drop-append-le, take_all, drop_all, length-drop}
-use Rattle.std.proofs.lemmas.List.{length-take-le}
-use Rattle.mailmap_entries.specs.Folding.{Text}
-use Rattle.mailmap_tables.specs.Pool.{LiesIn, RowSpells, TextsInPool, bytes_of, name_group, spelled}
+use Rattle.std.proofs.lemmas.List.{take_all, length-drop}
+use Rattle.std.proofs.lemmas.List.{length-take-le, length-map}
+use Rattle.mailmap_entries.specs.Folding.{Text, folded}
+use Rattle.mailmap_tables.specs.Pool.{LiesIn, RowSpells, TextsInPool, bytes_of, name_group, spelled, OwnSpells}
+use Rattle.mailmap_tables.specs.Pool.{group_of}
 use Rattle.mailmap_tables.specs.RowTexts.{AreTogether, byte_count, email_span, len_of, name_span, old_span, row_bytes}
 use Rattle.mailmap_tables.specs.RowTexts.{row_of, span_bytes, span_of}
-use Rattle.mailmap_tables.proofs.Pooled.{options-append}
+use Rattle.mailmap_tables.proofs.Pooled.{lies_on, options_on, spelled_on}
 use Rattle.mailmap_tables.specs.declared.texts.TheConstants.{NO_TEXT}
 use Rattle.mailmap_tables.specs.declared.texts.Span.{Span}
 use Rattle.mailmap_tables.specs.declared.texts.RowTexts.{RowTexts}
+use Rattle.mailmap_entries.specs.Semantics.{Fields}
+use Rattle.mailmap_tables.specs.Merging.{Extends}
+use Rattle.mailmap_tables.proofs.Appended.{extends_through}
+use Rattle.mailmap_tables.specs.Reserved.{optional_bytes, own_bytes}
 
 -- ---- a length
 
@@ -62,11 +69,7 @@ row_within n t lie = omega (arith, email_ends n t lie)
 -- the number of bytes of a row's text
 counts : (n k len : ℕ) → ForSome (span_of k len) (LiesIn n) → span_bytes (span_of k len) ≡ byte_count len
 unfolding span_of byte_count
-counts n k len lie = at (len == NO_TEXT)
-  where
-    at : (b : Bool) → span_bytes (cond b None (Some (record { start = k; len = len }))) ≡ cond b 0 len
-    at true = refl
-    at false = refl
+counts n k len lie = grind (arith, common_steps)
 
 pub name_counts : (n : ℕ) (t : RowTexts) → TextsInPool n t → span_bytes (name_span t) ≡ byte_count t.new_name_len
 unfolding name_span
@@ -78,9 +81,12 @@ email_counts n t lie = counts n (t.start + t.old_len + byte_count t.new_name_len
 
 -- ---- a row made from spans
 
+-- a text with the same length at another place
+abbrev pub moved_to : ℕ → Option Span → Option Span
+moved_to start o = option_map (λ (s : Span). record { start = start; len = s.len }) o
+
 module _ (n : ℕ) (few : n < NO_TEXT) where
-  moved : (start : ℕ) (o : Option Span) → ForSome o (LiesIn n) → span_of start (len_of o) ≡ option_map
-      (λ (s : Span). record { start = start; len = s.len }) o
+  moved : (start : ℕ) (o : Option Span) → ForSome o (LiesIn n) → span_of start (len_of o) ≡ moved_to start o
   moved start None lie = span_of-none start
   moved start (Some s) lie = span_of-some start s.len (omega (arith, lie s refl))
 
@@ -90,26 +96,18 @@ module _ (n : ℕ) (few : n < NO_TEXT) where
 
   module _ (start : ℕ) (old : Span) (name email : Option Span) (name_lies : ForSome name (LiesIn n))
       (email_lies : ForSome email (LiesIn n)) where
-    pub row_name : name_span (row_of start old name email) ≡ option_map (λ (s : Span). record {
-      start = start + old.len;
-      len = s.len;
-    }) name
+    pub row_name : name_span (row_of start old name email) ≡ moved_to (start + old.len) name
     unfolding name_span
     row_name = moved (start + old.len) name name_lies
 
-    pub row_email : email_span (row_of start old name email) ≡ option_map (λ (s : Span). record {
-      start =
-          start + old.len + span_bytes name;
-      len = s.len;
-    }) email
+    pub row_email : email_span (row_of start old name email) ≡ moved_to (start + old.len + span_bytes name) email
     unfolding email_span
     row_email =
         ap (λ k. span_of (start + old.len + k) (len_of email)) (counted name name_lies)
         ∙ moved (start + old.len + span_bytes name) email email_lies
 
   -- a row of consecutive texts
-  there : (start : ℕ) (o : Option Span) → ForSome o (λ s. s.start ≡ start)
-      → option_map (λ (s : Span). record { start = start; len = s.len }) o ≡ o
+  there : (start : ℕ) (o : Option Span) → ForSome o (λ s. s.start ≡ start) → moved_to start o ≡ o
   there start None at = refl
   there start (Some s) at = λ i. Some (record { start = sym (at s refl) i; len = s.len })
 
@@ -124,24 +122,10 @@ module _ (n : ℕ) (few : n < NO_TEXT) where
         at.new_email
 
     pub lies_there : LiesIn n old → TextsInPool n (row_of old.start old name email)
-    lies_there lies =
-        record {
-          old = lies;
-          new_name = subst (λ o. ForSome o (LiesIn n)) (sym same_name) name_lies;
-          new_email = subst (λ o. ForSome o (LiesIn n)) (sym same_email) email_lies;
-        }
+    lies_there lies = grind (arith, common_steps, same_name, same_email)
 
     pub spells_there : (pool : Text) → RowSpells pool pool old name email (row_of old.start old name email)
-    spells_there pool =
-        record {
-          old_same = refl;
-          fields =
-              λ i. record {
-                name = option_map (spelled pool) (same_name i);
-                email = option_map (spelled pool)
-                    (same_email i);
-              };
-        }
+    spells_there pool = grind (arith, common_steps, same_name, same_email)
 
 -- ---- a row made from copies
 
@@ -153,108 +137,85 @@ pub bytes_len : (pool : Text) (o : Option Span) → ForSome o (LiesIn (length po
 bytes_len pool None lie = refl
 bytes_len pool (Some s) lie = spelled_len pool s (lie s refl)
 
--- bytes that were appended to a pool
-after_pool : (pool bytes more : Text) (start len : ℕ) → start ≡ length pool → len ≡ length bytes
-    → spelled (pool ++ bytes ++ more) (record { start = start; len = len }) ≡ bytes
-after_pool pool bytes more start len at count =
-    let within : start ≤ length (pool ++ bytes) = omega (arith, at, length-append pool bytes) in
-    let there : start ≤ length pool = omega (arith, at) in
-    let none : drop start pool ≡ [] = drop_all start pool (omega (arith, at)) in
-    ap (take len) (drop-append-le start (pool ++ bytes) more within
-    ∙ ap (λ l. l ++ more) (drop-append-le start pool bytes there ∙ ap (λ l. l ++ bytes) none))
-    ∙ take-append-le len bytes more (omega (arith, count))
-    ∙ take_all len bytes (omega (arith, count))
+-- a text that is copied to the end of a pool
+copied : (p q : Text) (o : Option Span) → ForSome o (LiesIn (length p)) → q ≡ p ++ bytes_of p o
+    → option_map (spelled q) (moved_to (length p) o) ≡ option_map (spelled p) o
+copied p q None lie is = refl
+copied p q (Some s) lie is =
+    let text = spelled p s in
+    ap (λ t. Some t) (ap (λ r. take s.len (drop (length p) r)) is ∙ ap (take s.len) (drop-append_seam p text)
+    ∙ take_all s.len text (omega (arith, spelled_len p s (lie s refl))))
 
-module _ (pool : Text) (few : length pool < NO_TEXT) (old : Span) (name email : Option Span)
+-- the old text is copied first, then the new name, then the new email
+module _ (pool one two three : Text) (few : length pool < NO_TEXT) (old : Span) (name email : Option Span)
     (lies : LiesIn (length pool) old) (name_lies : ForSome name (LiesIn (length pool))) (email_lies : ForSome email
-    (LiesIn (length pool))) where
-  abbrev one : Text
-  one = pool ++ spelled pool old
-
-  abbrev two : Text
-  two = one ++ bytes_of pool name
-
-  abbrev pub copied : Text
-  copied = two ++ bytes_of pool email
-
+    (LiesIn (length pool))) (first : one ≡ pool ++ spelled pool old) (second : two ≡ one ++ bytes_of one name)
+    (third : three ≡ two ++ bytes_of two email) where
   abbrev made : RowTexts
   made = row_of (length pool) old name email
 
+  abbrev to_one : Extends pool one
+  to_one = (spelled pool old, first)
+
+  abbrev to_three : Extends two three
+  to_three = (bytes_of two email, third)
+
+  to_two : Extends pool two
+  to_two = extends_through pool one two to_one (bytes_of one name, second)
+
+  name_one : ForSome name (LiesIn (length one))
+  name_one s e = lies_on pool one to_one s (name_lies s e)
+
+  email_two : ForSome email (LiesIn (length two))
+  email_two s e = lies_on pool two to_two s (email_lies s e)
+
   one_len : length one ≡ length pool + old.len
-  one_len = omega (arith, length-append pool (spelled pool old), spelled_len pool old lies)
+  one_len = omega (arith, ap length first, length-append pool (spelled pool old), spelled_len pool old lies)
 
   two_len : length two ≡ length pool + old.len + span_bytes name
-  two_len = omega (arith, length-append one (bytes_of pool name), one_len, bytes_len pool name name_lies)
+  two_len = omega (arith, one_len, ap length second, length-append one (bytes_of one name), bytes_len one name name_one)
 
-  pub copied_len : length copied ≡ length pool + (old.len + (span_bytes name + span_bytes email))
-  copied_len = omega (arith, length-append two (bytes_of pool email), two_len, bytes_len pool email email_lies)
+  three_len : length three ≡ length two + span_bytes email
+  three_len = omega (arith, ap length third, length-append two (bytes_of two email), bytes_len two email email_two)
 
-  -- a copy that begins at `start`
-  abbrev at : ℕ → Option Span → Option Span
-  at start o = option_map (λ (s : Span). record { start = start; len = s.len }) o
-
-  within : (start : ℕ) (o : Option Span) → start + span_bytes o ≤ length copied
-      → ForSome (at start o) (LiesIn (length copied))
-  within start None le = λ s (e : None ≡ Some s). cc
-  within start (Some o) le = λ s e.
+  within : (n start : ℕ) (o : Option Span) → start + span_bytes o ≤ n → ForSome (moved_to start o) (LiesIn n)
+  within n start None le = λ s (e : None ≡ Some s). cc
+  within n start (Some o) le = λ s e.
       let copy : Span = record { start = start; len = o.len } in
       let same : copy ≡ s = cc e in
-      subst (LiesIn (length copied)) same le
+      subst (LiesIn n) same le
 
-  copies : (head more : Text) (o : Option Span) → copied ≡ head ++ bytes_of pool o ++ more
-      → ForSome o (LiesIn (length pool)) → option_map (spelled copied) (at (length head) o) ≡ option_map (spelled pool)
-      o
-  copies head more None is lie = refl
-  copies head more (Some s) is lie =
-      ap (λ t. Some t) (ap (λ p. spelled p (record { start = length head; len = s.len })) is
-      ∙ after_pool head (spelled pool s) more (length head) s.len refl (sym (spelled_len pool s (lie s refl))))
-
-  name_there : name_span made ≡ at (length one) name
+  name_there : name_span made ≡ moved_to (length one) name
   name_there =
-      row_name (length pool) few (length pool) old name email name_lies email_lies ∙ ap (λ k. at k name) (sym one_len)
+      row_name (length pool) few (length pool) old name email name_lies email_lies
+      ∙ ap (λ k. moved_to k name) (sym one_len)
 
-  email_there : email_span made ≡ at (length two) email
+  email_there : email_span made ≡ moved_to (length two) email
   email_there =
-      row_email (length pool) few (length pool) old name email name_lies email_lies ∙ ap (λ k. at k email) (sym two_len)
+      row_email (length pool) few (length pool) old name email name_lies email_lies
+      ∙ ap (λ k. moved_to k email) (sym two_len)
 
-  pub copies_lie : TextsInPool (length copied) made
-  copies_lie =
-      record {
-        old = omega (arith, copied_len);
-        new_name =
-            subst (λ o. ForSome o (LiesIn (length copied))) (sym name_there) (within (length one) name
-            (omega (arith, copied_len, one_len)));
-        new_email =
-            subst (λ o. ForSome o (LiesIn (length copied))) (sym email_there) (within (length two) email
-            (omega (arith, copied_len, two_len)));
-      }
+  pub copies_lie : TextsInPool (length three) made
+  copies_lie = grind (arith, common_steps, one_len, two_len, three_len, name_there, within, email_there)
 
-  -- what each text adds to the pool, which has grown by the texts before it
-  pub copied_so : (p q r : Text) → p ≡ one → q ≡ p ++ bytes_of p name → r ≡ q ++ bytes_of q email → r ≡ copied
-  copied_so p q r first second third =
-      let bytes = λ (o : Option Text). unwrap_or o [] in
-      let q_is : q ≡ two = second ∙ (λ i. first i ++ bytes_of (first i) name) ∙ ap (λ b. one ++ bytes b)
-      (options-append pool (spelled pool old) name name_lies) in
-      let head : two ≡ pool ++ (spelled pool old ++ bytes_of pool name) = append_assoc pool (spelled pool old)
-      (bytes_of pool name) in
-      let email_is : bytes_of two email ≡ bytes_of pool email = ap (λ (t : Text). bytes_of t email) head
-      ∙ ap bytes (options-append pool (spelled pool old ++ bytes_of pool name) email email_lies) in
-      third ∙ (λ i. q_is i ++ bytes_of (q_is i) email) ∙ ap (λ b. two ++ b) email_is
-
-  pub copies_spell : RowSpells pool copied old name email made
+  pub copies_spell : RowSpells pool three old name email made
   copies_spell =
-      let after : copied ≡ pool ++ spelled pool old ++ (bytes_of pool name ++ bytes_of pool email) =
-      append_assoc one (bytes_of pool name) (bytes_of pool email) in
-      let email_after : copied ≡ two ++ bytes_of pool email ++ [] = sym (append-nil copied) in
-      record {
-        old_same =
-            ap (λ p. spelled p (old_span made)) after ∙ after_pool pool (spelled pool old) (bytes_of pool name
-            ++ bytes_of pool email) (length pool) old.len refl (sym (spelled_len pool old lies));
-        fields = λ i. record {
-          name = (ap (option_map (spelled copied)) name_there ∙ copies one (bytes_of pool email) name refl name_lies) i;
-          email = (ap (option_map (spelled copied)) email_there ∙ copies two [] email email_after email_lies) i;
-        };
-      }
+      grind (
+        arith,
+        common_steps,
+        copied,
+        extends_through,
+        spelled_on,
+        one_len,
+        name_there,
+        options_on,
+        within,
+        two_len,
+        name_one,
+        email_there,
+        email_two,
+        to_two,
+      )
 
 -- ---- a row with the texts of spans in another pool
 
@@ -269,3 +230,92 @@ pub row_group : (a b : Text) (old : Span) (name : Option Span) (email : Span) (t
     }
 row_group a b old name email t is i =
     record { old_name = is.old_same i; new_name = (is.fields i).name; new_email = unwrap_or (is.fields i).email [] }
+
+-- ---- the new fields of an email: those that are given override those before
+
+-- the name is written to the pool first, then the email
+pub own_spells : (a one two three : Text) (row own : RowTexts) (given : Fields) (old : Span)
+    (name email had_name had_email : Option Span) → TextsInPool (length a) row → Extends a one → Extends one two
+    → old ≡ old_span row → had_name ≡ name_span row → had_email ≡ email_span row
+    → ForSome name (LiesIn (length one)) → option_map (spelled one) name ≡ option_or given.name
+    (option_map (spelled a) had_name)
+    → option_map (spelled two) email ≡ option_or given.email (option_map (spelled one) had_email)
+    → RowSpells two three old name email own → OwnSpells a three row given own
+own_spells a one two three row own given old name email had_name had_email lies to_one to_two is name_is email_is
+    name_lies name_spells email_spells made =
+    let to : Extends a two = extends_through a one two to_one to_two in
+    record {
+      old_same = made.old_same ∙ ap (spelled two) is ∙ spelled_on a two to (old_span row) lies.old;
+      fields = made.fields ∙ (λ i. record {
+        name =
+            (options_on one two to_two name name_lies ∙ name_spells
+            ∙ ap (λ o. option_or given.name (option_map (spelled a) o)) name_is) i;
+        email =
+            (email_spells ∙ ap (option_or given.email) (ap (option_map (spelled one)) email_is ∙ options_on a one to_one
+            (email_span row) lies.new_email)) i;
+      });
+    }
+
+-- the row is the same in a pool that has grown
+pub own_spells_on : (a b c : Text) (row own : RowTexts) (given : Fields) → Extends b c → TextsInPool (length b) own
+    → OwnSpells a b row given own → OwnSpells a c row given own
+own_spells_on a b c row own given to lies is = grind (arith, common_steps)
+
+-- ---- the number of bytes in texts, and a bound for the bytes that are added to the pool
+
+pub or_bytes : (a b : Option (List ℕ)) → optional_bytes (option_or a b) ≤ optional_bytes a + optional_bytes b
+or_bytes None b = omega arith
+or_bytes (Some x) b = omega arith
+
+-- ---- texts that differ only in case
+
+folded_length : (t : Text) → length (folded t) ≡ length t
+folded_length t = length-map t _
+
+pub alike_length : (a b : Text) → folded a ≡ folded b → length a ≡ length b
+alike_length a b e = sym (folded_length a) ∙ ap length e ∙ folded_length b
+
+-- ---- spans
+
+-- spans have as many bytes as their texts
+pub spans_bytes : (pool : Text) (o : Option Span) → ForSome o (LiesIn (length pool))
+    → optional_bytes (option_map (spelled pool) o) ≡ span_bytes o
+spans_bytes pool None lie = refl
+spans_bytes pool (Some s) lie = spelled_len pool s (lie s refl)
+
+pub fields_within : (pool : Text) (t : RowTexts) → TextsInPool (length pool) t → length pool ≤ NO_TEXT
+    → own_bytes (group_of pool t []) ≤ min (row_bytes t) NO_TEXT
+fields_within pool t lies few =
+    omega (
+      arith,
+      few,
+      spans_bytes pool (name_span t) lies.new_name,
+      spans_bytes pool (email_span t) lies.new_email,
+      name_counts (length pool) t lies,
+      email_counts (length pool) t lies,
+      email_ends (length pool) t lies,
+    )
+
+-- the bytes of an email's row, with the fields that are given for it
+pub own_copied : (a one two : Text) (t : RowTexts) (given : Fields) (old : Span) (name email had_name had_email : Option
+    Span) → TextsInPool (length a) t → Extends a one
+    → old ≡ old_span t → had_name ≡ name_span t → had_email ≡ email_span t
+    → ForSome name (LiesIn (length one)) → option_map (spelled one) name ≡ option_or given.name
+    (option_map (spelled a) had_name)
+    → ForSome email (LiesIn (length two)) → option_map (spelled two) email ≡ option_or given.email
+    (option_map (spelled one) had_email)
+    → old.len + (span_bytes name + span_bytes email) ≤ length (spelled a (old_span t)) + own_bytes (group_of a t [])
+    + (optional_bytes given.name + optional_bytes given.email)
+own_copied a one two t given old name email had_name had_email lies to is name_is email_is name_lies name_spells
+    email_lies email_spells =
+    let g = group_of a t [] in
+    let old_len : old.len ≡ length (spelled a (old_span t)) = ap (λ (s : Span). s.len) is
+    ∙ sym (spelled_len a (old_span t) lies.old) in
+    let name_len : span_bytes name ≡ optional_bytes (option_or given.name g.own.name) =
+    sym (spans_bytes one name name_lies) ∙ ap optional_bytes (name_spells
+    ∙ ap (λ o. option_or given.name (option_map (spelled a) o)) name_is) in
+    let email_len : span_bytes email ≡ optional_bytes (option_or given.email g.own.email) =
+    sym (spans_bytes two email email_lies)
+    ∙ ap optional_bytes (email_spells ∙ ap (option_or given.email) (ap (option_map (spelled one)) email_is
+    ∙ options_on a one to (email_span t) lies.new_email)) in
+    omega (arith, old_len, name_len, email_len, or_bytes given.name g.own.name, or_bytes given.email g.own.email)

@@ -1,16 +1,36 @@
 -- What joining a sorted batch with old groups does.
-use Rattle.std.specs.Prelude.{◌≡◌, ◌≤◌, ◌++◌, ℕ, true, List, [], ◌∷◌, All, Contains, map}
-use Rattle.std.specs.List.{AllByRecursion}
+use Rattle.std.specs.Prelude.{◌≡◌, ◌≤◌, ◌++◌, ℕ, true, List, [], ◌∷◌, Option, Some, None, All, Contains, map}
+use Rattle.std.specs.List.{AllByRecursion, cons_option}
 use Rattle.std.specs.List.Sorted.{IsStrictlySortedBy}
-use Rattle.std.specs.Option.{option_cmp, option_map}
+use Rattle.std.specs.Option.{option_cmp, option_map, option_to_list}
 use Rattle.std.specs.declared.cmp.Ordering.TheVariants.{Less}
 use Rattle.mailmap_entries.specs.Alike.{Alike}
 use Rattle.mailmap_entries.specs.Entries.{Mapping}
 use Rattle.mailmap_entries.specs.Folding.{Text, folded, text_cmp}
 use Rattle.mailmap_batches.specs.Given.{NameGroup, IsEarliest}
-use Rattle.mailmap_tables.specs.Groups.{EmailGroup, AreGroups, Contents, email_key, name_key, name_row, rows, listing}
+use Rattle.mailmap_tables.specs.Groups.{EmailGroup, IsGroup, Contents, email_key, name_key, name_row, rows, listing}
 use Rattle.mailmap_entries.specs.Semantics.{is_accepted, no_fields}
-use Rattle.mailmap_batches.specs.Batches.{IsAscending, email_text}
+use Rattle.mailmap_batches.specs.Batches.{IsAscending, email_text, name_text}
+
+-- ---- keys
+
+-- f is below all keys
+abbrev pub IsBelow : {X : Type 0} → (X → Text) → Text → List X → Type 0
+IsBelow key f xs = AllByRecursion (λ x. text_cmp f (key x) ≡ Less) xs
+
+-- where the key f is among ascending keys, and the element with this key, if there is one
+pub record Lookup {X : Type 0} (key : X → Text) (f : Text) (xs passed : List X) (found : Option X) (left : List X)
+    : Type 0 where
+  pub whole : xs ≡ passed ++ cons_option found left
+  pub low : AllByRecursion (λ x. text_cmp (key x) f ≡ Less) passed
+  pub same : AllByRecursion (λ x. key x ≡ f) (option_to_list found)
+  pub high : IsBelow key f left
+
+-- the output of a merge ascends, and what is below all keys of the input is below all of the output
+pub record InOrder {X J : Type 0} (key : X → Text) (by : J → Text) (xs : List X) (js : List J) (ys : List X) : Type 0
+  where
+    pub ascending : IsStrictlySortedBy text_cmp (map key ys)
+    pub above : (f : Text) → IsBelow key f xs → IsBelow by f js → IsBelow key f ys
 
 -- ---- names
 
@@ -22,34 +42,33 @@ with_email e m = record m { old_email = e }
 abbrev pub Extends : Text → Text → Type 0
 Extends old new = (more : Text) × (new ≡ old ++ more)
 
--- the lookup of a name among the names `ks`: `kept` is its spelling there, or `name` itself if it is not there
-pub data NameLookup (ks passed : List NameGroup) (name kept : Text) (left : List NameGroup) : Type 0 where
-  known : (k : NameGroup) → ks ≡ passed ++ k ∷ left → name_key k ≡ folded name → kept ≡ k.old_name
-      → NameLookup ks passed name kept left
-  unknown : ks ≡ passed ++ left → AllByRecursion (λ k. text_cmp (name_key k) (folded name) ≡ Less) passed
-      → AllByRecursion (λ k. text_cmp (folded name) (name_key k) ≡ Less) left → kept ≡ name
-      → NameLookup ks passed name kept left
+-- names were appended to the unassigned ones
+pub record AppendsNames (names : List NameGroup) (old new : Contents) : Type 0 where
+  pub pool : Extends old.pool new.pool
+  pub groups : new.groups ≡ old.groups
+  pub unassigned_names : new.unassigned_names ≡ old.unassigned_names ++ names
+
+-- the name as it is stored already, if it is
+abbrev pub kept_name : Option NameGroup → NameGroup → NameGroup
+kept_name None n = n
+kept_name (Some k) n = record n { old_name = k.old_name }
 
 -- one name was appended, after the old names that come before it
 pub record NameAppended (ks left : List NameGroup) (n : NameGroup) (old new : Contents) : Type 0 where
   pub passed : List NameGroup
-  pub kept : Text
-  pub pool : Extends old.pool new.pool
-  pub groups : new.groups ≡ old.groups
-  pub unassigned_names : new.unassigned_names ≡ old.unassigned_names ++ (passed ++ record n { old_name = kept } ∷ [])
-  pub lookup : NameLookup ks passed n.old_name kept left
+  pub found : Option NameGroup
+  pub appends : AppendsNames (passed ++ kept_name found n ∷ []) old new
+  pub lookup : Lookup name_key (name_key n) ks passed found left
 
 -- the names of the output are equivalent to the old names and the entries of the batch for them
 pub record NamesJoined (ks : List NameGroup) (ms : List Mapping) (ns : List NameGroup) : Type 0 where
-  pub ascending : IsStrictlySortedBy text_cmp (map name_key ns)
+  pub order : InOrder name_key name_text ks ms ns
   pub alike : (e : Text) → Alike (map (name_row e) ks ++ map (with_email e) ms) (map (name_row e) ns)
 
--- the names were appended to the unassigned ones
+-- these names were appended
 pub record NamesAppended (ks : List NameGroup) (ms : List Mapping) (old new : Contents) : Type 0 where
   pub names : List NameGroup
-  pub pool : Extends old.pool new.pool
-  pub groups : new.groups ≡ old.groups
-  pub unassigned_names : new.unassigned_names ≡ old.unassigned_names ++ names
+  pub appends : AppendsNames names old new
   pub joined : NamesJoined ks ms names
 
 -- ---- emails
@@ -60,12 +79,16 @@ pub record EmailJoined (g : EmailGroup) (ms : List Mapping) (c : EmailGroup) : T
   pub ascending : IsStrictlySortedBy text_cmp (map name_key c.names)
   pub alike : Alike (rows g ++ map (with_email g.old_email) ms) (rows c)
 
--- an email was appended, and no name is unassigned
+-- emails were appended, and no name is unassigned
+pub record AppendsEmails (gs : List EmailGroup) (old new : Contents) : Type 0 where
+  pub pool : Extends old.pool new.pool
+  pub groups : new.groups ≡ old.groups ++ gs
+  pub none_unassigned : new.unassigned_names ≡ []
+
+-- this email was appended
 pub record EmailAppended (g : EmailGroup) (ms : List Mapping) (old new : Contents) : Type 0 where
   pub group : EmailGroup
-  pub pool : Extends old.pool new.pool
-  pub groups : new.groups ≡ old.groups ++ group ∷ []
-  pub none_unassigned : new.unassigned_names ≡ []
+  pub appends : AppendsEmails (group ∷ []) old new
   pub joined : EmailJoined g ms group
 
 -- accepted entries for one email: those without an old name first, then the others in ascending order of it
@@ -77,25 +100,21 @@ pub record EmailEntries (ms : List Mapping) : Type 0 where
 abbrev pub bare : Text → EmailGroup
 bare email = record { old_email = email; own = no_fields; names = [] }
 
--- the lookup of an email among the groups `gs`: g is its group there, or if it is not there a bare one, with the
--- spelling of its earliest entry
-pub data EmailLookup (gs passed : List EmailGroup) (ps : List (ℕ × Mapping)) (email : Text) (g : EmailGroup)
-    (left : List EmailGroup) : Type 0 where
-  known : gs ≡ passed ++ g ∷ left → email_key g ≡ email → EmailLookup gs passed ps email g left
-  unknown : gs ≡ passed ++ left → AllByRecursion (λ k. text_cmp (email_key k) email ≡ Less) passed
-      → AllByRecursion (λ k. text_cmp email (email_key k) ≡ Less) left
-      → (p : ℕ × Mapping) → IsEarliest ps p → g ≡ bare p.1.old_email → EmailLookup gs passed ps email g left
+-- the email that was found, or a bare one with the spelling of the earliest entry
+abbrev pub IsExisting : List (ℕ × Mapping) → Option EmailGroup → EmailGroup → Type 0
+IsExisting ps None g = (p : ℕ × Mapping) × IsEarliest ps p × (g ≡ bare p.1.old_email)
+IsExisting ps (Some k) g = g ≡ k
 
 -- the email for a group of the batch was appended, after the old emails that come before it
 pub record GroupAppended (gs left : List EmailGroup) (ps : List (ℕ × Mapping)) (email : Text) (old new : Contents)
     : Type 0 where
   pub passed : List EmailGroup
+  pub found : Option EmailGroup
   pub existing : EmailGroup
   pub group : EmailGroup
-  pub pool : Extends old.pool new.pool
-  pub groups : new.groups ≡ old.groups ++ (passed ++ group ∷ [])
-  pub none_unassigned : new.unassigned_names ≡ []
-  pub lookup : EmailLookup gs passed ps email existing left
+  pub appends : AppendsEmails (passed ++ group ∷ []) old new
+  pub lookup : Lookup email_key email gs passed found left
+  pub existing_is : IsExisting ps found existing
   pub joined : EmailJoined existing (map (λ p. p.1) ps) group
 
 -- ---- the whole merge
@@ -112,5 +131,6 @@ spelled_by s m = with_email (s (email_text m)) m
 
 -- the emails of the output are equivalent to the old ones and the batch, once its emails have the stored spellings
 pub record AllJoined (gs : List EmailGroup) (ps : List (ℕ × Mapping)) (cs : List EmailGroup) : Type 0 where
-  pub groups : AreGroups cs
+  pub order : InOrder email_key (λ p. email_text p.1) gs ps cs
+  pub each : AllByRecursion IsGroup cs
   pub alike : (s : Text → Text) → IsSpelling gs ps s → Alike (listing gs ++ map (λ p. spelled_by s p.1) ps) (listing cs)

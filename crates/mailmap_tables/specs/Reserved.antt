@@ -1,12 +1,13 @@
 -- Tables with reserved memory, and what merging one entry in place changes.
-use Rattle.std.specs.Prelude.{◌≡◌, ◌≤◌, ◌+◌, ◌++◌, ℕ, List, [], ◌∷◌, Option, Some, None, length, take, drop, sum_by}
+use Rattle.std.specs.Prelude.{◌≡◌, ◌≤◌, ◌+◌, ◌++◌, ℕ, List, ◌∷◌, Option, Some, None, length, take, drop, sum_by}
+use Rattle.std.specs.Prelude.{unwrap_or}
 use Rattle.std.specs.List.{AllByRecursion}
 use Rattle.mailmap_entries.specs.Entries.{Mapping}
 use Rattle.mailmap_entries.specs.Folding.{Text}
 use Rattle.mailmap_entries.specs.Semantics.{Fields}
-use Rattle.mailmap_tables.specs.Groups.{EmailGroup, Contents, email_key}
+use Rattle.mailmap_tables.specs.Groups.{EmailGroup, Contents, email_key, name_key}
 use Rattle.mailmap_batches.specs.Given.{NameGroup}
-use Rattle.mailmap_tables.specs.Merging.{EmailLookup, NameLookup}
+use Rattle.mailmap_tables.specs.Merging.{Lookup, bare, kept_name}
 use Rattle.mailmap_batches.specs.Batches.{email_text}
 use Rattle.mailmap_tables.specs.declared.rows.EmailRow.{EmailRow}
 
@@ -89,9 +90,11 @@ pub record TookReserved (b e n : ℕ) (old new : Reserved) : Type 0 where
 -- the email of an entry is at this index: it was there, or was inserted as the entry spells it
 pub record EmailReady (m : Mapping) (index : ℕ) (old new : List EmailGroup) : Type 0 where
   pub before : List EmailGroup
-  pub group : EmailGroup
+  pub found : Option EmailGroup
   pub after : List EmailGroup
-  pub lookup : EmailLookup old before ((0, m) ∷ []) (email_text m) group after
+  pub lookup : Lookup email_key (email_text m) old before found after
+  pub group : EmailGroup
+  pub group_is : group ≡ unwrap_or found (bare m.old_email)
   pub groups : new ≡ before ++ group ∷ after
   pub index_is : length before ≡ index
 
@@ -109,7 +112,7 @@ pub record Says (m : Mapping) (n : NameGroup) : Type 0 where
 -- a name was added to an email, or replaced
 pub record NameAdded (index : ℕ) (g : EmailGroup) (n : NameGroup) (old new : Contents) : Type 0 where
   pub before : List NameGroup
-  pub kept : Text
+  pub found : Option NameGroup
   pub after : List NameGroup
-  pub changed : EmailChanged index (record g { names = before ++ record n { old_name = kept } ∷ after }) old new
-  pub lookup : NameLookup g.names before n.old_name kept after
+  pub changed : EmailChanged index (record g { names = before ++ kept_name found n ∷ after }) old new
+  pub lookup : Lookup name_key (name_key n) g.names before found after

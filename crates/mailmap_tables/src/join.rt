@@ -1,7 +1,6 @@
 //! Joins a sorted batch with existing tables: email by email, and for each email name by name. Their rows between two
 //! emails of the batch are copied without reading their texts.
 ghost use Rattle.std.specs.Prelude.{◌≡◌, ◌+◌, ◌-◌, ◌<◌, ◌≤◌, [], ◌++◌, ◌∷◌, true, OnOk, IfOk, take, drop, map, length};
-ghost use Rattle.std.specs.Option.{option_copied};
 ghost use Rattle.std.specs.List.{AllByRecursion};
 ghost use Rattle.std.specs.List.Sorted.{IsStrictlySortedBy};
 ghost use Rattle.mailmap_entries.specs.Entries.{mapping_of};
@@ -10,8 +9,8 @@ ghost use Rattle.mailmap_tables.specs.Groups.{AreGroups, IsComplete, name_key, l
 ghost use Rattle.mailmap_entries.specs.Semantics.{IsNormal, accepted, is_accepted, key, key_cmp};
 ghost use Rattle.mailmap_batches.specs.Batches.{IsAscending, first_email, mapping_at, indexed_mapping, name_text};
 ghost use Rattle.mailmap_batches.specs.Given.{IsNamed, named_group};
-ghost use Rattle.mailmap_tables.specs.Merging.{Extends, NameAppended, NamesAppended, EmailEntries, EmailAppended};
-ghost use Rattle.mailmap_tables.specs.Merging.{GroupAppended, AllJoined};
+ghost use Rattle.mailmap_tables.specs.Merging.{AppendsNames, Extends, NameAppended, NamesAppended, EmailEntries};
+ghost use Rattle.mailmap_tables.specs.Merging.{EmailAppended, GroupAppended, AllJoined};
 ghost use Rattle.mailmap_tables.specs.Pool.{spelled, NameInPool, RowsInPool, TextsInPool, name_group, group_of};
 ghost use Rattle.mailmap_tables.specs.RowTexts.{old_span};
 
@@ -37,13 +36,9 @@ fn push_named(
     named: NamedFields<'_>,
 ) -> Result<(), AllocError>
     requires { TextsInPool (length out.old.pool) existing }
-    ensures grown { OnOk result (Extends out.old.pool out.new.pool) }
-    ensures groups { OnOk result (out.new.groups ≡ out.old.groups) }
-    ensures unassigned_names { OnOk result (out.new.unassigned_names ≡ out.old.unassigned_names ++ record {
-      old_name = spelled out.old.pool (old_span existing);
-      new_name = option_copied named.entry.new_name;
-      new_email = named.entry.new_email.now;
-    } ∷ []) }
+    ensures { OnOk result (AppendsNames
+        (record (named_group named.entry) { old_name = spelled out.old.pool (old_span existing) } ∷ [])
+        out.old out.new) }
 {
     let row = out.name_row(existing, named)?;
     out.push_name(row)

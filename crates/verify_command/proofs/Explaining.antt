@@ -4,80 +4,30 @@ use Rattle.std.specs.Io.KnownBytes.{Appends, Consumes}
 use Rattle.std.specs.List.{flat_map}
 use Rattle.std.specs.Result.{IsErrOf}
 use Rattle.std.proofs.KnownBytes.{Appends-nil, Appends-trans, Consumes-nil}
-use Rattle.std.proofs.lemmas.Grind.{flat_map-append}
-use Rattle.std.proofs.lemmas.List.{flat_map_more}
 use Rattle.command_line.specs.Failures.{IsOfInput}
 use Rattle.command_line.specs.Leaving.{LeavesAnswers}
 use Rattle.command_line.specs.Lines.{EndsLine, HasRead, Reads, ReadsText}
-use Rattle.command_line.specs.Printing.{IsUnderway, Prints, PrintsFront}
+use Rattle.command_line.specs.Printing.{Prints, PrintsFront}
 use Rattle.command_line.specs.declared.failure.Failure.{Failure}
 use Rattle.command_line.specs.declared.failure.Failure.TheVariants.{File, Input, Memory, Output}
 use Rattle.command_line.proofs.Reading.{all_read, read_none, read_on}
-use Rattle.command_line.proofs.Printed.{Appends-both, Appends-longer, underway-broken, underway-more, underway-rest_broken, underway-whole}
+use Rattle.command_line.proofs.Printed.{Appends-both, Appends-longer, HasPrinted, underway-whole}
 use Rattle.mailmap_findings.proofs.Concatenated.{joined}
 use Rattle.mailmap_entries.specs.Folding.{Text}
 use Rattle.mailmap_findings.specs.Positions.{whole_lines}
 use Rattle.verify_command.specs.Explained.{MapsAll, MapsFront, MapsLines, MapsWholeLines, each_line}
 use Rattle.verify_command.proofs.Fronts.{each_line-append, front-lines, front-longer, front-more, front-none, front-whole, none_answered}
 
--- ---- printing pieces, such as the answers to the lines of a text
-
--- the pieces so far are written or held
-abbrev pub HasPrinted : {X : Type 0} → (X → Text) → List X → List X → Option Text → Option Text → Text → Type 0
-HasPrinted {X} answer all left before after held = (done : List X) × (all ≡ done ++ left) × IsUnderway (flat_map answer done) before after held
-
-unfoldable pub printed_none : {X : Type 0} (answer : X → Text) (all left : List X) (before : Option Text) (held : Text) → left ≡ all → held ≡ [] → HasPrinted answer all left before before held
-printed_none answer all left before held is none = ([], sym is, ([], Appends-nil before, sym none))
-
-pub next_is : {X : Type 0} (all done left rest : List X) (line : X) → all ≡ done ++ left → left ≡ line ∷ rest → all ≡ (done ++ line ∷ []) ++ rest
-next_is all done left rest line is step = is ∙ ap (λ l. done ++ l) step ∙ sym (append_assoc done (line ∷ []) rest)
-
-unfoldable pub printed_more : {X : Type 0} (answer : X → Text) (all left rest : List X) (line : X) (piece : Text) (before between after : Option Text) (held later : Text) → HasPrinted answer all left before between held
-    → left ≡ line ∷ rest → piece ≡ answer line → IsUnderway (held ++ piece) between after later → HasPrinted answer all rest before after later
-printed_more answer all left rest line piece before between after held later h step is more = (
-  h.0 ++ line ∷ [],
-  next_is all h.0 left rest line h.1 step,
-  subst (λ t. IsUnderway t before after later) (ap (λ p. flat_map answer h.0 ++ p) is ∙ flat_map_more answer [] h.0 line)
-      (underway-more (flat_map answer h.0) piece before between after held later h.2 more),
-)
-
--- a write fails while a piece is printed
-pub printed_broken : {X : Type 0} (answer : X → Text) (all left rest : List X) (line : X) (piece : Text) (before between after : Option Text) (held : Text) (n : ℕ) → HasPrinted answer all left before between held
-    → left ≡ line ∷ rest → piece ≡ answer line → Appends between after (take n (held ++ piece)) → (count : ℕ) × Appends before after (take count (flat_map answer all))
-printed_broken answer all left rest line piece before between after held n h step is broken =
-    let cut = underway-broken (flat_map answer h.0) piece before between after held n h.2 broken in
-    let longer = Appends-longer before after cut.0 (flat_map answer h.0 ++ piece) (flat_map answer rest) cut.1 in
-    let whole : flat_map answer all ≡ (flat_map answer h.0 ++ piece) ++ flat_map answer rest =
-    ap (flat_map answer) (next_is all h.0 left rest line h.1 step) ∙ flat_map-append answer (h.0 ++ line ∷ []) rest
-    ∙ ap (λ t. t ++ flat_map answer rest) (sym (ap (λ p. flat_map answer h.0 ++ p) is ∙ flat_map_more answer [] h.0 line)) in
-    (longer.0, subst (λ t. Appends before after (take longer.0 t)) (sym whole) longer.1)
-
 -- the held bytes are written before the remaining pieces are printed
-pub printed_first : (answer : Text → Text) (bytes : Text) (left rest : List Text) (line : Text) (before between after : Option Text) (held : Text)
-    → HasPrinted answer (whole_lines bytes) left before between held → left ≡ line ∷ rest → Appends between after held
+pub printed_first : {answer : Text → Text} {bytes : Text} {left rest : List Text} {line : Text} {before between : Option Text} {held : Text} (after : Option Text)
+    → HasPrinted answer [] (whole_lines bytes) left before between held → left ≡ line ∷ rest → Appends between after held
     → Prints (λ made. (rest : Text) × MapsFront answer bytes made rest) before after
-printed_first answer bytes left rest line before between after held h step written =
-    let is : whole_lines bytes ≡ h.0 ++ line ∷ rest = h.1 ∙ ap (λ l. h.0 ++ l) step in (
-      flat_map answer h.0,
-      (joined (line ∷ rest), front-lines answer bytes h.0 (line ∷ rest) (λ e. cc) is),
-      underway-whole (flat_map answer h.0) before between after held h.2 written,
+printed_first {answer} {bytes} {left} {rest} {line} {before} {between} {held} after h step written =
+    let is : whole_lines bytes ≡ h.done ++ line ∷ rest = h.whole ∙ ap (λ l. h.done ++ l) step in (
+      flat_map answer h.done,
+      (joined (line ∷ rest), front-lines answer bytes h.done (line ∷ rest) (λ e. cc) is),
+      underway-whole (flat_map answer h.done) before between after held h.underway written,
     )
-
--- a write of the held bytes fails
-pub printed_first_broken : {X : Type 0} (answer : X → Text) (all left : List X) (before between after : Option Text) (held : Text) (n : ℕ) → HasPrinted answer all left before between held
-    → Appends between after (take n held) → (count : ℕ) × Appends before after (take count (flat_map answer all))
-printed_first_broken answer all left before between after held n h broken =
-    let cut = underway-rest_broken (flat_map answer h.0) before between after held n h.2 broken in
-    let longer = Appends-longer before after cut.0 (flat_map answer h.0) (flat_map answer left) cut.1 in
-    let whole : flat_map answer all ≡ flat_map answer h.0 ++ flat_map answer left = ap (flat_map answer) h.1 ∙ flat_map-append answer h.0 left in
-    (longer.0, subst (λ t. Appends before after (take longer.0 t)) (sym whole) longer.1)
-
--- the last flush
-pub printed_all : {X : Type 0} (answer : X → Text) (all left : List X) (before between after : Option Text) (held : Text) → HasPrinted answer all left before between held → left ≡ [] → Appends between after held
-    → Appends before after (flat_map answer all)
-printed_all answer all left before between after held h none written =
-    let done : h.0 ≡ all = sym (h.1 ∙ ap (λ l. h.0 ++ l) none ∙ append-nil h.0) in
-    subst (λ ls. Appends before after (flat_map answer ls)) done (underway-whole (flat_map answer h.0) before between after held h.2 written)
 
 -- ---- an input that is answered while it is read
 
@@ -92,8 +42,8 @@ pub record HasAnswered (answer : Text → Text) (old now : Option Text) (held : 
   pub written : Appends before after (each_line answer lines)
 
 -- before the first read
-pub begun : (answer : Text → Text) (old : Option Text) (held : Text) (before : Option Text) → held ≡ [] → HasAnswered answer old old held before before
-begun answer old held before none = record {
+pub begun : {answer : Text → Text} {old : Option Text} {held : Text} {before : Option Text} → held ≡ [] → HasAnswered answer old old held before before
+begun {answer = answer} {old = old} {before = before} none = record {
   lines = [];
   read = subst (HasRead old old []) (sym none) (read_none old);
   written = subst (Appends before before) (none_answered answer) (Appends-nil before);
@@ -105,18 +55,18 @@ written_both : (answer : Text → Text) (lines text : Text) (before between afte
 written_both answer lines text before between after ends first more =
     subst (Appends before after) (sym (each_line-append answer lines text ends)) (Appends-trans before between after (each_line answer lines) (each_line answer text) first more)
 
-pub one_more : (answer : Text → Text) (old now later : Option Text) (held text rest : Text) (more : Bool) (before between after : Option Text) → more ≡ true → (h : HasAnswered answer old now held before between)
+pub one_more : {answer : Text → Text} {old now later : Option Text} {held text rest : Text} {more : Bool} {before between after : Option Text} → more ≡ true → (h : HasAnswered answer old now held before between)
     → ReadsText old later h.lines text rest more → Appends between after (each_line answer text) → HasAnswered answer old later rest before after
-one_more answer old now later held text rest more before between after is h r w = record {
+one_more {answer = answer} {old = old} {later = later} {text = text} {rest = rest} {before = before} {between = between} {after = after} is h r w = record {
   lines = h.lines ++ text;
   read = read_on old later h.lines text rest (subst (ReadsText old later h.lines text rest) is r);
   written = written_both answer h.lines text before between after h.read.ends h.written w;
 }
 
 -- at the end of the input
-pub ended : (answer : Text → Text) (old now later : Option Text) (held text rest : Text) (more : Bool) (before between after : Option Text) → more ≡ false → (h : HasAnswered answer old now held before between)
+pub ended : {answer : Text → Text} {old now later : Option Text} {held text rest : Text} {more : Bool} {before between : Option Text} (after : Option Text) → more ≡ false → (h : HasAnswered answer old now held before between)
     → ReadsText old later h.lines text rest more → Appends between after (each_line answer text) → Prints (MapsAll answer old) before after
-ended answer old now later held text rest more before between after is h r w = (
+ended {answer = answer} {old = old} {later = later} {text = text} {rest = rest} {before = before} {between = between} after is h r w = (
   each_line answer (h.lines ++ text),
   (h.lines ++ text, all_read old later h.lines text rest (subst (ReadsText old later h.lines text rest) is r), refl),
   written_both answer h.lines text before between after h.read.ends h.written w,
@@ -160,11 +110,10 @@ not_of_input Memory only of_input = of_input
 not_of_input Output only of_input = of_input
 
 -- either failure while the next text is answered
-pub failed_printing : {T : Type 0} (answer : Text → Text) (old now later : Option Text) (held text rest : Text) (more : Bool) (before between after : Option Text) (e : Failure)
-    → (h : HasAnswered answer old now held before between) → ReadsText old later h.lines text rest more → (e ≡ Memory) ⊎ (e ≡ Output)
+pub failed_printing : {T : Type 0} {answer : Text → Text} {old now later : Option Text} {held text rest : Text} {more : Bool} {before between after : Option Text} {e : Failure} → (h : HasAnswered answer old now held before between) → ReadsText old later h.lines text rest more → (e ≡ Memory) ⊎ (e ≡ Output)
     → (IsErrOf {T = T} {E = Failure} (Err e) Memory → Prints (SomeAnswered answer text) between after) → (IsErrOf {T = T} {E = Failure} (Err e) Output → (count : ℕ) × Appends between after (take count (each_line answer text)))
     → LeavesAnswers {T = T} (MapsAll answer old) (MapsWholeLines answer old later) (Prints (MapsLines answer old later) before after) later before after (Err e)
-failed_printing answer old now later held text rest more before between after e h r only lost broken = record {
+failed_printing {answer = answer} {old = old} {later = later} {text = text} {rest = rest} {more = more} {before = before} {between = between} {after = after} {e = e} h r only lost broken = record {
   prints = tt;
   reads_all = tt;
   breaks_off = λ is.
@@ -187,25 +136,24 @@ pub whole_lines_written : (answer : Text → Text) (old now : Option Text) (line
 whole_lines_written answer old now lines held before after h w = (each_line answer lines, (lines ++ held, held, h.consumed, front-whole answer lines held h.ends, h.no_feed), w)
 
 -- any failure while the next text is read
-pub failed_reading : {T : Type 0} (answer : Text → Text) (old now later : Option Text) (held text rest : Text) (before after : Option Text) (e : Failure)
-    → (h : HasAnswered answer old now held before after) → Reads old later h.lines text rest (Err e)
+pub failed_reading : {T : Type 0} {answer : Text → Text} {old now later : Option Text} {held : Text} (text rest : Text) {before after : Option Text} (e : Failure) → (h : HasAnswered answer old now held before after) → Reads old later h.lines text rest (Err e)
     → LeavesAnswers {T = T} (MapsAll answer old) (MapsWholeLines answer old later) (Prints (MapsLines answer old later) before after) later before after (Err e)
-failed_reading answer old now later held text rest before after (File number cause) h r = absurd r
-failed_reading answer old now later held text rest before after (Input cause) h r = record {
+failed_reading text rest (File number cause) h r = absurd r
+failed_reading {answer = answer} {old = old} {later = later} text rest {before = before} {after = after} (Input cause) h r = record {
   prints = tt;
   reads_all = tt;
   breaks_off = λ is. cc;
   input_fails = λ _. whole_lines_written answer old later h.lines r.0 before after r.1 h.written;
   memory_fails = λ is. cc;
 }
-failed_reading answer old now later held text rest before after Memory h r = record {
+failed_reading {answer = answer} text rest Memory h r = record {
   prints = tt;
   reads_all = tt;
   breaks_off = λ is. cc;
   input_fails = λ of_input. absurd of_input;
   memory_fails = λ _. (each_line answer h.lines, (h.lines ++ r.0, r.0, r.1, front-whole answer h.lines r.0 h.read.ends), h.written);
 }
-failed_reading answer old now later held text rest before after Output h r = absurd r
+failed_reading text rest Output h r = absurd r
 
 -- nothing was read or written
 pub nothing : (answer : Text → Text) (old before : Option Text) → Prints (MapsLines answer old old) before before

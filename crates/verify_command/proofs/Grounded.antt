@@ -28,14 +28,14 @@ pub record AreGrounds (g : Grounds) (paths mailmaps : List Text) : Type 0 where
   pub history_is : g.history ≡ located (located_lines mailmaps)
   pub effective : AreEffective g.history g.kept
 
-pub explains : (g : Grounds) (paths mailmaps : List Text) (IsText : (Text → Text) → Text → Type 0) (text : Text) → AreGrounds g paths mailmaps → IsText (explained_line g) text → Explains paths mailmaps IsText text
-explains g paths mailmaps IsText text are is =
+pub explains : {g : Grounds} {paths mailmaps : List Text} (IsText : (Text → Text) → Text → Type 0) (text : Text) → AreGrounds g paths mailmaps → IsText (explained_line g) text → Explains paths mailmaps IsText text
+explains {g = g} {paths = paths} {mailmaps = mailmaps} IsText text are is =
     let same : g ≡ record { paths = paths; history = located (located_lines mailmaps); kept = g.kept } = λ i. record { paths = are.paths_are i; history = are.history_is i; kept = g.kept } in
     (g.kept, subst (λ h. AreEffective h g.kept) are.history_is are.effective, subst (λ x. IsText (explained_line x) text) same is)
 
-pub prints_by : (g : Grounds) (paths mailmaps : List Text) (IsText : (Text → Text) → Text → Type 0) (before after : Option Text) → AreGrounds g paths mailmaps → Prints (IsText (explained_line g)) before after
+pub prints_by : {g : Grounds} {paths mailmaps : List Text} (IsText : (Text → Text) → Text → Type 0) (before after : Option Text) → AreGrounds g paths mailmaps → Prints (IsText (explained_line g)) before after
     → Prints (Explains paths mailmaps IsText) before after
-prints_by g paths mailmaps IsText before after are prints = (prints.0, explains g paths mailmaps IsText prints.0 are prints.1, prints.2)
+prints_by IsText before after are prints = (prints.0, explains IsText prints.0 are prints.1, prints.2)
 
 -- from the mailmaps to the files
 pub of_files : (at : Text → AtPath) (paths mailmaps : List Text) (IsText : List Text → Text → Type 0) (before after : Option Text) → AreRead at paths mailmaps

@@ -28,10 +28,9 @@ not_of_file Memory only of_file = of_file
 not_of_file Output only of_file = of_file
 
 -- nothing was written
-pub left_as_it_was : {W : Type 0} (at : Text → AtPath) (unread left : Option Text) (choices : Choices) (mode : Mode) (contacts : Text) (paths : List Text) (contents : W → Option Text) (old : W)
-    (r : Result Outcome TaskFailure) (e : TaskFailure) → r ≡ Err e → mode ≢ Explain → ¬ IsErrOf r (Run Output) → Leaves at unread left choices mode contacts paths contents old old r
-left_as_it_was at unread left choices mode contacts paths contents old (Ok x) e is no_explain no_output = cc
-left_as_it_was at unread left choices mode contacts paths contents old (Err x) e is no_explain no_output = record {
+pub left_as_it_was : {W : Type 0} {at : Text → AtPath} {unread left : Option Text} {choices : Choices} {mode : Mode} {contacts : Text} {paths : List Text} {contents : W → Option Text} {old : W} (r : Result Outcome TaskFailure) {e : TaskFailure} → r ≡ Err e → mode ≢ Explain → ¬ IsErrOf r (Run Output) → Leaves at unread left choices mode contacts paths contents old old r
+left_as_it_was (Ok x) is no_explain no_output = cc
+left_as_it_was (Err x) is no_explain no_output = record {
   prints = tt;
   breaks_off = λ of. absurd (no_output of);
   memory = λ _ _. inl refl;
@@ -42,11 +41,10 @@ left_as_it_was at unread left choices mode contacts paths contents old (Err x) e
 }
 
 -- a prefix of a report
-pub left_front : {W : Type 0} (at : Text → AtPath) (unread left : Option Text) (choices : Choices) (mode : Mode) (contacts : Text) (paths : List Text) (contents : W → Option Text) (old new : W) (e : Failure)
-    → (mode ≡ Verify) ⊎ ((mode ≡ Contacts) ⊎ (mode ≡ Suggest)) → mode ≢ Explain → (e ≡ Memory) ⊎ (e ≡ Output) → (IsErrOf {T = Outcome} {E = Failure} (Err e) Output → BeginsAnswer at unread choices mode contacts paths contents old new)
+pub left_front : {W : Type 0} {at : Text → AtPath} {unread left : Option Text} {choices : Choices} {mode : Mode} {contacts : Text} {paths : List Text} {contents : W → Option Text} {old new : W} {e : Failure} → (mode ≡ Verify) ⊎ ((mode ≡ Contacts) ⊎ (mode ≡ Suggest)) → mode ≢ Explain → (e ≡ Memory) ⊎ (e ≡ Output) → (IsErrOf {T = Outcome} {E = Failure} (Err e) Output → BeginsAnswer at unread choices mode contacts paths contents old new)
     → (IsErrOf {T = Outcome} {E = Failure} (Err e) Memory → (new ≡ old) ⊎ BeginsAnswer at unread choices mode contacts paths contents old new)
     → Leaves at unread left choices mode contacts paths contents old new (Err (Run e))
-left_front at unread left choices mode contacts paths contents old new e reports no_explain only broken lost = record {
+left_front {e = e} reports no_explain only broken lost = record {
   prints = tt;
   breaks_off = λ of. broken cc;
   memory = λ _ of. ⊎_elim inl (λ begins. inr (reports, begins)) (lost cc);
@@ -57,9 +55,8 @@ left_front at unread left choices mode contacts paths contents old new e reports
 }
 
 -- explaining failed
-pub left_explained : {W T : Type 0} (at : Text → AtPath) (unread left : Option Text) (choices : Choices) (mode : Mode) (contacts : Text) (paths : List Text) (contents : W → Option Text) (old new : W) (e : Failure)
-    → mode ≡ Explain → LeavesExplained {W = W} {T = T} at paths unread left contents old new (Err e) → (IsOfFile e → new ≡ old) → Leaves at unread left choices mode contacts paths contents old new (Err (Run e))
-left_explained at unread left choices mode contacts paths contents old new e is l files = subst (λ m. Leaves at unread left choices m contacts paths contents old new (Err (Run e))) (sym is) (record {
+pub left_explained : {W T : Type 0} {at : Text → AtPath} {unread left : Option Text} {choices : Choices} {mode : Mode} {contacts : Text} {paths : List Text} {contents : W → Option Text} {old new : W} {e : Failure} → mode ≡ Explain → LeavesExplained {W = W} {T = T} at paths unread left contents old new (Err e) → (IsOfFile e → new ≡ old) → Leaves at unread left choices mode contacts paths contents old new (Err (Run e))
+left_explained {at = at} {unread = unread} {left = left} {choices = choices} {contacts = contacts} {paths = paths} {contents = contents} {old = old} {new = new} {e = e} is l files = subst (λ m. Leaves at unread left choices m contacts paths contents old new (Err (Run e))) (sym is) (record {
   prints = tt;
   breaks_off = λ of. let p = l.breaks_off cc in (Clean, (p.0, (p.1, refl), p.2));
   memory = λ no_explain. absurd (no_explain refl);
@@ -69,9 +66,8 @@ left_explained at unread left choices mode contacts paths contents old new e is 
   memory_fails = λ _ of. l.memory_fails cc;
 })
 
-pub all_explained : {W T : Type 0} (at : Text → AtPath) (unread left : Option Text) (choices : Choices) (mode : Mode) (contacts : Text) (paths : List Text) (contents : W → Option Text) (old new : W) (x : T)
-    → mode ≡ Explain → LeavesExplained {W = W} {T = T} at paths unread left contents old new (Ok x) → Leaves at unread left choices mode contacts paths contents old new (Ok Clean)
-all_explained at unread left choices mode contacts paths contents old new x is l = subst (λ m. Leaves at unread left choices m contacts paths contents old new (Ok Clean)) (sym is) (record {
+pub all_explained : {W T : Type 0} {at : Text → AtPath} {unread left : Option Text} {choices : Choices} {mode : Mode} {contacts : Text} {paths : List Text} {contents : W → Option Text} {old new : W} {x : T} → mode ≡ Explain → LeavesExplained {W = W} {T = T} at paths unread left contents old new (Ok x) → Leaves at unread left choices mode contacts paths contents old new (Ok Clean)
+all_explained {at = at} {unread = unread} {left = left} {choices = choices} {contacts = contacts} {paths = paths} {contents = contents} {old = old} {new = new} is l = subst (λ m. Leaves at unread left choices m contacts paths contents old new (Ok Clean)) (sym is) (record {
   prints = let p = l.prints in (p.0, (p.1, refl), p.2);
   breaks_off = λ of. cc;
   memory = λ _ of. cc;
@@ -82,9 +78,8 @@ all_explained at unread left choices mode contacts paths contents old new x is l
 })
 
 -- suggesting lines failed
-pub left_suggested : {W T : Type 0} (at : Text → AtPath) (unread left : Option Text) (choices : Choices) (mode : Mode) (contacts : Text) (paths : List Text) (contents : W → Option Text) (old new : W) (e : TaskFailure)
-    → mode ≡ Suggest → LeavesSuggested {W = W} {T = T} (IsSuggested at unread contacts paths) contents old new (Err e) → Leaves at unread left choices mode contacts paths contents old new (Err e)
-left_suggested at unread left choices mode contacts paths contents old new e is l = subst (λ m. Leaves at unread left choices m contacts paths contents old new (Err e)) (sym is) (record {
+pub left_suggested : {W T : Type 0} {at : Text → AtPath} {unread left : Option Text} {choices : Choices} {mode : Mode} {contacts : Text} {paths : List Text} {contents : W → Option Text} {old new : W} {e : TaskFailure} → mode ≡ Suggest → LeavesSuggested {W = W} {T = T} (IsSuggested at unread contacts paths) contents old new (Err e) → Leaves at unread left choices mode contacts paths contents old new (Err e)
+left_suggested {at = at} {unread = unread} {left = left} {choices = choices} {contacts = contacts} {paths = paths} {contents = contents} {old = old} {new = new} {e = e} is l = subst (λ m. Leaves at unread left choices m contacts paths contents old new (Err e)) (sym is) (record {
   prints = tt;
   breaks_off = λ of. let p = l.breaks_off cc in (Clean, (p.0, (p.1, refl), p.2));
   memory = λ _ of. ⊎_elim inl (λ p. inr (inr (inr refl), (Clean, (p.0, (p.1, refl), p.2)))) (l.memory cc);
@@ -95,9 +90,8 @@ left_suggested at unread left choices mode contacts paths contents old new e is 
   memory_fails = λ explain. cc;
 })
 
-pub all_suggested : {W T : Type 0} (at : Text → AtPath) (unread left : Option Text) (choices : Choices) (mode : Mode) (contacts : Text) (paths : List Text) (contents : W → Option Text) (old new : W) (x : T)
-    → mode ≡ Suggest → LeavesSuggested {W = W} {T = T} (IsSuggested at unread contacts paths) contents old new (Ok x) → Leaves at unread left choices mode contacts paths contents old new (Ok Clean)
-all_suggested at unread left choices mode contacts paths contents old new x is l = subst (λ m. Leaves at unread left choices m contacts paths contents old new (Ok Clean)) (sym is) (record {
+pub all_suggested : {W T : Type 0} {at : Text → AtPath} {unread left : Option Text} {choices : Choices} {mode : Mode} {contacts : Text} {paths : List Text} {contents : W → Option Text} {old new : W} {x : T} → mode ≡ Suggest → LeavesSuggested {W = W} {T = T} (IsSuggested at unread contacts paths) contents old new (Ok x) → Leaves at unread left choices mode contacts paths contents old new (Ok Clean)
+all_suggested {at = at} {unread = unread} {left = left} {choices = choices} {contacts = contacts} {paths = paths} {contents = contents} {old = old} {new = new} is l = subst (λ m. Leaves at unread left choices m contacts paths contents old new (Ok Clean)) (sym is) (record {
   prints = let p = l.prints in (p.0, (p.1, refl), p.2);
   breaks_off = λ of. cc;
   memory = λ _ of. cc;

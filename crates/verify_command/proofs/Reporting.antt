@@ -27,7 +27,7 @@ use Rattle.mailmap_redundancy.specs.declared.located.Position.{Position}
 use Rattle.mailmap_suggestions.specs.Counted.{other_git_answers}
 use Rattle.mailmap_suggestions.specs.Histories.{histories_of}
 use Rattle.mailmap_suggestions.specs.Forms.{Histories}
-use Rattle.verify_command.specs.Contacts.{AreFoundBeside, AreFoundWith, IsReportBeside, both_texts, contact_counts, outcome_of_both, remark_counts, reported_remark, reported_contact_finding, contact_findings_text}
+use Rattle.verify_command.specs.Contacts.{AreFoundBeside, AreFoundWith, IsReportBeside, both_texts, contact_counts, outcome_of_both, remark_counts, reported_remark, contact_findings_text}
 use Rattle.verify_command.specs.Settings.{Choices, if_reported, is_reported, mailmap_names, outcome_if}
 use Rattle.verify_command.specs.declared.kinds.Kind.{Kind}
 use Rattle.verify_command.specs.Task.{AreContacts, AreMailmapsBeside, IsOutputOf, contacts_name, is_dash}
@@ -52,10 +52,6 @@ counts_more test done x o = either (list_any test done) (test x) ∙ ap (λ b. i
     either false false = refl
 
 -- ---- findings about contacts
-
-pub contact_findings_each : (choices : Choices) (file : Text) (findings : List TheFinding) → contact_findings_text choices file (map finding_view findings) ≡ flat_map (λ f. reported_contact_finding choices file (finding_view f)) findings
-contact_findings_each choices file [] = refl
-contact_findings_each choices file (f ∷ findings) = ap (λ t. reported_contact_finding choices file (finding_view f) ++ t) (contact_findings_each choices file findings)
 
 -- the outcome after one more
 pub contacts_count_more : (choices : Choices) (findings : List TheFinding) (k : ℕ) (d : TheFinding) (o : Outcome) → k < length findings
@@ -91,20 +87,19 @@ both_count choices remarks said o whole first is =
 -- ---- the report
 
 -- the lines that are left are those that no contact needs
-pub are_unneeded : (mailmaps : List Text) (taken : Text) (begun needs : Needs) (found : List Position) → begun.history ≡ located (located_lines mailmaps) → AreEffective (located (located_lines mailmaps)) begun.kept
+pub are_unneeded : {mailmaps : List Text} {taken : Text} (begun needs : Needs) {found : List Position} → begun.history ≡ located (located_lines mailmaps) → AreEffective (located (located_lines mailmaps)) begun.kept
     → begun.left ≡ map (λ (x : LocatedMapping). x.position) begun.kept
     → needs.left ≡ filter (λ p. not (any_needs begun.kept (whole_lines taken) p)) begun.left → found ≡ needs.left → AreUnneeded mailmaps taken found
-are_unneeded mailmaps taken begun needs found history effective all left is = record {
+are_unneeded {taken = taken} begun needs history effective all left is = record {
   kept = begun.kept;
   effective = effective;
   whole = is ∙ left ∙ ap (filter (λ p. not (any_needs begun.kept (whole_lines taken) p))) all;
 }
 
-pub about_contacts : (h : Histories) (lines : List Text) (history : List LocatedMapping) (answers given gits : List Tally) (none : List ℕ) (found shown : List ContactFinding)
-    → AreTallies (answers_to (entries history) lines) answers → entries history ≡ h.ours → none ≡ no_contacts_from 1 lines → given ≡ answers
+pub about_contacts : (h : Histories) {lines : List Text} (history : List LocatedMapping) {answers given gits : List Tally} {none : List ℕ} {found shown : List ContactFinding} → AreTallies (answers_to (entries history) lines) answers → entries history ≡ h.ours → none ≡ no_contacts_from 1 lines → given ≡ answers
     → gits ≡ other_git_answers h (tallied (contacts_from 1 lines)) → shown ≡ found
     → IsPermutation (map no_contact none ++ comparisons given ++ map git_answers gits) found → IsSortedByKey finding_place place_cmp found → AreFoundWith h lines shown
-about_contacts h lines history answers given gits none found shown tallies ours none_is given_is gits_are shown_is whole in_order = record {
+about_contacts h {lines = lines} history {answers = answers} {found = found} tallies ours none_is given_is gits_are shown_is whole in_order = record {
   answers = answers;
   tallies = subst (λ k. AreTallies (answers_to k lines) answers) ours tallies;
   whole =

@@ -44,9 +44,9 @@ fails_at_contacts at contacts paths mailmaps TooManyFiles are fails = absurd fai
 fails_at_contacts at contacts paths mailmaps (ReadOtherwise position) are fails = absurd fails
 
 -- printing failed
-pub printing_failed : {W T : Type 0} (IsText : Text → Type 0) (contents : W → Option Text) (old new : W) (e : Failure) → (e ≡ Memory) ⊎ (e ≡ Output) → PrintsFront IsText (contents old) (contents new)
+pub printing_failed : {W T : Type 0} (IsText : Text → Type 0) {contents : W → Option Text} {old new : W} {e : Failure} → (e ≡ Memory) ⊎ (e ≡ Output) → PrintsFront IsText (contents old) (contents new)
     → LeavesSuggested {W = W} {T = T} IsText contents old new (Err (Run e))
-printing_failed IsText contents old new e only front = record {
+printing_failed IsText only front = record {
   prints = tt;
   breaks_off = λ _. front;
   memory = λ _. inr front;

@@ -41,21 +41,21 @@ pub record HasTakenParts (old now : Option Text) (held : Text) (s t : Counter) :
   pub takes : Takes (whole_lines lines) s t
 
 -- before the first read
-pub parts_none : (old : Option Text) (held : Text) (s : Counter) → held ≡ [] → HasTakenParts old old held s s
-parts_none old held s none = record { lines = []; read = subst (HasRead old old []) (sym none) (read_none old); takes = takes_no_text s }
+pub parts_none : {old : Option Text} {held : Text} {s : Counter} → held ≡ [] → HasTakenParts old old held s s
+parts_none {old = old} {s = s} none = record { lines = []; read = subst (HasRead old old []) (sym none) (read_none old); takes = takes_no_text s }
 
-pub parts_more : (old now later : Option Text) (held text rest : Text) (more : Bool) (s t u : Counter) → more ≡ true → (h : HasTakenParts old now held s t) → ReadsText old later h.lines text rest more
+pub parts_more : {old now later : Option Text} {held text rest : Text} {more : Bool} {s t u : Counter} → more ≡ true → (h : HasTakenParts old now held s t) → ReadsText old later h.lines text rest more
     → Takes (whole_lines text) t u → HasTakenParts old later rest s u
-parts_more old now later held text rest more s t u is h r takes = record {
+parts_more {old = old} {later = later} {text = text} {rest = rest} {s = s} {t = t} {u = u} is h r takes = record {
   lines = h.lines ++ text;
   read = read_on old later h.lines text rest (subst (ReadsText old later h.lines text rest) is r);
   takes = takes_text h.lines text s t u h.read.ends h.takes takes;
 }
 
 -- the end of the reader
-pub parts_all : (old now later : Option Text) (held text rest : Text) (more : Bool) (s t u : Counter) → more ≡ false → (h : HasTakenParts old now held s t) → ReadsText old later h.lines text rest more
+pub parts_all : {old now later : Option Text} {held text rest : Text} {more : Bool} {s t : Counter} (u : Counter) → more ≡ false → (h : HasTakenParts old now held s t) → ReadsText old later h.lines text rest more
     → Takes (whole_lines text) t u → (text : Text) × IfSome old (λ bytes. text ≡ bytes) × Takes (whole_lines text) s u
-parts_all old now later held text rest more s t u is h r takes =
+parts_all {old = old} {later = later} {text = text} {rest = rest} {s = s} {t = t} u is h r takes =
     (h.lines ++ text, all_read old later h.lines text rest (subst (ReadsText old later h.lines text rest) is r), takes_text h.lines text s t u h.read.ends h.takes takes)
 
 -- ---- the contacts on the input

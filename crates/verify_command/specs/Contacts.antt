@@ -17,7 +17,6 @@ use Rattle.verify_command.specs.Json.{FileLine, object_line}
 use Rattle.verify_command.specs.Report.{finding_line, finding_object, labelled, place_at, position_text, shown}
 use Rattle.verify_command.specs.Settings.{Choices, counts, formatted, if_reported, outcome_if}
 use Rattle.verify_command.specs.Shortened.{short_contact}
-use Rattle.verify_command.specs.declared.kinds.Kind.{Kind}
 use Rattle.verify_command.specs.declared.kinds.Kind.TheVariants as kind
 
 -- ---- findings about contacts

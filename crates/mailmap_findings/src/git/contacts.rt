@@ -34,6 +34,7 @@ pub(crate) fn git_contact(text: &[u8]) -> Option<GitContact<'_>>
 }
 
 // Trims git's white space, which is ASCII, so no characters have to be decoded.
+#[tactic(auto, unfolding(crate::specs::Git::trim_name))]
 #[inline]
 fn trim_name(name: &[u8]) -> &[u8]
     ensures { result.now ≡ spec_trim_name name.now }
@@ -41,6 +42,7 @@ fn trim_name(name: &[u8]) -> &[u8]
     trim_end(trim_start(name))
 }
 
+#[tactic(auto, using(crate::proofs::GitLines::first_other, crate::proofs::GitLines::first_white))]
 #[inline]
 fn trim_start(name: &[u8]) -> &[u8]
     ensures { result.now ≡ trim_start_by spec_is_git_white name.now }
@@ -52,6 +54,7 @@ fn trim_start(name: &[u8]) -> &[u8]
     &name[start..]
 }
 
+#[tactic(auto, using(crate::proofs::GitLines::last_other, crate::proofs::GitLines::last_white))]
 #[inline]
 fn trim_end(name: &[u8]) -> &[u8]
     ensures { result.now ≡ trim_end_by spec_is_git_white name.now }

@@ -21,6 +21,7 @@ pub(crate) const PART_LEN: usize = 1023;
 /// 1,023 bytes, so a longer line can have an entry in each part. A part ends at its first zero byte, and is a comment
 /// if it starts with `#`. git trims only names, and only spaces, tabs, carriage returns and line feeds. The first email
 /// can be blank but not empty.
+#[tactic(auto, using(crate::proofs::GitLines::length_entries))]
 pub fn git_entries(line: &[u8]) -> GitEntries<'_>
     ensures value { result ≡ spec_git_entries line.now }
 
@@ -54,6 +55,7 @@ impl<'a> Iterator for GitEntries<'a> {
 
     ghost remaining = { item_count (λ s. s) };
 
+    #[tactic(auto, using(crate::proofs::GitLines::entries_some, crate::proofs::GitLines::entries_none, crate::proofs::GitLines::entries_empty))]
     fn next(&mut self) -> Option<Entry<'a>> {
         while !self.rest.is_empty() {
             let (part, rest) = self.rest.split_at(self.rest.len().min(PART_LEN));
@@ -73,6 +75,7 @@ pub(crate) fn part_entry(part: &[u8]) -> Option<Entry<'_>>
     entry_of_text(up_to_zero(part))
 }
 
+#[tactic(auto, using(crate::proofs::GitLines::text_comment, crate::proofs::GitLines::text_none, crate::proofs::GitLines::text_some))]
 #[inline]
 fn entry_of_text(text: &[u8]) -> Option<Entry<'_>>
     ensures { option_map mapping_of result ≡ spec_entry_of_text text.now }
@@ -94,6 +97,7 @@ fn is_comment(text: &[u8]) -> bool
 }
 
 // The first email can be blank but not empty.
+#[tactic(auto, using(crate::proofs::GitLines::first_empty, crate::proofs::GitLines::first_some))]
 #[inline]
 fn entry_of_first<'a>(new: &GitContact<'a>) -> Option<Entry<'a>>
     ensures { option_map mapping_of result ≡ spec_entry_of_first (git_contact_of new.now) }

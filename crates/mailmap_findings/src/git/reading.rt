@@ -69,6 +69,7 @@ fn git_reading(line: &[u8]) -> GitReading<'_>
     }
 }
 
+#[tactic(auto, using(crate::proofs::GitLines::one_part))]
 #[inline]
 fn reading_of_part(line: &[u8]) -> GitReading<'_>
     requires { length line.now ≤ 1023 }

@@ -12,6 +12,7 @@ use crate::explain::{Explanation, Needed};
 use crate::verify::{Contact, Finding, FindingKind};
 
 /// Findings are equal exactly if they are at the same position and report the same.
+#[tactic(auto, using(crate::proofs::Verified::same_finding, crate::proofs::Walking::same_is, crate::proofs::Walking::same_itself))]
 pub fn law_equal_findings()
     ensures { (a b : the_finding.Finding)
         → (⟦<Finding<'static> as PartialEq>⟧.eq a b ≡ true) ↔ (finding_of a ≡ finding_of b) }

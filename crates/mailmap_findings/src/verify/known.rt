@@ -24,6 +24,7 @@ pub(crate) struct ReadEntries<'a> {
 }
 
 /// Parses the lines of buffers. Only lines that have an entry take memory.
+#[tactic(auto, using(crate::proofs::Known::none_mapped, crate::proofs::Known::located_more, crate::proofs::Known::more_are_clean))]
 pub(crate) fn read_entries<'a>(
     alloc: Global,
     buffers: &[&'a [u8]],
@@ -91,6 +92,7 @@ impl<'v, 'a> Model for KnownLines<'v, 'a> {
 }
 
 impl<'v, 'a> KnownLines<'v, 'a> {
+    #[tactic(auto, using(crate::proofs::Known::lines_marked, crate::proofs::BufferLines::apart_lines))]
     pub(crate) fn new(
         buffers: &'v [&'a [u8]],
         kept: &'v [&'v LocatedEntry<'a>],
@@ -120,6 +122,7 @@ impl<'v, 'a> Iterator for KnownLines<'v, 'a> {
 
     ghost remaining = { item_count (λ s. s) };
 
+    #[tactic(auto, using(crate::proofs::Known::known_here, crate::proofs::Known::next_read, crate::proofs::Known::none_read, crate::proofs::Known::other_read, crate::proofs::Known::clean_within))]
     fn next(&mut self) -> Option<KnownLine<'a>> {
         let (line, is_kept) = self.lines.next()?;
         let Some(read) = self.entries.get(self.passed) else {

@@ -54,6 +54,7 @@ impl<'b, 'a> Model for BufferLines<'b, 'a> {
 }
 
 impl<'b, 'a> BufferLines<'b, 'a> {
+    #[tactic(auto, unfolding(crate::specs::Positions::located_from))]
     pub(crate) fn of(buffers: &'b [&'a [u8]]) -> BufferLines<'b, 'a>
         ensures { result ≡ located_lines (map (λ b. b.now) buffers.now) }
     {
@@ -75,6 +76,7 @@ impl<'b, 'a> Iterator for BufferLines<'b, 'a> {
 
     ghost remaining = { item_count (λ s. s) };
 
+    #[tactic(auto, using(crate::proofs::BufferLines::left_first, crate::proofs::BufferLines::left_next, crate::proofs::BufferLines::left_none))]
     fn next(&mut self) -> Option<Line<'a>> {
         loop {
             if let Some(text) = self.lines.next() {

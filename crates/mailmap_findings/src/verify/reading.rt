@@ -16,6 +16,7 @@ use mailmap_grammar::lines::{Strictness, read_line};
 use mailmap_grammar::strict;
 
 /// The entry of a line, parsed leniently, as lookups do.
+#[tactic(auto, using(crate::proofs::Read::same_entry))]
 #[inline]
 pub(crate) fn entry_of<'a>(line: &Line<'a>) -> Option<Entry<'a>>
     ensures { option_map mapping_of result ≡ spec_entry (line_of line.now) }
@@ -24,6 +25,7 @@ pub(crate) fn entry_of<'a>(line: &Line<'a>) -> Option<Entry<'a>>
 }
 
 /// The fault that strict parsing finds in a line, or else its ignored text; and the line's entry.
+#[tactic(auto, using(crate::proofs::Read::same_entry, crate::proofs::Read::same_reported))]
 #[inline]
 pub(crate) fn finding_and_entry<'a>(line: &Line<'a>) -> (Option<FindingKind<'a>>, Option<Entry<'a>>)
     ensures reported { option_map kind_of result.0
@@ -82,6 +84,7 @@ fn without_feed<'a>(line: &Line<'a>) -> Line<'a>
 }
 
 // The line may have lost its line feed.
+#[tactic(auto, unfolding(crate::specs::Positions::entry))]
 #[inline]
 fn entry_of_piece<'a>(line: &Line<'a>) -> Option<Entry<'a>>
     ensures { option_map mapping_of result ≡ spec_entry (line_of line.now) }
@@ -91,6 +94,7 @@ fn entry_of_piece<'a>(line: &Line<'a>) -> Option<Entry<'a>>
 
 // The line may have lost its line feed. If strict parsing finds an entry, lenient parsing finds the same one, so the
 // line is parsed once.
+#[tactic(auto, using(crate::proofs::Readings::no_entry, crate::proofs::Readings::same_entry), unfolding(crate::specs::Positions::entry))]
 #[inline]
 fn read_piece<'a>(line: &Line<'a>) -> (Option<FindingKind<'a>>, Option<Entry<'a>>)
     ensures reported { option_map kind_of result.0

@@ -45,6 +45,7 @@ impl<'v, 'a> Model for MarkedLines<'v, 'a> {
 }
 
 impl<'v, 'a> MarkedLines<'v, 'a> {
+    #[tactic(auto, using(crate::proofs::BufferLines::apart_lines))]
     pub(crate) fn new(
         buffers: &'v [&'a [u8]],
         kept: &'v [&'v LocatedEntry<'a>],
@@ -69,6 +70,7 @@ impl<'v, 'a> Iterator for MarkedLines<'v, 'a> {
 
     ghost remaining = { item_count (λ s. s) };
 
+    #[tactic(auto, using(crate::proofs::Walking::kept_marked, crate::proofs::Walking::none_marked, crate::proofs::Walking::other_marked))]
     fn next(&mut self) -> Option<(Line<'a>, bool)> {
         let line = self.lines.next()?;
         let Some(entry) = self.kept.get(self.passed) else {
@@ -140,6 +142,7 @@ impl<'a> Iterator for LineFindings<'a> {
 }
 
 /// Computes the findings of a line. `known` is its entry, if the line is known to be clean.
+#[tactic(auto, using(crate::proofs::Known::found_all))]
 pub(crate) fn line_findings<'a>(
     effective: &Effective<'_, 'a>,
     line: &Line<'a>,

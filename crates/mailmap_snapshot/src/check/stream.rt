@@ -1,6 +1,6 @@
 //! Answers contacts that arrive in parts.
 ghost use Rattle.std.specs.Prelude.{◌≡◌, ◌++◌, ◌<◌, ◌≤◌, ◌⊎◌, ℕ, [], List, IfOk, IsTrue, OnErr, OnOk, length, map, take};
-ghost use Rattle.bstr.specs.Text.{line_len, without_terminator};
+ghost use Rattle.bstr.specs.Text.{without_terminator};
 ghost use Rattle.mailmap_entries.specs.Entries.{Mapping};
 ghost use Rattle.mailmap_entries.specs.Folding.{Text};
 ghost use Rattle.mailmap_grammar.specs.Lines.{HoldsNo};
@@ -115,7 +115,7 @@ impl ContactStream {
 
     // Takes the first line of a part with its line feed, and answers it. Without a line feed, keeps the whole part.
     fn push_line(&mut self, part: &[u8], text: &mut Vec<u8>) -> Result<usize, AllocError>
-        ensures takes { IfOk result (λ taken. taken ≡ line_len part.now) }
+        ensures takes { IfOk result (λ taken. (taken ≤ length part.now) × (0 < length part.now → 0 < taken)) }
         ensures answers { IfOk result (λ taken. (made : Text) × (text.new.items ≡ text.old.items ++ made)
             × AnswersFront self.old.mappings (self.old.kept ++ take taken part.now) made self.new.kept) }
         ensures keeps { OnOk result ((HoldsNo 10 self.old.kept → HoldsNo 10 self.new.kept)

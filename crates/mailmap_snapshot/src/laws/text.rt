@@ -20,6 +20,7 @@ pub fn law_text()
 {}
 
 /// The text of a normal list has no fault, not even in strict parsing.
+#[tactic(auto, using(crate::proofs::WrittenLine::strict_text))]
 pub fn law_strict()
     // it has exactly the entries of the list, in order
     ensures { (v : List Mapping) → IsNormal v v → All IsWritable v → strict_readings (canonical_text v) ≡ map Ok v }

@@ -4,8 +4,7 @@ use Rattle.std.proofs.lemmas.Iterator.{YieldsList-from_slice}
 use Rattle.std.proofs.lemmas.Iterator.Consumers.{YieldsList-from_copied}
 use Rattle.gix_mailmap.specs.Entries.{mapping_of}
 use Rattle.gix_mailmap.specs.Semantics.{IsNormal}
-use Rattle.mailmap_snapshot.proofs.Sources.{yields_entries}
-use Rattle.caller_promises.proofs.MergedEntries.{out_of_memory_made}
+use Rattle.mailmap_snapshot.proofs.Sources.{out_of_memory_some, yields_entries}
 use Rattle.caller_promises.proofs.batches.snapshot_of.Goals as goal
 
 weaker : {T E : Type 0} (r : Result T E) (P Q : T → Type 0) → ((x : T) → P x → Q x) → IfOk r P → IfOk r Q
@@ -19,4 +18,4 @@ returns-in-Entries-clause-ok c =
 
 pub returns-in-Entries-clause-out_of_memory : goal.returns-in-Entries-clause-out_of_memory
 returns-in-Entries-clause-out_of_memory c =
-    rw c.in-Entries.is (out_of_memory_made (yields_entries (YieldsList-from_copied (YieldsList-from_slice c.in-Entries.entries.now (cc)))) c.new.result c.new.ensures.out_of_memory)
+    rw c.in-Entries.is (out_of_memory_some (yields_entries (YieldsList-from_copied (YieldsList-from_slice c.in-Entries.entries.now (cc)))) c.new.result c.new.ensures.out_of_memory)

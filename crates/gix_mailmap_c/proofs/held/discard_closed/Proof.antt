@@ -1,7 +1,4 @@
-use Rattle.gix_mailmap_c.proofs.Steps.{[], ◌∷◌, refl, proved, fact, vunit, raw, ◌$◌, ◌∵◌, !, qed, done, drop, join, feq_i, suffices, group, enter, of_opd, unit_lit, stop, fld, returns, alloc_all, pass_all, free_all, look_at, sets, yes, plain, nothing, on_entry, Stays, walk_of, stay_dropped, Goes-dropped, ends_at}
-use types.Part.{whole, sub}
-use types.ByLocal.{get_in}
-use denote.RawPtr.{rawptr_Lawful}
+use Rattle.gix_mailmap_c.proofs.Steps.{[], ◌∷◌, refl, proved, fact, vunit, raw, ◌$◌, ◌∵◌, !, qed, done, drop, join, feq_i, suffices, group, enter, of_opd, unit_lit, stop, fld, returns, alloc_all, pass_all, free_all, look_at, sets, yes, plain, nothing, on_entry, Stays, walk_of, stay_dropped, Goes-dropped, ends_at, whole, sub, get_in, rawptr_Lawful}
 use Rattle.gix_mailmap_c.specs.contracts.held.discard_closed as f
 use Rattle.gix_mailmap_c.proofs.held.discard_closed.Statement.{statement}
 use Rattle.gix_mailmap_c.proofs.held.discard_closed.Code as code

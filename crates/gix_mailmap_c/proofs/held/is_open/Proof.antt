@@ -1,8 +1,5 @@
 -- `is_open` reads a field through a `&mut`.
-use Rattle.gix_mailmap_c.proofs.Steps.{List, [], ◌∷◌, refl, sym, proved, full_share, ftrue, flft, named, Val, ‵, ◌⊛◌, ◌$◌, ◌∵◌, !, qed, done, move, keep, split, join, fsplit3, feq_i, rewrite, suffices, frame, group, enter, of_opd, load, stop, fld, returns, alloc_all, pass_all, free_all, look_at, through, sets, shows, MutRef, mut_vals, mut_Tells, plain, nothing, opens, closes, peeks, Stays, walk_of, says, stay_ref, Goes-ref, ends_at}
-use types.Part.{whole, sub, look_in}
-use mir.Val.{vbool}
-use denote.Memory.{cell_at}
+use Rattle.gix_mailmap_c.proofs.Steps.{List, [], ◌∷◌, refl, sym, proved, full_share, ftrue, flft, named, Val, ‵, ◌⊛◌, ◌$◌, ◌∵◌, !, qed, done, move, keep, split, join, fsplit3, feq_i, rewrite, suffices, frame, group, enter, of_opd, load, stop, fld, returns, alloc_all, pass_all, free_all, look_at, through, sets, shows, MutRef, mut_vals, mut_Tells, plain, nothing, opens, closes, peeks, Stays, walk_of, says, stay_ref, Goes-ref, ends_at, whole, sub, look_in, vbool, cell_at}
 use Rattle.gix_mailmap_c.specs.contracts.held.is_open as f
 use Rattle.gix_mailmap_c.proofs.held.is_open.Statement.{statement}
 use Rattle.gix_mailmap_c.proofs.held.is_open.Code as code

@@ -3,7 +3,7 @@ use Rattle.std.proofs.lemmas.List.{drop_more, drop_all, length-map}
 use Rattle.mailmap_redundancy.specs.declared.located.Position as library
 use Rattle.gix_mailmap_c.specs.Unneeded.{c_positions, c_position}
 use Rattle.gix_mailmap_c.specs.declared.unneeded.Position.{Position}
-use Rattle.gix_mailmap_c.proofs.Copying.{Copied, copied_more, copied_all, after_set}
+use Rattle.gix_mailmap_c.proofs.Copying.{Copied, copied_all, copied_next}
 use Rattle.gix_mailmap_c.proofs.unneeded.list.Goals as goal
 
 -- the remaining positions are the next one and the others
@@ -16,18 +16,10 @@ pub loop-position-preserved : goal.loop-position-preserved
 loop-position-preserved c =
     let xs = c.args.found.now in
     let i = c.loop-position.position-index in
-    let index = c.loop-position.index in
-    let out = c.loop-position.out in
-    let old = c.args.out.now in
-    let one = c.of-one.result in
-    let all = c_positions xs in
-    let left = c_positions (drop (i + 1) xs) in
     let within : i < length xs = omega arith in
-    let cut = next_listed xs i _ one within c.of-one.ensures in
-    let before : Copied (one ∷ left) all index out old = subst (λ (l : List Position). Copied l all index out old) cut c.loop-position.invariant.listed in
-    let lt : index < length out = omega (arith, c.loop-position.invariant.index, c.requires) in
+    let lt : c.loop-position.index < length c.loop-position.out = omega (arith, c.loop-position.invariant.index, c.requires) in
     record {
-      listed = copied_more (one ∷ []) left all index (index + 1) out _ old before (after_set out index one lt);
+      listed = copied_next (next_listed xs i _ c.of-one.result within c.of-one.ensures) lt c.loop-position.invariant.listed;
       index = omega (arith, c.loop-position.invariant.index);
     }
 

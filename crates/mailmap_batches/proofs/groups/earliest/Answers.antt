@@ -4,9 +4,6 @@ use Rattle.mailmap_batches.proofs.LeadingNames.{IsAt, least_more, earliest_from}
 use Rattle.mailmap_batches.proofs.groups.earliest.Goals as goal
 use Rattle.mailmap_batches.proofs.groups.earliest.Goals.{then-indexed-first, else-indexed-first}
 
-pub loop-indexed-init : goal.loop-indexed-init
-loop-indexed-init c = (record { index = 0; within = c.requires; read = c.index-batch-0.is }, tt)
-
 pub loop-indexed-preserved : goal.loop-indexed-preserved
 loop-indexed-preserved c =
     let xs = c.args.batch.now in

@@ -1,16 +1,9 @@
-use Rattle.std.proofs.Common.{◌≡◌, ◌∙◌, ap, arith, length, sym, subst, subst₂, take}
+use Rattle.std.proofs.Common.{◌≡◌, ◌∙◌, ap, arith, length, subst, subst₂, take}
 use Rattle.std.specs.List.{AllByRecursion}
 use Rattle.mailmap_entries.specs.Folding.{folded}
 use Rattle.mailmap_batches.specs.Batches.{email_text, mapping_at}
-use Rattle.mailmap_entries.proofs.Parts.{first_alone}
 use Rattle.mailmap_batches.proofs.LeadingNames.{first_email_at}
 use Rattle.mailmap_batches.proofs.groups.email_group_len.Goals as goal
-
-pub loop-i-init : goal.loop-i-init
-loop-i-init c =
-    let xs = c.args.batch.now in
-    let first = ap folded c.old_email-email.ensures ∙ first_email_at xs _ c.requires in
-    first_alone _ xs (λ d. first_email_at xs d c.requires ∙ sym first)
 
 pub returns-then-not-differ_only_in_case-clause-same : goal.returns-then-not-differ_only_in_case-clause-same
 returns-then-not-differ_only_in_case-clause-same c =

@@ -1,16 +1,12 @@
-use Rattle.std.proofs.Common.{◌≡◌, Some, option_map, refl, subst}
+use Rattle.std.proofs.Common.{◌≡◌, option_map, refl, subst, rules}
 use Rattle.mailmap_contacts.specs.Answers.{shared_field, tally_at, tally_of}
 use Rattle.mailmap_contacts.specs.Proper.{better}
 use Rattle.mailmap_contacts.specs.declared.folded.Folded.{Folded}
-use Rattle.mailmap_contacts.proofs.Propers.{moves, stays}
+use Rattle.mailmap_contacts.proofs.Propers.{moves}
 use Rattle.mailmap_contacts.proofs.proper.add_answer.Goals as goal
 
 pub returns-then-is_kept : goal.returns-then-is_kept
-returns-then-is_kept c = λ q.
-    let t = tally_of c.args.answer.now in
-    let key : Folded = record { text = c.text.result } in
-    let kept = subst (λ o. Some (better (option_map tally_at o) t) ≡ option_map tally_at o) c.get.ensures.value (c.if-is_kept.ensures.kept refl) in
-    stays (shared_field c.args.shared) t key c.text.ensures c.args.propers.now kept q
+returns-then-is_kept c = λ q. search rules
 
 pub returns : goal.returns
 returns c = λ q.

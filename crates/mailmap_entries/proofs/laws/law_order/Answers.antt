@@ -1,4 +1,4 @@
-use Rattle.mailmap_entries.proofs.Ordered.{entries_exact, entries_total}
+use Rattle.mailmap_entries.proofs.Keys.{entries_exact, entries_total}
 use Rattle.mailmap_entries.proofs.laws.law_order.Goals as goal
 
 pub returns : goal.returns

@@ -1,7 +1,7 @@
 use Rattle.std.proofs.Common.{refl}
 use Rattle.mailmap_entries.specs.Folding.{folded, text_cmp}
 use Rattle.mailmap_entries.proofs.Folding.{equal-folded}
-use Rattle.mailmap_entries.proofs.Ordered.{folded_total}
+use Rattle.mailmap_entries.proofs.Keys.{folded_total}
 use Rattle.mailmap_entries.proofs.laws.law_order_without_case.Goals as goal
 
 pub returns : goal.returns

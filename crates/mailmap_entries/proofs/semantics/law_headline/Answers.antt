@@ -3,8 +3,7 @@ use Rattle.mailmap_entries.proofs.Alike.{same_normal, same_scan, alike_back}
 use Rattle.mailmap_entries.proofs.Building.{built_normal, normal_condensed}
 use Rattle.mailmap_entries.proofs.Normal.{alike_normal, normal_self}
 use Rattle.mailmap_entries.proofs.Reorder.{alike_reordered}
-use Rattle.mailmap_entries.proofs.Shortest.{no_shorter}
-use Rattle.mailmap_entries.proofs.Unique.{normal_unique}
+use Rattle.mailmap_entries.proofs.Unique.{no_shorter, normal_unique}
 use Rattle.mailmap_entries.proofs.semantics.law_headline.Goals as goal
 
 pub returns : goal.returns

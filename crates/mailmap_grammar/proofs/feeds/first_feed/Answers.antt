@@ -1,10 +1,6 @@
 use Rattle.std.proofs.Common.{◌≤◌, ◌-◌, arith, drop, length, length-drop, take_all}
-use Rattle.mailmap_grammar.proofs.NearFeeds.{far_none, far_some, near, no_near}
+use Rattle.mailmap_grammar.proofs.NearFeeds.{far_none, far_some, no_near}
 use Rattle.mailmap_grammar.proofs.feeds.first_feed.Goals as goal
-
-pub returns-then-feeds-ne0 : goal.returns-then-feeds-ne0
-returns-then-feeds-ne0 c =
-    near c.args.bytes.now c.near_feeds-feeds.result c.lowest.result (omega (arith, c.if-bytes-lt32.false)) c.near_feeds-feeds.ensures c.lowest.ensures.set c.lowest.ensures.below
 
 pub returns-in-Some : goal.returns-in-Some
 returns-in-Some c =

@@ -1,6 +1,6 @@
 use Rattle.std.proofs.Common.{length, sym, ap, ◌∙◌}
 use Rattle.std.proofs.lemmas.Bool.{eqb-true, eq-eqb}
-use Rattle.mailmap_grammar.proofs.Whole.{whole}
+use Rattle.mailmap_grammar.proofs.Trimmed.{whole}
 use Rattle.mailmap_grammar.proofs.writing.is_trimmed.Goals as goal
 
 pub returns : goal.returns

@@ -1,16 +1,12 @@
-use Rattle.std.proofs.Common.{rules, of_calls}
+use Rattle.std.proofs.lemmas.Grind.{common_steps}
+use Rattle.std.proofs.Common.{rules, of_calls, arith}
 use Rattle.std.proofs.lemmas.Fn.{always_returns_same}
 use Rattle.mailmap_entries.specs.Semantics.{key_cmp}
 use Rattle.mailmap_redundancy.proofs.Keyed.{searched}
 use Rattle.mailmap_redundancy.proofs.keys.find.Goals as goal
 
 pub returns-clause-some : goal.returns-clause-some
-returns-clause-some c =
-    let found = c.binary_search_by.ensures.position (λ k. key_cmp k c.args.key.now)
-    (always_returns_same _ _ _ (λ a r f called. search (rules, of_calls))) in
-    rw c.ok.ensures.value
-    (searched c.args.keys.now c.args.key.now c.binary_search_by.result c.requires c.binary_search_by.ensures.bound
-    found).0
+returns-clause-some c = grind (arith, common_steps, always_returns_same, searched)
 
 pub returns-clause-none : goal.returns-clause-none
 returns-clause-none c =

@@ -2,7 +2,7 @@ use Rattle.std.proofs.Common.{map}
 use Rattle.std.specs.List.{All}
 use Rattle.mailmap_redundancy.specs.Redundancy.{located_of}
 use Rattle.mailmap_redundancy.specs.Numbers.{IsNumbered, mappings}
-use Rattle.mailmap_redundancy.proofs.Settling.{IsSettling}
+use Rattle.mailmap_redundancy.proofs.Passing.{IsSettling}
 use Rattle.mailmap_redundancy.proofs.passes.drop_until_stable.Given as goal
 
 abbrev pub invariant-loop-len : goal.invariant-loop-len

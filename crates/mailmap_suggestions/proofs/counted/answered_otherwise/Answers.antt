@@ -4,9 +4,8 @@ use Rattle.std.proofs.lemmas.List.Sorted.{IsPermutation-map, answers_always, ran
 use Rattle.mailmap_suggestions.specs.Answered.{AreAnswered, IsRightFor, tallies_behind, tally_behind}
 use Rattle.mailmap_suggestions.specs.Counted.{frequency_cmp}
 use Rattle.mailmap_suggestions.specs.declared.answered.Answered.{Answered}
-use Rattle.mailmap_suggestions.proofs.OneEmail.{all_filtered}
-use Rattle.mailmap_suggestions.proofs.Frequency.{frequency_total, permuted, sorted_ascends}
-use Rattle.mailmap_suggestions.proofs.Ordered.{differs, is_other, others_are, sorted_some}
+use Rattle.mailmap_contacts.proofs.Steps.{none_before, permuted, all_filtered}
+use Rattle.mailmap_suggestions.proofs.Frequency.{frequency_total, differs, is_other, others_are, sorted_some}
 use Rattle.mailmap_suggestions.proofs.counted.answered_otherwise.Goals as goal
 
 pub returns-clause-answered : goal.returns-clause-answered
@@ -32,4 +31,4 @@ returns-clause-others c = λ h all lines once.
     let up = c.sort_unstable_by.ensures.sorted (λ x y. is_lt (frequency_cmp (tally_behind x) (tally_behind y))) (ranks_by frequency_total tally_behind) compares in
     sorted_some (is_other h) (tallies_behind group) (tallies_behind vs) lines once
     (subst (λ l. IsPermutation l (tallies_behind vs)) (ap tallies_behind are ∙ others_are h group all) (IsPermutation-map tally_behind us vs c.sort_unstable_by.ensures.permutation))
-    (sorted_ascends tally_behind vs up)
+    (none_before frequency_cmp frequency_total tally_behind vs up)

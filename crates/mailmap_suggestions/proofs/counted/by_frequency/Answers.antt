@@ -3,8 +3,8 @@ use Rattle.std.specs.Ordering.{is_lt}
 use Rattle.std.proofs.lemmas.List.Sorted.{IsPermutation-map, answers_always, ranks_by}
 use Rattle.mailmap_contacts.specs.Answers.{tally_of}
 use Rattle.mailmap_suggestions.specs.Counted.{frequency_cmp}
-use Rattle.mailmap_suggestions.proofs.Frequency.{frequency_total, sorted_ascends}
-use Rattle.mailmap_suggestions.proofs.Ordered.{sorted_tallies}
+use Rattle.mailmap_contacts.proofs.Steps.{none_before}
+use Rattle.mailmap_suggestions.proofs.Frequency.{frequency_total, sorted_tallies}
 use Rattle.mailmap_suggestions.proofs.counted.by_frequency.Goals as goal
 
 pub returns : goal.returns
@@ -16,4 +16,4 @@ returns c = λ ts same lines.
     (λ f a r f' k. let e : r ≡ frequency_cmp (tally_of a.0.now) (tally_of a.1.0.now) = search rules in ap is_lt e) in
     let up = c.sort_unstable_by.ensures.sorted (λ x y. is_lt (frequency_cmp (tally_of x) (tally_of y))) (ranks_by frequency_total tally_of) compares in
     sorted_tallies ts (map tally_of us) (map tally_of vs) lines (c.in_ok-answers.ensures ts same)
-    (IsPermutation-map tally_of us vs c.sort_unstable_by.ensures.permutation) (sorted_ascends tally_of vs up)
+    (IsPermutation-map tally_of us vs c.sort_unstable_by.ensures.permutation) (none_before frequency_cmp frequency_total tally_of vs up)

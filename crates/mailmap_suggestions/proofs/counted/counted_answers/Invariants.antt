@@ -2,7 +2,7 @@
 use Rattle.std.proofs.Common.{map, take}
 use Rattle.mailmap_contacts.specs.Answers.{answer_key_tally}
 use Rattle.mailmap_contacts.specs.Counts.{SameTallies}
-use Rattle.mailmap_suggestions.proofs.Ordered.{ours_behind}
+use Rattle.mailmap_suggestions.proofs.Frequency.{ours_behind}
 use Rattle.mailmap_suggestions.proofs.counted.counted_answers.Given as goal
 
 abbrev pub invariant-loop-contact : goal.invariant-loop-contact

@@ -3,7 +3,7 @@ use Rattle.mailmap_contacts.specs.Answers.{tally_of}
 use Rattle.mailmap_suggestions.specs.Answered.{AreAnswered, tallies_behind}
 use Rattle.mailmap_suggestions.specs.Counted.{by_frequency, git_answered, ranked}
 use Rattle.mailmap_contacts.specs.Contacts.{tallied}
-use Rattle.mailmap_suggestions.proofs.Ordered.{answered_ascends, ranked_ascends}
+use Rattle.mailmap_suggestions.proofs.Frequency.{answered_ascends, ranked_ascends}
 use Rattle.mailmap_suggestions.proofs.counted.counted_git_answers.Goals as goal
 
 pub returns : goal.returns

@@ -1,7 +1,7 @@
-use Rattle.std.proofs.Common.{◌∙◌, ◌+◌, ap, arith, refl, take, take_all}
-use Rattle.mailmap_contacts.specs.Contacts.{seen_where}
-use Rattle.mailmap_suggestions.proofs.Ordered.{answers_more, numbered_are, numbered_from, numbered_more}
+use Rattle.std.proofs.Common.{◌+◌, arith, refl, take, take_all, rules}
+use Rattle.mailmap_suggestions.proofs.Frequency.{numbered_are, numbered_from, numbered_more}
 use Rattle.mailmap_suggestions.proofs.counted.numbered_answers.Goals as goal
+use Rattle.mailmap_contacts.proofs.Entries.{answers_more}
 
 pub loop-index-preserved : goal.loop-index-preserved
 loop-index-preserved c =
@@ -11,7 +11,4 @@ loop-index-preserved c =
     c.in_ok-add_to.ensures.ok c.loop-index.invariant refl (numbered_more others k _ (omega arith))
 
 pub returns : goal.returns
-returns c = λ h all test.
-    let others = c.args.others.now in
-    let whole = take_all c.loop-index.index others (omega arith) in
-    c.loop-index.invariant test ∙ ap (seen_where test) (ap (numbered_from 1) whole ∙ numbered_are h 1 others all)
+returns c = λ h all test. search (rules, take_all, numbered_from, numbered_are)

@@ -2,7 +2,7 @@
 use Rattle.std.proofs.Common.{map, take}
 use Rattle.mailmap_contacts.specs.Answers.{answer_key_tally}
 use Rattle.mailmap_contacts.specs.Counts.{SameTallies}
-use Rattle.mailmap_suggestions.proofs.Ordered.{numbered_from}
+use Rattle.mailmap_suggestions.proofs.Frequency.{numbered_from}
 use Rattle.mailmap_suggestions.proofs.counted.numbered_answers.Given as goal
 
 abbrev pub invariant-loop-index : goal.invariant-loop-index

@@ -1,12 +1,9 @@
-use Rattle.std.proofs.Common.{◌∙◌, refl, sym}
+use Rattle.std.proofs.Common.{◌∙◌, sym}
 use Rattle.std.proofs.lemmas.List.{at_drop_all}
 use Rattle.mailmap_contacts.specs.Answers.{tally_of}
 use Rattle.mailmap_suggestions.specs.Forms.{are_answered, plus}
-use Rattle.mailmap_suggestions.proofs.PlainOnes.{all_depends, plain_ones}
+use Rattle.mailmap_suggestions.proofs.Forms.{all_depends, plain_ones}
 use Rattle.mailmap_suggestions.proofs.entries.are_answered.Goals as goal
-
-pub loop-contact-init : goal.loop-contact-init
-loop-contact-init c = λ h email added all changed. refl
 
 pub loop-contact-preserved : goal.loop-contact-preserved
 loop-contact-preserved c = λ h email added all changed.

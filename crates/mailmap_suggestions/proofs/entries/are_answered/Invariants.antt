@@ -6,7 +6,7 @@ use Rattle.mailmap_entries.specs.Folding.{Text}
 use Rattle.mailmap_contacts.specs.Answers.{tally_of}
 use Rattle.mailmap_suggestions.specs.Changes.{AreChangesBy, IsAnsweredFor}
 use Rattle.mailmap_suggestions.specs.Forms.{Histories, are_answered, plus}
-use Rattle.mailmap_suggestions.proofs.PlainOnes.{plain_ones}
+use Rattle.mailmap_suggestions.proofs.Forms.{plain_ones}
 use Rattle.mailmap_suggestions.proofs.entries.are_answered.Given as goal
 
 abbrev pub invariant-loop-contact : goal.invariant-loop-contact

@@ -1,11 +1,8 @@
-use Rattle.std.proofs.Common.{◌∙◌, refl, sym}
+use Rattle.std.proofs.Common.{◌∙◌, sym}
 use Rattle.std.proofs.lemmas.List.{at_drop_all}
 use Rattle.mailmap_entries.specs.Semantics.{first}
-use Rattle.mailmap_suggestions.proofs.PlainOnes.{first_here, first_later, plain_ones}
+use Rattle.mailmap_suggestions.proofs.Forms.{first_here, first_later, plain_ones}
 use Rattle.mailmap_suggestions.proofs.entries.first_plain.Goals as goal
-
-pub loop-contact-init : goal.loop-contact-init
-loop-contact-init c = λ h email all. refl
 
 pub loop-contact-preserved : goal.loop-contact-preserved
 loop-contact-preserved c = λ h email all.

@@ -5,7 +5,7 @@ use Rattle.mailmap_entries.specs.Folding.{Text}
 use Rattle.mailmap_entries.specs.Semantics.{first}
 use Rattle.mailmap_suggestions.specs.Changes.{IsAnsweredFor}
 use Rattle.mailmap_suggestions.specs.Forms.{Histories}
-use Rattle.mailmap_suggestions.proofs.PlainOnes.{plain_ones}
+use Rattle.mailmap_suggestions.proofs.Forms.{plain_ones}
 use Rattle.mailmap_suggestions.proofs.entries.first_plain.Given as goal
 
 abbrev pub invariant-loop-contact : goal.invariant-loop-contact

@@ -8,7 +8,7 @@ use Rattle.mailmap_contacts.proofs.Steps.{made_more}
 use Rattle.mailmap_suggestions.specs.Answered.{contact_behind}
 use Rattle.mailmap_suggestions.specs.Changes.{IsAnsweredFor}
 use Rattle.mailmap_suggestions.specs.Forms.{entries_for_email}
-use Rattle.mailmap_suggestions.proofs.Parts.{IsPart, are_parts, part_entries, parts_whole}
+use Rattle.mailmap_suggestions.proofs.Forms.{IsPart, are_parts, part_entries, parts_whole}
 use Rattle.mailmap_suggestions.proofs.entries.group_entries.Goals as goal
 
 pub loop-part-preserved : goal.loop-part-preserved

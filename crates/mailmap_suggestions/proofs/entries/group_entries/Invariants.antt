@@ -5,7 +5,7 @@ use Rattle.mailmap_contacts.specs.Answers.{tally_of}
 use Rattle.mailmap_contacts.specs.Contacts.{Contact}
 use Rattle.mailmap_suggestions.specs.Changes.{AreParts}
 use Rattle.mailmap_suggestions.specs.Forms.{Histories}
-use Rattle.mailmap_suggestions.proofs.Parts.{part_entries}
+use Rattle.mailmap_suggestions.proofs.Forms.{part_entries}
 use Rattle.mailmap_suggestions.proofs.entries.group_entries.Given as goal
 
 abbrev pub invariant-loop-part : goal.invariant-loop-part

@@ -4,8 +4,7 @@ use Rattle.mailmap_contacts.specs.Answers.{tally_of}
 use Rattle.mailmap_suggestions.specs.Answered.{answered_contact}
 use Rattle.mailmap_suggestions.specs.Changes.{IsPlain, listed}
 use Rattle.mailmap_suggestions.specs.Forms.{plain_entries}
-use Rattle.mailmap_suggestions.proofs.PlainForms.{first_email, none_first, plain_none, plain_some, some_first}
-use Rattle.mailmap_suggestions.proofs.PlainOnes.{plain_ones}
+use Rattle.mailmap_suggestions.proofs.Forms.{first_email, none_first, plain_none, plain_some, some_first, plain_ones}
 use Rattle.mailmap_suggestions.proofs.entries.plain_entry.Goals as goal
 
 pub returns-in_err-first-clause-entries : goal.returns-in_err-first-clause-entries

@@ -3,8 +3,7 @@ use Rattle.mailmap_entries.specs.Entries.{mapping_of}
 use Rattle.mailmap_contacts.specs.Answers.{tally_of}
 use Rattle.mailmap_suggestions.specs.Answered.{answered_contact}
 use Rattle.mailmap_suggestions.specs.Forms.{long_form, short_form}
-use Rattle.mailmap_suggestions.proofs.PlainForms.{short_decides, short_is, short_plain}
-use Rattle.mailmap_suggestions.proofs.PlainOnes.{plain_ones}
+use Rattle.mailmap_suggestions.proofs.Forms.{short_decides, short_is, short_plain, plain_ones}
 use Rattle.mailmap_suggestions.proofs.entries.plain_form.Goals as goal
 
 pub returns-then-are_answered-clause-entry : goal.returns-then-are_answered-clause-entry

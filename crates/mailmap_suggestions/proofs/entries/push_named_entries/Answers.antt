@@ -4,7 +4,7 @@ use Rattle.mailmap_entries.specs.Entries.{mapping_of}
 use Rattle.mailmap_contacts.specs.Answers.{tally_of}
 use Rattle.mailmap_suggestions.specs.Answered.{contact_behind}
 use Rattle.mailmap_suggestions.specs.Forms.{named_entries, plus}
-use Rattle.mailmap_suggestions.proofs.PushedNames.{pushed_step}
+use Rattle.mailmap_suggestions.proofs.Forms.{pushed_step}
 use Rattle.mailmap_suggestions.proofs.entries.push_named_entries.Goals as goal
 
 pub loop-contact-preserved : goal.loop-contact-preserved

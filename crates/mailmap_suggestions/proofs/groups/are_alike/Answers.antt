@@ -1,5 +1,5 @@
 use Rattle.std.proofs.Common.{◌≡◌, ◌∙◌, Some, ap, option_copied, slice_get, sym}
-use Rattle.mailmap_suggestions.proofs.Sharers.{answered_as_first}
+use Rattle.mailmap_suggestions.proofs.Grouping.{answered_as_first}
 use Rattle.mailmap_suggestions.proofs.groups.are_alike.Goals as goal
 
 pub returns-in-Some : goal.returns-in-Some

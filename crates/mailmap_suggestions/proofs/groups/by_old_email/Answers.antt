@@ -1,5 +1,5 @@
 use Rattle.std.proofs.lemmas.Result.{IfOk-weaker}
-use Rattle.mailmap_suggestions.proofs.OldEmails.{parts_answered, parts_are, parts_have_one}
+use Rattle.mailmap_suggestions.proofs.Grouping.{parts_answered, parts_are, parts_have_one}
 use Rattle.mailmap_suggestions.proofs.groups.by_old_email.Goals as goal
 
 pub returns-clause-parts : goal.returns-clause-parts

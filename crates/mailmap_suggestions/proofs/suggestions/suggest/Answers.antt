@@ -10,7 +10,8 @@ use Rattle.mailmap_suggestions.specs.Forms.{plus}
 use Rattle.mailmap_suggestions.specs.Suggestions.{Suggestion, suggestion}
 use Rattle.mailmap_suggestions.specs.GroupEntries.{email_entries, groups}
 use Rattle.mailmap_suggestions.specs.Views.{suggestion_of}
-use Rattle.mailmap_suggestions.proofs.Suggesting.{distinct_tallied, groups_accepted, history_ascends, suggested_entries}
+use Rattle.mailmap_contacts.proofs.Tallied.{distinct_tallied, history_ascends}
+use Rattle.mailmap_suggestions.proofs.Suggesting.{groups_accepted, suggested_entries}
 use Rattle.mailmap_suggestions.proofs.suggestions.suggest.Goals as goal
 
 pub returns : goal.returns

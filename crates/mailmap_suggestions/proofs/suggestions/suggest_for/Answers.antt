@@ -7,7 +7,7 @@ use Rattle.mailmap_suggestions.specs.Answered.{IsRightFor, contact_behind, talli
 use Rattle.mailmap_suggestions.specs.Changes.{AreParts}
 use Rattle.mailmap_suggestions.specs.Forms.{entries_to}
 use Rattle.mailmap_suggestions.specs.GroupEntries.{contact_or_nobody, group_entries}
-use Rattle.mailmap_suggestions.proofs.Ordered.{none_counted}
+use Rattle.mailmap_suggestions.proofs.Frequency.{none_counted}
 use Rattle.mailmap_suggestions.proofs.Suggesting.{contacts_of_group}
 use Rattle.mailmap_suggestions.proofs.suggestions.suggest_for.Goals.{in-Some+in_ok-by_old_email-in-Some+in_ok-entries-in-Some, in-None}
 use Rattle.mailmap_suggestions.proofs.suggestions.suggest_for.Goals as goal

@@ -1,34 +1,13 @@
-use Rattle.std.proofs.Common.{◌≢◌, List, [], ◌∷◌, ◌++◌, map, subst, sym, ap, ◌∙◌, rules}
+use Rattle.std.proofs.Common.{◌≢◌, List, [], ◌∷◌, ◌++◌, map, subst, sym, ap, ◌∙◌}
 use Rattle.std.specs.Iterator.{Yields}
 use Rattle.std.proofs.iter.Next.{Yields-more}
 use Rattle.std.proofs.lemmas.List.{map_push}
 use Rattle.mailmap_entries.specs.Entries.{mapping_of}
 use Rattle.mailmap_entries.specs.declared.entry.Entry.{Entry as Item}
 use Rattle.mailmap_entries.specs.Semantics.{accepted}
-use Rattle.mailmap_tables.specs.Collecting.{IsCollected}
-use Rattle.mailmap_tables.proofs.Collected.{accepted-ignored, some_taken}
+use Rattle.mailmap_tables.proofs.Joining.{some_taken}
 use Rattle.mailmap_entries.proofs.Results.{on_err}
-use Rattle.mailmap_tables.proofs.Joining.{collected_same}
 use Rattle.mailmap_tables.proofs.chunks.accepted_of.Goals as goal
-
-pub loop-entry-init : goal.loop-entry-init
-loop-entry-init g c = record { can = search rules; finite = search rules; kept = c.none-collected.ensures }
-
-pub push-requires-clause-collected : goal.push-requires-clause-collected
-push-requires-clause-collected g c = (map mapping_of c.loop-entry.yielded, c.loop-entry.invariant.kept)
-
-pub loop-entry-preserved-in-Continue-1 : goal.loop-entry-preserved-in-Continue-1
-loop-entry-preserved-in-Continue-1 g c =
-    let x = c.in-Some.entry in
-    let xs = c.loop-entry.yielded in
-    let kept = c.in_ok-push.ensures (map mapping_of xs) c.loop-entry.invariant.kept in
-    record {
-      can = search rules;
-      finite = search rules;
-      kept =
-          subst (λ h. IsCollected c.args.existing_tables.now h c.push.new.self.joined
-          (map mapping_of c.push.new.self.batch.items)) (sym (map_push mapping_of xs x)) kept;
-    }
 
 pub returns-in_err-push-clause-out_of_memory : goal.returns-in_err-push-clause-out_of_memory
 returns-in_err-push-clause-out_of_memory g c =
@@ -46,19 +25,3 @@ returns-in_err-push-clause-out_of_memory g c =
           ∙ c.if-has_new_name_or_email.true) (ap accepted (sym (map_push mapping_of xs x)) ∙ e),
     ) in
     on_err _ _ why
-
-pub loop-entry-preserved : goal.loop-entry-preserved
-loop-entry-preserved g c =
-    let x = c.in-Some.entry in
-    let xs = c.loop-entry.yielded in
-    let same = collected_same c.args.existing_tables.now (map mapping_of xs) c.loop-entry.collected.joined
-    (map mapping_of c.loop-entry.collected.batch.items) c.loop-entry.invariant.kept (mapping_of x)
-    (accepted-ignored (map mapping_of xs) (mapping_of x) (sym c.has_new_name_or_email.ensures
-    ∙ c.if-has_new_name_or_email.false)) in
-    record {
-      can = search rules;
-      finite = search rules;
-      kept =
-          subst (λ h. IsCollected c.args.existing_tables.now h c.loop-entry.collected.joined
-          (map mapping_of c.loop-entry.collected.batch.items)) (sym (map_push mapping_of xs x)) same;
-    }

@@ -1,51 +1,19 @@
-use Rattle.std.proofs.Common.{◌≡◌, ◌<◌, map, length, get_or, Some, sym, subst, arith, ◌∙◌}
-use Rattle.std.specs.List.{HoldsAt, slice_get}
-use Rattle.std.specs.List.Sorted.{IsStrictlySortedBy}
+use Rattle.std.proofs.Common.{◌≡◌, ◌<◌, map, length, get_or, sym, subst, arith, ◌∙◌}
+use Rattle.std.specs.List.{HoldsAt}
 use Rattle.std.proofs.lemmas.List.{get_or-map, length-map}
-use Rattle.mailmap_entries.specs.Folding.{folded, text_cmp}
+use Rattle.mailmap_entries.specs.Folding.{folded}
 use Rattle.mailmap_tables.specs.Groups.{Contents, EmailGroup, name_key}
-use Rattle.mailmap_tables.specs.KeySearch.{IsFound, IsMissing}
+use Rattle.mailmap_tables.specs.KeySearch.{IsMissing}
 use Rattle.mailmap_tables.specs.Pool.{NameInPool, group_of, name_group, spelled}
 use Rattle.mailmap_tables.specs.declared.texts.RowTexts.{RowTexts}
 use Rattle.mailmap_tables.specs.RowTexts.{old_span}
-use Rattle.mailmap_tables.proofs.Bytes.{alike_length}
-use Rattle.mailmap_tables.proofs.Parting.{found_key}
-use Rattle.mailmap_tables.proofs.Pooled.{all_at, slice_get-map_at}
-use Rattle.mailmap_tables.proofs.RowEdits.{at_read, from_read}
-use Rattle.mailmap_tables.proofs.TextsOfRows.{spelled_len}
+use Rattle.mailmap_tables.proofs.TextsOfRows.{alike_length, spelled_len}
+use Rattle.mailmap_tables.proofs.Lists.{all_at, at_read}
+use Rattle.mailmap_tables.proofs.KeySearch.{found_key}
 use Rattle.mailmap_tables.proofs.in_place.find_name_row.Goals as goal
 
 abbrev none : RowTexts
 none = record { start = 0; old_len = 0; new_name_len = 0; new_email_len = 0 }
-
-pub find_name-requires-clause-ascending : goal.find_name-requires-clause-ascending
-find_name-requires-clause-ascending c =
-    let v = c.view-view.result in
-    let P : EmailGroup → Type 0 = λ h. IsStrictlySortedBy text_cmp (map name_key h.names) in
-    from_read P v.groups c.args.email (group_of v.pool c.email.result.0 c.email.result.1.now) c.email.ensures.group
-    (subst (λ (w : Contents). HoldsAt P w.groups c.args.email) (sym c.view-view.ensures) c.requires.ascending)
-
-pub returns-in-Ok-clause-found : goal.returns-in-Ok-clause-found
-returns-in-Ok-clause-found c =
-    let v = c.view-view.result in
-    let P : EmailGroup → Type 0 = λ h. IsFound name_key (folded c.args.name.now) 0 h.names c.in-Ok.index in
-    subst (λ (w : Contents). HoldsAt P w.groups c.args.email) c.view-view.ensures
-    (at_read P v.groups c.args.email (group_of v.pool c.email.result.0 c.email.result.1.now) c.email.ensures.group
-    c.in-Ok.ensures.found)
-
-pub returns-in-Ok-clause-existing : goal.returns-in-Ok-clause-existing
-returns-in-Ok-clause-existing c =
-    let v = c.view-view.result in
-    let i = c.in-Ok.index in
-    let names = c.email.result.1.now in
-    let row = get_or names i none in
-    let lt : i < length names = omega (arith, c.in-Ok.ensures.found.within, length-map names (name_group v.pool)) in
-    let read : slice_get (map (name_group v.pool) names) i ≡ Some (name_group v.pool row) =
-    slice_get-map_at (name_group v.pool) names i none lt in
-    let at = at_read (λ (h : EmailGroup). slice_get h.names i ≡ Some (name_group v.pool row)) v.groups c.args.email
-    (group_of v.pool c.email.result.0 names) c.email.ensures.group read in
-    subst (λ (w : Contents). HoldsAt (λ (h : EmailGroup). slice_get h.names i ≡ Some (name_group w.pool row)) w.groups
-    c.args.email) c.view-view.ensures at
 
 pub returns-in-Err-clause-missing : goal.returns-in-Err-clause-missing
 returns-in-Err-clause-missing c =

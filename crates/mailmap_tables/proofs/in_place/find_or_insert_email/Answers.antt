@@ -1,14 +1,14 @@
-use Rattle.std.proofs.Common.{◌≡◌, ◌∙◌, [], take, drop, get_or, ◌+◌, sym, ap, subst, refl, arith, take-append-drop}
+use Rattle.std.proofs.Common.{◌≡◌, ◌∙◌, [], take, drop, get_or, ◌+◌, Some, None, ap, subst, refl, arith}
 use Rattle.std.specs.List.{insert}
+use Rattle.std.proofs.lemmas.List.{length-take-le}
 use Rattle.mailmap_entries.specs.Entries.{mapping_of}
 use Rattle.mailmap_entries.specs.Folding.{Text, folded}
 use Rattle.mailmap_tables.specs.Groups.{Contents, email_key}
-use Rattle.mailmap_tables.specs.Merging.{bare, known, unknown}
+use Rattle.mailmap_tables.specs.Merging.{bare}
 use Rattle.mailmap_batches.specs.Batches.{email_text}
 use Rattle.mailmap_tables.specs.KeySearch.{IsFound, IsMissing}
-use Rattle.mailmap_tables.proofs.InPlace.{earliest_itself, insert_parts, length_prefix}
-use Rattle.mailmap_tables.proofs.Parting.{found_key, missing_above, missing_head, split_head}
-use Rattle.mailmap_tables.proofs.RowEdits.{get_or_any}
+use Rattle.mailmap_tables.proofs.Lists.{get_or_any, insert_parts, split_head}
+use Rattle.mailmap_tables.proofs.KeySearch.{lookup_found, lookup_missing}
 use Rattle.mailmap_tables.proofs.in_place.find_or_insert_email.Goals as goal
 
 pub returns-in-Ok-clause-ready : goal.returns-in-Ok-clause-ready
@@ -22,14 +22,16 @@ returns-in-Ok-clause-ready c =
     c.in-Ok.ensures.found) in
     let g = get_or gs i (bare []) in
     let read : g ≡ get_or gs i g = get_or_any gs i (bare []) g found.within in
-    let parts = split_head gs i g found.within read in
     record {
       before = take i gs;
-      group = g;
       after = drop (i + 1) gs;
-      lookup = known parts (found_key email_key (email_text m) 0 gs i g found read);
-      groups = parts;
-      index_is = length_prefix gs i (omega (arith, found.within));
+      found = Some g;
+      group = g;
+      group_is = refl;
+      lookup =
+          lookup_found email_key (email_text m) gs i c.requires.complete.groups.ascending g found read;
+      groups = split_head gs i g found.within read;
+      index_is = length-take-le i gs (omega (arith, found.within));
     }
 
 pub returns-in-Err-clause-ready : goal.returns-in-Err-clause-ready
@@ -43,17 +45,16 @@ returns-in-Err-clause-ready c =
     i) c.old_email-old_email.ensures
     (subst (λ (v : Contents). IsMissing email_key (folded c.old_email-old_email.result.now) 0 v.groups i) c.view.ensures
     c.in-Err.ensures.missing) in
-    let g = bare m.old_email in
     let spells = text.spells ∙ c.old_email-old_email.ensures in
     let made = ap (λ (v : Contents). v.groups) c.insert_email.ensures.held
-    ∙ (λ j. insert (text.held j).groups i (bare (spells j))) ∙ insert_parts gs i g missing.within in
+    ∙ (λ j. insert (text.held j).groups i (bare (spells j))) ∙ insert_parts gs i (bare m.old_email) missing.within in
     record {
       before = take i gs;
-      group = g;
       after = drop i gs;
-      lookup =
-          unknown (sym (take-append-drop i gs)) (missing_head email_key (email_text m) 0 gs i refl missing)
-          (missing_above email_key (email_text m) 0 gs i missing) (0, m) (earliest_itself m) refl;
+      found = None;
+      group = bare m.old_email;
+      group_is = refl;
+      lookup = lookup_missing email_key (email_text m) gs i missing;
       groups = made;
-      index_is = length_prefix gs i missing.within;
+      index_is = length-take-le i gs missing.within;
     }

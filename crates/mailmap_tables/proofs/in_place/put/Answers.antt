@@ -1,4 +1,4 @@
-use Rattle.std.proofs.Common.{◌≡◌, ◌≤◌, ◌∷◌, ◌∙◌, [], map, Some, refl, sym, ap, subst, arith}
+use Rattle.std.proofs.Common.{◌≡◌, ◌∷◌, ◌∙◌, [], map, Some, refl, sym, ap, subst, arith}
 use Rattle.mailmap_entries.specs.Entries.{Mapping, mapping_of}
 use Rattle.mailmap_entries.specs.Folding.{Text, text_cmp}
 use Rattle.std.specs.List.Sorted.{IsStrictlySortedBy}
@@ -8,9 +8,9 @@ use Rattle.mailmap_tables.specs.Merging.{EmailJoined}
 use Rattle.mailmap_batches.specs.Given.{given_or}
 use Rattle.mailmap_batches.specs.Given.{NameGroup, fields_given, named_group}
 use Rattle.mailmap_tables.specs.Reserved.{EmailChanged, NameAdded, Says, optional_bytes, own_growth}
-use Rattle.mailmap_tables.proofs.Bytes.{or_bytes}
-use Rattle.mailmap_tables.proofs.InPlace.{first_reserved, group_given, group_named, name_joined, put_done, put_fits}
-use Rattle.mailmap_tables.proofs.InPlace.{ready_ascends, ready_there, ready_within, existing_reserved}
+use Rattle.mailmap_tables.proofs.TextsOfRows.{or_bytes}
+use Rattle.mailmap_tables.proofs.InPlace.{existing_reserved, group_given, group_named, name_joined, put_done}
+use Rattle.mailmap_tables.proofs.InPlace.{put_fits, ready_ascends, ready_there}
 use Rattle.mailmap_tables.proofs.in_place.put.Goals as goal
 
 -- a name with the fields of an entry is what the entry says about this name
@@ -19,72 +19,12 @@ said : (m : Mapping) (old_name : Text) (n : NameGroup) → m.old_name ≡ Some o
 said m old_name n is old name email =
     record { old_name = is ∙ ap (λ t. Some t) (sym old); new_name = sym name; new_email = email }
 
-pub find_or_insert_email-email-requires-clause-bytes : goal.find_or_insert_email-email-requires-clause-bytes
-find_or_insert_email-email-requires-clause-bytes c =
-    let f = c.requires.reserved in
-    omega (arith, first_reserved f.1.bytes.0 (mapping_of c.args.entry.now) f.0 c.args.tables.now.bytes f.1.bytes.1.1)
-
-pub find_or_insert_email-email-requires-clause-emails : goal.find_or_insert_email-email-requires-clause-emails
-find_or_insert_email-email-requires-clause-emails c = omega (arith, c.requires.reserved.1.emails)
-
-pub put_fields-requires-clause-within : goal.put_fields-requires-clause-within
-put_fields-requires-clause-within c =
-    ready_within (mapping_of c.args.entry.now) _ _ _ c.find_or_insert_email-email.ensures.ready
-
-pub put_name-requires-clause-within : goal.put_name-requires-clause-within
-put_name-requires-clause-within c =
-    ready_within (mapping_of c.args.entry.now) _ _ _ c.find_or_insert_email-email.ensures.ready
-
-pub put_fields-requires-clause-bytes : goal.put_fields-requires-clause-bytes
-put_fields-requires-clause-bytes c =
-    let m = mapping_of c.args.entry.now in
-    let ready = c.find_or_insert_email-email.ensures.ready in
-    let f = c.requires.reserved in
-    let own = f.1.bytes.0 in
-    let gave = fields_given c.given.result in
-    let reserved = first_reserved own m f.0 c.args.tables.now.bytes f.1.bytes.1.1 in
-    let existing = existing_reserved c.args.tables.now.held.groups ready.before ready.after ready.group m own
-    ready.lookup f.1.bytes.1.0.0 in
-    let fits : own_growth ready.group gave ≤ c.find_or_insert_email-email.new.tables.bytes =
-    omega (
-      arith,
-      reserved,
-      existing.0,
-      existing.1,
-      ap (λ (g : Fields). optional_bytes g.name) c.given.ensures,
-      ap (λ (g : Fields). optional_bytes g.email) c.given.ensures,
-      c.find_or_insert_email-email.ensures.reserved.bytes,
-    ) in
-    λ d. subst (λ (g : EmailGroup). own_growth g gave ≤ c.find_or_insert_email-email.new.tables.bytes)
-    (sym (ready_there m _ _ _ ready d)) fits
-
 pub put_name-requires-clause-ascending : goal.put_name-requires-clause-ascending
 put_name-requires-clause-ascending c =
     let m = mapping_of c.args.entry.now in
     let ready = c.find_or_insert_email-email.ensures.ready in
     λ d. subst (λ (g : EmailGroup). IsStrictlySortedBy text_cmp (map name_key g.names))
-    (sym (ready_there m _ _ _ ready d)) (ready_ascends m _ _ _ ready c.requires.complete.groups)
-
-pub put_name-requires-clause-bytes : goal.put_name-requires-clause-bytes
-put_name-requires-clause-bytes c =
-    let m = mapping_of c.args.entry.now in
-    let f = c.requires.reserved in
-    let own = f.1.bytes.0 in
-    let says = said (mapping_of c.args.entry.now) _ _ (sym c.in-Some.ensures) c.named_fields.ensures.old_name
-    c.named_fields.ensures.new_name c.named_fields.ensures.new_email in
-    let reserved = first_reserved own m f.0 c.args.tables.now.bytes f.1.bytes.1.1 in
-    omega (
-      arith,
-      reserved,
-      ap optional_bytes says.old_name,
-      ap optional_bytes says.new_name,
-      ap optional_bytes says.new_email,
-      c.find_or_insert_email-email.ensures.reserved.bytes,
-    )
-
-pub put_name-requires-clause-names : goal.put_name-requires-clause-names
-put_name-requires-clause-names c =
-    omega (arith, c.requires.reserved.1.names, c.find_or_insert_email-email.ensures.reserved.names)
+    (sym (ready_there ready d)) (ready_ascends ready c.requires.complete.groups)
 
 pub returns-in-None : goal.returns-in-None
 returns-in-None c =
@@ -95,16 +35,16 @@ returns-in-None c =
     let mid = c.find_or_insert_email-email.new.tables.held in
     let new = c.put_fields.new.tables in
     let gave = fields_given c.given.result in
-    let there = ready_there m _ _ _ ready existing in
+    let there = ready_there ready existing in
     let given : EmailGroup → EmailGroup = λ g. record g { own = given_or gave g.own } in
     let changed : EmailChanged c.find_or_insert_email-email.result (given existing) mid new.held =
     subst (λ (g : EmailGroup). EmailChanged c.find_or_insert_email-email.result (given g) mid new.held) there
     (c.put_fields.ensures.changed existing) in
-    let up = ready_ascends m _ _ _ ready c.requires.complete.groups in
+    let up = ready_ascends ready c.requires.complete.groups in
     let with_own : Fields → EmailGroup = λ f. record existing { own = given_or f existing.own } in
     let joined = subst (λ (f : Fields). EmailJoined existing (m ∷ []) (with_own f))
     (sym c.given.ensures) (group_given existing m (sym c.in-None.ensures) c.requires.accepted up) in
-    let done = put_done m _ c.args.tables.now.held mid new.held ready _ c.requires.complete c.requires.accepted
+    let done = put_done ready _ c.requires.complete c.requires.accepted
     found.none_unassigned changed joined in
     let took = c.put_fields.ensures.reserved existing in
     let own_len = ap (λ (g : EmailGroup). own_growth g gave) there in
@@ -114,9 +54,8 @@ returns-in-None c =
       complete = done.0;
       normal = done.1;
       reserved = λ ms f.
-          let most = existing_reserved c.args.tables.now.held.groups ready.before ready.after existing m f.bytes.0
-          ready.lookup f.bytes.1.0.0 in
-          put_fits m ms _ c.args.tables.now new mid ready (given existing) changed refl
+          let most = existing_reserved ready f.bytes.0 f.bytes.1.0.0 in
+          put_fits ms ready (given existing) changed refl
           (omega (
             arith,
             or_bytes gave.name existing.own.name,
@@ -140,10 +79,10 @@ returns-in-Some c =
     let says = said (mapping_of c.args.entry.now) _ _ (sym c.in-Some.ensures) c.named_fields.ensures.old_name
     c.named_fields.ensures.new_name c.named_fields.ensures.new_email in
     let put = subst (λ (g : EmailGroup). NameAdded c.find_or_insert_email-email.result g n mid new.held)
-    (ready_there m _ _ _ ready existing) (c.put_name.ensures.put existing) in
-    let up = ready_ascends m _ _ _ ready c.requires.complete.groups in
-    let names = name_joined existing.names put.before put.after put.kept n m says up put.lookup in
-    let done = put_done m _ c.args.tables.now.held mid new.held ready _ c.requires.complete c.requires.accepted
+    (ready_there ready existing) (c.put_name.ensures.put existing) in
+    let up = ready_ascends ready c.requires.complete.groups in
+    let names = name_joined says up put.lookup in
+    let done = put_done ready _ c.requires.complete c.requires.accepted
     found.none_unassigned put.changed (group_named existing m _ names) in
     let took = c.put_name.ensures.reserved in
     let old_len = ap optional_bytes says.old_name in
@@ -153,7 +92,7 @@ returns-in-Some c =
       complete = done.0;
       normal = done.1;
       reserved = λ ms f.
-          put_fits m ms _ c.args.tables.now new mid ready _ put.changed refl (omega arith) f
+          put_fits ms ready _ put.changed refl (omega arith) f
           (omega (arith, found.reserved.bytes, took.bytes, old_len, name_len, email_len))
           (omega (arith, found.reserved.emails, took.emails)) (omega (arith, found.reserved.names, took.names));
     }

@@ -1,4 +1,4 @@
-use Rattle.std.proofs.Common.{◌≡◌, ◌<◌, ◌+◌, ◌++◌, ◌∷◌, ◌∙◌, [], suc, true, get_or, map, take, take_all, drop}
+use Rattle.std.proofs.Common.{◌≡◌, ◌<◌, ◌+◌, ◌++◌, ◌∷◌, ◌∙◌, [], suc, true, get_or, map, take, drop}
 use Rattle.std.proofs.Common.{drop-cons, length, append-nil, append_assoc, sym, ap, subst, arith}
 use Rattle.std.proofs.lemmas.List.{get_or-map, length-map, map-append, take_more}
 use Rattle.mailmap_entries.specs.Entries.{mapping_of}
@@ -7,7 +7,7 @@ use Rattle.mailmap_entries.proofs.Normal.{normal_then}
 use Rattle.mailmap_tables.specs.Groups.{listing}
 use Rattle.mailmap_tables.specs.Reserved.{Fits}
 use Rattle.mailmap_tables.proofs.Grouped.{groups_normal}
-use Rattle.mailmap_tables.proofs.Pooled.{all_at}
+use Rattle.mailmap_tables.proofs.Lists.{all_at}
 use Rattle.mailmap_tables.proofs.in_place.put_each.Goals as goal
 
 pub loop-entry-init : goal.loop-entry-init
@@ -66,9 +66,3 @@ loop-entry-preserved c =
       c.put.ensures.reserved (map mapping_of (drop (i + 1) xs))
           (subst (λ l. Fits c.loop-entry.tables (map mapping_of l)) parts c.loop-entry.invariant.2),
     )
-
-pub returns-clause-normal : goal.returns-clause-normal
-returns-clause-normal c =
-    let all = take_all c.loop-entry.entry-index c.args.entries.now c.loop-entry-test.false in
-    subst (λ l. IsNormal (listing c.args.tables.now.held.groups ++ map mapping_of l)
-    (listing c.loop-entry.tables.held.groups)) all c.loop-entry.invariant.1

@@ -1,34 +1,23 @@
 use Rattle.std.proofs.Common.{◌≡◌, ◌<◌, ◌≤◌, ◌∙◌, ℕ, [], List, Some, get_or, length, sym, ap, subst, arith}
+use Rattle.std.proofs.lemmas.Grind.{common_steps}
 use Rattle.std.specs.List.{slice_get}
 use Rattle.std.proofs.lemmas.Option.{get_or_from_slice_get}
 use Rattle.mailmap_tables.specs.Groups.{Contents, EmailGroup}
 use Rattle.mailmap_tables.specs.Merging.{bare}
 use Rattle.mailmap_batches.specs.Given.{given_or}
 use Rattle.mailmap_batches.specs.Given.{fields_given}
-use Rattle.mailmap_tables.specs.Pool.{TextsInPool, fields_of, group_of}
+use Rattle.mailmap_tables.specs.Pool.{fields_of, group_of}
 use Rattle.mailmap_tables.specs.Reserved.{own_growth, with_email_at}
 use Rattle.mailmap_tables.specs.declared.texts.RowTexts.{RowTexts}
 use Rattle.mailmap_tables.proofs.InPlace.{changed_from}
-use Rattle.mailmap_tables.proofs.RowEdits.{get_or_any}
+use Rattle.mailmap_tables.proofs.Lists.{get_or_any}
 use Rattle.mailmap_tables.proofs.in_place.put_fields.Goals as goal
 
 -- the email whose row was read
 row_read : (i : ℕ) (a v : Contents) (t : RowTexts) (ns : List RowTexts) → v ≡ a
     → slice_get v.groups i ≡ Some (group_of v.pool t ns) → i < length a.groups → (d : EmailGroup)
     → get_or a.groups i d ≡ group_of a.pool t ns
-row_read i a v t ns is read lt d =
-    let h = group_of v.pool t ns in
-    get_or_any a.groups i d h lt
-    ∙ ap (λ (w : Contents). get_or w.groups i h) (sym is)
-    ∙ get_or_from_slice_get v.groups i h h read
-    ∙ ap (λ (w : Contents). group_of w.pool t ns) is
-
-pub email-requires : goal.email-requires
-email-requires c = omega (arith, c.requires.within, ap (λ (v : Contents). length v.groups) c.view.ensures)
-
-pub email_row-own-requires-clause-in_pool : goal.email_row-own-requires-clause-in_pool
-email_row-own-requires-clause-in_pool c =
-    subst (λ (v : Contents). TextsInPool (length v.pool) c.email.result.0) c.view.ensures c.email.ensures.in_pool.email_lies
+row_read i a v t ns is read lt d = grind (arith, common_steps, get_or_any, get_or, get_or_from_slice_get)
 
 pub email_row-own-requires-clause-reserved : goal.email_row-own-requires-clause-reserved
 email_row-own-requires-clause-reserved c =
@@ -37,18 +26,8 @@ email_row-own-requires-clause-reserved c =
     (row_read c.args.email a c.view.result c.email.result.0 c.email.result.1.now c.view.ensures c.email.ensures.group
     c.requires.within (bare [])) (c.requires.bytes (bare []))
 
-pub replace_texts-requires-clause-email : goal.replace_texts-requires-clause-email
-replace_texts-requires-clause-email c =
-    omega (arith, c.requires.within, ap (λ (v : Contents). length v.groups) c.email_row-own.ensures.grown.1)
-
 pub replace_texts-requires-clause-same : goal.replace_texts-requires-clause-same
-replace_texts-requires-clause-same c =
-    let a = c.args.tables.now.held in
-    λ d.
-    c.email_row-own.ensures.spells.old_same
-    ∙ ap (λ (g : EmailGroup). g.old_email) (sym (row_read c.args.email a c.view.result c.email.result.0
-    c.email.result.1.now c.view.ensures c.email.ensures.group c.requires.within d))
-    ∙ ap (λ (v : Contents). (get_or v.groups c.args.email d).old_email) (sym c.email_row-own.ensures.grown.1)
+replace_texts-requires-clause-same c = grind (arith, common_steps, row_read, get_or)
 
 pub returns-clause-changed : goal.returns-clause-changed
 returns-clause-changed c =
@@ -71,15 +50,4 @@ returns-clause-changed c =
     (ap (λ (v : Contents). v.unassigned_names) grown.1) is
 
 pub returns-clause-reserved : goal.returns-clause-reserved
-returns-clause-reserved c =
-    let gave = fields_given c.args.given in
-    let one = c.email_row-own.ensures.reserved in
-    let last = c.replace_texts.ensures.reserved in
-    λ d.
-    let read = row_read c.args.email c.args.tables.now.held c.view.result c.email.result.0 c.email.result.1.now
-    c.view.ensures c.email.ensures.group c.requires.within d in
-    record {
-      bytes = omega (arith, ap (λ (g : EmailGroup). own_growth g gave) read, one.bytes, last.bytes);
-      emails = omega (arith, one.emails, last.emails);
-      names = omega (arith, one.names, last.names);
-    }
+returns-clause-reserved c = grind (arith, common_steps, row_read)

@@ -1,16 +1,14 @@
-use Rattle.std.proofs.Common.{◌≡◌, get_or, set, refl, sym, ap, take, drop, ◌+◌, ◌++◌, ◌∷◌, ◌∙◌, take-append-drop}
+use Rattle.std.proofs.Common.{◌≡◌, None, Some, get_or, set, sym, ap, take, drop, ◌+◌, ◌++◌, ◌∷◌, ◌∙◌}
 use Rattle.std.specs.List.{insert}
 use Rattle.std.proofs.lemmas.Option.{get_or_from_slice_get}
-use Rattle.mailmap_entries.specs.Folding.{folded}
 use Rattle.mailmap_tables.specs.Groups.{Contents, name_key}
 use Rattle.mailmap_batches.specs.Given.{NameGroup}
-use Rattle.mailmap_tables.specs.Merging.{known, unknown}
 use Rattle.mailmap_batches.specs.Given.{named_group}
 use Rattle.mailmap_tables.specs.Pool.{name_group, spelled}
 use Rattle.mailmap_tables.specs.Reserved.{with_email_at}
-use Rattle.mailmap_tables.specs.RowTexts.{old_span}
-use Rattle.mailmap_tables.proofs.InPlace.{changed_from, insert_parts, set_parts}
-use Rattle.mailmap_tables.proofs.Parting.{found_key, missing_above, missing_head, split_head}
+use Rattle.mailmap_tables.proofs.InPlace.{changed_from}
+use Rattle.mailmap_tables.proofs.Lists.{insert_parts, set_parts}
+use Rattle.mailmap_tables.proofs.KeySearch.{lookup_found, lookup_missing}
 use Rattle.mailmap_tables.proofs.in_place.put_name.Goals as goal
 
 pub returns-in-Ok-clause-put : goal.returns-in-Ok-clause-put
@@ -22,9 +20,8 @@ returns-in-Ok-clause-put c =
     let i = c.in-Ok.index in
     let n = named_group c.args.named in
     let grown = c.name_row-row.ensures.grown in
-    let kept = spelled old.pool (old_span c.in-Ok.existing) in
-    let one : NameGroup = record n { old_name = kept } in
     let k = name_group old.pool c.in-Ok.existing in
+    let one : NameGroup = record n { old_name = k.old_name } in
     λ d.
     let g = get_or old.groups email d in
     let found = c.in-Ok.ensures.found d in
@@ -39,14 +36,12 @@ returns-in-Ok-clause-put c =
     ∙ ap (λ ns. with_email_at mid email (record g { names = ns })) names in
     record {
       before = take i g.names;
-      kept = kept;
+      found = Some k;
       after = drop (i + 1) g.names;
       changed =
           changed_from email _ old mid new (ap (λ (v : Contents). v.groups) grown.1)
           (ap (λ (v : Contents). v.unassigned_names) grown.1) is;
-      lookup =
-          known k (split_head g.names i k found.within read) (found_key name_key (folded n.old_name) 0 g.names i k found
-          read) refl;
+      lookup = lookup_found name_key (name_key n) g.names i (c.requires.ascending d) k found read;
     }
 
 pub returns-in-Err-clause-put : goal.returns-in-Err-clause-put
@@ -76,10 +71,8 @@ returns-in-Err-clause-put c =
     ∙ ap (λ ns. with_email_at mid email (record g { names = ns })) (insert_parts g.names i n missing.within) in
     record {
       before = take i g.names;
-      kept = n.old_name;
+      found = None;
       after = drop i g.names;
       changed = changed_from email _ old mid new groups unassigned_names is;
-      lookup =
-          unknown (sym (take-append-drop i g.names)) (missing_head name_key (folded n.old_name) 0 g.names i refl
-          missing) (missing_above name_key (folded n.old_name) 0 g.names i missing) refl;
+      lookup = lookup_missing name_key (name_key n) g.names i missing;
     }

@@ -1,40 +1,18 @@
-use Rattle.std.proofs.Common.{◌≡◌, ◌+◌, ◌-◌, ◌∷◌, [], ◌++◌, map, take, drop, length, append-nil, sym, ap, subst, ◌∙◌}
+use Rattle.std.proofs.Common.{◌+◌, ◌-◌, ◌∷◌, [], ◌++◌, take, drop, length, append-nil, sym, ap, subst, ◌∙◌}
+use Rattle.std.proofs.lemmas.Grind.{common_steps}
 use Rattle.std.proofs.Common.{append_assoc, arith, refl}
 use Rattle.std.proofs.lemmas.List.{length-map, length-append}
 use Rattle.mailmap_entries.specs.Folding.{folded}
 use Rattle.mailmap_entries.specs.Prefixes.{IsKeyPrefix}
 use Rattle.mailmap_tables.specs.Groups.{Contents}
-use Rattle.mailmap_tables.specs.Pool.{TextsInPool, name_group, group_of, spelled}
+use Rattle.mailmap_tables.specs.Pool.{name_group, group_of, spelled}
 use Rattle.mailmap_tables.specs.RowTexts.{old_span}
-use Rattle.mailmap_tables.proofs.NameLookups.{names_lie_on, name_groups_on}
-use Rattle.mailmap_tables.proofs.Copying.{prefix_on, passed_group, left_after, texts_lie_on, names_of_all, names_ahead}
-use Rattle.mailmap_tables.proofs.Copying.{passed_more}
+use Rattle.mailmap_tables.proofs.Appended.{left_after, names_ahead, names_of_all, passed_group, passed_more, prefix_on}
+use Rattle.mailmap_tables.proofs.Pooled.{name_groups_on}
 use Rattle.mailmap_tables.proofs.join.copy_emails.Goals as goal
 
-pub push_names-requires : goal.push_names-requires
-push_names-requires c = names_lie_on _ _ c.requires.pool _ c.names_between.ensures.in_pool
-
 pub loop-index-init : goal.loop-index-init
-loop-index-init c =
-    let existing_tables = c.args.existing_tables.now in
-    let old = c.args.out.now in
-    let from = c.args.from in
-    let rows = c.names_between.result.now in
-    let none : from - from ≡ 0 = omega arith in
-    c.in_ok-push_names.ensures
-    ∙ (λ i. record {
-      pool = old.pool;
-      groups = sym (ap (λ k. old.groups ++ take k (drop from existing_tables.groups)) none ∙ append-nil old.groups) i;
-      unassigned_names = (ap (λ l. l ++ map (name_group old.pool) rows) c.requires.none_unassigned
-          ∙ sym (name_groups_on existing_tables.pool old.pool c.requires.pool rows c.names_between.ensures.in_pool)
-          ∙ c.names_between.ensures.names) i;
-    })
-
-pub push_email_with_prefix-requires-clause-in_pool : goal.push_email_with_prefix-requires-clause-in_pool
-push_email_with_prefix-requires-clause-in_pool c =
-    let row = c.email.result.0 in
-    subst (λ (v : Contents). TextsInPool (length v.pool) row) (sym c.loop-index.invariant)
-    (texts_lie_on c.args.existing_tables.now.pool c.args.out.now.pool c.requires.pool row c.email.ensures.in_pool.email_lies)
+loop-index-init c = grind (arith, common_steps, append-nil, name_groups_on)
 
 pub push_email_with_prefix-requires-clause-prefix : goal.push_email_with_prefix-requires-clause-prefix
 push_email_with_prefix-requires-clause-prefix c =
@@ -102,19 +80,4 @@ loop-index-preserved c =
           (append_assoc old.groups group (g ∷ []) ∙ ap (λ l. old.groups ++ l)
           (sym (passed_more existing_tables.groups c.args.from index g c.loop-index.auto.index c.email.ensures.group))) i;
       unassigned_names = more;
-    })
-
-pub returns : goal.returns
-returns c =
-    let existing_tables = c.args.existing_tables.now in
-    let old = c.args.out.now in
-    let index = c.loop-index.index in
-    let at : index ≡ c.args.to = omega (arith, c.loop-index-test.false, c.loop-index.auto.index-end c.requires.up) in
-    let none : c.args.to - index ≡ 0 = omega (arith, c.loop-index-test.false) in
-    c.loop-index.invariant
-    ∙ (λ i. record {
-      pool = old.pool;
-      groups = old.groups ++ take (at i - c.args.from) (drop c.args.from existing_tables.groups);
-      unassigned_names =
-          (ap (λ k. names_of_all (take k (drop index existing_tables.groups))) none ∙ sym c.requires.none_unassigned) i;
     })

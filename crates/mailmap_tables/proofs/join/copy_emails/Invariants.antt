@@ -1,5 +1,5 @@
 use Rattle.std.proofs.Common.{◌≡◌, ◌-◌, ◌++◌, take, drop}
-use Rattle.mailmap_tables.proofs.Copying.{names_of_all}
+use Rattle.mailmap_tables.proofs.Appended.{names_of_all}
 use Rattle.mailmap_tables.proofs.join.copy_emails.Given as goal
 
 -- the names of the remaining emails are copied already

@@ -1,4 +1,4 @@
-use Rattle.std.proofs.Common.{map, length}
+use Rattle.std.proofs.Common.{◌≤◌, map, length}
 use Rattle.std.specs.List.{AllByRecursion}
 use Rattle.mailmap_batches.specs.Given.{IsNamed}
 use Rattle.mailmap_batches.specs.Batches.{mapping_at}
@@ -12,6 +12,7 @@ invariant-loop-left l =
     (map (name_group l.out.pool) l.existing_names) (map mapping_at l.left) l.out
     × AllByRecursion (NameInPool (length l.out.pool)) l.existing_names
     × AllByRecursion (λ p. IsNamed (mapping_at p)) l.left
+    × (length l.left ≤ length l.fn.named)
 
 abbrev pub decreases-loop-left : goal.decreases-loop-left
 decreases-loop-left l = length l.left

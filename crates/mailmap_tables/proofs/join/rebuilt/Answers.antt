@@ -5,8 +5,7 @@ use Rattle.mailmap_tables.specs.Groups.{AreGroups, Contents, listing}
 use Rattle.mailmap_entries.specs.Semantics.{IsNormal, is_accepted}
 use Rattle.mailmap_entries.proofs.Unique.{normal_unique}
 use Rattle.mailmap_entries.proofs.Results.{if_ok_map}
-use Rattle.mailmap_tables.proofs.Complete.{no_groups}
-use Rattle.mailmap_tables.proofs.Grouped.{groups_accepted, groups_normal}
+use Rattle.mailmap_tables.proofs.Grouped.{groups_accepted, groups_normal, no_groups}
 use Rattle.mailmap_tables.proofs.join.rebuilt.Goals as goal
 
 pub joined-requires-clause-existing_tables : goal.joined-requires-clause-existing_tables

@@ -1,10 +1,9 @@
-use Rattle.std.proofs.Common.{◌≡◌, ◌<◌, ◌++◌, List, [], ◌∷◌, ℕ, zero, suc, get_or, map, take, drop, length, refl, ap}
-use Rattle.std.proofs.Common.{◌∙◌, arith}
+use Rattle.std.proofs.Common.{◌≡◌, ◌<◌, ◌++◌, List, [], ◌∷◌, ℕ, zero, suc, get_or, map, take, drop, length, refl}
+use Rattle.std.proofs.Common.{arith}
 use Rattle.std.proofs.lemmas.List.Edits.{map_over_more}
 use Rattle.mailmap_tables.specs.Reserved.{one_later}
 use Rattle.mailmap_tables.specs.declared.rows.EmailRow.{EmailRow}
-use Rattle.mailmap_tables.proofs.Pooled.{all_at}
-use Rattle.mailmap_tables.proofs.RowEdits.{get_or_any}
+use Rattle.mailmap_tables.proofs.Lists.{get_or_any}
 use Rattle.mailmap_tables.proofs.reserved.raise_ranges.Goals as goal
 
 abbrev none : EmailRow
@@ -21,16 +20,6 @@ still : (f : EmailRow → EmailRow) (xs : List EmailRow) (i : ℕ) (d : EmailRow
 still f [] i d lt = absurd (omega (arith, lt))
 still f (x ∷ xs) zero d lt = refl
 still f (x ∷ xs) (suc i) d lt = still f xs i d (omega (arith, lt))
-
-pub overflow_add-row : goal.overflow_add-row
-overflow_add-row c =
-    let xs = c.args.rows.now in
-    let i = c.loop-row.row-index in
-    let lt : i < length xs = omega arith in
-    let here : get_or c.loop-row.row-items i none ≡ get_or xs i none = ap (λ l. get_or l i none) c.loop-row.invariant
-    ∙ still one_later xs i none lt in
-    let small = all_at _ xs i none c.requires lt in
-    omega (arith, small.0, small.1, ap (λ (r : EmailRow). r.names_start) here, ap (λ (r : EmailRow). r.names_end) here)
 
 pub loop-row-preserved : goal.loop-row-preserved
 loop-row-preserved c =

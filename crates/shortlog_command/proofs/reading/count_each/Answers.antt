@@ -2,7 +2,6 @@ use Rattle.std.proofs.Common.{◌∙◌, ◌++◌, ◌∷◌, [], ap, append_ass
 use Rattle.std.proofs.lemmas.Iterator.Consumers.{YieldsList-from_first, YieldsList-end}
 use Rattle.std.proofs.lemmas.List.{map-append}
 use Rattle.mailmap_snapshot.specs.Contacts.{contact_lines}
-use Rattle.mailmap_snapshot.proofs.Contacts.{contact_lines-given}
 use Rattle.shortlog_command.specs.Counts.{AreSums}
 use Rattle.shortlog_command.proofs.reading.count_each.Goals as goal
 
@@ -15,7 +14,7 @@ loop-line-preserved c = λ texts are.
 pub returns : goal.returns
 returns c =
     let text = c.args.text.now in
-    let road = YieldsList-from_first (λ y. y.now) (λ s. s) (contact_lines text) (c.into_iter-line-iterator.ensures.into_iter_gives ∙ c.lines-line-items.ensures.value ∙ contact_lines-given text) in
+    let road = YieldsList-from_first (λ y. y.now) (λ s. s) (contact_lines text) (c.into_iter-line-iterator.ensures.into_iter_gives ∙ c.lines-line-items.ensures.value) in
     λ texts are. subst (λ ls. AreSums (texts ++ ls) c.loop-line.counter)
     (YieldsList-end road c.loop-line.yielded c.loop-line.line-iterator c.loop-line.yielded_by c.next.result c.next.new.self c.in-None.is c.next.ensures.steps).0
     (c.loop-line.invariant texts are)

@@ -2,7 +2,7 @@ use Rattle.std.proofs.Common.{◌≡◌, ◌++◌, ◌∷◌, ◌∙◌, [], ap,
 use Rattle.mailmap_findings.specs.Positions.{whole_lines}
 use Rattle.mailmap_findings.proofs.WholeLines.{lines-whole}
 use Rattle.verify_command.specs.Taking.{Takes}
-use Rattle.verify_command.proofs.Explaining.{next_is}
+use Rattle.command_line.proofs.Printed.{next_is}
 use Rattle.verify_command.proofs.TakingLines.{takes_more, takes_none}
 use Rattle.verify_command.proofs.contacts.add_lines.Goals as goal
 

@@ -17,5 +17,5 @@ returns-clause-leaves g c =
     let new = g.R.Read.remaining c.explain_input.new.input in
     let before = g.W.Write.contents c.args.output.now in
     let after = g.W.Write.contents c.explain_input.new.output in
-    leaves_weaker _ _ _ _ _ _ new before after c.explain_input.result (λ t. explains x paths mailmaps (λ answer. MapsAll answer old) t are)
-    (λ t. explains x paths mailmaps (λ answer. MapsWholeLines answer old new) t are) (λ lost. inr (prints_by x paths mailmaps (λ answer. MapsLines answer old new) before after are lost)) c.explain_input.ensures.leaves
+    leaves_weaker _ _ _ _ _ _ new before after c.explain_input.result (λ t. explains (λ answer. MapsAll answer old) t are)
+    (λ t. explains (λ answer. MapsWholeLines answer old new) t are) (λ lost. inr (prints_by (λ answer. MapsLines answer old new) before after are lost)) c.explain_input.ensures.leaves

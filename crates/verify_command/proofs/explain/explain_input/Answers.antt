@@ -7,7 +7,7 @@ use Rattle.verify_command.proofs.explain.explain_input.Goals as goal
 
 pub loop-init : goal.loop-init
 loop-init g c = (
-  begun (explained_line c.args.explainer.now) (g.R.Read.remaining c.args.input.now) c.new-held.result.items (g.W.Write.contents c.args.output.now) c.new-held.ensures.items,
+  begun c.new-held.ensures.items,
   c.in_ok-printer.ensures,
   refl,
 )
@@ -21,8 +21,7 @@ loop-preserved g c =
     let h = c.loop.invariant.0 in
     let written = subst (λ b. Appends between after (each_line answer b)) c.as_slice.ensures.value
     (subst (λ (x : Grounds). Appends between after (each_line (explained_line x) c.as_slice.result.now)) c.loop.invariant.2 c.in_ok-print_lines.ensures.ok) in (
-      one_more answer old (g.R.Read.remaining c.loop.input) (g.R.Read.remaining c.read_lines.new.input) c.loop.held.items c.read_lines.new.text.items c.read_lines.new.held.items c.in_ok-more.more
-          (g.W.Write.contents c.args.output.now) between after (search rules) h (c.in_ok-more.ensures.reads old h.lines h.read) written,
+      one_more (search rules) h (c.in_ok-more.ensures.reads old h.lines h.read) written,
       c.in_ok-print_lines.ensures.empty,
       c.print_lines.ensures.same ∙ c.loop.invariant.2,
     )
@@ -38,8 +37,7 @@ returns-then-not-more-clause-leaves g c =
     let written = subst (λ b. Appends between after (each_line answer b)) c.as_slice.ensures.value
     (subst (λ (x : Grounds). Appends between after (each_line (explained_line x) c.as_slice.result.now)) c.loop.invariant.2 c.in_ok-print_lines.ensures.ok) in
     record {
-      prints = ended answer old (g.R.Read.remaining c.loop.input) (g.R.Read.remaining c.read_lines.new.input) c.loop.held.items c.read_lines.new.text.items c.read_lines.new.held.items c.in_ok-more.more
-          (g.W.Write.contents c.args.output.now) between after (search rules) h r written;
+      prints = ended after (search rules) h r written;
       reads_all = (r.end (search rules)).0;
       breaks_off = λ is. cc;
       input_fails = tt;
@@ -48,15 +46,11 @@ returns-then-not-more-clause-leaves g c =
 
 pub returns-in_err-more-clause-leaves : goal.returns-in_err-more-clause-leaves
 returns-in_err-more-clause-leaves g c =
-    let answer = explained_line c.args.explainer.now in
     let old = g.R.Read.remaining c.args.input.now in
-    let now = g.R.Read.remaining c.read_lines.new.input in
-    let before = g.W.Write.contents c.args.output.now in
-    let after = g.W.Write.contents c.loop.output in
     let h = c.loop.invariant.0 in
     let e = c.in_err-more.field-0.0 in
     let failed : c.from_residual-in_err-more.result ≡ Err e = search rules in
-    rw failed (failed_reading answer old (g.R.Read.remaining c.loop.input) now c.loop.held.items c.read_lines.new.text.items c.read_lines.new.held.items before after e h (c.in_err-more.ensures.reads old h.lines h.read))
+    rw failed (failed_reading c.read_lines.new.text.items c.read_lines.new.held.items e h (c.in_err-more.ensures.reads old h.lines h.read))
 
 pub returns-in_err-print_lines-clause-leaves : goal.returns-in_err-print_lines-clause-leaves
 returns-in_err-print_lines-clause-leaves g c =
@@ -69,8 +63,7 @@ returns-in_err-print_lines-clause-leaves g c =
     let failed : c.from_residual-in_err-print_lines.result ≡ Err e = search rules in
     let text : c.as_slice.result.now ≡ c.read_lines.new.text.items = c.as_slice.ensures.value in
     let same = c.loop.invariant.2 in
-    rw failed (failed_printing answer old (g.R.Read.remaining c.loop.input) (g.R.Read.remaining c.read_lines.new.input) c.loop.held.items c.read_lines.new.text.items c.read_lines.new.held.items c.in_ok-more.more
-    (g.W.Write.contents c.args.output.now) between after e h (c.in_ok-more.ensures.reads old h.lines h.read) c.in_err-print_lines.ensures.only
+    rw failed (failed_printing h (c.in_ok-more.ensures.reads old h.lines h.read) c.in_err-print_lines.ensures.only
     (λ is. subst (λ b. Prints (SomeAnswered answer b) between after) text
     (subst (λ (x : Grounds). Prints (SomeAnswered (explained_line x) c.as_slice.result.now) between after) same (c.in_err-print_lines.ensures.memory_fails is)))
     (λ is. let broken = c.in_err-print_lines.ensures.breaks_off is in (

@@ -23,17 +23,13 @@ to_answer at input choices mode contacts paths mailmaps outcome text is are repo
 
 pub returns-in_err-explain-clause-leaves : goal.returns-in_err-explain-clause-leaves
 returns-in_err-explain-clause-leaves g c =
-    let items : Vec ℕ Global → List ℕ = λ path. path.items in
     let failed : c.from_residual.result ≡ Err (Run c.in_err-explain.field-0.0) = search rules in
-    rw failed (left_explained (g.F.FileSystem.at c.args.system.now) (g.R.Read.remaining c.args.input.now) (g.R.Read.remaining c.explain.new.input) (choices_of c.args.task.settings.now) c.args.task.mode
-    c.args.task.contacts.now (map items c.args.task.paths.now) g.W.Write.contents c.args.output.now c.explain.new.output c.in_err-explain.field-0.0 (search rules) c.in_err-explain.ensures.leaves
+    rw failed (left_explained (search rules) c.in_err-explain.ensures.leaves
     c.in_err-explain.ensures.silent_at_files)
 
 pub returns-then-eq-clause-leaves : goal.returns-then-eq-clause-leaves
 returns-then-eq-clause-leaves g c =
-    let items : Vec ℕ Global → List ℕ = λ path. path.items in
-    all_explained (g.F.FileSystem.at c.args.system.now) (g.R.Read.remaining c.args.input.now) (g.R.Read.remaining c.explain.new.input) (choices_of c.args.task.settings.now) c.args.task.mode
-    c.args.task.contacts.now (map items c.args.task.paths.now) g.W.Write.contents c.args.output.now c.explain.new.output _ (search rules) c.in_ok-explain.ensures.leaves
+    all_explained (search rules) c.in_ok-explain.ensures.leaves
 
 pub returns-then-eq-2-clause-leaves : goal.returns-then-eq-2-clause-leaves
 returns-then-eq-2-clause-leaves g c =
@@ -63,8 +59,7 @@ returns-in_err-outcome-clause-leaves g c =
     let is : c.args.task.mode ≡ Verify = search rules in
     let answer = to_answer at input (choices_of c.args.task.settings.now) c.args.task.mode c.args.task.contacts.now paths (map items c.as_slice.result.now) in
     let failed : c.from_residual-in_err-outcome.result ≡ Err (Run c.in_err-outcome.field-0.0) = search rules in
-    rw failed (left_front at input (g.R.Read.remaining c.read_mailmaps.new.input) (choices_of c.args.task.settings.now) c.args.task.mode c.args.task.contacts.now paths g.W.Write.contents c.args.output.now c.print_report.new.output
-    c.in_err-outcome.field-0.0 (inl is) (subst (λ m. m ≢ Explain) (sym is) (λ e. cc)) c.in_err-outcome.ensures.only
+    rw failed (left_front (inl is) (subst (λ m. m ≢ Explain) (sym is) (λ e. cc)) c.in_err-outcome.ensures.only
     (λ broke. let h = c.in_err-outcome.ensures.breaks_off broke in (h.0, (h.1.0, answer h.0 h.1.0 is are h.1.1, h.1.2)))
     (λ lost. ⊎_elim inl (λ h. inr (h.0, (h.1.0, answer h.0 h.1.0 is are h.1.1, h.1.2))) (c.in_err-outcome.ensures.memory lost)))
 
@@ -77,16 +72,12 @@ returns-then-eq-3-clause-leaves g c =
 
 pub returns-in_err-suggest_lines-clause-leaves : goal.returns-in_err-suggest_lines-clause-leaves
 returns-in_err-suggest_lines-clause-leaves g c =
-    let items : Vec ℕ Global → List ℕ = λ path. path.items in
     let failed : c.from_residual-in_err-suggest_lines.result ≡ Err c.in_err-suggest_lines.field-0.0 = search rules in
-    rw failed (left_suggested (g.F.FileSystem.at c.args.system.now) (g.R.Read.remaining c.args.input.now) (g.R.Read.remaining c.suggest_lines.new.input) (choices_of c.args.task.settings.now) c.args.task.mode
-    c.args.task.contacts.now (map items c.args.task.paths.now) g.W.Write.contents c.args.output.now c.suggest_lines.new.output c.in_err-suggest_lines.field-0.0 (search rules) c.in_err-suggest_lines.ensures.leaves)
+    rw failed (left_suggested (search rules) c.in_err-suggest_lines.ensures.leaves)
 
 pub returns-then-eq-4-clause-leaves : goal.returns-then-eq-4-clause-leaves
 returns-then-eq-4-clause-leaves g c =
-    let items : Vec ℕ Global → List ℕ = λ path. path.items in
-    all_suggested (g.F.FileSystem.at c.args.system.now) (g.R.Read.remaining c.args.input.now) (g.R.Read.remaining c.suggest_lines.new.input) (choices_of c.args.task.settings.now) c.args.task.mode
-    c.args.task.contacts.now (map items c.args.task.paths.now) g.W.Write.contents c.args.output.now c.suggest_lines.new.output _ (search rules) c.in_ok-suggest_lines.ensures.leaves
+    all_suggested (search rules) c.in_ok-suggest_lines.ensures.leaves
 
 pub returns-in_err-suggest_lines-clause-fails : goal.returns-in_err-suggest_lines-clause-fails
 returns-in_err-suggest_lines-clause-fails g c =

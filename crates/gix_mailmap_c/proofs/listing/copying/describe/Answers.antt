@@ -2,7 +2,7 @@ use Rattle.std.proofs.Common.{◌≡◌, ◌+◌, ◌<◌, [], ◌∷◌, ◌++�
 use Rattle.mailmap_entries.specs.Entries.{Mapping, mapping_of}
 use Rattle.gix_mailmap_c.specs.Listed.{all_texts, entry_texts, all_listed}
 use Rattle.gix_mailmap_c.specs.declared.listing.Listed.{Listed}
-use Rattle.gix_mailmap_c.proofs.Copying.{Copied, copied_more, copied_all, after_set, listed_room, length-all_listed}
+use Rattle.gix_mailmap_c.proofs.Copying.{Copied, copied_all, copied_next, listed_room, length-all_listed}
 use Rattle.gix_mailmap_c.proofs.listing.copying.describe.Goals as goal
 
 pub bounds-listed-index : goal.bounds-listed-index
@@ -15,21 +15,16 @@ pub loop-entry-preserved : goal.loop-entry-preserved
 loop-entry-preserved c =
     let m = mapping_of c.in-Some.entry in
     let start = c.loop-entry.start in
-    let index = c.loop-entry.index in
-    let listed = c.loop-entry.listed in
     let one = c.of-one.result in
-    let next = start + c.texts_len-start.result in
     let rest = c.next.new.self in
-    let all = all_listed 0 c.args.snapshot.now in
-    let cut : all_listed start c.loop-entry.entry-iterator ≡ one ∷ all_listed next rest =
+    let cut : all_listed start c.loop-entry.entry-iterator ≡ one ∷ all_listed (start + c.texts_len-start.result) rest =
     ap (all_listed start) c.in-Some.ensures.steps
     ∙ ap (λ (x : Listed). x ∷ all_listed (start + length (entry_texts m)) rest) (sym c.of-one.ensures)
     ∙ ap (λ (k : ℕ). one ∷ all_listed (start + k) rest) (sym c.texts_len-start.ensures) in
-    let before : Copied (one ∷ all_listed next rest) all index listed c.args.listed.now = subst (λ (l : List Listed). Copied l all index listed c.args.listed.now) cut c.loop-entry.invariant.listed in
-    let here = listed_room start index (length c.args.listed.now) c.loop-entry.entry-iterator rest c.args.snapshot.now m c.in-Some.ensures.steps c.loop-entry.invariant.listed.until c.requires.room in
-    let lt : index < length listed = omega (arith, here) in
+    let here = listed_room start c.loop-entry.index (length c.args.listed.now) c.loop-entry.entry-iterator rest c.args.snapshot.now m c.in-Some.ensures.steps c.loop-entry.invariant.listed.until c.requires.room in
+    let lt : c.loop-entry.index < length c.loop-entry.listed = omega (arith, here) in
     record {
-      listed = copied_more (one ∷ []) (all_listed next rest) all index (index + 1) listed _ c.args.listed.now before (after_set listed index one lt);
+      listed = copied_next cut lt c.loop-entry.invariant.listed;
       start = omega (arith, c.loop-entry.invariant.start, ap (λ (ms : List Mapping). length (all_texts ms)) c.in-Some.ensures.steps, length-append (entry_texts m) (all_texts rest), c.texts_len-start.ensures);
     }
 

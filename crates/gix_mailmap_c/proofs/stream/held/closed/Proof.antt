@@ -1,16 +1,4 @@
-use Rattle.gix_mailmap_c.proofs.Steps.{List, [], ◌∷◌, refl, lit<, Val, vint, id⊢, fsplit, fjoin, move, says, RawPtr, bool, proved, ftrue, ‵, raw, ◌⊛◌, ◌$◌, ◌∵◌, !, qed, done, keep, drop, use1, join, split, feq_i, suffices, enter, lit, no_more, and_then, returns, alloc_all, pass_all, free_all, look_at, get, sets, yes, plain, nothing, Stays, walk_of, stay_dropped, Goes-dropped, ends_at}
-use types.Part.{agg}
-use types.Run.{false_lit}
-use mathlib.Core.Bool.{false}
-use base.Logic.{emp}
-use base.Fml.{fsep}
-use mir.Val.{vbool, vstruct, vcons, vnil}
-use mir.Syntax.{w64}
-use types.Kit.{fpack}
-use denote.RattleType.{Valss}
-use denote.RawPtr.{null_ptr}
-use denote.Struct.Struct.{within}
-use denote.Struct.Owning.{shape}
+use Rattle.gix_mailmap_c.proofs.Steps.{List, [], ◌∷◌, refl, lit<, Val, vint, id⊢, fsplit, fjoin, move, says, RawPtr, bool, proved, ftrue, ‵, raw, ◌⊛◌, ◌$◌, ◌∵◌, !, qed, done, keep, drop, use1, join, split, feq_i, suffices, enter, lit, no_more, and_then, returns, alloc_all, pass_all, free_all, look_at, get, sets, yes, plain, nothing, Stays, walk_of, stay_dropped, Goes-dropped, ends_at, agg, false_lit, false, emp, fsep, vbool, vstruct, vcons, vnil, w64, fpack, Valss, null_ptr, within, shape}
 use Rattle.gix_mailmap_c.specs.contracts.stream.held.Stream as Stream
 use Rattle.gix_mailmap_c.specs.Streamed.{nothing_pending}
 use Rattle.gix_mailmap_c.specs.contracts.stream.held.closed as f

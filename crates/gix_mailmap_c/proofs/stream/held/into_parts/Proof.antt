@@ -1,39 +1,7 @@
 -- `into_parts` moves two fields, and with them the ownership of what they point to.
-use mathlib.Core.Path.{◌≡◌, refl, sym, subst, ap, ◌∙◌}
-use mathlib.Core.List.{List, [], ◌∷◌, ◌++◌}
-use mathlib.Core.Bool.{true}
-use seplogic.Ra.Ura.{Ura}
-use mir.Val.{Val, vptr, vbool, vstruct, vcons, vnil, of_list}
-use mir.Raw.{raw as bare}
+use Rattle.gix_mailmap_c.proofs.Steps.{subst, ◌++◌, true, Ura, Val, vptr, vbool, vstruct, vcons, vnil, of_list, bare, box_owns, SProp, ent, id⊢, fst∗, never, ftrue, fsep, Memory, Routine, WpFn, Tables, Logic, sem, Fun, fact, tables, tables_of, WpFn-mono, Item, ‵, raw, ◌⊛◌, ◌$◌, ◌∵◌, !, qed, by, move, keep, drop, use1, join, split, fsplit, fjoin, feq_l, fpick, rewrite, suffices, done, whole, sub, agg, stop, fld, no_more, and_then, of_opd, returns, enter, alloc_all, pass_all, free_all, look_at, get, get_in, sets, yes, Slot, plain, type_at, Ptr, null_ptr, ptr_val, in_a_block, nothing, heard, triple_of, entered, says, Stays, stay_dropped, walk_of, ends_at, Goes-dropped, walk_Meets, and_tt, D, τ, word, box_typed, box_in, α, handle_tells, has_ty, ghosts, ◌≡◌, refl, sym, ap, ◌∙◌, List, [], ◌∷◌}
 use Rattle.gix_mailmap_c.specs.StreamOwnership.{owns_stream}
-use Rattle.std_alloc.specs.Box.Ownership.{box_owns}
-use base.Logic.{SProp, ent, id⊢, fst∗, never}
-use base.Fml.{ftrue, fsep}
-use prog.Memory.{Memory}
-use prog.Routine.{Routine}
-use prog.Wp.{WpFn, Tables}
-use types.Logic.{Logic, sem}
-use contract.Monad.{Fun, fact}
-use contract.Running.{tables, tables_of}
-use sound.WpLaws.{WpFn-mono}
-use types.Kit.{Item, ‵, raw, ◌⊛◌, ◌$◌, ◌∵◌, !, qed, by, move, keep, drop, use1, join, split, fsplit, fjoin, feq_l, fpick, rewrite, suffices, done}
-use types.Part.{whole, sub, agg}
-use types.Run.{stop, fld, no_more, and_then, of_opd, returns, enter}
-use types.ByLocal.{alloc_all, pass_all, free_all, look_at, get, get_in, sets}
-use denote.Exit.{yes}
-use denote.Signature.{Slot, plain, type_at}
-use denote.RawPtr.{Ptr, null_ptr, ptr_val, in_a_block}
-use denote.Steps.{nothing, heard}
-use denote.Triple.Spec.{triple_of}
-use denote.Triple.Table.{entered}
-use denote.Triple.Walked.{says, Stays, stay_dropped, walk_of, ends_at, Goes-dropped, walk_Meets}
-use Rattle.std_alloc.proofs.ResultValues.{and_tt}
-use Rattle.std_alloc.proofs.BoxSteps.Form.{D, τ, word, box_typed}
-use Rattle.std_alloc.proofs.BoxSteps.Steps.{box_in}
-use Rattle.core.proofs.alloc.Calls.{α, handle_tells}
-use mir.Val.{has_ty}
 use Rattle.gix_mailmap_c.proofs.AsStreamBox.{E}
-use Rattle.std_heap.specs.contracts.GlobalAllocator.TheImpl.{ghosts}
 use Rattle.gix_mailmap_c.specs.contracts.stream.contacts.ContactQueue as ContactQueue
 use Rattle.gix_mailmap_c.specs.contracts.stream.held.Stream as Stream
 use Rattle.gix_mailmap_c.specs.contracts.stream.held.into_parts as F

@@ -1,41 +1,7 @@
 -- `opened` moves two fields, and with them the ownership of what they point to.
-use mathlib.Core.Path.{refl, sym, subst}
-use mathlib.Core.List.{List, [], ◌∷◌, ◌++◌}
-use mathlib.Core.Bool.{true}
-use seplogic.Ra.Ura.{Ura}
-use mir.Val.{Val, vptr, vbool, vstruct, vcons, vnil}
-use base.Logic.{SProp, ent, emp, id⊢}
-use base.Fml.{ftrue, fsep}
-use prog.Memory.{Memory}
-use prog.Routine.{Routine}
-use prog.Wp.{WpFn, Tables}
-use types.Logic.{Logic}
-use contract.Monad.{Fun}
-use contract.Running.{tables, tables_of}
-use sound.WpLaws.{WpFn-mono}
-use types.Kit.{Item, ‵, raw, ◌⊛◌, ◌$◌, ◌∵◌, !, qed, by, move, keep, drop, use1, join, split, fsplit, fjoin, feq_i, fpack, suffices, done}
-use types.Part.{whole, sub, agg}
-use types.Run.{stop, fld, no_more, and_then, of_opd, true_lit, returns, enter}
-use types.ByLocal.{alloc_all, pass_all, free_all, look_at, get, get_in, sets}
-use denote.Exit.{yes}
-use denote.Signature.{Slot, plain, type_at}
-use denote.Builtin.{bool, RawPtr}
-use denote.RattleType.{Valss}
-use denote.RawPtr.{block_ptr}
-use denote.Struct.Struct.{within}
-use denote.Struct.Owning.{shape}
-use denote.Steps.{nothing}
-use denote.Triple.Spec.{triple_of}
-use denote.Triple.Table.{entered}
-use denote.Triple.Walked.{says, Stays, stay_dropped, walk_of, ends_at, Goes-dropped, walk_Meets}
-use Rattle.std_alloc.proofs.ResultValues.{and_tt}
-use Rattle.std_alloc.proofs.BoxSteps.Form.{D, B, word, box_typed}
-use Rattle.std_alloc.proofs.BoxSteps.Steps.{box_out}
-use Rattle.core.proofs.alloc.Calls.{α}
-use mir.Val.{has_ty}
+use Rattle.gix_mailmap_c.proofs.Steps.{subst, ◌++◌, true, Ura, Val, vptr, vbool, vstruct, vcons, vnil, SProp, ent, emp, id⊢, ftrue, fsep, Memory, Routine, WpFn, Tables, Logic, Fun, tables, tables_of, WpFn-mono, Item, ‵, raw, ◌⊛◌, ◌$◌, ◌∵◌, !, qed, by, move, keep, drop, use1, join, split, fsplit, fjoin, feq_i, fpack, suffices, done, whole, sub, agg, stop, fld, no_more, and_then, of_opd, true_lit, returns, enter, alloc_all, pass_all, free_all, look_at, get, get_in, sets, yes, Slot, plain, type_at, bool, Valss, block_ptr, within, shape, nothing, triple_of, entered, says, Stays, stay_dropped, walk_of, ends_at, Goes-dropped, walk_Meets, and_tt, D, B, word, box_typed, box_out, α, has_ty, ghosts, refl, sym, List, [], ◌∷◌, RawPtr}
 use Rattle.gix_mailmap_c.proofs.AsStreamBox.{E}
 use Rattle.std_heap.specs.contracts.Global as Heap
-use Rattle.std_heap.specs.contracts.GlobalAllocator.TheImpl.{ghosts}
 use Rattle.gix_mailmap_c.specs.contracts.stream.contacts.ContactQueue as ContactQueue
 use Rattle.gix_mailmap_c.specs.contracts.held.parts.Parts as Parts
 use Rattle.gix_mailmap_c.specs.contracts.stream.held.Stream as Stream

@@ -2,8 +2,7 @@ use Rattle.std.proofs.Common.{◌∙◌, ◌++◌, ◌∷◌, [], List, ap, map}
 use Rattle.std.proofs.lemmas.Result.{on_ok_weaker}
 use Rattle.mailmap_contacts.specs.Contacts.{Contact, Tally, seen_where}
 use Rattle.mailmap_contacts.specs.Counts.{key_contact, key_tally}
-use Rattle.mailmap_contacts.proofs.Entries.{tallies_more}
-use Rattle.mailmap_contacts.proofs.Keys.{key_alike, key_cmp, key_total}
+use Rattle.mailmap_contacts.proofs.Entries.{tallies_more, key_alike, key_cmp, key_total}
 use Rattle.mailmap_contacts.proofs.counter.Contacts.add_contact.Goals as goal
 
 pub returns-clause-tallies : goal.returns-clause-tallies

@@ -1,4 +1,4 @@
-use Rattle.std.proofs.Common.{◌≡◌, ◌∙◌, ◌++◌, ap, sym}
+use Rattle.std.proofs.Common.{◌≡◌, ◌∙◌, ap, rules}
 use Rattle.std.proofs.lemmas.Result.{on_ok_weaker}
 use Rattle.mailmap_grammar.specs.Lines.{contact_in}
 use Rattle.mailmap_contacts.specs.Contacts.{contact_on, line_tally, tally_on}
@@ -29,6 +29,4 @@ returns-in_ok-line-in-Closed-2-clause-tallies c =
     c.add_slot.ensures.tallies
 
 pub returns-in_ok-push-in-Unclosed-clause-lines_without_contact : goal.returns-in_ok-push-in-Unclosed-clause-lines_without_contact
-returns-in_ok-push-in-Unclosed-clause-lines_without_contact c =
-    c.in_ok-push-in-Unclosed.ensures.items
-    ∙ (λ i. (c.self-in-Unclosed.view_is i).lines_without_contact ++ sym (unclosed_line c.args.number c.args.line.now (sym c.in-Unclosed.ensures)) i)
+returns-in_ok-push-in-Unclosed-clause-lines_without_contact c = search (rules, unclosed_line)

@@ -10,7 +10,7 @@ use Rattle.mailmap_findings.specs.Needs.{any_needs, needs}
 use Rattle.mailmap_findings.proofs.ContactNeeds.{unneeded_none}
 use Rattle.mailmap_contacts.specs.Contacts.{seen_where}
 use Rattle.mailmap_contacts.specs.declared.occurrences.Occurrences.{Occurrences}
-use Rattle.mailmap_contacts.proofs.Iterating.{item_tally, items_are}
+use Rattle.mailmap_contacts.proofs.Entries.{item_tally, items_are}
 use Rattle.mailmap_contacts.proofs.Needing.{any_on_lines, crossed_off, needing}
 use Rattle.mailmap_contacts.proofs.counter.Contacts.add_to_needs.Goals as goal
 

@@ -3,7 +3,7 @@ use Rattle.std.proofs.Common.{◌≡◌, filter, map, not}
 use Rattle.std.specs.Prelude.{is_some}
 use Rattle.mailmap_contacts.specs.Contacts.{seen_where}
 use Rattle.mailmap_contacts.proofs.Needing.{needing}
-use Rattle.mailmap_contacts.proofs.Iterating.{item_tally}
+use Rattle.mailmap_contacts.proofs.Entries.{item_tally}
 use Rattle.mailmap_contacts.proofs.counter.Contacts.add_to_needs.Given as goal
 
 abbrev pub invariant-loop-key : goal.invariant-loop-key

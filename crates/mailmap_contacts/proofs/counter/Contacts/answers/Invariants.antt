@@ -4,7 +4,7 @@ use Rattle.mailmap_redundancy.specs.Redundancy.{entries}
 use Rattle.mailmap_contacts.specs.Answers.{answer_key_tally}
 use Rattle.mailmap_contacts.specs.Contacts.{answered}
 use Rattle.mailmap_contacts.specs.Counts.{SameTallies}
-use Rattle.mailmap_contacts.proofs.Iterating.{item_tally}
+use Rattle.mailmap_contacts.proofs.Entries.{item_tally}
 use Rattle.mailmap_contacts.proofs.counter.Contacts.answers.Given as goal
 
 abbrev pub invariant-loop-key : goal.invariant-loop-key

@@ -1,34 +1,21 @@
-use Rattle.std.proofs.Common.{rules, ◌≡◌, ◌∙◌, ℕ, ◌++◌, ◌∷◌, [], List, ap, map, refl, sym}
+use Rattle.std.proofs.Common.{rules, ◌≡◌, ◌∙◌, ℕ, ◌∷◌, [], ap, map}
 use Rattle.std.specs.Borrow.{Bor}
 use Rattle.std.specs.Global.{Vec}
 use Rattle.std.specs.Map.Iter.{deref_pair}
 use Rattle.std.proofs.lemmas.List.{map-append}
 use Rattle.std.proofs.lemmas.Map.Iter.{iter_end}
-use Rattle.mailmap_contacts.specs.Answers.{answer_key, answer_key_tally}
-use Rattle.mailmap_contacts.specs.Contacts.{Contact, Tally, contacts_from, seen_where}
-use Rattle.mailmap_contacts.specs.Counts.{key_contact}
-use Rattle.mailmap_contacts.proofs.Entries.{tallies_more}
+use Rattle.mailmap_contacts.specs.Contacts.{contacts_from, seen_where}
+use Rattle.mailmap_contacts.proofs.Entries.{answers_more, item_tally, items_are}
 use Rattle.mailmap_contacts.specs.declared.occurrences.Occurrences.{Occurrences}
-use Rattle.mailmap_contacts.proofs.Iterating.{item_tally, items_are}
-use Rattle.mailmap_contacts.proofs.Keys.{answer_alike, answer_cmp, answer_total}
-use Rattle.mailmap_contacts.proofs.Sums.{same_more}
 use Rattle.mailmap_contacts.proofs.counter.Contacts.distinct.Goals as goal
 
 pub loop-key-preserved : goal.loop-key-preserved
 loop-key-preserved c =
-    let done = c.loop-key.yielded in
     let item : Bor (ℕ × Vec ℕ) × Bor Occurrences = (c.in-Some.key, c.in-Some.seen) in
-    let seen = c.in-Some.seen.now in
-    let one : Contact → List Tally = λ contact. record { contact = contact; seen = seen } ∷ [] in
-    let is : answer_key c.parts_of.result ≡ key_contact c.in-Some.key.now =
-    λ i. record { name = c.parts_of.ensures.name i; email = c.parts_of.ensures.email i } in
-    let old = map answer_key_tally c.loop-key.tallies.entries in
-    λ test.
-    tallies_more answer_cmp answer_total answer_key answer_alike c.loop-key.tallies.entries c.add_to.new.tallies.entries c.parts_of.result seen
-    c.in_ok-add_to.ensures.ok test
-    ∙ ap (λ contact. seen_where test (old ++ one contact)) is
-    ∙ same_more old (map item_tally done) (one (key_contact c.in-Some.key.now)) (one (key_contact c.in-Some.key.now)) c.loop-key.invariant (λ other. refl) test
-    ∙ ap (seen_where test) (sym (map-append item_tally done (item ∷ [])))
+    answers_more c.loop-key.tallies.entries c.add_to.new.tallies.entries c.parts_of.result c.in-Some.seen.now (map item_tally c.loop-key.yielded) _ (item_tally item)
+    c.in_ok-add_to.ensures.ok c.loop-key.invariant
+    (λ i. record { contact = record { name = c.parts_of.ensures.name i; email = c.parts_of.ensures.email i }; seen = c.in-Some.seen.now })
+    (map-append item_tally c.loop-key.yielded (item ∷ []))
 
 pub returns : goal.returns
 returns c = λ lines are.

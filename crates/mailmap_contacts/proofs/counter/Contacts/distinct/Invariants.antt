@@ -2,7 +2,7 @@
 use Rattle.std.proofs.Common.{map}
 use Rattle.mailmap_contacts.specs.Answers.{answer_key_tally}
 use Rattle.mailmap_contacts.specs.Counts.{SameTallies}
-use Rattle.mailmap_contacts.proofs.Iterating.{item_tally}
+use Rattle.mailmap_contacts.proofs.Entries.{item_tally}
 use Rattle.mailmap_contacts.proofs.counter.Contacts.distinct.Given as goal
 
 abbrev pub invariant-loop-key : goal.invariant-loop-key

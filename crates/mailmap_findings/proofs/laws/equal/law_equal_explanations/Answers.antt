@@ -1,4 +1,4 @@
-use Rattle.mailmap_findings.proofs.EqualExplanations.{position_decides, positions_decide, same_explanation, texts_decide}
+use Rattle.mailmap_findings.proofs.Equal.{position_decides, positions_decide, same_explanation, texts_decide}
 use Rattle.mailmap_findings.proofs.laws.equal.law_equal_explanations.Goals as goal
 
 pub returns-clause-explanations : goal.returns-clause-explanations

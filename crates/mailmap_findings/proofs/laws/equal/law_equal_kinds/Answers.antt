@@ -3,8 +3,7 @@ use Rattle.mailmap_findings.specs.Findings.{kind_of}
 use Rattle.mailmap_findings.specs.contracts.verify.FindingKindPartialEq as derived
 use Rattle.mailmap_findings.specs.declared.verify.FindingKind as the_kind
 use Rattle.mailmap_findings.specs.declared.verify.FindingKind.TheVariants as kind
-use Rattle.mailmap_findings.proofs.EqualExplanations.{position_decides, positions_decide}
-use Rattle.mailmap_findings.proofs.EqualKinds.{contact_decides, itself_decides}
+use Rattle.mailmap_findings.proofs.Equal.{position_decides, positions_decide, contact_decides, itself_decides}
 use Rattle.mailmap_findings.proofs.laws.equal.law_equal_kinds.Goals as goal
 
 equal : (a b : the_kind.FindingKind) → (derived.TheImpl.ghosts.eq a b ≡ true) ↔ (kind_of a ≡ kind_of b)

@@ -1,4 +1,4 @@
-use Rattle.mailmap_findings.proofs.TextsLeft.{answered_left, entries_left, listing_left}
+use Rattle.mailmap_findings.proofs.Answered.{answered_left, entries_left, listing_left}
 use Rattle.mailmap_findings.proofs.laws.needs.law_deleted_texts.Goals as goal
 
 pub returns : goal.returns

@@ -1,6 +1,6 @@
 use Rattle.std.proofs.Common.{subst}
 use Rattle.mailmap_entries.specs.Semantics.{IsNormal}
-use Rattle.mailmap_findings.proofs.Pruned.{mappings_of-without}
+use Rattle.mailmap_findings.proofs.Pruned.{mappings_of_without}
 use Rattle.mailmap_findings.proofs.PrunedFindings.{none_can_go}
 use Rattle.mailmap_findings.proofs.laws.pruning.law_none_left.Goals as goal
 
@@ -9,4 +9,4 @@ returns-clause-entries c = none_can_go
 
 pub returns-clause-text : goal.returns-clause-text
 returns-clause-text c buffer text a b l e n m pruned whole given with_l without =
-    none_can_go buffer text a b l e n m pruned whole given with_l (subst (λ h. IsNormal h m) (mappings_of-without text a b l whole) without)
+    none_can_go buffer text a b l e n m pruned whole given with_l (subst (λ h. IsNormal h m) (mappings_of_without text a b l whole) without)

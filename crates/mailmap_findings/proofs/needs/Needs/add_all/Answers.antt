@@ -26,12 +26,6 @@ loop-line-preserved c =
           ∙ ap (λ l. filter (λ p. not (any_needs s.kept l p)) s.left) (sym (map-append (λ y. y.now) c.loop-line.yielded (c.in-Some.line ∷ []))),
     )
 
-pub returns-clause-history : goal.returns-clause-history
-returns-clause-history c = c.loop-line.invariant.0
-
-pub returns-clause-kept : goal.returns-clause-kept
-returns-clause-kept c = c.loop-line.invariant.1
-
 pub returns-clause-left : goal.returns-clause-left
 returns-clause-left c =
     let s = c.args.self.now in

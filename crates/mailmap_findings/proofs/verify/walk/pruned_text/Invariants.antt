@@ -1,5 +1,5 @@
 use Rattle.std.proofs.Common.{◌≡◌, ◌++◌}
-use Rattle.mailmap_findings.proofs.PrunedText.{kept_text}
+use Rattle.mailmap_findings.proofs.Walking.{kept_text}
 use Rattle.mailmap_findings.proofs.verify.walk.pruned_text.Given as goal
 
 abbrev pub invariant-loop-line : goal.invariant-loop-line

@@ -1,6 +1,6 @@
 use Rattle.std.proofs.Common.{rules, ◌∙◌, ap, sym, length}
 use Rattle.mailmap_grammar.specs.Lines.{mappings_in}
-use Rattle.mailmap_grammar.proofs.MappingsIn.{mappings_in-ok, mappings_in-err, mappings_in-nil}
+use Rattle.mailmap_grammar.proofs.Readings.{mappings_in-ok, mappings_in-err, mappings_in-nil}
 use Rattle.mailmap_grammar.proofs.lines.GoodLinesIterator.next.Goals as goal
 
 pub returns-in-Ok-clause-steps : goal.returns-in-Ok-clause-steps

@@ -7,11 +7,6 @@ use Rattle.mailmap_redundancy.specs.Redundancy.{entries, located_of, located_of_
 use Rattle.mailmap_redundancy.proofs.Giving.{reduced_first}
 use Rattle.mailmap_redundancy.proofs.effective.Effective.has_email.Goals as goal
 
-pub first_of_email-requires-clause-table : goal.first_of_email-requires-clause-table
-first_of_email-requires-clause-table c =
-    let kept = map located_of_reference c.self.inside.kept.items in
-    (kept, subst (λ l. IsTable l kept c.self.inside.table) (sym c.deref.ensures.value) c.self.invariant.says)
-
 pub returns : goal.returns
 returns c =
     let history = map located_of c.self.inside.history.now in

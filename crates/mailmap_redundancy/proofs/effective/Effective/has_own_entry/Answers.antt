@@ -7,11 +7,6 @@ use Rattle.mailmap_redundancy.specs.Redundancy.{entries, entries_of_key, located
 use Rattle.mailmap_redundancy.proofs.Giving.{reduced_last}
 use Rattle.mailmap_redundancy.proofs.effective.Effective.has_own_entry.Goals as goal
 
-pub last_of_key-requires-clause-table : goal.last_of_key-requires-clause-table
-last_of_key-requires-clause-table c =
-    let kept = map located_of_reference c.self.inside.kept.items in
-    (kept, subst (λ l. IsTable l kept c.self.inside.table) (sym c.deref.ensures.value) c.self.invariant.says)
-
 pub returns : goal.returns
 returns c =
     let history = map located_of c.self.inside.history.now in

@@ -6,8 +6,7 @@ use Rattle.mailmap_entries.proofs.Parts.{all_append, option_map-or}
 use Rattle.mailmap_redundancy.specs.Origins.{entries_of_email}
 use Rattle.mailmap_redundancy.specs.Numbers.{IsKnown, email_key, first_of, joined_origins, key_origins, key_origins_of, located_entry_of, referred}
 use Rattle.mailmap_redundancy.specs.Redundancy.{entries_of_key}
-use Rattle.mailmap_redundancy.proofs.Rows.{email_keys, first_after, origins_after, not_after, not_first_after, row_changed}
-use Rattle.mailmap_redundancy.proofs.Walked.{known}
+use Rattle.mailmap_redundancy.proofs.Rows.{email_keys, first_after, origins_after, not_after, not_first_after, row_changed, known}
 use Rattle.mailmap_redundancy.proofs.table.Table.append.Goals as goal
 
 pub returns : goal.returns

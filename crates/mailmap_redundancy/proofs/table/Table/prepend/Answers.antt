@@ -4,8 +4,7 @@ use Rattle.mailmap_entries.specs.Semantics.{first, key}
 use Rattle.mailmap_redundancy.specs.Origins.{entries_of_email}
 use Rattle.mailmap_redundancy.specs.Numbers.{email_key, first_of, joined_origins, key_origins, key_origins_of, located_entry_of}
 use Rattle.mailmap_redundancy.specs.Redundancy.{entries_of_key}
-use Rattle.mailmap_redundancy.proofs.Rows.{email_keys, first_before, origins_before, not_before, not_first_before, row_changed}
-use Rattle.mailmap_redundancy.proofs.Walked.{known}
+use Rattle.mailmap_redundancy.proofs.Rows.{email_keys, first_before, origins_before, not_before, not_first_before, row_changed, known}
 use Rattle.mailmap_redundancy.proofs.table.Table.prepend.Goals as goal
 
 pub returns : goal.returns

@@ -4,7 +4,7 @@ use Rattle.mailmap_entries.specs.Semantics.{key}
 use Rattle.mailmap_redundancy.specs.Numbers.{entry_of, first_of, key_origins_of, summary_by, summary_of}
 use Rattle.mailmap_redundancy.specs.Redundancy.{LocatedMapping}
 use Rattle.mailmap_redundancy.proofs.Giving.{said_summary}
-use Rattle.mailmap_redundancy.proofs.Walked.{all_accepted}
+use Rattle.mailmap_redundancy.proofs.Rows.{all_accepted}
 use Rattle.mailmap_redundancy.proofs.table.Table.summary.Goals as goal
 
 pub returns : goal.returns

@@ -1,7 +1,6 @@
 use Rattle.std.proofs.Common.{flat_map, map}
 use Rattle.mailmap_grammar.specs.Lines.{mappings_of}
-use Rattle.mailmap_snapshot.proofs.WritableLines.{all_read}
-use Rattle.mailmap_snapshot.proofs.WritableValues.{normal_fits}
+use Rattle.mailmap_snapshot.proofs.WritableLines.{all_read, normal_fits}
 use Rattle.mailmap_snapshot.proofs.check.compaction.compact.Goals as goal
 
 pub write_lines-requires : goal.write_lines-requires

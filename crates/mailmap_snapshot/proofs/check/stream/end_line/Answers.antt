@@ -1,6 +1,6 @@
 use Rattle.std.proofs.Common.{◌∙◌, sym, subst}
 use Rattle.mailmap_snapshot.specs.Streams.{IsOneLine}
-use Rattle.mailmap_snapshot.proofs.OneLine.{is_one_more}
+use Rattle.mailmap_snapshot.proofs.Streams.{is_one_more}
 use Rattle.mailmap_snapshot.proofs.check.stream.end_line.Goals as goal
 
 pub push_line_answer-pushed-requires-clause-one : goal.push_line_answer-pushed-requires-clause-one

@@ -1,6 +1,6 @@
 use Rattle.std.proofs.Common.{◌≡◌, ◌++◌, ◌∷◌, ◌∙◌, [], List, OnOk, ap, subst, sym, ℕ}
 use Rattle.mailmap_snapshot.specs.Contacts.{answer, answers}
-use Rattle.mailmap_snapshot.proofs.OneLine.{ended_answers}
+use Rattle.mailmap_snapshot.proofs.Streams.{ended_answers}
 use Rattle.mailmap_snapshot.proofs.check.stream.push_ended.Goals as goal
 
 pub returns-clause-ok : goal.returns-clause-ok

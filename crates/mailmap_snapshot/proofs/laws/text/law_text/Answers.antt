@@ -1,8 +1,7 @@
 use Rattle.std.proofs.Common.{flat_map}
 use Rattle.mailmap_grammar.specs.Lines.{mappings_of}
-use Rattle.mailmap_snapshot.proofs.WrittenText.{mappings_of-canonical_text}
-use Rattle.mailmap_snapshot.proofs.WritableLines.{all_read}
-use Rattle.mailmap_snapshot.proofs.WritableValues.{normal_fits}
+use Rattle.mailmap_snapshot.proofs.WrittenLine.{mappings_of-canonical_text}
+use Rattle.mailmap_snapshot.proofs.WritableLines.{all_read, normal_fits}
 use Rattle.mailmap_snapshot.proofs.laws.text.law_text.Goals as goal
 
 pub returns-clause-reads_back : goal.returns-clause-reads_back

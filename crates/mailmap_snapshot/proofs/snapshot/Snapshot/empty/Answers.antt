@@ -1,6 +1,6 @@
 use Rattle.std.proofs.Common.{sym, subst}
 use Rattle.mailmap_tables.specs.Groups.{Contents, IsComplete}
-use Rattle.mailmap_tables.proofs.Complete.{complete_empty}
+use Rattle.mailmap_tables.proofs.Grouped.{complete_empty}
 use Rattle.mailmap_snapshot.proofs.snapshot.Snapshot.empty.Goals as goal
 
 pub invariant_of-result : goal.invariant_of-result

@@ -35,12 +35,6 @@ returns-in-Ok-find_name_counted-clause-at_most c =
     c.args.tables.now.pool c.email.result.0 c.email.result.1.now c.email.ensures.group in
     omega (arith, emails, ap digits names, c.in-Ok.ensures.at_most, c.in-Ok-find_name_counted.ensures.at_most)
 
-pub returns-in-Ok-find_name_counted-clause-at_least : goal.returns-in-Ok-find_name_counted-clause-at_least
-returns-in-Ok-find_name_counted-clause-at_least c =
-    let names = names_counted c.args.tables.now.groups c.requires.groups c.args.email.now c.in-Ok.index c.in-Ok.ensures.found
-    c.args.tables.now.pool c.email.result.0 c.email.result.1.now c.email.ensures.group in
-    omega (arith, names, c.in-Ok.ensures.at_least, c.in-Ok-find_name_counted.ensures.at_least)
-
 pub returns-in-Err-clause-fields : goal.returns-in-Err-clause-fields
 returns-in-Err-clause-fields c =
     let pool = c.args.tables.now.pool in

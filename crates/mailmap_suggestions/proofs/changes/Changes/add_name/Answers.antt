@@ -1,7 +1,7 @@
 use Rattle.std.proofs.Common.{◌∙◌, ap, not, refl}
 use Rattle.mailmap_contacts.specs.declared.folded.Folded.{Folded}
 use Rattle.mailmap_suggestions.specs.Answered.{answered_contact}
-use Rattle.mailmap_suggestions.proofs.KeptChanges.{changes_named, spelled_before, spelled_first}
+use Rattle.mailmap_suggestions.proofs.Exact.{changes_named, spelled_before, spelled_first}
 use Rattle.mailmap_suggestions.proofs.changes.Changes.add_name.Goals as goal
 
 pub returns-then-is_none : goal.returns-then-is_none

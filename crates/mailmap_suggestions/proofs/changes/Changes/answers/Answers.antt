@@ -5,7 +5,7 @@ use Rattle.mailmap_contacts.specs.declared.folded.Folded.{Folded}
 use Rattle.mailmap_suggestions.specs.Answered.{answered_contact}
 use Rattle.mailmap_suggestions.specs.Changes.{fields_to}
 use Rattle.mailmap_suggestions.specs.Contacts.{git_answer_to}
-use Rattle.mailmap_suggestions.proofs.After.{own_decides}
+use Rattle.mailmap_suggestions.proofs.Answers.{own_decides}
 use Rattle.mailmap_suggestions.proofs.changes.Changes.answers.Goals as goal
 
 pub returns-then-contains : goal.returns-then-contains

@@ -1,7 +1,7 @@
 use Rattle.std.proofs.Common.{◌∙◌, ap, sym}
 use Rattle.mailmap_suggestions.specs.Answered.{answered_contact}
 use Rattle.mailmap_suggestions.specs.Contacts.{replaced}
-use Rattle.mailmap_suggestions.proofs.After.{answers_stay, git_given}
+use Rattle.mailmap_suggestions.proofs.Answers.{answers_stay, git_given}
 use Rattle.mailmap_suggestions.proofs.changes.Changes.gits.Goals as goal
 
 pub returns-then-contact : goal.returns-then-contact

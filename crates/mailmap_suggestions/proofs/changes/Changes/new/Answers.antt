@@ -5,7 +5,7 @@ use Rattle.mailmap_entries.specs.Entries.{mapping_of}
 use Rattle.mailmap_contacts.specs.Answers.{folded_cmp}
 use Rattle.mailmap_suggestions.specs.Changes.{AreChangesBy, IsPlain, listed}
 use Rattle.mailmap_suggestions.specs.declared.changes.Changes.{Changes}
-use Rattle.mailmap_suggestions.proofs.KeptChanges.{changes_plain}
+use Rattle.mailmap_suggestions.proofs.Exact.{changes_plain}
 use Rattle.mailmap_suggestions.proofs.changes.Changes.new.Goals as goal
 
 pub returns-in-Some : goal.returns-in-Some

@@ -1,20 +1,10 @@
-use Rattle.std.proofs.Common.{◌≡◌, ◌∙◌, ◌++◌, ◌∷◌, [], ap, append-nil, map, subst, sym}
-use Rattle.std.proofs.lemmas.List.{map-append}
+use Rattle.std.proofs.Common.{◌≡◌, ◌∙◌, ◌++◌, subst}
 use Rattle.std.specs.List.{flat_map}
 use Rattle.std.proofs.lemmas.Iterator.Consumers.{YieldsList-from_first, YieldsList-end}
 use Rattle.mailmap_findings.proofs.WholeLines.{lines-whole}
 use Rattle.mailmap_findings.specs.Git.{git_entries}
 use Rattle.mailmap_findings.specs.Positions.{whole_lines}
-use Rattle.mailmap_suggestions.proofs.Accepted.{flat_more}
 use Rattle.mailmap_suggestions.proofs.histories.History.read_as_git.Goals as goal
-
-pub loop-line-init : goal.loop-line-init
-loop-line-init c = sym (append-nil c.args.self.now)
-
-pub loop-line-preserved : goal.loop-line-preserved
-loop-line-preserved c =
-    flat_more git_entries c.args.self.now c.loop-line.self c.read_line_as_git.new.self (map (λ y. y.now) c.loop-line.yielded) c.in-Some.line.now c.loop-line.invariant c.in_ok-read_line_as_git.ensures
-    ∙ ap (λ l. c.args.self.now ++ flat_map git_entries l) (sym (map-append (λ y. y.now) c.loop-line.yielded (c.in-Some.line ∷ [])))
 
 pub returns : goal.returns
 returns c =

@@ -1,7 +1,7 @@
 -- The entries so far were added, and all others are accepted, too.
 use Rattle.std.proofs.Common.{◌≡◌, ◌++◌}
 use Rattle.mailmap_findings.specs.Git.{git_entries}
-use Rattle.mailmap_suggestions.proofs.Accepted.{AreAccepted}
+use Rattle.mailmap_suggestions.proofs.Suggesting.{AreAccepted}
 use Rattle.mailmap_suggestions.proofs.histories.History.read_line_as_git.Given as goal
 
 abbrev pub invariant-loop-entry : goal.invariant-loop-entry

@@ -3,14 +3,10 @@ use Rattle.std.specs.List.{AllByRecursion}
 use Rattle.mailmap_entries.specs.Entries.{mapping_of}
 use Rattle.mailmap_entries.specs.declared.entry.Entry.{Entry as Item}
 use Rattle.mailmap_entries.specs.Semantics.{IsNormal, is_accepted}
-use Rattle.mailmap_tables.specs.Groups.{AreGroups, Contents, listing}
+use Rattle.mailmap_tables.specs.Groups.{Contents, listing}
 use Rattle.mailmap_entries.proofs.Results.{if_ok_map}
 use Rattle.mailmap_tables.proofs.Joining.{collected_good, collected_joined}
 use Rattle.mailmap_tables.proofs.chunks.Collected.tables.Goals as goal
-
-pub joined-requires-clause-existing_tables : goal.joined-requires-clause-existing_tables
-joined-requires-clause-existing_tables c =
-    subst (λ (t : Contents). AreGroups t.groups) (sym c.base.ensures) c.requires.1.complete.groups
 
 pub joined-requires-clause-accepted : goal.joined-requires-clause-accepted
 joined-requires-clause-accepted c =

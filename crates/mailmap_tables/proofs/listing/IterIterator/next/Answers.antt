@@ -3,7 +3,7 @@ use Rattle.mailmap_entries.specs.Entries.{mapping_of}
 use Rattle.mailmap_tables.specs.Remaining.{left_to_list}
 use Rattle.mailmap_tables.specs.Pool.{spelled}
 use Rattle.mailmap_tables.specs.RowTexts.{old_span}
-use Rattle.mailmap_tables.proofs.Listed.{next_email, empty}
+use Rattle.mailmap_tables.proofs.Grouped.{next_email, empty}
 use Rattle.mailmap_tables.proofs.listing.IterIterator.next.Goals as goal
 
 pub returns-in-Some-clause-steps : goal.returns-in-Some-clause-steps

@@ -1,8 +1,7 @@
 use Rattle.std.proofs.Common.{refl, arith}
 use Rattle.mailmap_batches.specs.Given.{fields_given}
-use Rattle.mailmap_tables.proofs.Bytes.{own_copied}
+use Rattle.mailmap_tables.proofs.TextsOfRows.{own_copied, own_spells}
 use Rattle.mailmap_entries.proofs.Results.{if_ok_map}
-use Rattle.mailmap_tables.proofs.OwnTexts.{own_spells}
 use Rattle.mailmap_tables.proofs.pool.Pool.email_row.Goals as goal
 
 pub returns-clause-spells : goal.returns-clause-spells

@@ -9,7 +9,7 @@ use Rattle.mailmap_tables.specs.Merging.{bare}
 use Rattle.mailmap_tables.specs.Pool.{AreTables, LiesIn, contents, email_group, end_of, spelled}
 use Rattle.mailmap_tables.specs.Reserved.{Reserved}
 use Rattle.mailmap_tables.specs.declared.rows.EmailRow.{EmailRow}
-use Rattle.mailmap_tables.proofs.RowEdits.{contents-insert_email, tables-insert_email}
+use Rattle.mailmap_tables.proofs.Edited.{contents-insert_email, tables-insert_email}
 use Rattle.mailmap_tables.proofs.reserved.ReservedTables.insert_email.Goals as goal
 
 pub invariant_of-self : goal.invariant_of-self
@@ -46,7 +46,7 @@ invariant_of-self c =
     ∙ ap (λ (v : Contents). key_prefix 16 (folded (spelled v.pool c.args.old_email))) (c.view.ensures ∙ sym held)
     ∙ ap (λ s. key_prefix 16 (folded (spelled pool s))) (sym c.bare.ensures.old) in
     subst₂ (λ rs fs. AreTables pool names rs fs) (sym made) (sym prefixes)
-    (tables-insert_email pool names es c.self.invariant index at c.bare.result c.args.old_email c.bare.ensures le there
+    (tables-insert_email c.self.invariant index at c.bare.result c.args.old_email c.bare.ensures le there
     (subst (λ (v : Contents). LiesIn (length v.pool) c.args.old_email) (sym held) c.requires.in_pool)
     c.key_prefix-prefix.result prefix)
 
@@ -76,6 +76,6 @@ returns-clause-held c =
     let made = c.insert.ensures.items ∙ ap (λ b. cond b (insert es index row) es)
     (c.insert.ensures.succeeds reserved) in
     ap (contents pool names) made
-    ∙ contents-insert_email pool names es c.self.invariant index at c.bare.result c.args.old_email c.bare.ensures le
+    ∙ contents-insert_email c.self.invariant index at c.bare.result c.args.old_email c.bare.ensures le
     there
     ∙ ap (λ (v : Contents). record v { groups = insert v.groups index (bare (spelled v.pool c.args.old_email)) }) held

@@ -1,38 +1,35 @@
-use Rattle.std.proofs.Common.{[], ◌≡◌, ◌≤◌, ◌<◌, ◌+◌, ◌-◌, ◌∙◌, cond, length, vec_len, vec_capacity, refl, ◌^◌, sym, ap}
+use Rattle.std.proofs.Common.{take, drop, map, ◌++◌, ◌∷◌, [], ◌≡◌, ◌≤◌, ◌<◌, ◌+◌, ◌-◌, ◌∙◌, cond, length, vec_len}
+use Rattle.std.proofs.Common.{vec_capacity, ◌^◌, sym, ap}
 use Rattle.std.proofs.Common.{subst, subst₂, arith}
-use Rattle.std.specs.List.{HoldsAt, insert}
-use Rattle.std.proofs.lemmas.List.{length-map}
-use Rattle.mailmap_tables.specs.Groups.{Contents, EmailGroup}
+use Rattle.std.specs.List.{insert}
+use Rattle.mailmap_tables.specs.Groups.{Contents}
 use Rattle.mailmap_tables.specs.Merging.{bare}
-use Rattle.mailmap_tables.specs.Pool.{AreTables, NameInPool, contents, email_group, name_group}
-use Rattle.mailmap_tables.specs.Reserved.{Reserved, with_email_at}
+use Rattle.mailmap_tables.specs.Pool.{email_group, AreTables, NameInPool, names_of, contents, name_group}
+use Rattle.mailmap_tables.specs.Reserved.{Reserved, one_later}
 use Rattle.mailmap_tables.specs.declared.rows.EmailRow.{EmailRow}
-use Rattle.mailmap_tables.proofs.Edited.{lengthen, ranges_after}
+use Rattle.mailmap_tables.proofs.Edited.{edited, emails_written, insert_laid, range_within, ranges_after, row_range}
+use Rattle.mailmap_tables.proofs.Edited.{tables-insert_name}
+use Rattle.mailmap_tables.proofs.Lists.{map-insert}
+use Rattle.mailmap_tables.proofs.Lists.{get_or_any}
 use Rattle.mailmap_tables.proofs.Pooled.{index_within}
-use Rattle.mailmap_tables.proofs.RowEdits.{contents-insert_name, edited, emails_written, get_or_any, row_range}
-use Rattle.mailmap_tables.proofs.RowEdits.{tables-insert_name}
 use Rattle.mailmap_tables.proofs.reserved.ReservedTables.insert_name.Goals as goal
-
-pub prove-unreachable-requires : goal.prove-unreachable-requires
-prove-unreachable-requires c =
-    omega (arith, c.requires.reserved, ap (λ (r : Reserved). r.names) c.self.view_is, c.len.ensures, c.capacity.ensures)
 
 pub overflow_add-start : goal.overflow_add-start
 overflow_add-start c =
     let held = ap (λ (r : Reserved). r.held) c.self.view_is in
-    let range = row_range _ _ _ c.self.invariant _ held _ _ c.requires.email c.index.ensures (bare []) in
+    let range = row_range c.self.invariant held c.requires.email c.index.ensures (bare []) in
     omega (arith, c.requires.index (bare []), range, c.len.ensures, c.len.type_inv, c.self.inside.names.ok.0)
 
 pub insert-requires : goal.insert-requires
 insert-requires c =
     let held = ap (λ (r : Reserved). r.held) c.self.view_is in
-    let range = row_range _ _ _ c.self.invariant _ held _ _ c.requires.email c.index.ensures (bare []) in
+    let range = row_range c.self.invariant held c.requires.email c.index.ensures (bare []) in
     omega (arith, c.requires.index (bare []), range, c.self.inside.names.ok.0)
 
 pub overflow_add-index_mut : goal.overflow_add-index_mut
 overflow_add-index_mut c =
     let held = ap (λ (r : Reserved). r.held) c.self.view_is in
-    let range = row_range _ _ _ c.self.invariant _ held _ _ c.requires.email c.index_mut.ensures.value (bare []) in
+    let range = row_range c.self.invariant held c.requires.email c.index_mut.ensures.value (bare []) in
     omega (arith, range, c.if-prove.false, c.len.ensures, c.capacity.type_inv, c.self.inside.names.ok.0)
 
 pub raise_ranges-requires : goal.raise_ranges-requires
@@ -61,8 +58,13 @@ invariant_of-self c =
     let longer = record r { names_end = r.names_end + 1 } in
     let held : contents pool names es ≡ c.args.self.now.held = ap (λ (v : Reserved). v.held) c.self.view_is in
     let lt = index_within pool names es _ _ held c.requires.email in
-    let range = row_range pool names es c.self.invariant _ held _ e c.requires.email c.index.ensures (bare []) in
-    let within : c.args.index ≤ e.names_end - e.names_start = omega (arith, c.requires.index (bare []), range) in
+    let range = row_range c.self.invariant held c.requires.email c.index.ensures (bare []) in
+    let within : c.args.index ≤ length (names_of names e) = omega (
+      arith,
+      c.requires.index (bare []),
+      range,
+      (range_within c.self.invariant email e lt c.index.ensures).2,
+    ) in
     let p = e.names_start + c.args.index in
     let reserved : vec_len old.names < vec_capacity old.names = omega (
       arith,
@@ -72,12 +74,13 @@ invariant_of-self c =
     ) in
     let made = c.insert.ensures.items ∙ ap (λ b. cond b (insert names p c.args.row) names)
     (c.insert.ensures.succeeds reserved) in
+    let same : r ≡ e = c.index_mut.ensures.value ∙ get_or_any es email r e lt ∙ sym c.index.ensures in
     let emails = emails_written es email old.emails.len longer c.deref_mut.result.now c.raise_ranges.new.rows _ lt
-    old.emails.ok.0 c.deref_mut.ensures.value
-    (ap (λ (x : EmailRow). record x { names_end = x.names_end + 1 }) (c.index_mut.ensures.value
-    ∙ get_or_any es email r longer lt)) c.raise_ranges.ensures in
+    old.emails.ok.0 c.deref_mut.ensures.value c.raise_ranges.ensures
+    ∙ ap (λ (x : EmailRow). take email es ++ record x { names_end = x.names_end + 1 } ∷ map one_later
+    (drop (email + 1) es)) same in
     subst₂ (λ ns rs. AreTables pool ns rs old.prefixes.items) (sym made) (sym emails)
-    (tables-insert_name pool names es c.self.invariant email e lt c.index.ensures c.args.index p c.args.row refl within
+    (tables-insert_name c.self.invariant email e lt c.index.ensures c.args.index c.args.row within
     (subst (λ (v : Contents). NameInPool (length v.pool) c.args.row) (sym held) c.requires.in_pool))
 
 pub returns-clause-held : goal.returns-clause-held
@@ -92,8 +95,13 @@ returns-clause-held c =
     let longer = record r { names_end = r.names_end + 1 } in
     let held : contents pool names es ≡ c.args.self.now.held = ap (λ (v : Reserved). v.held) c.self.view_is in
     let lt = index_within pool names es _ _ held c.requires.email in
-    let range = row_range pool names es c.self.invariant _ held _ e c.requires.email c.index.ensures (bare []) in
-    let within : c.args.index ≤ e.names_end - e.names_start = omega (arith, c.requires.index (bare []), range) in
+    let range = row_range c.self.invariant held c.requires.email c.index.ensures (bare []) in
+    let within : c.args.index ≤ length (names_of names e) = omega (
+      arith,
+      c.requires.index (bare []),
+      range,
+      (range_within c.self.invariant email e lt c.index.ensures).2,
+    ) in
     let p = e.names_start + c.args.index in
     let reserved : vec_len old.names < vec_capacity old.names = omega (
       arith,
@@ -103,12 +111,14 @@ returns-clause-held c =
     ) in
     let made = c.insert.ensures.items ∙ ap (λ b. cond b (insert names p c.args.row) names)
     (c.insert.ensures.succeeds reserved) in
+    let same : r ≡ e = c.index_mut.ensures.value ∙ get_or_any es email r e lt ∙ sym c.index.ensures in
     let emails = emails_written es email old.emails.len longer c.deref_mut.result.now c.raise_ranges.new.rows _ lt
-    old.emails.ok.0 c.deref_mut.ensures.value
-    (ap (λ (x : EmailRow). record x { names_end = x.names_end + 1 }) (c.index_mut.ensures.value
-    ∙ get_or_any es email r longer lt)) c.raise_ranges.ensures in
-    let h = edited pool names es c.self.invariant _ held _ e c.requires.email c.index.ensures
-    (λ q g. record g { names = insert g.names c.args.index (name_group q c.args.row) }) _
-    (contents-insert_name pool names es c.self.invariant email e lt c.index.ensures c.args.index p c.args.row refl
-    within) in
+    old.emails.ok.0 c.deref_mut.ensures.value c.raise_ranges.ensures
+    ∙ ap (λ (x : EmailRow). take email es ++ record x { names_end = x.names_end + 1 } ∷ map one_later
+    (drop (email + 1) es)) same in
+    let h = edited c.self.invariant held c.requires.email c.index.ensures
+    (λ q g. record g { names = insert g.names c.args.index (name_group q c.args.row) })
+    _ (insert_laid c.self.invariant email e lt c.index.ensures c.args.index c.args.row within)
+    (ap (λ ns. record (email_group pool names e) { names = ns }) (map-insert (name_group pool) (names_of names e)
+    c.args.index c.args.row)) in
     λ d. (λ i. contents pool (made i) (emails i)) ∙ h d

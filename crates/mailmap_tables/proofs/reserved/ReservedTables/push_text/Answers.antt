@@ -5,7 +5,7 @@ use Rattle.mailmap_tables.proofs.Pooled.{contents_on, tables_on}
 use Rattle.mailmap_tables.proofs.reserved.ReservedTables.push_text.Goals as goal
 
 pub invariant_of-self : goal.invariant_of-self
-invariant_of-self c = tables_on _ _ _ c.self.invariant _ c.push_text.ensures.grown
+invariant_of-self c = tables_on _ _ c.push_text.ensures.grown _ _ c.self.invariant
 
 pub returns-clause-held : goal.returns-clause-held
 returns-clause-held c =
@@ -14,4 +14,4 @@ returns-clause-held c =
     let reserved : vec_len bytes + length text ≤ vec_capacity bytes =
     omega (arith, c.requires.reserved, ap (λ (r : Reserved). r.bytes) c.self.view_is) in
     let is = on_ok_at c.push_text.result _ c.push_text.ensures.text (c.push_text.ensures.growth.succeeds reserved) in
-    contents_on _ _ _ c.self.invariant _ (text, is) _ (ap (λ (r : Reserved). r.held) c.self.view_is)
+    contents_on _ _ (text, is) _ _ c.self.invariant _ (ap (λ (r : Reserved). r.held) c.self.view_is)

@@ -1,11 +1,10 @@
-use Rattle.std.proofs.Common.{◌≡◌, ◌<◌, ◌∙◌, ap, sym, subst, length, arith, set}
-use Rattle.std.proofs.lemmas.List.{length-map}
+use Rattle.std.proofs.Common.{◌≡◌, ◌∙◌, ap, sym, subst, length}
 use Rattle.mailmap_tables.specs.Groups.{Contents, EmailGroup}
-use Rattle.mailmap_tables.specs.Pool.{TextsInPool, contents, email_group, fields_of, spelled}
-use Rattle.mailmap_tables.specs.Reserved.{Reserved, with_email_at}
+use Rattle.mailmap_tables.specs.Pool.{email_group, TextsInPool, contents, fields_of, spelled}
+use Rattle.mailmap_tables.specs.Reserved.{Reserved}
 use Rattle.mailmap_tables.specs.RowTexts.{old_span}
+use Rattle.mailmap_tables.proofs.Edited.{edited, from_group, tables-texts, texts_laid}
 use Rattle.mailmap_tables.proofs.Pooled.{index_within}
-use Rattle.mailmap_tables.proofs.RowEdits.{contents-texts, edited, from_group, tables-texts}
 use Rattle.mailmap_tables.proofs.reserved.ReservedTables.replace_texts.Goals as goal
 
 pub invariant_of-self : goal.invariant_of-self
@@ -22,7 +21,7 @@ invariant_of-self c =
     c.args.self.now.held.pool (old_span t) ≡ g.old_email) held lt c.index_mut.ensures.value c.requires.same in
     let same : spelled pool (old_span t) ≡ spelled pool (old_span row.texts) =
     ap (λ (v : Contents). spelled v.pool (old_span t)) held ∙ here in
-    tables-texts pool names es c.self.invariant c.args.email row lt c.index_mut.ensures.value t same
+    tables-texts c.self.invariant c.args.email row lt c.index_mut.ensures.value t same
     (subst (λ (v : Contents). TextsInPool (length v.pool) t) (sym held) c.requires.in_pool)
 
 pub returns-clause-held : goal.returns-clause-held
@@ -40,6 +39,7 @@ returns-clause-held c =
     (old_span t) ≡ g.old_email) held lt c.index_mut.ensures.value c.requires.same in
     let same : spelled pool (old_span t) ≡ spelled pool (old_span row.texts) =
     ap (λ (v : Contents). spelled v.pool (old_span t)) held ∙ here in
-    edited pool names es c.self.invariant _ held _ row c.requires.email c.index_mut.ensures.value
-    (λ p g. record g { own = fields_of p t }) _
-    (contents-texts pool names es c.self.invariant c.args.email row lt c.index_mut.ensures.value t same)
+    edited c.self.invariant held c.requires.email c.index_mut.ensures.value
+    (λ p g. record g { own = fields_of p t })
+    _ (texts_laid c.self.invariant c.args.email row lt c.index_mut.ensures.value t same)
+    (ap (λ old_email. record (email_group pool names row) { old_email = old_email; own = fields_of pool t }) same)

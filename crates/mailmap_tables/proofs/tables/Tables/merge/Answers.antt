@@ -7,10 +7,9 @@ use Rattle.mailmap_entries.specs.declared.entry.Entry.{Entry as Item}
 use Rattle.mailmap_entries.specs.Semantics.{IsNormal, accepted, is_accepted}
 use Rattle.mailmap_tables.specs.Collecting.{IsCollected}
 use Rattle.mailmap_tables.specs.Groups.{Contents, IsComplete, listing}
-use Rattle.mailmap_tables.specs.Reserved.{HasReserved}
 use Rattle.mailmap_entries.proofs.Results.{on_err, on_ok_then}
 use Rattle.mailmap_tables.proofs.Joining.{collected_all, collected_good, collected_joined, collected_some}
-use Rattle.mailmap_tables.proofs.SortedGroups.{none_left, some_left}
+use Rattle.mailmap_tables.proofs.EmailsLoop.{none_left, some_left}
 use Rattle.mailmap_tables.proofs.tables.Tables.merge.Goals as goal
 
 none_from : {X : Type 0} (o : Option X) → is_some o ≡ false → o ≡ None
@@ -23,9 +22,6 @@ ran_out : {I : Type 0} (Y : List Item → I → Type 0) (s : Contents) (joined :
     → (ys : List Item) × (end : I) × Y ys end × (accepted (map mapping_of ys) ≢ [])
 ran_out Y s joined batch xs rest y is some =
     (xs, rest, y, collected_some mapping_of s (map mapping_of xs) joined batch is some)
-
-pub tables-requires : goal.tables-requires
-tables-requires g c = let w = c.in_ok-collected.ensures.ok in (map mapping_of w.0, w.2)
 
 pub returns-then-is_empty-clause-ok : goal.returns-then-is_empty-clause-ok
 returns-then-is_empty-clause-ok g c =
@@ -49,11 +45,6 @@ merge_in_place-requires-clause-accepted g c =
     subst (λ (l : List Item). AllByRecursion (λ m. is_accepted m ≡ true) (map mapping_of l))
     (sym c.deref-in-Some.ensures.value)
     (collected_good c.args.self.now (map mapping_of w.0) c.in_ok-collected.collected.joined _ w.2)
-
-pub merge_in_place-requires-clause-bytes : goal.merge_in_place-requires-clause-bytes
-merge_in_place-requires-clause-bytes g c =
-    subst (λ (l : List Item). HasReserved c.args.self.now.groups (map mapping_of l) c.in-Some.bytes)
-    (c.deref.ensures.value ∙ sym c.deref-in-Some.ensures.value) (c.in-Some.ensures c.in-Some.bytes refl)
 
 pub returns-in-Some-clause-ok : goal.returns-in-Some-clause-ok
 returns-in-Some-clause-ok g c =

@@ -1,11 +1,13 @@
-use Rattle.std.proofs.Common.{◌≡◌, ◌≤◌, ◌+◌, ◌-◌, arith, ◌∙◌, ap, ◌++◌, ◌∷◌, [], sym, subst, subst₂, length, take, drop}
+use Rattle.std.proofs.Common.{refl, ◌≡◌, ◌≤◌, ◌+◌, arith, ◌∙◌, ap, ◌++◌, ◌∷◌, [], sym, subst, subst₂, length, take}
+use Rattle.std.proofs.Common.{drop}
 use Rattle.std.proofs.lemmas.List.{length-map, length-drop}
 use Rattle.mailmap_tables.specs.Pool.{AreTables, contents, spelled, TextsInPool, end_of, name_group, group_of}
 use Rattle.mailmap_entries.specs.Folding.{folded}
 use Rattle.mailmap_entries.specs.Prefixes.{key_prefix}
 use Rattle.mailmap_tables.specs.Groups.{Contents}
 use Rattle.mailmap_tables.specs.RowTexts.{old_span}
-use Rattle.mailmap_tables.proofs.Pooled.{contents-email, tables-email, end_within}
+use Rattle.mailmap_tables.proofs.Laid.{end_within}
+use Rattle.mailmap_tables.proofs.Pooled.{contents-email, tables-email}
 use Rattle.mailmap_tables.proofs.tables.Tables.push_email_with_prefix.Goals as goal
 
 pub invariant_of-self-2 : goal.invariant_of-self-2
@@ -30,7 +32,7 @@ invariant_of-self-2 c =
     (sym c.self.view_is) in
     subst₂ (λ es fs. AreTables c.self.inside.pool.bytes.items names es fs) (sym c.in_ok-push_row.ensures.emails)
     (sym c.in_ok-push_row.ensures.prefixes)
-    (tables-email _ _ _ c.self.invariant _ from (omega arith) to lies _ prefix)
+    (tables-email _ _ _ c.self.invariant _ c.args.count from refl to lies _ prefix)
 
 pub returns : goal.returns
 returns c =
@@ -40,20 +42,17 @@ returns c =
     let row = c.args.texts in
     let from : c.last_end-names_start.result ≡ end_of 0 emails = c.last_end-names_start.ensures
     ∙ ap (end_of 0) c.deref.ensures.value in
-    let count : c.last_end-names_start.result + c.args.count - c.last_end-names_start.result ≡ c.args.count =
-    omega arith in
-    let unassigned_names = (contents pool names emails).unassigned_names in
+    let to : c.last_end-names_start.result + c.args.count ≤ length names = omega (
+      arith,
+      from,
+      c.requires.unassigned_names,
+      ap (λ (v : Contents). length v.unassigned_names) c.self.view_is,
+      end_within 0 (length names) emails c.self.invariant.ranges,
+      length-map (drop (end_of 0 emails) names) (name_group pool),
+      length-drop (end_of 0 emails) names,
+    ) in
     ap (λ es. contents pool names es) c.in_ok-push_row.ensures.emails
-    ∙ contents-email pool names emails c.self.invariant _ from (omega arith)
-    ∙ (λ i. record {
-      pool = pool;
-      groups =
-          (contents pool names emails).groups ++ record (group_of pool row []) {
-            names =
-                take (count i) unassigned_names;
-          } ∷ [];
-      unassigned_names = drop (count i) unassigned_names;
-    })
+    ∙ contents-email pool names emails c.self.invariant _ c.args.count from refl to
     ∙ ap (λ (v : Contents). record {
       pool = v.pool;
       groups = v.groups ++ record (group_of v.pool row []) { names = take c.args.count v.unassigned_names } ∷ [];

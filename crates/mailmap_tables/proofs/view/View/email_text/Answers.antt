@@ -1,28 +1,11 @@
-use Rattle.std.proofs.Common.{◌≡◌, ◌<◌, length, map, sym, ap, ◌∙◌, arith, Some, get_or}
+use Rattle.std.proofs.Common.{◌<◌, length, map, sym, ap, ◌∙◌, arith, Some}
 use Rattle.std.proofs.lemmas.List.{length-map, get_or-map}
 use Rattle.std.specs.List.{slice_get}
-use Rattle.mailmap_entries.specs.Folding.{folded}
-use Rattle.mailmap_entries.specs.Prefixes.{key_prefix}
 use Rattle.mailmap_tables.specs.Groups.{Contents, EmailGroup}
-use Rattle.mailmap_tables.specs.Pool.{spelled, email_group, prefix_of}
+use Rattle.mailmap_tables.specs.Pool.{spelled, email_group}
 use Rattle.mailmap_tables.specs.RowTexts.{old_span}
-use Rattle.mailmap_tables.proofs.Pooled.{index_within, slice_get-map_at}
+use Rattle.mailmap_tables.proofs.Lists.{slice_get-map_at}
 use Rattle.mailmap_tables.proofs.view.View.email_text.Goals as goal
-
-pub with_prefix-requires : goal.with_prefix-requires
-with_prefix-requires c =
-    let pool = c.self.inside.pool.now in
-    let emails = c.self.inside.emails.now in
-    let row = c.at-row.result in
-    let index = c.args.index in
-    let lt : index < length emails = index_within _ _ _ _ _ c.self.view_is c.requires in
-    let text : spelled pool (old_span row.texts) ≡ c.text.result.now =
-    ap (λ (v : Contents). spelled v.pool (old_span row.texts)) c.self.view_is
-    ∙ sym (c.text.ensures ∙ ap (spelled c.args.self.now.pool) c.old.ensures) in
-    c.at.ensures ∙ ap (λ l. get_or l index c.at.result) c.self.invariant.prefix_each
-    ∙ get_or-map (prefix_of pool) emails index row c.at.result lt
-    ∙ ap (prefix_of pool) (sym c.at-row.ensures)
-    ∙ ap (λ t. key_prefix 16 (folded t)) text
 
 pub returns : goal.returns
 returns c =
@@ -45,6 +28,3 @@ returns c =
     ∙ ap (λ (v : Contents). Some (spelled v.pool (old_span row.texts))) c.self.view_is
     ∙ ap (λ t. Some t) (sym (c.text.ensures ∙ ap (spelled c.args.self.now.pool) c.old.ensures)
     ∙ sym c.with_prefix.ensures.text)
-
-pub at-row-requires : goal.at-row-requires
-at-row-requires c = index_within _ _ _ _ _ c.self.view_is c.requires

@@ -1,30 +1,11 @@
 -- `into_box` calls std's function, which requires what the parts own, and returns the box that this makes.
-use Rattle.std.proofs.Common.{◌≡◌, T, List, [], ◌∷◌, ◌++◌, refl, sym, ap, subst}
+use Rattle.gix_mailmap_c.proofs.Steps.{◌≡◌, List, [], ◌∷◌, refl, sym, ap, inst_fn, Val, vptr, has_ty, SProp, ent, id⊢, ftrue, fsep, flft, ◌⊑◌, fact, tables, WpFn, Item, at_ret, ‵, raw, ◌⊛◌, some, later, ◌$◌, ◌∵◌, !, qed, move, drop, use1, join, split, split3, pick, rewrite, fsplit, fjoin, feq_i, suffices, await, done, whole, sub, stop, fld, no_more, and_then, of_opd, returns, enter, first, blocks, exec, alloc_all, pass_all, free_all, look_at, get, get_in, sets, env, no, block_ptr, plain, heard, nothing, only, triple_of, says, Stays, stay_dropped, walk_of, ends_at, proved_at, fm, Goes-blank, Bx, D, R, P, B, word, box_typed, box_out, box_in}
+use Rattle.std.proofs.Common.{T, ◌++◌, subst}
 use mir.Syntax.{Body, place, copy, assign, rv_opd, seq, return}
-use mir.MapTy.{inst_fn}
-use mir.Val.{Val, vptr, has_ty, WT}
-use base.Logic.{SProp, ent, id⊢}
-use base.Fml.{ftrue, fsep, flft}
-use contract.BorrowLft.{◌⊑◌}
-use contract.Monad.{fact}
-use contract.Running.{tables}
-use prog.Wp.{WpFn}
-use types.Kit.{Item, at_ret, ‵, raw, ◌⊛◌, some, later, ◌$◌, ◌∵◌, !, qed, move, drop, use1, join, split, split3, pick, rewrite, fsplit, fjoin, feq_i, suffices, await, done}
-use types.Part.{whole, sub}
-use types.Run.{stop, fld, no_more, and_then, of_opd, returns, enter, first, blocks, exec}
-use types.ByLocal.{alloc_all, pass_all, free_all, look_at, get, get_in, sets, lands_last, env}
-use denote.Exit.{no}
-use denote.RawPtr.{block_ptr}
-use denote.Signature.{plain}
-use denote.Steps.{heard, nothing, only}
+use mir.Val.{WT}
+use types.ByLocal.{lands_last}
 use denote.Triple.Call.{calls_at_last}
-use denote.Triple.Spec.{triple_of}
-use denote.Triple.Walked.{says, Stays, stay_dropped, walk_of, ends_at}
-use Rattle.std.proofs.raw_atomic.Walks.{proved_at}
-use Rattle.core.proofs.atomic.Steps.{fm}
-use Rattle.core.proofs.alloc.Calls.{Goes-blank}
-use Rattle.std_alloc.proofs.BoxSteps.Form.{Bx, D, R, P, B, args, box_ty, word, box_typed}
-use Rattle.std_alloc.proofs.BoxSteps.Steps.{box_out, box_in}
+use Rattle.std_alloc.proofs.BoxSteps.Form.{args, box_ty}
 use Rattle.std_alloc.specs.contracts.boxed.Box.from_raw as closing
 use Rattle.std_alloc.proofs.boxed.Box.from_raw.Met.{met}
 use Rattle.gix_mailmap_c.specs.contracts.held.parts.Parts as parts

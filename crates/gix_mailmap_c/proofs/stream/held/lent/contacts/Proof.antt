@@ -1,46 +1,6 @@
 -- `contacts` lends the stream behind the pointer. After the borrow the handle has the state that the borrower left.
-use mathlib.Core.Path.{◌≡◌, refl, sym, ap, ◌∙◌}
-use mathlib.Core.List.{List, [], ◌∷◌, ◌++◌}
-use mathlib.Core.Bool.{true}
-use Prim.Native.Nat.{ℕ}
-use seplogic.Ra.Ura.{Ura}
-use base.Fraction.{full_share}
-use base.Logic.{SProp, ent, sep, fst∗, never}
-use base.Fml.{Fml, Lft, GName, Share, ftrue, fsep, flft}
-use mir.Syntax.{named}
-use mir.Val.{Val, vptr, vbool, vstruct, vcons, vnil, of_list}
-use mir.Raw.{raw as bare}
-use prog.Memory.{Memory}
-use prog.Routine.{Routine}
-use prog.Wp.{Env, WpFn, Tables}
-use types.Logic.{Logic, sem}
-use contract.Monad.{Fun, fact}
-use contract.Running.{tables, tables_of}
-use sound.WpLaws.{WpFn-mono}
-use types.Kit.{‵, raw, ◌⊛◌, some, later, at_ret, ◌$◌, ◌∵◌, !, qed, by, move, keep, use1, split, join, pick, await, group, fsplit, fsplit3, fjoin, feq_i, feq_l, fpick, fpack, rewrite, suffices, frame, done}
-use types.Part.{whole, sub, look_in}
-use types.Run.{stop, fld, load, of_opd, first, blocks, exec, returns, enter, addr}
-use types.ByLocal.{alloc_all, pass_all, free_all, look_at, get, through, sets, sets_last, env}
-use denote.Exit.{no}
-use denote.RattleType.{Valss}
-use denote.Memory.{part_at, mem, cell_at, part_of}
-use denote.Builtin.{bool}
-use denote.RawPtr.{Ptr, RawPtr, ptr_val, null_ptr, block_ptr, in_a_block}
-use denote.Ref.{MutRef, mut_vals, mut_Tells}
-use denote.Signature.{plain, mut_ref_to}
-use denote.Steps.{nothing, heard, opens}
-use denote.Struct.Struct.{within}
-use denote.Struct.Owning.{shape}
-use denote.Follow.{follows, Part, lends_Part}
-use denote.Triple.Spec.{triple_of}
-use denote.Triple.Table.{entered}
-use denote.Triple.Walked.{says, Stays, stay_dropped, walk_of, ends_at, walked, walk_Meets, Goes-spent_ref}
-use Rattle.std_alloc.specs.Box.Ownership.{box_owns}
-use Rattle.std_alloc.proofs.VecSteps.Shapes.{after}
-use Rattle.std_alloc.proofs.BoxSteps.Form.{τ}
-use Rattle.core.proofs.alloc.Calls.{handle_tells}
+use Rattle.gix_mailmap_c.proofs.Steps.{◌++◌, true, Ura, full_share, SProp, ent, sep, fst∗, never, Fml, Lft, GName, Share, ftrue, fsep, flft, named, Val, vptr, vbool, vstruct, vcons, vnil, of_list, bare, Memory, Routine, Env, WpFn, Tables, Logic, sem, Fun, fact, tables, tables_of, WpFn-mono, ‵, raw, ◌⊛◌, some, later, at_ret, ◌$◌, ◌∵◌, !, qed, by, move, keep, use1, split, join, pick, await, group, fsplit, fsplit3, fjoin, feq_i, feq_l, fpick, fpack, rewrite, suffices, frame, done, whole, sub, look_in, stop, fld, load, of_opd, first, blocks, exec, returns, enter, addr, alloc_all, pass_all, free_all, look_at, get, through, sets, sets_last, env, no, Valss, part_at, mem, cell_at, part_of, bool, Ptr, RawPtr, ptr_val, null_ptr, block_ptr, in_a_block, MutRef, mut_vals, mut_Tells, plain, mut_ref_to, nothing, heard, opens, within, shape, follows, Part, lends_Part, triple_of, entered, says, Stays, stay_dropped, walk_of, ends_at, walked, walk_Meets, Goes-spent_ref, box_owns, after, τ, handle_tells, ghosts, ◌≡◌, refl, sym, ap, ◌∙◌, List, [], ◌∷◌, ℕ}
 use Rattle.std_heap.specs.contracts.Global as Heap
-use Rattle.std_heap.specs.contracts.GlobalAllocator.TheImpl.{ghosts}
 use Rattle.gix_mailmap_c.specs.Streamed.{Pending}
 use Rattle.gix_mailmap_c.specs.contracts.stream.contacts.ContactQueue as ContactQueue
 use Rattle.gix_mailmap_c.specs.StreamOwnership.{owns_stream}

@@ -1,11 +1,7 @@
 use Rattle.std.proofs.Common.{◌≡◌, ◌∙◌, false, sym, true}
 use Rattle.mailmap_findings.specs.Positions.{line_of}
-use Rattle.mailmap_findings.proofs.Walking.{kept_marked, none_marked, other_marked}
+use Rattle.mailmap_findings.proofs.Walking.{kept_marked, other_marked}
 use Rattle.mailmap_findings.proofs.verify.walk.MarkedLinesIterator.next.Goals as goal
-
-pub invariant_of-self-in_default : goal.invariant_of-self-in_default
-invariant_of-self-in_default c =
-    (none_marked c.self.inside.kept.now c.self.inside.passed c.self.inside.lines c.next.new.self (line_of c.in_ok-line.line) c.in_ok-line.ensures.steps c.self.invariant c.in_default.ensures.lookup.3).1
 
 pub invariant_of-self-then-not-is_at : goal.invariant_of-self-then-not-is_at
 invariant_of-self-then-not-is_at c =

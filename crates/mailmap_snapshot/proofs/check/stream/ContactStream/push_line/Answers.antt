@@ -2,8 +2,7 @@ use Rattle.std.proofs.Common.{◌≡◌, ◌+◌, ◌++◌, ◌∙◌, List, [],
 use Rattle.mailmap_grammar.specs.Lines.{HoldsNo}
 use Rattle.mailmap_snapshot.specs.Contacts.{answers}
 use Rattle.mailmap_snapshot.specs.Streams.{AnswersFront, Stream}
-use Rattle.mailmap_snapshot.proofs.OneLine.{is_one}
-use Rattle.mailmap_snapshot.proofs.Streams.{ended, kept-front, kept-held, kept-len}
+use Rattle.mailmap_snapshot.proofs.Streams.{is_one, ended-front, kept-front, kept-held}
 use Rattle.mailmap_snapshot.proofs.check.stream.ContactStream.push_line.Goals as goal
 
 pub invariant_of-self-in_default : goal.invariant_of-self-in_default
@@ -14,9 +13,6 @@ invariant_of-self-in_default c = (
 
 pub end_line-requires-clause-one : goal.end_line-requires-clause-one
 end_line-requires-clause-one c = is_one c.args.part.now c.in-Some.feed c.in-Some.ensures
-
-pub returns-in_default-clause-takes : goal.returns-in_default-clause-takes
-returns-in_default-clause-takes c = kept-len c.args.part.now c.in_default.ensures
 
 pub returns-in_default-clause-answers : goal.returns-in_default-clause-answers
 returns-in_default-clause-answers c =
@@ -37,9 +33,6 @@ returns-in_default-clause-keeps c =
       ap (λ (v : Stream). v.mappings) c.self.view_is,
     )
 
-pub returns-clause-takes : goal.returns-clause-takes
-returns-clause-takes c = (ended c.args.self.now.mappings c.args.self.now.kept c.args.part.now c.in-Some.feed c.in-Some.ensures).len
-
 pub returns-clause-answers : goal.returns-clause-answers
 returns-clause-answers c =
     let s = c.args.self.now in
@@ -49,5 +42,5 @@ returns-clause-answers c =
       made,
       c.in_ok-end_line.ensures.ok ∙ ap (λ (v : Stream). c.args.text.now.items ++ answers v.mappings (v.kept ++ line)) c.self.view_is,
       subst (λ (l : List ℕ). AnswersFront s.mappings (s.kept ++ take (length line) part) made l) (sym c.in_ok-end_line.ensures.ended)
-          (ended s.mappings s.kept part c.in-Some.feed c.in-Some.ensures).front,
+          (ended-front s.mappings s.kept part c.in-Some.feed c.in-Some.ensures),
     )
