@@ -1,6 +1,7 @@
 #!/usr/bin/env bash
-# Refuses one allocation after another: those of the library's calls, which the program out_of_memory makes and checks,
-# and those of mailmap_check, mailmap_verify and mailmap_shortlog.
+# Refuses one allocation after another: those of the library's calls, which the program out_of_memory makes, and those
+# of mailmap_check, mailmap_verify and mailmap_shortlog. A refused call of the library must succeed when it is repeated.
+# Contracts say what it answers; what refused merges and lines leave is looked at, too.
 #
 # Each program is built once and run for many cases. The refused allocation always has the same number, so the cases
 # differ in how many allocations come before those under test. As many programs are built and run at a time as there are
@@ -135,7 +136,7 @@ start_program mailmap_check
 wait || true
 
 look_at out_of_memory
-[ "$(count 'run=ended status=0 ' "$said")" = "$runs" ] || fail "a call answered wrongly"
+[ "$(count 'run=ended status=0 ' "$said")" = "$runs" ] || fail "a call failed unrefused, or left something wrong"
 [ "$(sed -n 2p "$printed")" = "refused: nothing" ] || fail "the calls make more requests than are refused"
 
 # Each call was refused. `entries` never reports it, rightly, because its collect retries with less.

@@ -3,9 +3,9 @@
 
     streams.py MAILMAP_CHECK MAILMAP_VERIFY
 
-The first two must answer each line before the next one is written. Lines can have any length and recur. The peak for
-many contacts must stay below a bound, and below a multiple of the peak for few. A peak is the largest resident set, as
-bench/measure.c measures it.
+The first two must answer each line before more than the first byte of the next one is written. Lines can have any
+length and recur. The peak for many contacts must stay below a bound, and below a multiple of the peak for few. A peak
+is the largest resident set, as bench/measure.c measures it.
 """
 import os
 import subprocess
@@ -58,13 +58,20 @@ class Asked:
 
 
 def answered_in_turn(asked: Asked) -> None:
-    """Reads each answer before writing the next line. The last line has no line feed, and is answered at the end."""
+    """Writes a line and the first byte of the next one, and reads the answer before it writes more. One line is longer
+    than what is buffered. The last line has no line feed, and is answered at the end.
+    """
     limited = ["timeout", "60", *asked.command]
+    long = b"x" * 100_000
+    lines = [*asked.lines, (long + b"\n", long + asked.no_contact), *asked.lines]
+    text = b"".join(line for line, _ in lines) + b"jane <jane@X>"
+    end = 0
     with subprocess.Popen(limited, stdin=subprocess.PIPE, stdout=subprocess.PIPE, bufsize=0) as program:
-        for line, answer in asked.lines:
-            program.stdin.write(line)
+        for line, answer in lines:
+            program.stdin.write(text[end + (end > 0):end + len(line) + 1])
+            end += len(line)
             wants("a line and its answer", program.stdout.readline() if answer else b"", answer)
-        program.stdin.write(b"jane <jane@X>")
+        program.stdin.write(text[end + 1:])
         program.stdin.close()
         wants("the last line", program.stdout.read(), asked.jane)
         wants("the status", program.wait(), 0)

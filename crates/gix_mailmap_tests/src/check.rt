@@ -1,5 +1,5 @@
-use gix_mailmap::check::{check, split};
-use std::alloc::{AllocError, Global};
+use gix_mailmap::check::{check, compact, split};
+use std::alloc::AllocError;
 use std::process::Abort;
 
 /// Two mappings of one email: for everybody, and for one name.
@@ -12,64 +12,32 @@ pub(crate) fn assert_bytes(rt: &impl Abort, bytes: &[u8], want: &[u8]) {
     assert_eq!(rt; bytes, want);
 }
 
-fn assert_checked(
-    rt: &impl Abort,
-    alloc: Global,
-    buffers: &[&[u8]],
-    contacts: &[u8],
-    answers: &[u8],
-) -> Result<(), AllocError> {
-    let text = check(alloc, buffers, contacts)?;
-    assert_bytes(rt, &text, answers);
-    Ok(())
-}
-
-/// Later buffers override earlier ones.
+/// Later buffers override earlier ones. Contacts without a mapping are trimmed. Other lines stay as they are, except
+/// for their line ends.
 #[test]
 fn contacts_are_answered_by_the_buffers(rt: HostRuntime) -> Result<(), AllocError> {
-    static ROWS: [(&[&[u8]], &[u8], &[u8]); 4] = [
-        (
-            &[b"Joe R. Developer <joe@example.com> <bugs@example.com>\n"],
-            b"bob <BUGS@example.com>\n",
-            b"Joe R. Developer <joe@example.com>\n",
-        ),
+    static ROWS: [(&[&[u8]], &[u8], &[u8]); 5] = [
         (
             &[TEAM],
-            b"JANE <Bugs@example.com>\n",
-            b"Jane Doe <jane@example.com>\n",
-        ),
-        (
-            &[TEAM],
-            b"bob <BUGS@example.com>\nnot a contact\n",
-            b"Joe R. Developer <joe@example.com>\nnot a contact\n",
+            b"JANE <Bugs@example.com>\nbob <BUGS@example.com>\nnot a contact\n",
+            b"Jane Doe <jane@example.com>\nJoe R. Developer <joe@example.com>\nnot a contact\n",
         ),
         (&[b"N <a@x>", b"M <A@x>"], b"b <A@x>", b"M <a@x>\n"),
-    ];
-    for (buffers, contacts, answers) in &ROWS {
-        assert_checked(&rt, rt.alloc(), buffers, contacts, answers)?;
-    }
-    Ok(())
-}
-
-/// Contacts without a mapping are trimmed. Other lines stay as they are, except for their line ends.
-#[test]
-fn without_buffers_contacts_are_laid_out(rt: HostRuntime) -> Result<(), AllocError> {
-    static ROWS: [(&[u8], &[u8]); 3] = [
         (
+            &[],
             b"  Bob  < q@z > rest\r\n<>\n\nopen <x",
             b"Bob <q@z>\n<>\n\nopen <x\n",
         ),
-        (b"x\r\ny\r", b"x\ny\r\n"),
-        (b"", b""),
+        (&[], b"x\r\ny\r", b"x\ny\r\n"),
+        (&[], b"", b""),
     ];
-    for (contacts, answers) in &ROWS {
-        assert_checked(&rt, rt.alloc(), &[], contacts, answers)?;
+    for (buffers, contacts, answers) in &ROWS {
+        let text = check(rt.alloc(), buffers, contacts)?;
+        assert_bytes(&rt, &text, answers);
     }
+    let text = compact(rt.alloc(), &[b"N <a@x>", b"M <A@x>"])?;
+    assert_bytes(&rt, &text, b" M <a@x>\n");
     Ok(())
-}
-
-fn assert_parted(rt: &impl Abort, parts: (&[u8], &[u8]), want: (&[u8], &[u8])) {
-    assert_eq!(rt; parts, want);
 }
 
 /// A line `--` separates the input. With spaces around it, or a carriage return, it is another line.
@@ -83,6 +51,8 @@ fn split_parts_at_the_first_line_of_two_dashes(rt: HostRuntime) {
         (b"--\r", b"", b"--\r"),
     ];
     for (input, before, after) in &ROWS {
-        assert_parted(&rt, split(input), (before, after));
+        let parts = split(input);
+        assert_bytes(&rt, parts.0, before);
+        assert_bytes(&rt, parts.1, after);
     }
 }

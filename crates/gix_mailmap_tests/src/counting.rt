@@ -1,187 +1,104 @@
 use crate::check::assert_bytes;
-use crate::files::{SHELF, assert_paths, paths_of};
+use crate::files::{SHELF, paths_of};
 use crate::run::{
-    ALL, BLOCKED, BLOCKS, BREAKS, BROKEN, INTERRUPTED, ONE, Repeating, Sink, Source, Turn, repeated,
+    ALL, BLOCKED, BLOCKS, BREAKS, BROKEN, INTERRUPTED, ONE, Sink, Source, Turn, assert_written,
 };
+use crate::task::{NO_FIRST, NO_SECOND};
 use command_line::failure::Failure;
-use shortlog_command::task::{Mode, Options, Task, USAGE, UnknownOption, perform, task_of};
+use shortlog_command::task::{USAGE, UnknownOption, perform, task_of};
 use std::alloc::{AllocError, Global};
 use std::io::{ErrorKind, Read, Write};
-use std::process::Abort;
 
-const NONE: Mode = Mode::Shortlog(Options {
-    by_count: false,
-    with_email: false,
-});
-
-const BY_COUNT: Mode = Mode::Shortlog(Options {
-    by_count: true,
-    with_email: false,
-});
-
-const WITH_EMAIL: Mode = Mode::Shortlog(Options {
-    by_count: false,
-    with_email: true,
-});
-
-const BOTH: Mode = Mode::Shortlog(Options {
-    by_count: true,
-    with_email: true,
-});
-
-/// The first argument is the program's own name, whatever it is. Options are parsed from left to right, up to `--` or
-/// the first path, and short ones can be joined.
+/// The first unknown option is named, also if others follow.
 #[test]
-fn arguments_ask_for_a_shortlog_or_have_an_unknown_option(
-    rt: HostRuntime,
-) -> Result<(), AllocError> {
-    static ROWS: [(&[&str], Result<(Mode, &[&str]), UnknownOption<'static>>); 24] = [
-        (&[], Ok((NONE, &[]))),
-        (&["mailmap_shortlog"], Ok((NONE, &[]))),
-        (&["-n", "one"], Ok((NONE, &["one"]))),
-        (&["", "one", "two"], Ok((NONE, &["one", "two"]))),
-        (&["", "-n"], Ok((BY_COUNT, &[]))),
-        (&["", "-e", "one"], Ok((WITH_EMAIL, &["one"]))),
-        (&["", "-s", "one"], Ok((NONE, &["one"]))),
-        (&["", "-ne", "one"], Ok((BOTH, &["one"]))),
-        (&["", "-sen"], Ok((BOTH, &[]))),
-        (&["", "-e", "-s", "-nn"], Ok((BOTH, &[]))),
-        (&["", "-n", "--", "-e"], Ok((BY_COUNT, &["-e"]))),
-        (&["", "one", "-n", "--"], Ok((NONE, &["one", "-n", "--"]))),
-        (&["", "-"], Ok((NONE, &["-"]))),
-        (&["", "-n", ""], Ok((BY_COUNT, &[""]))),
-        (&["", "-n", "--help", "one"], Ok((Mode::Help, &[]))),
-        (&["", "-h", "--version"], Ok((Mode::Help, &[]))),
-        (&["", "-e", "--version", "-h"], Ok((Mode::Version, &[]))),
-        (&["", "one", "-h"], Ok((NONE, &["one", "-h"]))),
-        (&["", "-x", "--help"], Err(UnknownOption(b"-x"))),
-        (&["", "-n", "-nx", "one"], Err(UnknownOption(b"-nx"))),
-        (&["", "-hn"], Err(UnknownOption(b"-hn"))),
-        (&["", "---"], Err(UnknownOption(b"---"))),
-        (&["", "--email"], Err(UnknownOption(b"--email"))),
-        (&["", "-n-"], Err(UnknownOption(b"-n-"))),
+fn arguments_can_have_an_unknown_option(rt: HostRuntime) -> Result<(), AllocError> {
+    static ROWS: [(&[&str], &[u8]); 4] = [
+        (&["", "-x", "--help"], b"-x"),
+        (&["", "-n", "-nx", "one"], b"-nx"),
+        (&["", "---"], b"---"),
+        (&["", "--email"], b"--email"),
     ];
-    for (arguments, want) in &ROWS {
+    for (arguments, option) in &ROWS {
         let arguments = paths_of(rt.alloc(), arguments)?;
-        match (task_of(arguments.as_slice()), *want) {
-            (Ok(task), Ok((mode, paths))) => {
-                assert_eq!(rt; task.mode, mode);
-                let paths = paths_of(rt.alloc(), paths)?;
-                assert_paths(&rt, task.paths, paths.as_slice(), 0);
-            }
-            (Err(unknown), Err(wanted)) => assert_eq!(rt; unknown, wanted),
-            _ => assert!(rt; false),
-        }
+        let unknown = task_of(arguments.as_slice()).err();
+        assert_eq!(rt; unknown, Some(UnknownOption(option)));
     }
     Ok(())
 }
 
-/// Runs a task with the files of these names.
+/// Does what arguments ask for, with the files of [`SHELF`]. An unknown option fails as if memory ran out.
 fn performed<R: Read, W: Write>(
     alloc: Global,
-    mode: Mode,
-    names: &[&str],
+    arguments: &[&str],
     input: &mut R,
     output: &mut W,
 ) -> Result<(), Failure> {
-    let paths = paths_of(alloc, names)?;
-    let task = Task {
-        mode,
-        paths: paths.as_slice(),
+    let arguments = paths_of(alloc, arguments)?;
+    let Ok(task) = task_of(arguments.as_slice()) else {
+        return Err(Failure::Memory);
     };
     perform(&SHELF, alloc, task, input, output)
 }
 
-/// Each mode with the same contacts. A missing file keeps them from being counted.
+/// The first argument is the program's own name, whatever it is. Options are parsed from left to right, up to `--` or
+/// the first path, and short ones can be joined. A missing file keeps the contacts from being counted.
 #[test]
 fn contacts_are_counted_by_the_files(rt: HostRuntime) {
-    static ROWS: [(Mode, &[&str], Result<(), Failure>, &[u8]); 7] = [
-        (NONE, &["mailmap"], Ok(()), b"     2\tM\n     1\tb\n"),
+    static ROWS: [(&[&str], Result<(), Failure>, &str); 12] = [
+        (&[], Ok(()), "     1\ta\n     2\tb\n"),
+        (&["-n"], Ok(()), "     1\ta\n     2\tb\n"),
+        (&["", "mailmap"], Ok(()), "     2\tM\n     1\tb\n"),
+        (&["", "-n", "--"], Ok(()), "     2\tb\n     1\ta\n"),
+        (&["", "-s", "-nn", "one"], Ok(()), "     2\tb\n     1\ta\n"),
         (
-            BY_COUNT,
-            &["one", "mailmap"],
+            &["", "-e", "one", "mailmap"],
             Ok(()),
-            b"     2\tM\n     1\tb\n",
+            "     2\tM <m@y>\n     1\tb <b@x>\n",
         ),
         (
-            WITH_EMAIL,
-            &["mailmap"],
+            &["", "-sen"],
             Ok(()),
-            b"     2\tM <m@y>\n     1\tb <b@x>\n",
+            "     1\ta <a@x>\n     1\tb <A@x>\n     1\tb <b@x>\n",
         ),
-        (NONE, &[], Ok(()), b"     1\ta\n     2\tb\n"),
-        (BY_COUNT, &[], Ok(()), b"     2\tb\n     1\ta\n"),
-        (
-            BOTH,
-            &[],
-            Ok(()),
-            b"     1\ta <a@x>\n     1\tb <A@x>\n     1\tb <b@x>\n",
-        ),
-        (
-            NONE,
-            &["mailmap", "three"],
-            Err(Failure::File {
-                number: 2,
-                cause: ErrorKind::NotFound,
-            }),
-            b"",
-        ),
+        (&["", "-n", "--", "-e"], Err(NO_FIRST), ""),
+        (&["", "mailmap", "-h"], Err(NO_SECOND), ""),
+        (&["", "-"], Err(NO_FIRST), ""),
+        (&["", "-n", "-h", "--version", "three"], Ok(()), USAGE),
+        (&["", "--version", "-h"], Ok(()), "mailmap_shortlog 0.1.0\n"),
     ];
-    for (mode, names, ended, want) in &ROWS {
+    for (arguments, ended, want) in &ROWS {
         let mut input: &[u8] = b"b <A@x>\r\n\nno contact\n a <a@x> end\nb <b@x>";
         let mut output = Vec::new(rt.alloc());
-        let end = performed(rt.alloc(), *mode, names, &mut input, &mut output);
+        let end = performed(rt.alloc(), arguments, &mut input, &mut output);
         assert_eq!(rt; end, *ended);
-        assert_bytes(&rt, &output, want);
+        assert_bytes(&rt, &output, want.as_bytes());
     }
 }
 
-/// For the usage, neither files nor the input are read.
-#[test]
-fn help_reads_nothing(rt: HostRuntime) {
-    let mut input: &[u8] = b"a <a>";
-    let mut output = Vec::new(rt.alloc());
-    let end = performed(rt.alloc(), Mode::Help, &["three"], &mut input, &mut output);
-    assert_eq!(rt; end, Ok(()));
-    assert_bytes(&rt, &output, USAGE.as_bytes());
-    assert_eq!(rt; input.len(), 5);
-}
-
-/// Reads can split lines anywhere. A failed read ends the run before anything is written; an interrupted one is
-/// repeated.
+/// Reads can split lines anywhere. A failed read ends the run before anything is written, and so does one that would
+/// block; an interrupted one is repeated.
 #[test]
 fn contacts_may_come_in_any_parts(rt: HostRuntime) {
-    static ROWS: [(&[u8], &[Turn], Result<(), Failure>, &[u8]); 6] = [
-        (
-            b"a <a>\nb <",
-            &[ONE, ONE, ONE, ONE, ONE, ONE, ONE, ONE, ONE, ONE],
-            Ok(()),
-            b"     1\ta\n",
-        ),
-        (
-            b"a <a>\na <b>",
-            &[Turn::Moves(8), Turn::Fails(ErrorKind::Interrupted), ALL],
-            Ok(()),
-            b"     2\ta\n",
-        ),
-        (b"a <a>\na <b>", &[ALL, BREAKS], Err(BROKEN), b""),
-        (b"a <a>\n", &[Turn::Moves(3), BREAKS], Err(BROKEN), b""),
-        (b"a <a>", &[BREAKS], Err(BROKEN), b""),
-        (b"", &[], Ok(()), b""),
+    static ROWS: [(&[Turn], Result<(), Failure>, &[u8]); 7] = [
+        (&[ONE; 10], Ok(()), b"     1\ta\n"),
+        (&[Turn::Moves(8), INTERRUPTED, ALL], Ok(()), b"     2\ta\n"),
+        (&[ALL, BREAKS], Err(BROKEN), b""),
+        (&[Turn::Moves(3), BREAKS], Err(BROKEN), b""),
+        (&[BREAKS], Err(BROKEN), b""),
+        (&[ALL, INTERRUPTED, BLOCKS], Err(BLOCKED), b""),
+        (&[], Ok(()), b""),
     ];
-    for (contacts, turns, ended, want) in &ROWS {
-        let mut input = Source {
-            bytes: contacts,
-            turns,
-        };
+    for (turns, ended, want) in &ROWS {
+        let bytes = b"a <a>\na <b>";
+        let mut input = Source { bytes, turns };
         let mut output = Vec::new(rt.alloc());
-        let end = performed(rt.alloc(), NONE, &[], &mut input, &mut output);
+        let end = performed(rt.alloc(), &[], &mut input, &mut output);
         assert_eq!(rt; end, *ended);
         assert_bytes(&rt, &output, want);
     }
 }
 
-/// If a write fails, a prefix of the shortlog was written.
+/// If a write fails, a prefix of the shortlog was written. At the end, all is flushed.
 #[test]
 fn a_writer_that_fails_holds_a_front_of_the_shortlog(rt: HostRuntime) {
     static ROWS: [(&[Turn], Turn, Result<(), Failure>, &[u8]); 4] = [
@@ -198,27 +115,8 @@ fn a_writer_that_fails_holds_a_front_of_the_shortlog(rt: HostRuntime) {
     for (turns, flush, ended, want) in &ROWS {
         let mut input: &[u8] = b"a <a>";
         let mut output = Sink::new(rt.alloc(), turns, *flush);
-        let end = performed(rt.alloc(), NONE, &[], &mut input, &mut output);
+        let end = performed(rt.alloc(), &[], &mut input, &mut output);
         assert_eq!(rt; end, *ended);
-        assert_bytes(&rt, &output.taken, want);
+        assert_written(&rt, &output, want, end.is_err());
     }
-}
-
-/// An input may come byte by byte, with an interrupted read before each byte. A read that would block is a failure.
-#[test]
-fn only_interrupted_reads_are_repeated(rt: HostRuntime) -> Result<(), AllocError> {
-    static ROWS: [(&[Turn], Result<(), Failure>, &[u8]); 3] = [
-        (&[INTERRUPTED, ONE], Ok(()), b"  8000\tM\n  8000\tb\n"),
-        (&[BLOCKS], Err(BLOCKED), b""),
-        (&[INTERRUPTED, ALL, BLOCKS], Err(BLOCKED), b""),
-    ];
-    let contacts = repeated(rt.alloc(), b"", b"b <A@x>\nb <b@x>\n", 8_000)?;
-    for (turns, ended, want) in &ROWS {
-        let mut input = Repeating::new(contacts.as_slice(), turns);
-        let mut output = Vec::new(rt.alloc());
-        let end = performed(rt.alloc(), NONE, &["mailmap"], &mut input, &mut output);
-        assert_eq!(rt; end, *ended);
-        assert_bytes(&rt, &output, want);
-    }
-    Ok(())
 }

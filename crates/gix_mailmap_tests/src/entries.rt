@@ -53,7 +53,3 @@ pub(crate) fn snapshot_of_rows(alloc: Global, rows: &[Row]) -> Result<Snapshot, 
     let entries = entries_of(alloc, rows)?;
     snapshot_of(alloc, &entries)
 }
-
-pub(crate) fn assert_str(rt: &impl Abort, text: &str, want: &str) {
-    assert_eq!(rt; text, want);
-}

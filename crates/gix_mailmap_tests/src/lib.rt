@@ -6,19 +6,11 @@
 #[cfg(test)]
 mod check;
 #[cfg(test)]
-mod compaction;
-#[cfg(test)]
-mod contacts;
-#[cfg(test)]
 mod counting;
 #[cfg(test)]
 mod entries;
 #[cfg(test)]
-mod explaining;
-#[cfg(test)]
 mod explanations;
-#[cfg(test)]
-mod failure;
 #[cfg(test)]
 mod files;
 #[cfg(test)]
@@ -28,7 +20,7 @@ mod listings;
 #[cfg(test)]
 mod lookups;
 #[cfg(test)]
-mod many;
+mod memory;
 #[cfg(test)]
 mod needs;
 #[cfg(test)]
@@ -36,22 +28,14 @@ mod printer;
 #[cfg(test)]
 mod repeats;
 #[cfg(test)]
-mod report;
-#[cfg(test)]
 mod resolve;
 #[cfg(test)]
 mod run;
-#[cfg(test)]
-mod settings;
 pub mod shelf;
-#[cfg(test)]
-mod sources;
 #[cfg(test)]
 mod stream;
 #[cfg(test)]
 mod suggested;
-#[cfg(test)]
-mod suggesting;
 #[cfg(test)]
 mod task;
 #[cfg(test)]

@@ -1,11 +1,9 @@
 use crate::check::assert_bytes;
-use command_line::files::list_of;
-use mailmap_contacts::answers::Tally;
 use mailmap_contacts::counter::{ContactCounter, Contacts};
 use mailmap_entries::Entry;
 use mailmap_suggestions::git_answers::other_git_answers;
-use mailmap_suggestions::suggestions::{Suggestion, suggest};
-use mailmap_suggestions::text::{push_count, push_entry};
+use mailmap_suggestions::suggestions::suggest;
+use mailmap_suggestions::text::{push_count, push_entry, push_suggestion};
 use std::alloc::{AllocError, Global};
 use std::process::Abort;
 
@@ -18,7 +16,7 @@ fn assert_line(
 ) -> Result<(), AllocError> {
     let mut text = Vec::new(alloc);
     push_entry(&mut text, &entry, needs_review)?;
-    assert_eq!(rt; text.as_slice(), want);
+    assert_bytes(rt, &text, want);
     Ok(())
 }
 
@@ -40,17 +38,8 @@ fn counted_answers_are_comments(rt: HostRuntime) -> Result<(), AllocError> {
     let mut text = Vec::new(rt.alloc());
     push_count(&mut text, 12, b"Jane", b"jane@x", false)?;
     push_count(&mut text, 1, b"", b"JANE@x", true)?;
-    let want: &[u8] = b"# 12 Jane <jane@x>\n# 1 <JANE@x> by git\n";
-    assert_eq!(rt; text.as_slice(), want);
+    assert_bytes(&rt, &text, b"# 12 Jane <jane@x>\n# 1 <JANE@x> by git\n");
     Ok(())
-}
-
-fn copied(alloc: Global, texts: &[&[u8]]) -> Result<Vec<Vec<u8>>, AllocError> {
-    let mut copies = Vec::new(alloc);
-    for text in texts {
-        copies.push(Vec::from_slice(alloc, text)?)?;
-    }
-    Ok(copies)
 }
 
 /// The contacts in these lines.
@@ -62,172 +51,64 @@ fn counted(alloc: Global, lines: &[&[u8]]) -> Result<Contacts, AllocError> {
     counter.into_contacts()
 }
 
-fn push_counts(
-    text: &mut Vec<u8>,
-    answers: &[Tally<'_>],
-    are_gits: bool,
-) -> Result<(), AllocError> {
-    for answer in answers {
-        push_count(text, answer.seen.count, answer.name, answer.email, are_gits)?;
-    }
-    Ok(())
-}
-
-fn push_suggestion(text: &mut Vec<u8>, suggestion: &Suggestion<'_>) -> Result<(), AllocError> {
-    push_counts(text, suggestion.answers.as_slice(), false)?;
-    push_counts(text, suggestion.git_answers.as_slice(), true)?;
-    for entry in &suggestion.entries {
-        push_entry(text, entry, suggestion.needs_review)?;
-    }
-    Ok(())
-}
-
-fn assert_suggested(
-    rt: &impl Abort,
-    alloc: Global,
-    mailmaps: &[&[u8]],
-    lines: &[&[u8]],
-    want: &[u8],
-) -> Result<(), AllocError> {
-    let mailmaps = copied(alloc, mailmaps)?;
-    let buffers = list_of(alloc, mailmaps.as_slice())?;
-    let contacts = counted(alloc, lines)?;
-    let suggestions = suggest(alloc, buffers.as_slice(), &contacts)?;
-    let mut text = Vec::new(alloc);
-    for suggestion in &suggestions {
-        push_suggestion(&mut text, suggestion)?;
-    }
-    assert_bytes(rt, &text, want);
-    Ok(())
-}
-
-/// The most frequent answer is suggested. One with a name is preferred, and then the first one. Answers without an
-/// email share nothing.
-#[test]
-fn an_email_gets_the_most_frequent_answer(rt: HostRuntime) -> Result<(), AllocError> {
-    static ROWS: [(&[&[u8]], &[u8]); 6] = [
-        (
-            &[b"jane <jane@x>", b"Jane Doe <jane@x>", b"Jane Doe <jane@x>"],
-            b"# 2 Jane Doe <jane@x>\n# 1 jane <jane@x>\nJane Doe <jane@x>\n",
-        ),
-        (
-            &[b"<a@x>", b"<a@x>", b"J <a@x>"],
-            b"# 2 <a@x>\n# 1 J <a@x>\nJ <a@x>\n",
-        ),
-        (
-            &[b"j <a@x>", b"J <a@x>"],
-            b"# 1 j <a@x>\n# 1 J <a@x>\nj <a@x>\n",
-        ),
-        (
-            &[b"<a@x>", b"<A@x>"],
-            b"# 1 <a@x>\n# 1 <A@x>\n<a@x> <a@x>\n",
-        ),
-        (
-            &[b"#1 <a@x>", b"#1 <a@x>", b"1 <a@x>"],
-            b"# 2 #1 <a@x>\n# 1 1 <a@x>\n #1 <a@x>\n",
-        ),
-        (
-            &[b"Jane <jane@x>", b"J <>", b"K <>", b"p", b"Joe <joe@x>"],
-            b"",
-        ),
-    ];
-    for (lines, want) in &ROWS {
-        assert_suggested(&rt, rt.alloc(), &[], lines, want)?;
-    }
-    Ok(())
-}
-
-/// Entries take what mailmaps say into account. Answers that share a name come after those that share an email, as if
-/// the entries for these were there, and need a look first.
+/// The most frequent answer is suggested, or one with a name, or the first one, and its entries take into account what
+/// mailmaps say. git keeps an email as a contact spells it, unless an entry replaces it. Answers that share a name come
+/// after those that share an email, and need a look first.
 #[test]
 fn mailmaps_get_the_entries_that_they_lack(rt: HostRuntime) -> Result<(), AllocError> {
-    static ROWS: [(&[&[u8]], &[&[u8]], &[u8]); 7] = [
-        (&[b"Ann <a@x>"], &[b"ann <a@x>", b"A. <a@x>"], b""),
-        (&[b"Bob <bob@x>"], &[b"bob <bob@x>", b"Ann <a@x>"], b""),
+    static ROWS: [(&[&[u8]], &[&[u8]], &[u8]); 5] = [
+        (&[], &[b"J <>", b"K <>", b"p", b"Joe <joe@x>"], b""),
         (
-            &[b"Bob <bob@x> bob <a@x>"],
-            &[b"bob <a@x>", b"Bo <bob@x>"],
-            b"# 1 Bob <bob@x>\n# 1 Bo <bob@x>\nBob <bob@x>\n",
+            &[],
+            &[b"<a@x>", b"<a@x>", b"J <a@x>"],
+            b"# 2 <a@x>\n# 1 J <a@x>\nJ <a@x>\n\n",
         ),
         (
             &[b"Ann <ann@x> bob <a@x>", b"Cid <ann@x>"],
             &[b"bob <a@x>", b"bo <ann@x>", b"Cid <ann@x>"],
-            b"# 2 Cid <ann@x>\n# 1 Ann <ann@x>\nCid <ann@x> bob <a@x>\n",
+            b"# 2 Cid <ann@x>\n# 1 Ann <ann@x>\nCid <ann@x> bob <a@x>\n\n",
         ),
         (
             &[],
             &[b"Ann <a@x>", b"Ann <a@x>", b"Ann L <a@x>", b"ann <b@y>"],
-            b"# 2 Ann <a@x>\n# 1 Ann L <a@x>\nAnn <a@x>\n# 3 Ann <a@x>\n# 1 ann <b@y>\n#?Ann <a@x> <b@y>\n",
+            b"# 2 Ann <a@x>\n# 1 Ann L <a@x>\nAnn <a@x>\n\n# 3 Ann <a@x>\n# 1 ann <b@y>\n#?Ann <a@x> <b@y>\n\n",
         ),
         (
-            &[b"Z <z@x> <a@x>", b"Z <y@x> <b@x>"],
-            &[b"a <a@x>", b"b <b@x>", b"b <b@x>"],
-            b"# 2 Z <y@x>\n# 1 Z <z@x>\n#?Z <y@x> <a@x>\n",
-        ),
-        (
-            &[b"ann < d@x>"],
-            &[b"Ann <d@x>"],
-            b"# 1 ann <d@x>\n# 1 Ann <d@x> by git\nann <d@x>\n",
+            &[b"N <n@x>"],
+            &[b"n <N@x>", b"m <n@x>", b"M <n@x>"],
+            b"# 3 N <n@x>\n# 1 N <N@x> by git\nN <n@x> <N@x>\n\n",
         ),
     ];
     for (mailmaps, lines, want) in &ROWS {
-        assert_suggested(&rt, rt.alloc(), mailmaps, lines, want)?;
+        let contacts = counted(rt.alloc(), lines)?;
+        let suggestions = suggest(rt.alloc(), mailmaps, &contacts)?;
+        let mut text = Vec::new(rt.alloc());
+        for suggestion in &suggestions {
+            push_suggestion(&mut text, suggestion)?;
+        }
+        assert_bytes(&rt, &text, want);
     }
-    Ok(())
-}
-
-/// git keeps an email as a contact spells it, unless an entry replaces it. The suggested entry does that.
-#[test]
-fn git_is_made_to_give_the_same_answer(rt: HostRuntime) -> Result<(), AllocError> {
-    static ROWS: [(&[&[u8]], &[u8]); 2] = [
-        (
-            &[b"n <N@x>", b"m <n@x>", b"M <n@x>"],
-            b"# 3 N <n@x>\n# 1 N <N@x> by git\nN <n@x> <N@x>\n",
-        ),
-        (&[b"n <n@x>", b"m <n@x>"], b""),
-    ];
-    for (lines, want) in &ROWS {
-        assert_suggested(&rt, rt.alloc(), &[b"N <n@x>"], lines, want)?;
-    }
-    Ok(())
-}
-
-fn assert_other_answers(
-    rt: &impl Abort,
-    alloc: Global,
-    mailmaps: &[&[u8]],
-    lines: &[&[u8]],
-    want: &[u8],
-) -> Result<(), AllocError> {
-    let mailmaps = copied(alloc, mailmaps)?;
-    let buffers = list_of(alloc, mailmaps.as_slice())?;
-    let contacts = counted(alloc, lines)?;
-    let others = other_git_answers(alloc, buffers.as_slice(), &contacts)?;
-    let mut text = Vec::new(alloc);
-    push_counts(&mut text, others.as_slice(), true)?;
-    assert_bytes(rt, &text, want);
     Ok(())
 }
 
 /// Each distinct contact that git answers otherwise has its own count, in the order of the contacts.
 #[test]
 fn other_answers_of_git_are_in_the_order_of_contacts(rt: HostRuntime) -> Result<(), AllocError> {
-    static ROWS: [(&[&[u8]], &[&[u8]], &[u8]); 4] = [
-        (
-            &[b"N <n@x>", b"ann < d@x>"],
-            &[b"Ann <d@x>", b"n <N@x>", b"m <n@x>", b"n <N@x>"],
-            b"# 1 Ann <d@x> by git\n# 2 N <N@x> by git\n",
-        ),
-        (
-            &[b"N <n@x>"],
-            &[b"n <N@X>", b"m <N@X>"],
-            b"# 1 N <N@X> by git\n# 1 N <N@X> by git\n",
-        ),
-        (&[b"N <n@x> <n@x>"], &[b"n <N@x>", b"p"], b""),
-        (&[], &[b"n <N@x>"], b""),
-    ];
-    for (mailmaps, lines, want) in &ROWS {
-        assert_other_answers(&rt, rt.alloc(), mailmaps, lines, want)?;
+    let lines: [&[u8]; 5] = [b"Ann <d@x>", b"n <N@x>", b"m <n@x>", b"n <N@x>", b"m <N@x>"];
+    let contacts = counted(rt.alloc(), &lines)?;
+    let mailmaps: [&[u8]; 2] = [b"N <n@x>", b"ann < d@x>"];
+    let others = other_git_answers(rt.alloc(), &mailmaps, &contacts)?;
+    let mut text = Vec::new(rt.alloc());
+    for answer in &others {
+        push_count(
+            &mut text,
+            answer.seen.count,
+            answer.name,
+            answer.email,
+            true,
+        )?;
     }
+    let want: &[u8] = b"# 1 Ann <d@x> by git\n# 2 N <N@x> by git\n# 1 N <N@x> by git\n";
+    assert_bytes(&rt, &text, want);
     Ok(())
 }

@@ -1,157 +1,19 @@
 use crate::check::assert_bytes;
-use crate::contacts::performed_on;
-use crate::files::{assert_paths, paths_of};
-use crate::run::{
-    self, ALL, Asker, BLOCKS, BREAKS, FlushCounter, INTERRUPTED, ONE, Repeating, Sink, Source,
-    Turn, assert_count, assert_flushed, repeated,
-};
+use crate::files::{SHELF, paths_of};
+use crate::run::{self, ALL, BLOCKS, BREAKS, INTERRUPTED, ONE, Sink, Source, Turn, assert_written};
+use crate::task;
 use command_line::failure::Failure;
 use command_line::outcome::Outcome;
 use gix_mailmap::verify::Position;
 use std::alloc::{AllocError, Global};
-use std::cell::Cell;
 use std::io::{ErrorKind, Read, Write};
 use std::process::Abort;
 use verify_command::failure::TaskFailure;
-use verify_command::kinds::{Kind, Level};
-use verify_command::task::{Format, Misuse, Mode, ParseError, Setting, USAGE, request_of};
-
-/// The first argument is the program's own name, whatever it is. Options may come after paths, up to `--`.
-#[test]
-fn arguments_ask_for_a_task(rt: HostRuntime) -> Result<(), AllocError> {
-    static ROWS: [(&[&str], Mode, &[&str]); 28] = [
-        (&[], Mode::Verify, &[]),
-        (&["mailmap_verify"], Mode::Verify, &[]),
-        (&["--prune", "one"], Mode::Verify, &["one"]),
-        (&["", "one", "two"], Mode::Verify, &["one", "two"]),
-        (&["", "one", "--prune"], Mode::Prune, &["one"]),
-        (&["", "one", "--help"], Mode::Help, &[]),
-        (&["", "one", "--"], Mode::Verify, &["one"]),
-        (&["", "--", "one"], Mode::Verify, &["one"]),
-        (&["", "--", "--prune"], Mode::Verify, &["--prune"]),
-        (&["", "--", "--", "-x"], Mode::Verify, &["--", "-x"]),
-        (
-            &["", "one", "--explain", "--", "-S"],
-            Mode::Explain,
-            &["one", "-S"],
-        ),
-        (&["", "-"], Mode::Verify, &[]),
-        (&["", "--", "-"], Mode::Verify, &[]),
-        (&["", "-", "one"], Mode::Verify, &["-", "one"]),
-        (&["", "one", "-"], Mode::Verify, &["one", "-"]),
-        (&["", ""], Mode::Verify, &[""]),
-        (&["", "--prune"], Mode::Prune, &[]),
-        (&["", "-", "--prune"], Mode::Prune, &[]),
-        (&["", "--prune", "--", "-x"], Mode::Prune, &["-x"]),
-        (&["", "--prune", "one", "-h"], Mode::Help, &[]),
-        (&["", "-h", "--version"], Mode::Help, &[]),
-        (&["", "--version", "-h", "one"], Mode::Version, &[]),
-        (&["", "--prune", "--version"], Mode::Version, &[]),
-        (&["", "-h", "-x"], Mode::Help, &[]),
-        (
-            &["", "--explain", "one", "two"],
-            Mode::Explain,
-            &["one", "two"],
-        ),
-        (&["", "--explain", "-"], Mode::Explain, &["-"]),
-        (
-            &["", "--stdin-name", "--prune", "one"],
-            Mode::Verify,
-            &["one"],
-        ),
-        (&["", "-e", "no-effect", "-"], Mode::Verify, &[]),
-    ];
-    for (arguments, mode, paths) in &ROWS {
-        let arguments = paths_of(rt.alloc(), arguments)?;
-        let paths = paths_of(rt.alloc(), paths)?;
-        match request_of(rt.alloc(), arguments) {
-            Ok(request) => {
-                assert_eq!(rt; request.mode, *mode);
-                assert!(rt; request.contacts.is_empty());
-                assert_paths(&rt, request.paths.as_slice(), paths.as_slice(), 0);
-            }
-            Err(_) => assert!(rt; false),
-        }
-    }
-    Ok(())
-}
-
-/// The values of options, which are the next argument, whatever it looks like, or come after a `=`.
-#[test]
-fn options_choose_what_is_reported(rt: HostRuntime) -> Result<(), AllocError> {
-    static ROWS: [(
-        &[&str],
-        Option<Level>,
-        &[Kind],
-        Option<Format>,
-        Option<&str>,
-    ); 12] = [
-        (&[""], None, &[], None, None),
-        (&["", "-S", "error"], Some(Level::Error), &[], None, None),
-        (
-            &["", "one", "--severity", "note"],
-            Some(Level::Note),
-            &[],
-            None,
-            None,
-        ),
-        (
-            &["", "--severity=warning", "-S", "error", "--", "-S", "note"],
-            Some(Level::Error),
-            &[],
-            None,
-            None,
-        ),
-        (
-            &["", "-e", "no-effect,git-reads"],
-            None,
-            &[Kind::NoEffect, Kind::GitReads],
-            None,
-            None,
-        ),
-        (
-            &["", "--exclude", "same-name", "--exclude=no-contact"],
-            None,
-            &[Kind::SameName, Kind::NoContact],
-            None,
-            None,
-        ),
-        (&["", "-f", "json"], None, &[], Some(Format::Json), None),
-        (&["", "--format=gcc"], None, &[], Some(Format::Gcc), None),
-        (
-            &["", "--format", "json", "-f", "gcc"],
-            None,
-            &[],
-            Some(Format::Gcc),
-            None,
-        ),
-        (&["", "--stdin-name", "-S"], None, &[], None, Some("-S")),
-        (&["", "--stdin-name=a=b"], None, &[], None, Some("a=b")),
-        (&["", "--stdin-name="], None, &[], None, Some("")),
-    ];
-    for (arguments, severity, excluded, format, name) in &ROWS {
-        let arguments = paths_of(rt.alloc(), arguments)?;
-        match request_of(rt.alloc(), arguments) {
-            Ok(request) => {
-                let settings = &request.settings;
-                assert_eq!(rt; settings.severity, *severity);
-                assert!(rt; settings.excluded.as_slice() == *excluded);
-                assert_eq!(rt; settings.format, *format);
-                match (&settings.stdin_name, name) {
-                    (Some(given), Some(want)) => assert_bytes(&rt, given, want.as_bytes()),
-                    (None, None) => {}
-                    _ => assert!(rt; false),
-                }
-            }
-            Err(_) => assert!(rt; false),
-        }
-    }
-    Ok(())
-}
+use verify_command::task::{Misuse, Mode, ParseError, Setting, USAGE, perform, request_of};
 
 /// What is wrong with arguments, and the argument or value that it is about.
 #[derive(Clone, Copy)]
-pub(crate) enum Wrong {
+enum Wrong {
     Unknown,
     SecondMode,
     NoValue(Setting),
@@ -160,7 +22,7 @@ pub(crate) enum Wrong {
 }
 
 /// Asserts that arguments are a misuse.
-pub(crate) fn assert_misuse(
+fn assert_misuse(
     rt: &impl Abort,
     alloc: Global,
     arguments: &[&str],
@@ -191,61 +53,32 @@ pub(crate) fn assert_misuse(
     Ok(())
 }
 
-/// The first error counts.
+/// The first error counts. An option may come after paths.
 #[test]
 fn wrong_arguments_are_a_misuse(rt: HostRuntime) -> Result<(), AllocError> {
-    static ROWS: [(&[&str], Wrong, &str); 26] = [
+    static ROWS: [(&[&str], Wrong, &str); 9] = [
         (&["", "--foo", "--help"], Wrong::Unknown, "--foo"),
-        (&["", "--prune", "-x"], Wrong::Unknown, "-x"),
-        (&["", "one", "-x"], Wrong::Unknown, "-x"),
-        (&["", "---"], Wrong::Unknown, "---"),
-        (&["", "-Serror"], Wrong::Unknown, "-Serror"),
-        (&["", "-S=error"], Wrong::Unknown, "-S=error"),
-        (&["", "--prune=one"], Wrong::Unknown, "--prune=one"),
-        (&["", "--foo=one"], Wrong::Unknown, "--foo=one"),
-        (&["", "--prune", "--prune"], Wrong::SecondMode, "--prune"),
+        (&["", "one", "-S=error"], Wrong::Unknown, "-S=error"),
         (
-            &["", "--prune", "one", "--explain"],
+            &["", "--prune", "--explain"],
             Wrong::SecondMode,
             "--explain",
         ),
-        (&["", "-S"], Wrong::NoValue(Setting::Severity), "-S"),
         (
-            &["", "--exclude"],
-            Wrong::NoValue(Setting::Exclude),
-            "--exclude",
+            &["", "--contacts", "c", "--suggest=c"],
+            Wrong::SecondMode,
+            "--suggest=c",
         ),
-        (&["", "-f"], Wrong::NoValue(Setting::Format), "-f"),
+        (&["", "one", "-S"], Wrong::NoValue(Setting::Severity), "-S"),
         (
-            &["", "one", "--stdin-name"],
-            Wrong::NoValue(Setting::StdinName),
-            "--stdin-name",
-        ),
-        (
-            &["", "-S", "fatal"],
-            Wrong::UnknownValue(Setting::Severity),
-            "fatal",
-        ),
-        (
-            &["", "--severity="],
-            Wrong::UnknownValue(Setting::Severity),
-            "",
+            &["", "--suggest"],
+            Wrong::NoValue(Setting::Suggest),
+            "--suggest",
         ),
         (
             &["", "-e", "no-effect,foo,bar"],
             Wrong::UnknownValue(Setting::Exclude),
             "foo",
-        ),
-        (&["", "-e", ""], Wrong::UnknownValue(Setting::Exclude), ""),
-        (
-            &["", "-e", "no-effect,"],
-            Wrong::UnknownValue(Setting::Exclude),
-            "",
-        ),
-        (
-            &["", "--format=xml"],
-            Wrong::UnknownValue(Setting::Format),
-            "xml",
         ),
         (
             &["", "--prune", "-S", "error", "-x"],
@@ -253,26 +86,10 @@ fn wrong_arguments_are_a_misuse(rt: HostRuntime) -> Result<(), AllocError> {
             "",
         ),
         (
-            &["", "-e", "no-effect", "--prune"],
-            Wrong::Unused(Mode::Prune, Setting::Exclude),
+            &["", "--suggest", "c", "--stdin-name", "n"],
+            Wrong::Unused(Mode::Suggest, Setting::StdinName),
             "",
         ),
-        (
-            &["", "--explain", "-f", "gcc"],
-            Wrong::Unused(Mode::Explain, Setting::Format),
-            "",
-        ),
-        (
-            &["", "--stdin-name", "x", "--explain"],
-            Wrong::Unused(Mode::Explain, Setting::StdinName),
-            "",
-        ),
-        (
-            &["", "--suggest", "c", "-S", "note"],
-            Wrong::Unused(Mode::Suggest, Setting::Severity),
-            "",
-        ),
-        (&["", "-x", "--prune", "-S", "error"], Wrong::Unknown, "-x"),
     ];
     for (arguments, wrong, about) in &ROWS {
         assert_misuse(&rt, rt.alloc(), arguments, *wrong, about)?;
@@ -280,297 +97,453 @@ fn wrong_arguments_are_a_misuse(rt: HostRuntime) -> Result<(), AllocError> {
     Ok(())
 }
 
-/// Runs a task with the files of these names. Contacts come from standard input.
-pub(crate) fn performed<R: Read, W: Write>(
+const FOUND: Result<Outcome, TaskFailure> = Ok(Outcome::Found);
+
+const CLEAN: Result<Outcome, TaskFailure> = Ok(Outcome::Clean);
+
+/// The failure that [`BREAKS`] causes on standard input.
+const BROKEN: Result<Outcome, TaskFailure> = Err(TaskFailure::Run(run::BROKEN));
+
+/// The failure that [`BLOCKS`] causes on standard input.
+const BLOCKED: Result<Outcome, TaskFailure> = Err(TaskFailure::Run(run::BLOCKED));
+
+/// The failure that [`BREAKS`] causes on standard output.
+const UNWRITTEN: Result<Outcome, TaskFailure> = Err(TaskFailure::Run(Failure::Output));
+
+/// The first path has no file.
+const NO_FIRST: Result<Outcome, TaskFailure> = Err(TaskFailure::Run(task::NO_FIRST));
+
+/// The second path has no file.
+const NO_SECOND: Result<Outcome, TaskFailure> = Err(TaskFailure::Run(task::NO_SECOND));
+
+/// Does what arguments ask for, with the files of [`SHELF`]. A misuse fails as if memory ran out.
+fn performed<R: Read, W: Write>(
     alloc: Global,
-    mode: Mode,
-    names: &[&str],
+    arguments: &[&str],
     input: &mut R,
     output: &mut W,
 ) -> Result<Outcome, TaskFailure> {
-    performed_on(alloc, mode, "-", names, input, output)
+    let arguments = paths_of(alloc, arguments)?;
+    let Ok(request) = request_of(alloc, arguments) else {
+        return Err(TaskFailure::Run(Failure::Memory));
+    };
+    perform(&SHELF, alloc, request.task(), input, output)
 }
 
-/// A mailmap is not pruned if git reads one of its lines in another way. Nothing is written, and the first such line is
-/// named.
-#[test]
-fn a_mailmap_that_git_reads_otherwise_is_not_pruned(rt: HostRuntime) {
-    static ROWS: [(&[u8], usize); 3] = [
-        (b"N < a@x >", 1),
-        (b"N <a@x>\nN <a@x>\n\nN\0 <a@x>\nN < a@x >\n", 4),
-        (b"# < a@x >\nN < > <a@x>\n", 2),
-    ];
-    for (mailmap, line) in &ROWS {
-        let mut input: &[u8] = mailmap;
-        let mut output = Vec::new(rt.alloc());
-        let end = performed(rt.alloc(), Mode::Prune, &[], &mut input, &mut output);
-        let position = Position {
-            buffer: 0,
-            line: *line,
-        };
-        assert_eq!(rt; end, Err(TaskFailure::ReadOtherwise { position }));
-        assert!(rt; output.is_empty());
-    }
-}
+/// A mailmap whose first line has no effect, and whose fourth line git reads in another way.
+const MAILMAP: &[u8] = b"N <a@x>\nN <a@x>\n\nN\0 <a@x>\nN < a@x >\n";
 
-/// Without files, standard input has the mailmap. A missing file fails the task, and so do several files to prune.
+/// Contacts, and a line that is none.
+const CONTACTS: &[u8] = b"b <A@x>\r\np\x1b\nB <M@y>\n\nb <A@x>\nm <q@x> end";
+
+/// The first argument is the program's own name, whatever it is. Options may come after paths, up to `--`, and a single
+/// `-` is standard input if that can have the mailmap. The first failure ends the run, and then nothing is written.
 #[test]
 fn a_task_is_done_with_its_files_or_with_the_input(rt: HostRuntime) {
-    static ROWS: [(Mode, &[&str], Result<Outcome, TaskFailure>, &[u8]); 10] = [
+    static ROWS: [(&[&str], &[u8], Result<Outcome, TaskFailure>, &str); 30] = [
         (
-            Mode::Verify,
+            &["", "three", "--version", "-h"],
+            b"",
+            CLEAN,
+            "mailmap_verify 0.1.0\n",
+        ),
+        (&["", "--prune", "three", "-h", "--foo"], b"", CLEAN, USAGE),
+        (
             &[],
-            Ok(Outcome::Found),
-            b"<stdin>:1: warning: no effect: <stdin>:2 says the same [no-effect]\n",
-        ),
-        (Mode::Verify, &["mailmap"], Ok(Outcome::Clean), b""),
-        (
-            Mode::Verify,
-            &["mailmap", "one", "empty", "two"],
-            Ok(Outcome::Found),
-            b"one:1: error: no email in brackets [no-email]\ntwo:1: error: no email in brackets [no-email]\n",
+            b"plain",
+            FOUND,
+            "<stdin>:1: error: no email in brackets [no-email]\n",
         ),
         (
-            Mode::Verify,
-            &["mailmap", "mailmap"],
-            Ok(Outcome::Found),
-            b"mailmap:1: warning: no effect: mailmap:1 says the same [no-effect]\n",
+            &["--prune", "--", "-"],
+            b"N <a@x>\nN <a@x>\n",
+            FOUND,
+            "<stdin>:1: warning: no effect: <stdin>:2 says the same [no-effect]\n",
         ),
+        (&["", "mailmap", "-S", "note"], b"plain", CLEAN, ""),
         (
-            Mode::Verify,
-            &["one", "three"],
-            Err(TaskFailure::Run(Failure::File {
-                number: 2,
-                cause: ErrorKind::NotFound,
-            })),
+            &["", "one", "--severity=error", "empty", "--", "two"],
+            b"plain",
+            FOUND,
+            "one:1: error: no email in brackets [no-email]\ntwo:1: error: no email in brackets [no-email]\n",
+        ),
+        (&["", "one", "-e", "no-email"], b"plain", CLEAN, ""),
+        (&["", "one", "-"], b"", NO_SECOND, ""),
+        (&["", "--", "--prune"], b"", NO_FIRST, ""),
+        (&["", "--prune"], b"N <a@x>\nN <a@x>\n", CLEAN, "N <a@x>\n"),
+        (&["", "one", "--prune"], MAILMAP, CLEAN, "1"),
+        (
+            &["", "--prune", "-"],
+            MAILMAP,
+            Err(TaskFailure::ReadOtherwise {
+                position: Position { buffer: 0, line: 4 },
+            }),
+            "",
+        ),
+        (&["", "--prune", "three"], b"", NO_FIRST, ""),
+        (
+            &["", "--prune", "three", "three"],
             b"",
-        ),
-        (Mode::Prune, &[], Ok(Outcome::Clean), b"N <a@x>\n"),
-        (Mode::Prune, &["one"], Ok(Outcome::Clean), b"1"),
-        (
-            Mode::Prune,
-            &["three"],
-            Err(TaskFailure::Run(Failure::File {
-                number: 1,
-                cause: ErrorKind::NotFound,
-            })),
-            b"",
-        ),
-        (
-            Mode::Prune,
-            &["one", "two"],
             Err(TaskFailure::TooManyFiles),
-            b"",
+            "",
         ),
         (
-            Mode::Prune,
-            &["three", "three", "three"],
-            Err(TaskFailure::TooManyFiles),
-            b"",
+            &["", "--explain", "one", "mailmap"],
+            CONTACTS,
+            CLEAN,
+            "b <A@x> is M <m@y> by mailmap:1\np\\x1b is no contact\nB <M@y> is not mapped\n\
+             b <A@x> is M <m@y> by mailmap:1\nm <q@x> is not mapped\n",
         ),
+        (
+            &["", "--explain"],
+            b"b <b@x>",
+            CLEAN,
+            "b <b@x> is not mapped\n",
+        ),
+        (&["", "--explain", "-"], CONTACTS, NO_FIRST, ""),
+        (
+            &["", "--contacts", "-", "mailmap"],
+            CONTACTS,
+            FOUND,
+            "<stdin>:2: error: no contact [no-contact]\n\
+             <stdin>:3: warning: B <M@y> (1) has the email of M <m@y> (2) [same-email]\n\
+             <stdin>:6: note: m <q@x> (1) has the name of M <m@y> (2) [same-name]\n",
+        ),
+        (
+            &[
+                "",
+                "--contacts=-",
+                "one",
+                "--stdin-name",
+                "log",
+                "-e",
+                "same-name",
+            ],
+            CONTACTS,
+            FOUND,
+            "one:1: error: no email in brackets [no-email]\nlog:2: error: no contact [no-contact]\n",
+        ),
+        (
+            &[
+                "",
+                "--contacts=-",
+                "one",
+                "-e",
+                "no-email",
+                "--exclude=no-contact",
+            ],
+            CONTACTS,
+            CLEAN,
+            "<stdin>:3: note: B <M@y> (1) has the name of b <A@x> (2) [same-name]\n",
+        ),
+        (
+            &[
+                "",
+                "--contacts=-",
+                "one",
+                "-S",
+                "note",
+                "-e",
+                "no-email,no-contact",
+            ],
+            CONTACTS,
+            FOUND,
+            "<stdin>:3: note: B <M@y> (1) has the name of b <A@x> (2) [same-name]\n",
+        ),
+        (
+            &["", "one", "--contacts", "one", "mailmap", "-f", "json"],
+            b"",
+            FOUND,
+            "{\"file\":{\"text\":\"one\"},\"kind\":\"no-email\",\"level\":\"error\",\"line\":1,\
+             \"message\":{\"text\":\"no email in brackets\"}}\n\
+             {\"file\":{\"text\":\"mailmap\"},\"kind\":\"unneeded\",\"level\":\"warning\",\"line\":1,\
+             \"message\":{\"text\":\"no contact needs it\"}}\n\
+             {\"file\":{\"text\":\"one\"},\"kind\":\"no-contact\",\"level\":\"error\",\"line\":1,\
+             \"message\":{\"text\":\"no contact\"}}\n",
+        ),
+        (
+            &["", "--contacts", "-", "cased"],
+            b"n <n@x>\nn <n@x>\n",
+            FOUND,
+            "<stdin>:1: warning: git answers N <n@x> [git-answers]\n",
+        ),
+        (
+            &["", "--contacts", "mailmap", "-"],
+            b"plain",
+            FOUND,
+            "<stdin>:1: error: no email in brackets [no-email]\n",
+        ),
+        (
+            &["", "--contacts", "three", "mailmap"],
+            b"",
+            Err(TaskFailure::Contacts {
+                cause: ErrorKind::NotFound,
+            }),
+            "",
+        ),
+        (
+            &["", "--contacts", "three", "mailmap", "three"],
+            b"",
+            NO_SECOND,
+            "",
+        ),
+        (
+            &["", "mailmap", "--suggest", "-"],
+            CONTACTS,
+            CLEAN,
+            "# 2 M <m@y>\n# 1 B <M@y>\nM <m@y> <M@y>\n\n\
+             # 3 M <m@y>\n# 1 m <q@x>\n#?M <m@y> <q@x>\n\n",
+        ),
+        (&["", "--suggest=cased", "one"], CONTACTS, CLEAN, ""),
+        (
+            &["", "--suggest", "folder"],
+            b"",
+            Err(TaskFailure::Contacts {
+                cause: ErrorKind::IsADirectory,
+            }),
+            "",
+        ),
+        (&["", "--suggest", "folder", "-"], b"", NO_FIRST, ""),
     ];
-    for (mode, names, ended, want) in &ROWS {
-        let mut input: &[u8] = b"N <a@x>\nN <a@x>\n";
+    for (arguments, input, ended, want) in &ROWS {
+        let mut input = *input;
         let mut output = Vec::new(rt.alloc());
-        let end = performed(rt.alloc(), *mode, names, &mut input, &mut output);
+        let end = performed(rt.alloc(), arguments, &mut input, &mut output);
         assert_eq!(rt; end, *ended);
-        assert_bytes(&rt, &output, want);
-    }
-}
-
-/// For help and the version, nothing is read.
-#[test]
-fn help_is_the_usage_and_the_version_has_the_name(rt: HostRuntime) {
-    static ROWS: [(Mode, &str); 2] = [
-        (Mode::Help, USAGE),
-        (Mode::Version, "mailmap_verify 0.1.0\n"),
-    ];
-    for (mode, want) in &ROWS {
-        let mut input: &[u8] = b"plain\n";
-        let mut output = Vec::new(rt.alloc());
-        let end = performed(rt.alloc(), *mode, &["three"], &mut input, &mut output);
-        assert_eq!(rt; end, Ok(Outcome::Clean));
         assert_bytes(&rt, &output, want.as_bytes());
-        assert_eq!(rt; input.len(), 6);
     }
 }
 
-/// The failure that [`BREAKS`] causes on standard input.
-pub(crate) const BROKEN: TaskFailure = TaskFailure::Run(run::BROKEN);
-
-/// The failure that [`BREAKS`] causes on standard output.
-pub(crate) const UNWRITTEN: TaskFailure = TaskFailure::Run(Failure::Output);
-
-/// A failed read is `Input`, and then nothing is written. The input is read only without files, and not for help.
+/// A failed read is a failure, and then only explanations of whole lines are written. An interrupted read is repeated,
+/// and one that would block is not. The input is not read if it is not needed.
 #[test]
-fn a_reader_that_fails_is_input_and_nothing_is_written(rt: HostRuntime) {
-    static ROWS: [(Mode, &[&str], Result<Outcome, TaskFailure>); 5] = [
-        (Mode::Verify, &[], Err(BROKEN)),
-        (Mode::Prune, &[], Err(BROKEN)),
-        (Mode::Verify, &["empty"], Ok(Outcome::Clean)),
-        (Mode::Prune, &["empty"], Ok(Outcome::Clean)),
-        (Mode::Help, &[], Ok(Outcome::Clean)),
+fn a_reader_that_fails_leaves_what_was_explained(rt: HostRuntime) {
+    static ROWS: [(&[&str], &[Turn], Result<Outcome, TaskFailure>, &str); 14] = [
+        (&[""], &[Turn::Moves(3), BREAKS], BROKEN, ""),
+        (&["", "--prune"], &[ALL, BLOCKS], BLOCKED, ""),
+        (
+            &["", "--prune"],
+            &[ONE, INTERRUPTED, ALL],
+            CLEAN,
+            "p\nq <q>\nr",
+        ),
+        (&["", "empty"], &[BREAKS], CLEAN, ""),
+        (&["", "-h"], &[BREAKS], CLEAN, USAGE),
+        (
+            &["", "--explain"],
+            &[ONE; 10],
+            CLEAN,
+            "p is no contact\nq <q> is not mapped\nr is no contact\n",
+        ),
+        (
+            &["", "--explain"],
+            &[Turn::Moves(3), BREAKS],
+            BROKEN,
+            "p is no contact\n",
+        ),
+        (
+            &["", "--explain"],
+            &[ALL, INTERRUPTED, BLOCKS],
+            BLOCKED,
+            "p is no contact\nq <q> is not mapped\n",
+        ),
+        (
+            &["", "--contacts", "-", "empty"],
+            &[ONE, ONE, INTERRUPTED, ALL],
+            FOUND,
+            "<stdin>:1: error: no contact [no-contact]\n<stdin>:3: error: no contact [no-contact]\n",
+        ),
+        (
+            &["", "--contacts", "-"],
+            &[Turn::Moves(5), BREAKS],
+            BROKEN,
+            "",
+        ),
+        (&["", "--contacts", "-"], &[ALL, BLOCKS], BLOCKED, ""),
+        (
+            &["", "--suggest", "-"],
+            &[ONE, ONE, INTERRUPTED, ALL],
+            CLEAN,
+            "",
+        ),
+        (
+            &["", "--suggest", "-"],
+            &[Turn::Moves(5), BREAKS],
+            BROKEN,
+            "",
+        ),
+        (&["", "--suggest", "-"], &[ALL, BLOCKS], BLOCKED, ""),
     ];
-    for (mode, names, ended) in &ROWS {
-        let mut input = Source {
-            bytes: b"plain\n",
-            turns: &[Turn::Moves(3), BREAKS],
-        };
+    for (arguments, turns, ended, want) in &ROWS {
+        let bytes = b"p\nq <q>\nr";
+        let mut input = Source { bytes, turns };
         let mut output = Vec::new(rt.alloc());
-        let end = performed(rt.alloc(), *mode, names, &mut input, &mut output);
+        let end = performed(rt.alloc(), arguments, &mut input, &mut output);
         assert_eq!(rt; end, *ended);
-        assert!(rt; *mode == Mode::Help || output.is_empty());
+        assert_bytes(&rt, &output, want.as_bytes());
     }
 }
 
-/// A failed write is `Output`, and a prefix of the output was written.
+/// A failed write or flush is `Output`, and a prefix of the output was written. At the end, all is flushed.
 #[test]
 fn a_writer_that_fails_is_output_and_holds_a_front(rt: HostRuntime) {
-    static ROWS: [(Mode, &[Turn], Turn, Result<Outcome, TaskFailure>, &[u8]); 5] = [
+    static ROWS: [(&[&str], &[Turn], Turn, Result<Outcome, TaskFailure>, &str); 14] = [
+        (&["", "cased"], &[], BREAKS, UNWRITTEN, ""),
+        (&[""], &[Turn::Moves(7), BREAKS], ALL, UNWRITTEN, "<stdin>"),
         (
-            Mode::Verify,
-            &[Turn::Moves(7), BREAKS],
+            &[""],
+            &[ONE],
             ALL,
-            Err(UNWRITTEN),
-            b"<stdin>",
+            FOUND,
+            "<stdin>:1: warning: ignored text: p (an old name needs an email after it) [ignored-text]\n",
         ),
         (
-            Mode::Prune,
+            &["", "--prune"],
             &[Turn::Moves(2), Turn::Moves(0)],
             ALL,
-            Err(UNWRITTEN),
-            b"pl",
+            UNWRITTEN,
+            "n ",
+        ),
+        (&["", "--prune"], &[], BREAKS, UNWRITTEN, "n <n@x> p"),
+        (
+            &["", "--prune"],
+            &[ONE, Turn::Moves(2)],
+            ALL,
+            CLEAN,
+            "n <n@x> p",
         ),
         (
-            Mode::Help,
+            &["", "-h"],
             &[Turn::Moves(6), BREAKS],
             ALL,
-            Err(UNWRITTEN),
-            b"usage:",
+            UNWRITTEN,
+            "usage:",
         ),
-        (Mode::Prune, &[], BREAKS, Err(UNWRITTEN), b"plain\n"),
         (
-            Mode::Prune,
-            &[Turn::Moves(1), Turn::Moves(2)],
+            &["", "--explain"],
+            &[Turn::Moves(4), BREAKS],
             ALL,
-            Ok(Outcome::Clean),
-            b"plain\n",
+            UNWRITTEN,
+            "n <n",
         ),
-    ];
-    for (mode, turns, flush, ended, want) in &ROWS {
-        let mut input: &[u8] = b"plain\n";
-        let mut output = Sink::new(rt.alloc(), turns, *flush);
-        let end = performed(rt.alloc(), *mode, &[], &mut input, &mut output);
-        assert_eq!(rt; end, *ended);
-        assert_bytes(&rt, &output.taken, want);
-    }
-}
-
-/// An input may come byte by byte, with an interrupted read before each byte.
-#[test]
-fn single_bytes_between_interrupted_reads_are_an_input(rt: HostRuntime) -> Result<(), AllocError> {
-    static ROWS: [(Mode, &[&str], &[u8], &[u8]); 5] = [
-        (Mode::Verify, &[], b"# comment\n\n", b""),
-        (Mode::Prune, &[], b"# comment\n\n", b"# comment\n\n"),
         (
-            Mode::Explain,
-            &["mailmap"],
-            b"b <A@x>\np\n",
-            b"b <A@x> is M <m@y> by mailmap:1\np is no contact\n",
-        ),
-        (Mode::Contacts, &["mailmap"], b"b <A@x>\n \n", b""),
-        (Mode::Suggest, &["mailmap"], b"b <A@x>\n \n", b""),
-    ];
-    for (mode, names, text, printed) in &ROWS {
-        let text = repeated(rt.alloc(), b"", text, 10_000)?;
-        let want = repeated(rt.alloc(), b"", printed, 10_000)?;
-        let mut input = Repeating::new(text.as_slice(), &[INTERRUPTED, ONE]);
-        let mut output = Vec::new(rt.alloc());
-        let end = performed(rt.alloc(), *mode, names, &mut input, &mut output);
-        assert_eq!(rt; end, Ok(Outcome::Clean));
-        assert_bytes(&rt, &output, want.as_slice());
-    }
-    Ok(())
-}
-
-/// A read that would block is not repeated. Only explanations of whole lines may have been written before it.
-#[test]
-fn a_read_that_would_block_is_a_failure(rt: HostRuntime) {
-    static ROWS: [(Mode, &[&str], &[u8]); 5] = [
-        (Mode::Verify, &[], b""),
-        (Mode::Prune, &[], b""),
-        (Mode::Explain, &["mailmap"], b"p is no contact\n"),
-        (Mode::Contacts, &["mailmap"], b""),
-        (Mode::Suggest, &["mailmap"], b""),
-    ];
-    for (mode, names, want) in &ROWS {
-        let mut input = Repeating::new(b"p\nq\n", &[Turn::Moves(3), INTERRUPTED, BLOCKS]);
-        let mut output = Vec::new(rt.alloc());
-        let end = performed(rt.alloc(), *mode, names, &mut input, &mut output);
-        assert_eq!(rt; end, Err(TaskFailure::Run(run::BLOCKED)));
-        assert_bytes(&rt, &output, want);
-    }
-}
-
-/// The explanations of all lines that have ended are flushed before more is read. The first line is longer than what is
-/// buffered.
-#[test]
-fn explanations_are_flushed_before_more_is_read(rt: HostRuntime) -> Result<(), AllocError> {
-    static ROWS: [&[Turn]; 4] = [
-        &[ALL],
-        &[ONE],
-        &[INTERRUPTED, Turn::Moves(7)],
-        &[Turn::Moves(8), ONE],
-    ];
-    let first = repeated(rt.alloc(), b"", b"x", 70_000)?;
-    let contacts = repeated(rt.alloc(), first.as_slice(), b"\nb <A@x>\nplain", 1_000)?;
-    for turns in &ROWS {
-        let flushed = Cell::new(0);
-        let mut input = Asker::new(contacts.as_slice(), turns, &flushed);
-        let mut output = FlushCounter::new(&flushed);
-        let end = performed(
-            rt.alloc(),
-            Mode::Explain,
-            &["mailmap"],
-            &mut input,
-            &mut output,
-        );
-        assert_eq!(rt; end, Ok(Outcome::Clean));
-        assert_count(&rt, flushed.get(), 2_001);
-    }
-    Ok(())
-}
-
-/// At the end, all that was written is flushed.
-#[test]
-fn all_is_flushed_at_the_end(rt: HostRuntime) {
-    static ROWS: [(Mode, &[&str], Outcome, &[u8]); 4] = [
-        (
-            Mode::Verify,
+            &["", "--explain"],
             &[],
-            Outcome::Found,
-            b"<stdin>:1: error: no email in brackets [no-email]\n",
-        ),
-        (Mode::Prune, &[], Outcome::Clean, b"plain\n"),
-        (
-            Mode::Explain,
-            &["mailmap"],
-            Outcome::Clean,
-            b"plain is no contact\n",
+            BREAKS,
+            UNWRITTEN,
+            "n <n@x> is not mapped\n",
         ),
         (
-            Mode::Contacts,
-            &["mailmap"],
-            Outcome::Found,
-            b"mailmap:1: warning: no contact needs it [unneeded]\n<stdin>:1: error: no contact [no-contact]\n",
+            &["", "--explain"],
+            &[ONE],
+            ALL,
+            CLEAN,
+            "n <n@x> is not mapped\n",
+        ),
+        (
+            &["", "--contacts", "-", "cased"],
+            &[Turn::Moves(7), BREAKS],
+            ALL,
+            UNWRITTEN,
+            "<stdin>",
+        ),
+        (
+            &["", "--contacts", "-", "cased"],
+            &[ONE],
+            ALL,
+            FOUND,
+            "<stdin>:1: warning: git answers N <n@x> [git-answers]\n",
+        ),
+        (
+            &["", "--suggest", "-", "cased"],
+            &[Turn::Moves(4), BREAKS],
+            ALL,
+            UNWRITTEN,
+            "# 1 ",
+        ),
+        (
+            &["", "--suggest", "-", "cased"],
+            &[ONE],
+            ALL,
+            CLEAN,
+            "# 1 N <N@x>\n# 1 N <n@x> by git\nN <N@x> <n@x>\n\n",
         ),
     ];
-    for (mode, names, outcome, want) in &ROWS {
-        let mut input: &[u8] = b"plain\n";
-        let mut output = Sink::new(rt.alloc(), &[], ALL);
-        let end = performed(rt.alloc(), *mode, names, &mut input, &mut output);
-        assert_eq!(rt; end, Ok(*outcome));
-        assert_bytes(&rt, &output.taken, want);
-        assert_flushed(&rt, &output, Ok(()));
+    for (arguments, turns, flush, ended, want) in &ROWS {
+        let mut input: &[u8] = b"n <n@x> p";
+        let mut output = Sink::new(rt.alloc(), turns, *flush);
+        let end = performed(rt.alloc(), arguments, &mut input, &mut output);
+        assert_eq!(rt; end, *ended);
+        assert_written(&rt, &output, want.as_bytes(), end.is_err());
     }
+}
+
+/// Explanations are flushed before more is read, so a writer that fails ends the run in the middle of the input.
+#[test]
+fn a_writer_that_fails_ends_the_explanations(rt: HostRuntime) {
+    static ROWS: [(&[Turn], Turn); 2] = [(&[], BREAKS), (&[ALL, BREAKS], ALL)];
+    for (turns, flush) in &ROWS {
+        let mut input: &[u8] = b"p\nq";
+        let mut output = Sink::new(rt.alloc(), turns, *flush);
+        let end = performed(rt.alloc(), &["", "--explain"], &mut input, &mut output);
+        assert_eq!(rt; end, UNWRITTEN);
+        assert_bytes(&rt, &output.taken, b"p is no contact\n");
+    }
+}
+
+/// Control characters and those that turn the direction of text are escaped. Those beside them are as they are, and so
+/// are all bytes of other characters and bytes that aren't UTF-8.
+#[test]
+fn characters_are_shown(rt: HostRuntime) -> Result<(), AllocError> {
+    let rows: [(&[u8], &[u8]); 12] = [
+        (
+            b"|\x00\x09\x1b[31m\x1f \\x1b\x7e\x7f\x80\x9f\xa0\xff|",
+            b"|\\x00\\x09\\x1b[31m\\x1f \\x1b\x7e\\x7f\\x80\\x9f\xa0\xff|",
+        ),
+        (
+            b"\xc2\x80\xc2\x9b\xc2\x9f\xc2\xa0|",
+            b"\\u0080\\u009b\\u009f\xc2\xa0|",
+        ),
+        (b"\xd8\x9b\xd8\x9c\xd8\x9d", b"\xd8\x9b\\u061c\xd8\x9d"),
+        (
+            b"\xe2\x80\x8d\xe2\x80\x8e\xe2\x80\x8f\xe2\x80\x90",
+            b"\xe2\x80\x8d\\u200e\\u200f\xe2\x80\x90",
+        ),
+        (
+            b"|\xe2\x80\xa9\xe2\x80\xaa\xe2\x80\xab\xe2\x80\xac",
+            b"|\xe2\x80\xa9\\u202a\\u202b\\u202c",
+        ),
+        (
+            b"\xe2\x80\xad\xe2\x80\xae\xe2\x80\xaf|",
+            b"\\u202d\\u202e\xe2\x80\xaf|",
+        ),
+        (
+            b"\xe2\x81\xa5\xe2\x81\xa6\xe2\x81\xa7",
+            b"\xe2\x81\xa5\\u2066\\u2067",
+        ),
+        (
+            b"\xe2\x81\xa8\xe2\x81\xa9\xe2\x81\xaa",
+            b"\\u2068\\u2069\xe2\x81\xaa",
+        ),
+        (
+            b"\xc4\x80\x80\xe2\x82\x80\xf0\x9f\x98\x80",
+            b"\xc4\x80\\x80\xe2\x82\x80\xf0\x9f\x98\x80",
+        ),
+        (
+            b"\xe2\x80x\xf0\x9f\x98x\xed\xa0\x80",
+            b"\xe2\\x80x\xf0\\x9f\\x98x\xed\xa0\\x80",
+        ),
+        (b"\xc2\xc2\x9b", b"\xc2\\u009b"),
+        (b"\xf0\x9f\xe2\x80\xae", b"\xf0\\x9f\\u202e"),
+    ];
+    for (text, shown) in rows {
+        let mut contact = text;
+        let mut output = Vec::new(rt.alloc());
+        let end = performed(rt.alloc(), &["", "--explain"], &mut contact, &mut output);
+        assert_eq!(rt; end, CLEAN);
+        let mut want = Vec::from_slice(rt.alloc(), shown)?;
+        want.extend_from_slice(b" is no contact\n")?;
+        assert_bytes(&rt, &output, &want);
+    }
+    Ok(())
 }

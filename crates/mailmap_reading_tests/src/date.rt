@@ -1,10 +1,4 @@
 use mailmap_signatures::date::Time;
-use std::process::Abort;
-
-fn assert_read(rt: &impl Abort, text: &str, expected: Option<(i64, i32)>) {
-    let read = Time::read(text).map(|time| (time.seconds, time.offset));
-    assert_eq!(rt; read, expected, "{text}");
-}
 
 #[test]
 fn texts_of_times(rt: HostRuntime) {
@@ -28,31 +22,15 @@ fn texts_of_times(rt: HostRuntime) {
         ("", None),
     ];
     for (text, expected) in &TABLE {
-        assert_read(&rt, text, *expected);
+        let read = Time::read(text).map(|time| (time.seconds, time.offset));
+        assert_eq!(rt; read, *expected, "{text}");
     }
 }
 
 #[test]
 fn times_ascend_by_seconds_then_offset(rt: HostRuntime) {
-    let earliest = Time {
-        seconds: 1,
-        offset: -60,
-    };
-    let middle = Time {
-        seconds: 1,
-        offset: 0,
-    };
-    let latest = Time {
-        seconds: 2,
-        offset: -60,
-    };
-    assert!(rt; earliest < middle);
-    assert!(rt; middle < latest);
-    assert_eq!(rt;
-        Time::default(),
-        Time {
-            seconds: 0,
-            offset: 0
-        }
-    );
+    let time = |seconds, offset| Time { seconds, offset };
+    assert!(rt; time(1, -60) < time(1, 0));
+    assert!(rt; time(1, 0) < time(2, -60));
+    assert_eq!(rt; Time::default(), time(0, 0));
 }

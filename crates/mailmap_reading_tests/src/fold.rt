@@ -23,17 +23,13 @@ impl Probe for Written<'_> {
     }
 }
 
-fn assert_found<R: Abort>(rt: &R, found: Result<usize, usize>, want: Result<usize, usize>) {
-    assert_eq!(rt; found, want);
-}
-
 // Asserts what a search finds, and that it makes at most `at_most` comparisons.
 fn finds<R: Abort>(rt: &R, answers: &[Ordering], want: Result<usize, usize>, at_most: usize)
     requires { IsPartitioned answers.now }
 {
     let mut probe = Written { answers, asked: 0 };
     let found = search(answers.len(), &mut probe);
-    assert_found(rt, found, want);
+    assert_eq!(rt; found, want);
     let asked = probe.asked;
     assert!(rt; asked <= at_most, "{asked} asks in {answers:?}");
 }
@@ -49,23 +45,19 @@ fn search_finds_or_places_within_the_digits_of_the_length(rt: HostRuntime) {
     finds(&rt, &[Less, Less, Greater, Greater], Err(2), 3);
 }
 
-fn assert_same<R: Abort>(rt: &R, a: &[u8], b: &[u8], order: Ordering, want: Ordering) {
-    assert_eq!(rt; order, want, "{a:?} and {b:?}");
-}
-
-// Asserts the order of two texts, counted and uncounted.
-fn assert_order<R: Abort>(rt: &R, a: &[u8], b: &[u8], want: Ordering) {
-    assert_same(rt, a, b, cmp_ignore_ascii_case(a, b), want);
-    let mut steps = Steps::new();
-    assert_same(rt, a, b, steps.compare(a, b), want);
-    assert_eq!(rt; steps.count(), 1);
-}
-
 #[test]
 fn order_folds_only_the_letters_of_ascii(rt: HostRuntime) {
-    assert_order(&rt, b"FooBar", b"foobar", Ordering::Equal);
-    assert_order(&rt, b"Masse", b"Ma\xc3\x9fe", Ordering::Less);
-    assert_order(&rt, b"FOO\xff", b"foo\xff", Ordering::Equal);
-    assert_order(&rt, b"A", b"B\xff", Ordering::Less);
-    assert_order(&rt, b"a", b"B\xff", Ordering::Less);
+    static ROWS: [(&[u8], &[u8], Ordering); 5] = [
+        (b"FooBar", b"foobar", Ordering::Equal),
+        (b"Masse", b"Ma\xc3\x9fe", Ordering::Less),
+        (b"FOO\xff", b"foo\xff", Ordering::Equal),
+        (b"A", b"B\xff", Ordering::Less),
+        (b"a", b"B\xff", Ordering::Less),
+    ];
+    for (a, b, want) in &ROWS {
+        let mut steps = Steps::new();
+        assert_eq!(rt; cmp_ignore_ascii_case(a, b), *want, "{a:?}");
+        assert_eq!(rt; steps.compare(a, b), *want, "{a:?}");
+        assert_eq!(rt; steps.count(), 1);
+    }
 }

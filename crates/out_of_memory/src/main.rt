@@ -1,5 +1,6 @@
-//! Makes each call of gix_mailmap once, in a run in which at most one allocation is refused, and checks its answer: an
-//! out-of-memory error, followed by the right answer when the call is repeated; or the right answer at once.
+//! Makes each call of gix_mailmap once, in a run in which at most one allocation is refused. A call must succeed, or
+//! report that memory ran out and succeed when it is repeated. Contracts say what it answers. What refused merges and
+//! lines leave is looked at, too.
 //!
 //! Standard input has a number: how many allocations this program makes before the calls. If the run refuses a fixed
 //! one, as `rt try --fail-alloc` does, each number makes it another allocation of the calls.
@@ -16,6 +17,7 @@ mod unrefusable;
 use call::Call;
 use gix_mailmap::Snapshot;
 use run::{Run, Wrong};
+use samples::team;
 use std::alloc::Global;
 use std::io::Read;
 use std::process::ExitCode;
@@ -49,7 +51,7 @@ fn walk(run: &mut Run, alloc: Global, before: usize) -> Result<(), Wrong> {
     for _ in 0..before {
         run.request(alloc, Call::Before)?;
     }
-    let team = refusable::build(run, alloc)?;
+    let team = refusable::build(run, alloc, &team())?;
     judge(run, alloc, &team)?;
     run.request(alloc, Call::AfterAll)
 }

@@ -1,11 +1,9 @@
 //! The calls that allocate, one after another.
 
 use crate::call::Call;
-use crate::run::{Run, Wrong, lists, wants};
+use crate::run::{Run, Wrong, leaves};
 use crate::samples::{
-    ANSWER, ANSWERS, CONTACTS, COUNTED, FAULTY, HISTORY, JANE, LINE, NOBODY, PARTS, PRUNED,
-    SUGGESTED, TEAM, WRITTEN, all, are_of_faulty, are_of_history, are_others_of_history,
-    are_unneeded, five, is_jane, is_nobody, later, owns_jane, team, three, two,
+    ANSWER, CONTACTS, FAULTY, HISTORY, JANE, LINE, NOBODY, PARTS, TEAM, later, team, three, two,
 };
 use gix_mailmap::check::ContactStream;
 use gix_mailmap::needs::unneeded;
@@ -18,233 +16,172 @@ use mailmap_suggestions::suggestions::suggest;
 use mailmap_suggestions::text::{push_count, push_entry};
 use std::alloc::{AllocError, Global};
 
-pub fn build(run: &mut Run, alloc: Global) -> Result<Snapshot, Wrong> {
-    run.judge(
-        Call::New,
-        || Snapshot::new(alloc, team().into_iter()),
-        |made| lists(made, &team()),
-    )
+/// A snapshot of some entries.
+pub fn build(run: &mut Run, alloc: Global, entries: &[Entry<'_>]) -> Result<Snapshot, Wrong> {
+    run.judge(Call::New, || Snapshot::new(alloc, entries.iter().copied()))
 }
 
 /// Makes these calls except the first, which built the team.
 pub fn judge(run: &mut Run, alloc: Global, team: &Snapshot) -> Result<(), Wrong> {
-    read_and_list(run, alloc, team)?;
-    copy_and_write(run, alloc, team)?;
-    merge(run, alloc, team)?;
-    merge_in_place(run, alloc)?;
-    merge_anew(run, alloc)?;
+    read_and_write(run, alloc, team)?;
+    merge(run, alloc, Call::Merge, team, &later())?;
+    merge_small(run, alloc)?;
     merge_sources(run, alloc)?;
     resolve(run, alloc, team)?;
-    copy_signatures(run, alloc, team)?;
-    check_and_compact(run, alloc)?;
-    run.judge_at_once(Call::Stream, || streams(alloc))?;
-    answer_in_parts(run, alloc)?;
+    answer(run, alloc)?;
     verify_and_prune(run, alloc)?;
-    suggest_lines(run, alloc)?;
-    write_suggestions(run, alloc)
+    suggest_lines(run, alloc)
 }
 
-fn read_and_list(run: &mut Run, alloc: Global, snapshot: &Snapshot) -> Result<(), Wrong> {
-    run.judge_at_once(Call::FromBytes, || {
-        Ok(Snapshot::from_bytes(alloc, TEAM)? == *snapshot)
-    })?;
-    run.judge_at_once(Call::Entries, || {
-        Ok(snapshot.entries(alloc)?.as_slice() == team().as_slice())
-    })
+fn read_and_write(run: &mut Run, alloc: Global, snapshot: &Snapshot) -> Result<(), Wrong> {
+    let _read = run.judge(Call::FromBytes, || Snapshot::from_bytes(alloc, TEAM))?;
+    let _count = run.judge(Call::Entries, || Ok(snapshot.entries(alloc)?.len()))?;
+    let _copy = clone(run, alloc, snapshot)?;
+    let _text = run.judge(Call::Write, || written(snapshot, alloc))?;
+    Ok(())
 }
 
-fn copy_and_write(run: &mut Run, alloc: Global, snapshot: &Snapshot) -> Result<(), Wrong> {
-    clone(run, alloc, snapshot)?;
-    run.judge_at_once(Call::Write, || writes(snapshot, alloc))
-}
-
-fn writes(snapshot: &Snapshot, alloc: Global) -> Result<bool, AllocError> {
+// The text of a snapshot, `None` if it has an entry that no line can hold.
+fn written(snapshot: &Snapshot, alloc: Global) -> Result<Option<Vec<u8>>, AllocError> {
     match snapshot.write(alloc) {
-        Ok(text) => Ok(text.as_slice() == WRITTEN),
-        Err(WriteError::Unwritable { .. }) => Ok(false),
+        Ok(text) => Ok(Some(text)),
+        Err(WriteError::Unwritable { .. }) => Ok(None),
         Err(WriteError::Memory(error)) => Err(error),
     }
 }
 
-fn merge(run: &mut Run, alloc: Global, team: &Snapshot) -> Result<(), Wrong> {
-    let mut copy = clone(run, alloc, team)?;
-    run.judge_merge(Call::Merge, team, &mut copy, &later(), &all())
+pub fn clone(run: &mut Run, alloc: Global, snapshot: &Snapshot) -> Result<Snapshot, Wrong> {
+    run.judge(Call::TryClone, || snapshot.try_clone(alloc))
 }
 
-// A small merge, which is made in place: a new name and a new email, before existing emails.
-fn merge_in_place(run: &mut Run, alloc: Global) -> Result<(), Wrong> {
-    let stood = run.judge(
-        Call::New,
-        || Snapshot::new(alloc, three().into_iter()),
-        |made| lists(made, &three()),
-    )?;
-    let mut copy = clone(run, alloc, &stood)?;
-    run.judge_merge(Call::MergeInPlace, &stood, &mut copy, &two(), &five())
+// Merges entries into a copy of a snapshot. If it is refused, the copy must stay as it was.
+fn merge(
+    run: &mut Run,
+    alloc: Global,
+    call: Call,
+    snapshot: &Snapshot,
+    entries: &[Entry<'_>],
+) -> Result<(), Wrong> {
+    let mut copy = clone(run, alloc, snapshot)?;
+    if copy.merge(entries.iter().copied()).is_ok() {
+        return Ok(());
+    }
+    run.refuse(call)?;
+    leaves(call, copy == *snapshot)?;
+    copy.merge(entries.iter().copied())
+        .map_err(|_| Wrong::Want(call))
 }
 
-// A merge that discards replaced texts, and so rebuilds the snapshot.
-fn merge_anew(run: &mut Run, alloc: Global) -> Result<(), Wrong> {
+// A merge that is made in place: a new name and a new email, before existing emails. And a merge that discards replaced
+// texts, and so rebuilds the snapshot.
+fn merge_small(run: &mut Run, alloc: Global) -> Result<(), Wrong> {
+    let stood = build(run, alloc, &three())?;
+    merge(run, alloc, Call::MergeInPlace, &stood, &two())?;
     let long = [Entry::change_name_by_email(b"A long name", b"a")];
     let short = [Entry::change_name_by_email(b"N", b"a")];
-    let worn = run.judge(
-        Call::New,
-        || Snapshot::new(alloc, long.into_iter()),
-        |made| lists(made, &long),
-    )?;
-    let mut copy = clone(run, alloc, &worn)?;
-    run.judge_merge(Call::MergeAnew, &worn, &mut copy, &short, &short)
+    let worn = build(run, alloc, &long)?;
+    merge(run, alloc, Call::MergeAnew, &worn, &short)
 }
 
-pub fn clone(run: &mut Run, alloc: Global, snapshot: &Snapshot) -> Result<Snapshot, Wrong> {
-    run.judge(
-        Call::TryClone,
-        || snapshot.try_clone(alloc),
-        |copy| *copy == *snapshot,
-    )
-}
-
-// Merges three sources. The one in the middle has no entry, so it is always merged. The entries of the others must be
-// there exactly if they are marked as merged.
+// Merges three sources. The one in the middle has no entry, so it is always merged. The last one that was merged must
+// have named the email.
 fn merge_sources(run: &mut Run, alloc: Global) -> Result<(), Wrong> {
-    let mut snapshot = Snapshot::empty(alloc);
-    let made = merge_three(&mut snapshot);
-    let n = Entry::change_name_by_email(b"N", b"a@x");
-    let m = Entry::change_name_by_email(b"M", b"a@x");
-    match made {
-        [true, true, true] => wants(Call::MergeSources, lists(&snapshot, &[m])),
-        [false, true, true] => refused_source(run, Call::FirstSource, lists(&snapshot, &[m])),
-        [true, true, false] => refused_source(run, Call::ThirdSource, lists(&snapshot, &[n])),
-        _ => wants(Call::MergeSources, false),
-    }
-}
-
-fn merge_three(snapshot: &mut Snapshot) -> [bool; 3] {
     let sources = [
         Source::Buffer(b"N <a@x>"),
         Source::Buffer(b""),
         Source::Buffer(b"M <a@x>"),
     ];
+    let mut snapshot = Snapshot::empty(alloc);
     let mut made = [false; 3];
     snapshot.merge_sources(&sources, &mut made);
-    made
+    let m = names(&snapshot, b"M");
+    match made {
+        [true, true, true] if m => Ok(()),
+        [false, true, true] if m => run.refuse(Call::FirstSource),
+        [true, true, false] if names(&snapshot, b"N") => run.refuse(Call::ThirdSource),
+        _ => Err(Wrong::Change(Call::MergeSources)),
+    }
 }
 
-fn refused_source(run: &mut Run, call: Call, is_right: bool) -> Result<(), Wrong> {
-    run.refuse(call)?;
-    wants(call, is_right)
+// Whether a snapshot lists just this name for `a@x`.
+fn names(snapshot: &Snapshot, name: &[u8]) -> bool {
+    snapshot
+        .iter()
+        .eq([Entry::change_name_by_email(name, b"a@x")].into_iter())
 }
 
-// Resolves signatures that are mapped, and one that is only copied.
+// Resolves signatures that are mapped, and one that is only copied, and copies such signatures.
 fn resolve(run: &mut Run, alloc: Global, team: &Snapshot) -> Result<(), Wrong> {
-    run.judge_at_once(Call::TryResolve, || {
-        let answer = team.try_resolve(alloc, JANE)?;
-        Ok(answer.as_ref().is_some_and(is_jane))
-    })?;
-    run.judge_at_once(Call::Resolve, || Ok(is_jane(&team.resolve(alloc, JANE)?)))?;
-    run.judge_at_once(Call::ResolveNothing, || {
-        Ok(is_nobody(&team.resolve(alloc, NOBODY)?))
-    })
-}
-
-// Copies a signature that owns its texts, and turns it into one that always does.
-fn copy_signatures(run: &mut Run, alloc: Global, team: &Snapshot) -> Result<(), Wrong> {
-    let jane = run.judge(
-        Call::ResolveCow,
-        || team.resolve_cow(alloc, JANE),
-        owns_jane,
+    let _answer = run.judge(Call::TryResolve, || team.try_resolve(alloc, JANE))?;
+    let _answer = run.judge(Call::Resolve, || team.resolve(alloc, JANE))?;
+    let _answer = run.judge(Call::ResolveNothing, || team.resolve(alloc, NOBODY))?;
+    let jane = run.judge(Call::ResolveCow, || team.resolve_cow(alloc, JANE))?;
+    let _copy = run.judge(Call::SignatureTryClone, || jane.try_clone(alloc))?;
+    let _owned = run.judge(
+        Call::FromCow,
+        || actor::Signature::from_cow(alloc, NOBODY.into()),
     )?;
-    run.judge_at_once(Call::SignatureTryClone, || {
-        Ok(owns_jane(&jane.try_clone(alloc)?))
-    })?;
-    run.judge_at_once(Call::FromCow, || {
-        let owned = actor::Signature::from_cow(alloc, NOBODY.into())?;
-        Ok(is_nobody(&owned))
-    })
+    Ok(())
 }
 
-// Answers contact lines, and writes a compact mailmap.
-fn check_and_compact(run: &mut Run, alloc: Global) -> Result<(), Wrong> {
-    run.judge_at_once(Call::Check, || {
-        Ok(check::check(alloc, &[TEAM], CONTACTS)?.as_slice() == ANSWERS)
-    })?;
-    run.judge_at_once(Call::Compact, || {
-        Ok(check::compact(alloc, &[TEAM])?.as_slice() == WRITTEN)
-    })
-}
-
-// Answers a contact when its line ends. A refused call leaves the stream unchanged.
-fn answer_in_parts(run: &mut Run, alloc: Global) -> Result<(), Wrong> {
-    let mut stream = run.judge(
-        Call::NewStream,
-        || ContactStream::new(alloc, &[TEAM]),
-        |_| true,
-    )?;
+// Answers contact lines: all at once, in parts, and a contact when its line ends, also after a refusal. Writes a
+// compact mailmap.
+fn answer(run: &mut Run, alloc: Global) -> Result<(), Wrong> {
+    let _answers = run.judge(Call::Check, || check::check(alloc, &[TEAM], CONTACTS))?;
+    let _mailmap = run.judge(Call::Compact, || check::compact(alloc, &[TEAM]))?;
+    let _answers = run.judge(Call::Stream, || streamed(alloc))?;
+    let mut stream = run.judge(Call::NewStream, || ContactStream::new(alloc, &[TEAM]))?;
     let mut text = Vec::new(alloc);
-    run.judge_at_once(Call::PushToStream, || {
-        Ok(stream.push(LINE, &mut text)? == LINE.len())
-    })?;
-    run.judge_at_once(Call::FinishLine, || {
-        stream.finish_line(&mut text)?;
-        Ok(text.as_slice() == ANSWER)
-    })
+    let _taken = run.judge(Call::PushToStream, || stream.push(LINE, &mut text))?;
+    run.judge(Call::FinishLine, || stream.finish_line(&mut text))?;
+    leaves(Call::FinishLine, text.as_slice() == ANSWER)
 }
 
-// Whether contacts in parts get the same answers as all at once.
-fn streams(alloc: Global) -> Result<bool, AllocError> {
+fn streamed(alloc: Global) -> Result<Vec<u8>, AllocError> {
     let mut stream = ContactStream::new(alloc, &[TEAM])?;
     let mut text = Vec::new(alloc);
     for part in &PARTS {
         let _ = stream.push(part, &mut text)?;
     }
     stream.finish(&mut text)?;
-    Ok(text.as_slice() == ANSWERS)
+    Ok(text)
 }
 
 // Verifies two mailmaps, prunes one, and finds the lines that no contact needs.
 fn verify_and_prune(run: &mut Run, alloc: Global) -> Result<(), Wrong> {
-    run.judge_at_once(Call::Verify, || {
-        Ok(are_of_faulty(verify(alloc, &[TEAM, FAULTY])?.as_slice()))
-    })?;
-    run.judge_at_once(Call::Prune, || {
-        Ok(prune(alloc, FAULTY)?.as_slice() == PRUNED)
-    })?;
-    run.judge_at_once(Call::Unneeded, || {
-        Ok(are_unneeded(unneeded(alloc, &[TEAM, FAULTY], CONTACTS)?.as_slice()))
-    })
-}
-
-// Suggests lines for contacts, and finds those that git answers otherwise.
-fn suggest_lines(run: &mut Run, alloc: Global) -> Result<(), Wrong> {
-    let contacts = run.judge(
-        Call::CountContacts,
-        || count(alloc),
-        |counted| counted.lines_without_contact().is_empty(),
+    let _count = run.judge(Call::Verify, || Ok(verify(alloc, &[TEAM, FAULTY])?.len()))?;
+    let _mailmap = run.judge(Call::Prune, || prune(alloc, FAULTY))?;
+    let _lines = run.judge(
+        Call::Unneeded,
+        || unneeded(alloc, &[TEAM, FAULTY], CONTACTS),
     )?;
-    run.judge_at_once(Call::Suggest, || {
-        Ok(are_of_history(suggest(alloc, &[TEAM, FAULTY], &contacts)?.as_slice()))
-    })?;
-    run.judge_at_once(Call::OtherGitAnswers, || {
-        Ok(are_others_of_history(other_git_answers(alloc, &[TEAM, FAULTY], &contacts)?.as_slice()))
-    })
+    Ok(())
 }
 
-fn count(alloc: Global) -> Result<Contacts, AllocError> {
+// Suggests lines for contacts, and finds those that git answers otherwise. Writes such lines and counts.
+fn suggest_lines(run: &mut Run, alloc: Global) -> Result<(), Wrong> {
+    let contacts = run.judge(Call::CountContacts, || counted(alloc))?;
+    let _count = run.judge(
+        Call::Suggest,
+        || Ok(suggest(alloc, &[TEAM, FAULTY], &contacts)?.len()),
+    )?;
+    let _count = run.judge(
+        Call::OtherGitAnswers,
+        || Ok(other_git_answers(alloc, &[TEAM, FAULTY], &contacts)?.len()),
+    )?;
+    let mut text = Vec::new(alloc);
+    run.judge(Call::PushEntry, || push_entry(&mut text, &team()[1], true))?;
+    let mut text = Vec::new(alloc);
+    run.judge(
+        Call::PushCount,
+        || push_count(&mut text, 12, b"Jane Doe", b"jane@example.com", true),
+    )
+}
+
+fn counted(alloc: Global) -> Result<Contacts, AllocError> {
     let mut counter = ContactCounter::new(alloc)?;
     for line in &HISTORY {
         counter.add_line(line)?;
     }
     counter.into_contacts()
-}
-
-fn write_suggestions(run: &mut Run, alloc: Global) -> Result<(), Wrong> {
-    run.judge_at_once(Call::PushEntry, || {
-        let mut text = Vec::new(alloc);
-        push_entry(&mut text, &team()[1], true)?;
-        Ok(text.as_slice() == SUGGESTED)
-    })?;
-    run.judge_at_once(Call::PushCount, || {
-        let mut text = Vec::new(alloc);
-        push_count(&mut text, 12, b"Jane Doe", b"jane@example.com", true)?;
-        Ok(text.as_slice() == COUNTED)
-    })
 }
